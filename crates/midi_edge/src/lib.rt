@@ -1,0 +1,25 @@
+//! The objects of the outside: their traits, forms of them in memory, adapters over the real things, and the small types
+//! that every crate stands on.
+#![tactic(auto)]
+
+pub mod adapters;
+pub mod few_bits;
+pub mod kept_text;
+pub mod mem_lanes;
+pub mod mem_shelf;
+pub mod mem_sink;
+pub mod mem_source;
+pub mod outside;
+mod script;
+pub mod short_list;
+pub mod window;
+
+pub use crate::adapters::{FolderLanes, ReadSource, WriteSink};
+pub use crate::few_bits::U4;
+pub use crate::mem_lanes::MemLanes;
+pub use crate::mem_shelf::MemShelf;
+pub use crate::mem_sink::MemSink;
+pub use crate::mem_source::{MemSource, PlainSource};
+pub use crate::outside::{Failed, Lanes, NoMemory, OpenFault, ReadStop, Shelf, Sink, Source};
+pub use crate::short_list::ShortList;
+pub use crate::window::Window;

@@ -1,0 +1,10 @@
+// Which calls of an object in memory are to fail.
+ghost use Rattle.std.specs.Prelude.{◌≡◌};
+ghost use Rattle.midi_edge.specs.Script.{kept_at as kept_at_call};
+
+/// How many bytes the call keeps, where it is listed to fail.
+pub(crate) fn kept_at(fails: &[(u64, usize)], call: u64) -> Option<usize>
+    ensures { result ≡ kept_at_call fails.now call }
+{
+    fails.iter().find(|fail| fail.0 == call).map(|fail| fail.1)
+}

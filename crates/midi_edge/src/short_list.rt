@@ -1,0 +1,120 @@
+// Lists of fixed capacity.
+ghost use Rattle.std.specs.Prelude.{◌≡◌, ◌<◌, ◌≤◌, ◌+◌, ◌==◌, [], ◌∷◌, ◌++◌, length};
+
+use arrayvec::ArrayVec;
+use std::fmt;
+use std::marker::Model;
+
+/// At most `N` items, kept in place without memory of their own. To a contract it is the list of the items.
+#[derive(Drop)]
+pub struct ShortList<T, const N: usize> {
+    cells: ArrayVec<T, N>,
+}
+
+impl<T, const N: usize> Model for ShortList<T, N> {
+    ghost use Rattle.std.specs.Prelude.{List};
+
+    ghost Value = { List T };
+
+    ghost view = { λ s. s.cells.items };
+}
+
+impl<T: Copy + Default, const N: usize> ShortList<T, N> {
+    /// The empty list.
+    pub fn new() -> Self
+        ensures { result ≡ [] }
+    {
+        ShortList {
+            cells: ArrayVec::new(),
+        }
+    }
+
+    /// How many items there are, at most `N`.
+    pub fn len(&self) -> usize
+        ensures value { result ≡ length self.now }
+        ensures fits { length self.now ≤ N }
+    {
+        self.cells.len()
+    }
+
+    /// Whether there is no item.
+    pub fn is_empty(&self) -> bool
+        ensures { result ≡ (length self.now == 0) }
+    {
+        self.cells.len() == 0
+    }
+
+    /// Whether there is no room for one more item.
+    pub fn is_full(&self) -> bool
+        ensures { result ≡ (length self.now == N) }
+    {
+        self.cells.is_full()
+    }
+
+    /// The items.
+    pub fn as_slice(&self) -> &[T]
+        ensures value { result.now ≡ self.now }
+        ensures fits { length self.now ≤ N }
+    {
+        self.cells.as_slice()
+    }
+
+    /// Adds an item at the end.
+    pub fn push(&mut self, item: T)
+        requires { length self.old < N }
+        ensures { self.new ≡ self.old ++ item ∷ [] }
+    {
+        self.cells.push(item);
+    }
+
+    /// Adds items at the end.
+    pub fn extend(&mut self, items: &[T])
+        requires { length self.old + length items.now ≤ N }
+        ensures { self.new ≡ self.old ++ items.now }
+    {
+        match self.cells.try_extend_from_slice(items) {
+            Ok(()) => {}
+            Err(_) => unreachable!(),
+        }
+    }
+
+    /// Takes all items away.
+    pub fn clear(&mut self)
+        ensures { self.new ≡ [] }
+    {
+        self.cells.clear();
+    }
+
+    /// The same list again. Unlike `clone` it cannot fail.
+    pub fn copied(&self) -> Self
+        ensures { result ≡ self.now }
+    {
+        let mut list = Self::new();
+        list.extend(self.as_slice());
+        list
+    }
+}
+
+impl<T: PartialEq, const N: usize> PartialEq for ShortList<T, N> {
+    ghost use Rattle.std.specs.Cmp.Lexicographic.{pointwise, lists_per};
+
+    ghost eq = { λ v w. pointwise T.eq v w };
+
+    ghost laws = { lists_per T.laws };
+
+    fn eq(&self, other: &Self) -> bool {
+        self.cells.as_slice() == other.cells.as_slice()
+    }
+}
+
+impl<T: Eq, const N: usize> Eq for ShortList<T, N> {
+    ghost use Rattle.std.specs.Cmp.Lexicographic.{lists_equiv};
+
+    ghost laws = { lists_equiv T.Eq.laws };
+}
+
+impl<T: fmt::Debug, const N: usize> fmt::Debug for ShortList<T, N> {
+    fn fmt<W: fmt::Write>(&self, f: &mut fmt::Formatter<W>) -> fmt::Result {
+        f.debug_list().entries(self.cells.as_slice()).finish()
+    }
+}

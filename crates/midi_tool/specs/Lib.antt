@@ -1,0 +1,6 @@
+pub mod ByteSteps
+pub mod Command
+pub mod ExitCode
+pub mod NoteMeaning
+pub mod Outcome
+pub mod Translation

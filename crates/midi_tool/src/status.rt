@@ -1,0 +1,62 @@
+// How a run ends.
+ghost use Rattle.std.specs.Prelude.{◌≡◌};
+
+/// Why a recording is refused.
+#[derive(Clone, Copy, Debug, PartialEq, Eq)]
+pub enum Reason {
+    /// It ends within a packet.
+    Truncated,
+    /// It has more than 4,294,967,296 bytes.
+    InputTooLong,
+    /// The packet is none that is translated so far.
+    NotBuilt,
+}
+
+/// How a translation ends.
+#[derive(Clone, Copy, Debug, PartialEq, Eq)]
+pub enum RunEnd {
+    /// The recording was read to its end.
+    Done,
+    /// The packet at this offset, in bytes, is refused.
+    Refused { reason: Reason, offset: u64 },
+    /// A read failed.
+    ReadFault,
+    /// A write to a lane failed.
+    LaneFault,
+}
+
+/// How a run ends.
+#[derive(Clone, Copy, Debug, PartialEq, Eq)]
+pub enum Status {
+    /// The recording was read to its end.
+    Done,
+    /// The packet at this offset, in bytes, is refused.
+    Refused { reason: Reason, offset: u64 },
+    /// A read failed.
+    ReadFault,
+    /// The folder could not be opened, or a write to a lane failed.
+    LaneFault,
+    /// The words are no command.
+    Usage,
+    /// There was no memory.
+    NoMemory,
+}
+
+impl Status {
+    ghost use Rattle.midi_tool.specs.ExitCode.{exit_code_of};
+
+    /// The exit code: 0 for `Done`, 1 for `Refused`, 2 and 3 for faults of reading and of the lanes, 7 for `Usage`, 10 for
+    /// `NoMemory`.
+    pub fn exit_code(self) -> u8
+        ensures { result ≡ exit_code_of self }
+    {
+        match self {
+            Status::Done => 0,
+            Status::Refused { .. } => 1,
+            Status::ReadFault => 2,
+            Status::LaneFault => 3,
+            Status::Usage => 7,
+            Status::NoMemory => 10,
+        }
+    }
+}

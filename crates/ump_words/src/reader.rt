@@ -1,0 +1,122 @@
+// A reader of packets from a source.
+ghost use Rattle.std.specs.Prelude.{◌≡◌, ◌≤◌, ◌==◌, ◌^◌, [], length, IfSome, IfOk, OnErr, if◌then◌else◌};
+ghost use Rattle.midi_edge.specs.Outside.{ahead, HasCause, IsUsedUp};
+ghost use Rattle.ump_words.specs.Cut.{IsRest};
+ghost use Rattle.ump_words.specs.Front.{Sees};
+ghost use Rattle.ump_words.specs.Reader.{Answers, ReadCause, answer_of};
+
+use crate::cutting::{Front, front_of};
+use crate::words::{Framed, Order, Tail, words_in};
+use midi_edge::{Failed, ReadStop, Source, Window};
+use std::marker::Model;
+
+/// Cuts the bytes of a source into packets.
+#[derive(Drop)]
+pub struct WordReader {
+    order: Order,
+    window: Window,
+    offset: u64,
+    limit: u64,
+    end: Option<Tail>,
+}
+
+impl Model for WordReader {
+    ghost use Rattle.std.specs.Prelude.{◌^◌, ◌≤◌};
+    ghost use Rattle.ump_words.specs.Reader.{Reading};
+
+    ghost Value = { Reading };
+
+    ghost view = { λ r. record { order = r.order; pending = r.window; offset = r.offset; limit = r.limit; end = r.end } };
+
+    ghost invariant = { λ r. (r.offset ≤ r.limit) × (r.limit ≤ 2 ^ 62) };
+}
+
+impl WordReader {
+    pub fn new(order: Order, limit: u64) -> Self
+        requires { limit ≤ 2 ^ 62 }
+        ensures { result ≡ record { order = order; pending = []; offset = 0; limit = limit; end = None } }
+    {
+        WordReader {
+            order,
+            window: Window::new(),
+            offset: 0,
+            limit,
+            end: None,
+        }
+    }
+
+    /// The next packet, or `None` at the end. After an `Err(Read(..))` a later call goes on from there. Each other
+    /// answer that is no packet is given again from then on.
+    pub fn next<S: Source>(&mut self, src: &mut S) -> Result<Option<Framed>, ReadStop>
+        ensures answer { self.old.end ≡ None → Answers self.old self.new
+            (ahead self.old.pending (S.left src.old)) (ahead self.new.pending (S.left src.new)) result }
+        ensures again { IfSome self.old.end (λ tail. (result ≡ answer_of tail) × (self.new ≡ self.old) × (src.new ≡ src.old)) }
+        ensures cause { ReadCause (S.faults src.old) (S.faults src.new) result }
+    {
+        if let Some(tail) = self.end {
+            return answer(tail);
+        }
+        let room = self.limit - self.offset;
+        match look_ahead(self.order, &mut self.window, room, src) {
+            Ok(Front::Packet(size)) => {
+                let words = words_in(self.order, &self.window.bytes()[..size]);
+                let offset = self.offset;
+                self.window.consume(size);
+                self.offset += size as u64;
+                Ok(Some(Framed { offset, words }))
+            }
+            Ok(Front::TooLong) => {
+                self.end = Some(Tail::TooLong);
+                Err(ReadStop::TooLong)
+            }
+            Ok(Front::Partial) => {
+                let tail = tail_at(self.window.bytes(), self.offset);
+                self.end = Some(tail);
+                answer(tail)
+            }
+            Err(failed) => Err(ReadStop::Read(failed)),
+        }
+    }
+}
+
+// The tail where the source has ended and these bytes are no packet.
+fn tail_at(bytes: &[u8], offset: u64) -> Tail
+    ensures { result ≡ (if length bytes.now == 0 then Tail.End else Tail.Truncated offset) }
+{
+    if bytes.is_empty() {
+        Tail::End
+    } else {
+        Tail::Truncated(offset)
+    }
+}
+
+fn answer(tail: Tail) -> Result<Option<Framed>, ReadStop>
+    ensures { result ≡ answer_of tail }
+{
+    match tail {
+        Tail::End => Ok(None),
+        Tail::Truncated(offset) => Err(ReadStop::Truncated(offset)),
+        Tail::TooLong => Err(ReadStop::TooLong),
+    }
+}
+
+// Takes bytes until there is a packet, too many bytes, or the end.
+fn look_ahead<S: Source>(
+    order: Order,
+    window: &mut Window,
+    room: u64,
+    src: &mut S,
+) -> Result<Front, Failed>
+    ensures ahead { ahead window.new (S.left src.new) ≡ ahead window.old (S.left src.old) }
+    ensures seen { IfOk result (λ front. Sees order window.new room front) }
+    ensures end { IfOk result (λ front. front ≡ Front.Partial → IsUsedUp (S.left src.new)) }
+    ensures err { OnErr result (IsRest order window.new) }
+    ensures cause { HasCause (S.faults src.old) (S.faults src.new) result }
+{
+    loop {
+        let front = front_of(order, window.bytes(), room);
+        if front != Front::Partial || !window.fill(src)? {
+            return Ok(front);
+        }
+    }
+}
