@@ -1,8 +1,10 @@
 -- What note messages and note packets mean, and when the two meanings agree.
-use Rattle.std.specs.Prelude.{◌≡◌, ℕ, ◌/◌, ◌%◌, ◌<◌, ◌==◌, max, if◌then◌else◌, List, [], ◌∷◌, ◌++◌, filter, map, fold}
+use Rattle.std.specs.Prelude.{◌≡◌, ℕ, ◌/◌, ◌%◌, ◌<◌, ◌==◌, if◌then◌else◌, List, [], ◌∷◌, ◌++◌, filter, map, fold, Option, None, Some}
+use Rattle.voice_messages.specs.declared.voice2.Voice2.{Voice2}
 use Rattle.voice_messages.specs.declared.voice2.Voice2.TheVariants.{NoteOff, NoteOn}
 use Rattle.ump_grammar.specs.declared.packet.Packet.{Packet}
-use Rattle.ump_grammar.specs.declared.packet.Packet.TheVariants.{Voice2}
+use Rattle.ump_grammar.specs.declared.packet.Packet.TheVariants.{Voice2 as OfVoice2}
+use Rattle.bit_scaling.specs.Scaling.{velocity_down, release_down}
 use Rattle.midi_tool.specs.ByteSteps.{Message, messages}
 
 -- what was done on a channel
@@ -32,27 +34,40 @@ step1 state m = with_act state (m.status % 16) (act_of m)
 abbrev pub mean1 : List ℕ → State
 mean1 bytes = fold step1 no_acts (messages bytes)
 
-abbrev pub group_of : Packet → ℕ
-group_of (Voice2 group message) = group
+-- a group and a note message of the MIDI 2.0 protocol
+pub data Note : Type 0 where
+  note : ℕ → Voice2 → Note
 
-abbrev pub step2 : State → Packet → State
-step2 state (Voice2 group (NoteOff channel note velocity attribute_type attribute)) = with_act state channel (Off note velocity)
-step2 state (Voice2 group (NoteOn channel note velocity attribute_type attribute)) = with_act state channel (On note velocity)
+-- a note message that has a counterpart without a rest: its attribute type is 0
+abbrev pub unless_attribute : ℕ → Voice2 → ℕ → Option Note
+unless_attribute group message attribute_type = if attribute_type == 0 then Some (note group message) else None
 
--- what the packets of a group mean
-abbrev pub mean2 : List Packet → ℕ → State
-mean2 packets group = fold step2 no_acts (filter (λ p. group_of p == group) packets)
+abbrev pub note_in : ℕ → Voice2 → Option Note
+note_in group (NoteOff channel key velocity attribute_type attribute) = unless_attribute group (NoteOff channel key velocity attribute_type attribute) attribute_type
+note_in group (NoteOn channel key velocity attribute_type attribute) = unless_attribute group (NoteOn channel key velocity attribute_type attribute) attribute_type
+note_in group _ = None
 
--- lowering from 16 bits
-abbrev pub velocity_down_of : ℕ → ℕ
-velocity_down_of v = max 1 (v / 512)
+-- the note of a packet, if it is a Note On or Note Off without an attribute
+abbrev pub note_of : Packet → Option Note
+note_of (OfVoice2 group message) = note_in group message
+note_of _ = None
 
-abbrev pub release_down_of : ℕ → ℕ
-release_down_of v = v / 512
+abbrev pub group_of : Note → ℕ
+group_of (note group message) = group
 
+abbrev pub step2 : State → Note → State
+step2 state (note group (NoteOff channel key velocity attribute_type attribute)) = with_act state channel (Off key velocity)
+step2 state (note group (NoteOn channel key velocity attribute_type attribute)) = with_act state channel (On key velocity)
+step2 state (note group _) = state
+
+-- what the notes of a group mean
+abbrev pub mean2 : List Note → ℕ → State
+mean2 notes group = fold step2 no_acts (filter (λ n. group_of n == group) notes)
+
+-- an act seen at 7 bits
 abbrev pub lowered : Act → Act
-lowered (On note velocity) = On note (velocity_down_of velocity)
-lowered (Off note velocity) = Off note (release_down_of velocity)
+lowered (On key velocity) = On key (velocity_down velocity)
+lowered (Off key velocity) = Off key (release_down velocity)
 
 -- bytes and packets mean the same, seen at 7 bits
 abbrev pub Agrees : State → State → Type 0

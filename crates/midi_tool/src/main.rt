@@ -4,8 +4,10 @@
 mod command;
 mod down;
 mod meaning;
+mod next;
 mod notes;
 mod run;
+mod show;
 mod status;
 #[cfg(test)]
 mod tests;

@@ -1,42 +1,40 @@
 // The MIDI 1.0 bytes of a note.
-ghost use Rattle.std.specs.Prelude.{◌≡◌, ◌<◌};
-ghost use Rattle.midi_tool.specs.NoteMeaning.{velocity_down_of, release_down_of};
+ghost use Rattle.std.specs.Prelude.{◌≡◌, ℕ, None, Some, MatchOption};
+ghost use Rattle.midi_tool.specs.NoteMeaning.{note, note_in};
 ghost use Rattle.midi_tool.specs.Translation.{piece_of};
 
+use bit_scaling::{release_down, velocity_down};
 use voice_messages::Voice2;
 
-/// A velocity at seven bits, and never 0.
-pub fn velocity_down(velocity: u16) -> u8
-    ensures value { result ≡ velocity_down_of velocity }
-    ensures below { result < 128 }
-{
-    (velocity / 512).max(1) as u8
-}
-
-/// A release velocity at seven bits.
-pub fn release_down(velocity: u16) -> u8
-    ensures value { result ≡ release_down_of velocity }
-    ensures below { result < 128 }
-{
-    (velocity / 512) as u8
-}
-
-/// The bytes of a note, with its status byte.
-pub fn piece(message: &Voice2) -> [u8; 3]
-    ensures { result ≡ piece_of message.now }
+/// The bytes of a Note On or Note Off without an attribute, with its status byte (M2-104-UM, default translation). None
+/// exactly for any other message.
+pub fn note_piece(message: &Voice2) -> Option<[u8; 3]>
+    ensures { MatchOption result ((group : ℕ) → note_in group message.now ≡ None)
+        (λ piece. ((group : ℕ) → note_in group message.now ≡ Some (note group message.now)) × (piece ≡ piece_of message.now)) }
 {
     match *message {
         Voice2::NoteOff {
             channel,
             note,
             velocity,
+            attribute_type: 0,
             ..
-        } => [0x80 + channel.get(), note.get(), release_down(velocity)],
+        } => Some([
+            0x80 + channel.get(),
+            note.get(),
+            release_down(velocity).get(),
+        ]),
         Voice2::NoteOn {
             channel,
             note,
             velocity,
+            attribute_type: 0,
             ..
-        } => [0x90 + channel.get(), note.get(), velocity_down(velocity)],
+        } => Some([
+            0x90 + channel.get(),
+            note.get(),
+            velocity_down(velocity).get(),
+        ]),
+        _ => None,
     }
 }

@@ -1,22 +1,26 @@
 // The program over the objects that it is handed.
-ghost use Rattle.std.specs.Prelude.{◌≡◌, ◌≢◌, ◌↔◌, ◌⊎◌, ℕ, List, [], false, IfSome, IsSome, MatchOption, map, string_bytes};
-ghost use Rattle.midi_edge.specs.Outside.{Rose, kept_bytes};
+ghost use Rattle.std.specs.Prelude.{◌≡◌, ◌↔◌, ◌⊎◌, ℕ, List, [], false, IfSome, IsSome, Some, None, map, string_bytes};
+ghost use Rattle.midi_edge.specs.Outside.{Rose};
+ghost use Rattle.ump_words.specs.Cut.{IsCutInto};
 ghost use Rattle.ump_words.specs.declared.words.Framed.{Framed};
+ghost use Rattle.ump_words.specs.declared.words.Order.TheVariants.{Big};
 ghost use Rattle.ump_words.specs.declared.words.Tail.TheVariants.{End};
-ghost use Rattle.midi_tool.specs.Command.{folder_in as folder_asked};
-ghost use Rattle.midi_tool.specs.Outcome.{IsCarried, Stops, IsCutInto, AreBuilt, status_after};
+ghost use Rattle.midi_tool.specs.Command.{Asked, show as show_lines, command_in as asked_in, Opens, Spares};
+ghost use Rattle.midi_tool.specs.Next.{limit};
+ghost use Rattle.midi_tool.specs.Outcome.{IsDone, Stops, AreTaken, status_after};
 ghost use Rattle.midi_tool.specs.declared.status.Reason.{Reason};
 
-use crate::command::folder_in;
+use crate::command::{Command, command_in};
 use crate::down::translate;
+use crate::show::show;
 use crate::status::{RunEnd, Status};
 use midi_edge::{Lanes, OpenFault, Shelf, Sink, Source};
 use std::alloc::Global;
 
-/// Does what the words of a command line, without the program's name, ask for. So far that is `translate down --folder F`,
-/// where F is nonempty and does not begin with a dash: the recording of Universal MIDI Packets in `input` becomes a
-/// MIDI 1.0 stream for each group, in `lanes`. All objects are new ones. `NoMemory` is free in its cause, and comes before
-/// the first read.
+/// Does what the words of a command line, without the program's name, ask for. `translate down --folder F`, where F is
+/// nonempty and does not begin with a dash, makes of the recording of Universal MIDI Packets in `input` a MIDI 1.0 stream for
+/// each group, in `lanes`. `show` puts a line for each packet of the recording in `output`. All objects are new ones.
+/// `NoMemory` is free in its cause, and comes before the first read.
 pub fn run<S: Source, L: Lanes, W: Sink, N: Sink, K: Shelf>(
     _alloc: Global,
     words: &[String],
@@ -31,33 +35,45 @@ pub fn run<S: Source, L: Lanes, W: Sink, N: Sink, K: Shelf>(
     requires asked { K.asked shelf.old ≡ None }
 
     // Read to the end, a recording is translated: one piece for each packet, in the lane of its group, and after each
-    // piece the bytes of each lane mean what the packets of its group mean.
-    ensures done { result ≡ Status.Done → (S.faults input.new ≡ S.faults input.old) × (L.faults lanes.new ≡ L.faults lanes.old)
-        × IfSome (S.left input.old) (λ bytes. IsCarried bytes (L.pieces lanes.old) (L.pieces lanes.new) × (S.left input.new ≡ Some [])) }
+    // piece the bytes of each lane mean what the packets of its group mean. Or it is shown: one line for each packet.
+    ensures done { result ≡ Status.Done → (asked : Asked) × (asked_in (map string_bytes words.now) ≡ Some asked)
+        × (S.faults input.new ≡ S.faults input.old) × (L.faults lanes.new ≡ L.faults lanes.old) × (W.faults output.new ≡ W.faults output.old)
+        × IfSome (S.left input.old) (λ bytes. (S.left input.new ≡ Some []) × IsDone asked bytes
+        (record { pieces = L.pieces lanes.old; held = W.held output.old }) (record { pieces = L.pieces lanes.new; held = W.held output.new })) }
 
-    // It is translated where nothing is refused and nothing fails, unless there is no memory.
-    ensures complete { folder_asked (map string_bytes words.now) ≢ None → IfSome (S.left input.old) (λ bytes. (framed : List Framed) → IsCutInto bytes framed End → AreBuilt framed
-        → ¬ (Rose (S.faults input.old) (S.faults input.new)) → ¬ (Rose (L.faults lanes.old) (L.faults lanes.new)) → (result ≡ Status.Done) ⊎ (result ≡ Status.NoMemory)) }
+    // That comes where nothing is refused and nothing fails, unless there is no memory.
+    ensures complete { (asked : Asked) → asked_in (map string_bytes words.now) ≡ Some asked → IfSome (S.left input.old) (λ bytes. (framed : List Framed)
+        → IsCutInto Big limit bytes framed End → AreTaken asked framed → ¬ (Rose (S.faults input.old) (S.faults input.new))
+        → ¬ (Rose (L.faults lanes.old) (L.faults lanes.new)) → ¬ (Rose (W.faults output.old) (W.faults output.new))
+        → (result ≡ Status.Done) ⊎ (result ≡ Status.NoMemory)) }
 
     // The cause of each other answer.
-    ensures refused { (reason : Reason) (offset : ℕ) → result ≡ Status.Refused reason offset → IfSome (S.left input.old) (λ bytes. Stops bytes reason offset (L.pieces lanes.old) (L.pieces lanes.new)) }
+    ensures refused { (reason : Reason) (offset : ℕ) → result ≡ Status.Refused reason offset → (asked : Asked) × (asked_in (map string_bytes words.now) ≡ Some asked)
+        × IfSome (S.left input.old) (λ bytes. Stops asked bytes reason offset
+        (record { pieces = L.pieces lanes.old; held = W.held output.old }) (record { pieces = L.pieces lanes.new; held = W.held output.new })) }
     ensures read_fault { result ≡ Status.ReadFault → Rose (S.faults input.old) (S.faults input.new) }
     ensures lane_fault { result ≡ Status.LaneFault → Rose (L.faults lanes.old) (L.faults lanes.new) × IsSome (L.folder lanes.new) }
-    ensures usage { (result ≡ Status.Usage) ↔ (folder_asked (map string_bytes words.now) ≡ None) }
+    ensures output_fault { result ≡ Status.OutputFault → Rose (W.faults output.old) (W.faults output.new) × (asked_in (map string_bytes words.now) ≡ Some show_lines) }
+    ensures usage { (result ≡ Status.Usage) ↔ (asked_in (map string_bytes words.now) ≡ None) }
+    ensures no_memory { result ≡ Status.NoMemory → IsSome (L.folder lanes.new) }
 
     // What comes before the first read.
     ensures untouched { (result ≡ Status.Usage) ⊎ (result ≡ Status.NoMemory) → (input.new ≡ input.old) × (L.pieces lanes.new ≡ L.pieces lanes.old) }
-    ensures not_begun { L.begun lanes.new ≡ false → input.new ≡ input.old }
-    ensures folder { MatchOption (folder_asked (map string_bytes words.now)) (lanes.new ≡ lanes.old) (λ folder. L.folder lanes.new ≡ Some (kept_bytes folder)) }
-    ensures others { (output.new ≡ output.old) × (notes.new ≡ notes.old) × (shelf.new ≡ shelf.old) }
+    ensures not_begun { IsSome (L.folder lanes.new) → L.begun lanes.new ≡ false → input.new ≡ input.old }
+
+    // What a command does not name stays as it is.
+    ensures folder { Opens (asked_in (map string_bytes words.now)) lanes.old lanes.new (L.folder lanes.new) }
+    ensures output { Spares (asked_in (map string_bytes words.now)) output.old output.new }
+    ensures others { (notes.new ≡ notes.old) × (shelf.new ≡ shelf.old) }
 {
-    let Some(folder) = folder_in(words) else {
-        return Status::Usage;
-    };
-    match lanes.begin(folder) {
-        Ok(()) => status_of(translate(input, lanes)),
-        Err(OpenFault::Failed) => Status::LaneFault,
-        Err(OpenFault::NoMemory) => Status::NoMemory,
+    match command_in(words) {
+        Some(Command::Down { folder }) => match lanes.begin(folder) {
+            Ok(()) => status_of(translate(input, lanes)),
+            Err(OpenFault::Failed) => Status::LaneFault,
+            Err(OpenFault::NoMemory) => Status::NoMemory,
+        },
+        Some(Command::Show) => status_of(show(input, output)),
+        None => Status::Usage,
     }
 }
 
@@ -70,5 +86,6 @@ fn status_of(end: RunEnd) -> Status
         RunEnd::Refused { reason, offset } => Status::Refused { reason, offset },
         RunEnd::ReadFault => Status::ReadFault,
         RunEnd::LaneFault => Status::LaneFault,
+        RunEnd::OutputFault => Status::OutputFault,
     }
 }

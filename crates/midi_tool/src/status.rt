@@ -8,11 +8,15 @@ pub enum Reason {
     Truncated,
     /// It has more than 4,294,967,296 bytes.
     InputTooLong,
+    /// A 7-bit exclusive packet counts more than six bytes.
+    BadCount,
+    /// A byte that carries seven bits is 128 or more.
+    HighBit,
     /// The packet is none that is translated so far.
     NotBuilt,
 }
 
-/// How a translation ends.
+/// How a pass over a recording ends.
 #[derive(Clone, Copy, Debug, PartialEq, Eq)]
 pub enum RunEnd {
     /// The recording was read to its end.
@@ -23,6 +27,8 @@ pub enum RunEnd {
     ReadFault,
     /// A write to a lane failed.
     LaneFault,
+    /// A write to the output failed.
+    OutputFault,
 }
 
 /// How a run ends.
@@ -36,6 +42,8 @@ pub enum Status {
     ReadFault,
     /// The folder could not be opened, or a write to a lane failed.
     LaneFault,
+    /// A write to the output failed.
+    OutputFault,
     /// The words are no command.
     Usage,
     /// There was no memory.
@@ -45,8 +53,8 @@ pub enum Status {
 impl Status {
     ghost use Rattle.midi_tool.specs.ExitCode.{exit_code_of};
 
-    /// The exit code: 0 for `Done`, 1 for `Refused`, 2 and 3 for faults of reading and of the lanes, 7 for `Usage`, 10 for
-    /// `NoMemory`.
+    /// The exit code: 0 for `Done`, 1 for `Refused`, 2 to 4 for faults of reading, of the lanes and of the output, 7 for
+    /// `Usage`, 10 for `NoMemory`.
     pub fn exit_code(self) -> u8
         ensures { result ≡ exit_code_of self }
     {
@@ -55,6 +63,7 @@ impl Status {
             Status::Refused { .. } => 1,
             Status::ReadFault => 2,
             Status::LaneFault => 3,
+            Status::OutputFault => 4,
             Status::Usage => 7,
             Status::NoMemory => 10,
         }

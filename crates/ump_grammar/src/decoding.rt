@@ -1,56 +1,229 @@
 // From words to packets.
-ghost use Rattle.std.specs.Prelude.{◌≡◌, ◌/◌, ◌%◌, ◌^◌, ◌<◌, length, slice_index, IfOk, OnErr};
+ghost use Rattle.std.specs.Prelude.{◌≡◌, ◌<◌, length, false, IfOk, MatchOption};
 ghost use Rattle.ump_words.specs.Cut.{IsWhole};
-ghost use Rattle.ump_grammar.specs.Spelling.{Spells, IsBuilt, field};
+ghost use Rattle.ump_grammar.specs.Places.{type_of};
+ghost use Rattle.ump_grammar.specs.Ranges.{IsPacket};
+ghost use Rattle.ump_grammar.specs.Reading.{Decodes};
+ghost use Rattle.ump_grammar.specs.Reason.{has_high as is_any_high};
+ghost use Rattle.ump_grammar.specs.Spelling.{has_row, exclusive_places, form_number, is_system_status as is_status};
 
+use crate::fields::{bits, byte, half, nibble};
 use crate::packet::{Bad, Packet};
-use ump_words::Framed;
-use voice_messages::{U4, U7, Voice2};
+use crate::voice1_rows::{system_message, voice1_message};
+use crate::voice2_rows::voice2_message;
+use midi_edge::ShortList;
+use ump_words::{Framed, Words};
+use voice_messages::Form;
 
-// The byte of a word from this bit on.
-fn byte(word: u32, low: u32) -> u8
-    requires { low < 32 }
-    ensures { result ≡ field word low 8 }
-{
-    ((word >> low) % 256) as u8
-}
-
-/// The packet that the words spell. `NotBuilt` exactly where they spell no Note On or Note Off of the MIDI 2.0 protocol
-/// with a note below 128 and attribute type 0.
+/// The packet that the words spell (M2-104-UM). `Err(BadCount)` comes exactly where a 7-bit exclusive counts more than six
+/// bytes, and `Err(HighBit)` exactly where another packet has a byte of 128 or more in a place of seven bits.
+#[tactic(auto, using(crate::proofs::Fitting::decoded_fits))]
 pub fn decode(framed: &Framed) -> Result<Packet, Bad>
     requires { IsWhole framed.now.words }
-    ensures ok { IfOk result (λ packet. IsBuilt framed.now.words × Spells packet framed.now.words) }
-    ensures err { OnErr result (¬ (IsBuilt framed.now.words)) }
+    ensures answer { Decodes framed.now.words result }
+    ensures fits { IfOk result IsPacket }
 {
-    let words = framed.words.as_slice();
-    let first = words[0];
-    if first >> 28 != 4 || byte(first, 0) != 0 {
-        return Err(Bad::NotBuilt);
+    let words = &framed.words;
+    match bits(words.as_slice()[0], 28, 4) {
+        0x0 => utility(words),
+        0x1 => system(words),
+        0x2 => voice1(words),
+        0x3 => exclusive(words),
+        0x4 => voice2(words),
+        0x5 => data8(words),
+        0xD => flex(words),
+        0xF => stream(words),
+        _ => reserved(words),
     }
-    let second = words[1];
-    let group = U4::low_bits(first >> 24);
-    let channel = U4::low_bits(first >> 16);
-    let Some(note) = U7::new(byte(first, 8)) else {
-        return Err(Bad::NotBuilt);
+}
+
+fn utility(words: &Words) -> Result<Packet, Bad>
+    requires whole { IsWhole words.now }
+    requires kind { type_of words.now ≡ 0x0 }
+    ensures { Decodes words.now result }
+{
+    let word = words.as_slice()[0];
+    let status = bits(word, 20, 4) as u8;
+    if status > 4 {
+        return reserved(words);
+    }
+    Ok(Packet::Utility {
+        status,
+        value: bits(word, 0, 20),
+    })
+}
+
+// Whether a byte is the status of a system common or system real time message.
+fn is_system_status(status: u8) -> bool
+    ensures { result ≡ is_status status }
+{
+    matches!(
+        status,
+        0xF1 | 0xF2 | 0xF3 | 0xF6 | 0xF8 | 0xFA | 0xFB | 0xFC | 0xFE | 0xFF
+    )
+}
+
+fn system(words: &Words) -> Result<Packet, Bad>
+    requires whole { IsWhole words.now }
+    requires kind { type_of words.now ≡ 0x1 }
+    ensures { Decodes words.now result }
+{
+    let word = words.as_slice()[0];
+    if !is_system_status(byte(word, 16)) {
+        return reserved(words);
+    }
+    match system_message(words.as_slice()) {
+        Some(message) => Ok(Packet::System {
+            group: nibble(word, 24),
+            message,
+        }),
+        None => Err(Bad::HighBit),
+    }
+}
+
+fn voice1(words: &Words) -> Result<Packet, Bad>
+    requires whole { IsWhole words.now }
+    requires kind { type_of words.now ≡ 0x2 }
+    ensures { Decodes words.now result }
+{
+    let word = words.as_slice()[0];
+    if !matches!(bits(word, 20, 4), 0x8..=0xE) {
+        return reserved(words);
+    }
+    match voice1_message(words.as_slice()) {
+        Some(message) => Ok(Packet::Voice1 {
+            group: nibble(word, 24),
+            message,
+        }),
+        None => Err(Bad::HighBit),
+    }
+}
+
+fn voice2(words: &Words) -> Result<Packet, Bad>
+    requires whole { IsWhole words.now }
+    requires kind { type_of words.now ≡ 0x4 }
+    ensures { Decodes words.now result }
+{
+    let word = words.as_slice()[0];
+    if bits(word, 20, 4) == 0x7 {
+        return reserved(words);
+    }
+    match voice2_message(words.as_slice()) {
+        Some(message) => Ok(Packet::Voice2 {
+            group: nibble(word, 24),
+            message,
+        }),
+        None => Err(Bad::HighBit),
+    }
+}
+
+fn data8(words: &Words) -> Result<Packet, Bad>
+    requires whole { IsWhole words.now }
+    requires kind { type_of words.now ≡ 0x5 }
+    ensures { Decodes words.now result }
+{
+    Ok(Packet::Data8 {
+        group: nibble(words.as_slice()[0], 24),
+        words: words.copied(),
+    })
+}
+
+fn flex(words: &Words) -> Result<Packet, Bad>
+    requires whole { IsWhole words.now }
+    requires kind { type_of words.now ≡ 0xD }
+    ensures { Decodes words.now result }
+{
+    Ok(Packet::Flex {
+        group: nibble(words.as_slice()[0], 24),
+        words: words.copied(),
+    })
+}
+
+fn stream(words: &Words) -> Result<Packet, Bad>
+    requires whole { IsWhole words.now }
+    requires kind { type_of words.now ≡ 0xF }
+    ensures { Decodes words.now result }
+{
+    let words = words.as_slice();
+    Ok(Packet::Stream {
+        format: bits(words[0], 26, 2) as u8,
+        status: bits(words[0], 16, 10) as u16,
+        low: half(words[0], 0),
+        second: words[1],
+        third: words[2],
+        fourth: words[3],
+    })
+}
+
+// Words of a reserved type, status, opcode or form.
+fn reserved(words: &Words) -> Result<Packet, Bad>
+    requires whole { IsWhole words.now }
+    requires none { has_row words.now ≡ false }
+    ensures { Decodes words.now result }
+{
+    Ok(Packet::Reserved {
+        words: words.copied(),
+    })
+}
+
+fn exclusive(words: &Words) -> Result<Packet, Bad>
+    requires whole { IsWhole words.now }
+    requires kind { type_of words.now ≡ 0x3 }
+    ensures { Decodes words.now result }
+{
+    let word = words.as_slice()[0];
+    let Some(form) = form_of(bits(word, 20, 4)) else {
+        return reserved(words);
     };
-    let velocity = (second >> 16) as u16;
-    let attribute = (second % 0x1_0000) as u16;
-    let message = match (first >> 20) % 16 {
-        8 => Voice2::NoteOff {
-            channel,
-            note,
-            velocity,
-            attribute_type: 0,
-            attribute,
-        },
-        9 => Voice2::NoteOn {
-            channel,
-            note,
-            velocity,
-            attribute_type: 0,
-            attribute,
-        },
-        _ => return Err(Bad::NotBuilt),
-    };
-    Ok(Packet::Voice2 { group, message })
+    let count = bits(word, 16, 4) as usize;
+    if count > 6 {
+        return Err(Bad::BadCount);
+    }
+    let places = exclusive_bytes(words.as_slice());
+    let counted = &places[..count];
+    if has_high(counted) {
+        return Err(Bad::HighBit);
+    }
+    let mut bytes = ShortList::new();
+    bytes.extend(counted);
+    Ok(Packet::Exclusive {
+        group: nibble(word, 24),
+        form,
+        bytes,
+    })
+}
+
+// The form of this number; `None` exactly where there is none.
+fn form_of(number: u32) -> Option<Form>
+    ensures { MatchOption result (3 < number) (λ form. number ≡ form_number form) }
+{
+    match number {
+        0 => Some(Form::Complete),
+        1 => Some(Form::Start),
+        2 => Some(Form::Continue),
+        3 => Some(Form::End),
+        _ => None,
+    }
+}
+
+// Bytes 3 to 8.
+fn exclusive_bytes(words: &[u32]) -> [u8; 6]
+    requires { length words.now ≡ 2 }
+    ensures { result ≡ exclusive_places words.now }
+{
+    [
+        byte(words[0], 8),
+        byte(words[0], 0),
+        byte(words[1], 24),
+        byte(words[1], 16),
+        byte(words[1], 8),
+        byte(words[1], 0),
+    ]
+}
+
+// Whether some byte is 128 or more.
+fn has_high(bytes: &[u8]) -> bool
+    ensures { result ≡ is_any_high bytes.now }
+{
+    bytes.iter().any(|byte| *byte >= 128)
 }

@@ -1,18 +1,70 @@
 // What a packet says.
+use midi_edge::ShortList;
 use thiserror::Error;
-use voice_messages::{U4, Voice2};
+use ump_words::Words;
+use voice_messages::{Form, System, U4, Voice1, Voice2};
 
 /// A packet of the Universal MIDI Packet format (M2-104-UM).
-#[derive(Clone, Copy, Debug, PartialEq, Eq)]
+#[derive(Debug, PartialEq, Eq, Drop)]
 pub enum Packet {
+    /// Type 0, of a status 0 to 4 with a value of 20 bits.
+    Utility {
+        status: u8,
+        value: u32,
+    },
+    /// Type 1: system common and real time.
+    System {
+        group: U4,
+        message: System,
+    },
+    /// Type 2: channel voice messages of the MIDI 1.0 protocol.
+    Voice1 {
+        group: U4,
+        message: Voice1,
+    },
+    /// Type 3: up to six bytes of a 7-bit exclusive, each below 128.
+    Exclusive {
+        group: U4,
+        form: Form,
+        bytes: ShortList<u8, 6>,
+    },
     /// Type 4: channel voice messages of the MIDI 2.0 protocol.
-    Voice2 { group: U4, message: Voice2 },
+    Voice2 {
+        group: U4,
+        message: Voice2,
+    },
+    /// Type 5: 8-bit exclusives and mixed data, unread.
+    Data8 {
+        group: U4,
+        words: Words,
+    },
+    /// Type D: flex data, unread.
+    Flex {
+        group: U4,
+        words: Words,
+    },
+    /// Type F: stream messages, of a format 0 to 3 and a status of 10 bits.
+    Stream {
+        format: u8,
+        status: u16,
+        low: u16,
+        second: u32,
+        third: u32,
+        fourth: u32,
+    },
+    /// A reserved type, status, opcode or form.
+    Reserved {
+        words: Words,
+    },
 }
 
 /// Why the words of a packet are refused.
 #[derive(Clone, Copy, Debug, PartialEq, Eq, Error)]
 pub enum Bad {
-    /// The packet is none that is read so far: a Note On or Note Off without an attribute.
-    #[error("this kind of packet is not built yet")]
-    NotBuilt,
+    /// A 7-bit exclusive has a count above 6.
+    #[error("an exclusive packet counts more than six bytes")]
+    BadCount,
+    /// A byte that carries seven bits is 128 or more.
+    #[error("a data byte has its high bit set")]
+    HighBit,
 }

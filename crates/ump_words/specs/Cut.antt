@@ -72,3 +72,9 @@ pub record CutsFrom (order : Order) (limit at : ℕ) (bytes : List ℕ) (chunks 
 -- The bytes of a whole stream are these packets, and then what makes the tail.
 abbrev pub Cuts : Order → ℕ → List ℕ → List (List ℕ) → Tail → Type 0
 Cuts order limit bytes chunks tail = CutsFrom order limit 0 bytes chunks tail
+
+-- these bytes are cut into these packets, and then what makes the tail
+pub record IsCutInto (order : Order) (limit : ℕ) (bytes : List ℕ) (framed : List Framed) (tail : Tail) : Type 0 where
+  pub chunks : List (List ℕ)
+  pub cuts : Cuts order limit bytes chunks tail
+  pub same : framed ≡ framed_from order 0 chunks

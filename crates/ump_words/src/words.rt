@@ -41,6 +41,16 @@ impl Model for Words {
 }
 
 impl Words {
+    /// These words, one to four.
+    pub fn from_slice(words: &[u32]) -> Self
+        requires { (0 < length words.now) × (length words.now ≤ 4) }
+        ensures { result ≡ words.now }
+    {
+        let mut items = ShortList::new();
+        items.extend(words);
+        Words { items }
+    }
+
     /// The words, one to four.
     pub fn as_slice(&self) -> &[u32]
         ensures words { result.now ≡ self.now }

@@ -1,5 +1,5 @@
-// A number of seven bits.
-ghost use Rattle.std.specs.Prelude.{◌≡◌, ◌<◌, ◌≤◌, MatchOption};
+// Numbers of seven and fourteen bits.
+ghost use Rattle.std.specs.Prelude.{◌≡◌, ◌<◌, ◌≤◌, ◌%◌, MatchOption};
 
 use std::marker::Model;
 
@@ -33,10 +33,67 @@ impl U7 {
         }
     }
 
+    /// The low seven bits of a number.
+    pub fn low_bits(value: u32) -> Self
+        ensures { result ≡ value % 128 }
+    {
+        U7 {
+            value: (value % 128) as u8,
+        }
+    }
+
     /// The number, 0 to 127.
     pub fn get(self) -> u8
         ensures value { result ≡ self }
         ensures below { self < 128 }
+    {
+        self.value
+    }
+}
+
+/// A number below 16384, as two data bytes. To a contract it is the number.
+#[derive(Clone, Copy, Debug, PartialEq, Eq)]
+pub struct U14 {
+    value: u16,
+}
+
+impl Model for U14 {
+    ghost use Rattle.std.specs.Prelude.{ℕ, ◌<◌};
+
+    ghost Value = { ℕ };
+
+    ghost view = { λ u. u.value };
+
+    ghost invariant = { λ u. u.value < 16384 };
+
+    ghost inverse = { λ n. record { value = n } };
+}
+
+impl U14 {
+    /// The number; `None` exactly where it is 16384 or more.
+    pub fn new(value: u16) -> Option<Self>
+        ensures { MatchOption result (16384 ≤ value) (λ u. (u ≡ value) × (value < 16384)) }
+    {
+        if value < 16384 {
+            Some(U14 { value })
+        } else {
+            None
+        }
+    }
+
+    /// The low fourteen bits of a number.
+    pub fn low_bits(value: u32) -> Self
+        ensures { result ≡ value % 16384 }
+    {
+        U14 {
+            value: (value % 16384) as u16,
+        }
+    }
+
+    /// The number, 0 to 16383.
+    pub fn get(self) -> u16
+        ensures value { result ≡ self }
+        ensures below { self < 16384 }
     {
         self.value
     }

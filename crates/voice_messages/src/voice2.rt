@@ -1,9 +1,33 @@
-// Voice messages of the MIDI 2.0 protocol.
+// Messages of the MIDI 2.0 protocol.
 use crate::small::U7;
 use midi_edge::U4;
 
-/// A note message of the MIDI 2.0 protocol (M2-104-UM, MIDI 2.0 channel voice messages). Velocities and attributes have
-/// 16 bits.
+/// Which list of parameters or note controllers a number is of.
+#[derive(Clone, Copy, Debug, PartialEq, Eq)]
+pub enum ParamKind {
+    /// Registered by the standard.
+    Registered,
+    /// Assignable by the manufacturer.
+    Assignable,
+}
+
+/// A registered or assignable parameter, by the MSB (`bank`) and the LSB (`index`) of its number.
+#[derive(Clone, Copy, Debug, PartialEq, Eq)]
+pub struct Param {
+    pub kind: ParamKind,
+    pub bank: U7,
+    pub index: U7,
+}
+
+/// The bank of a program.
+#[derive(Clone, Copy, Debug, PartialEq, Eq)]
+pub struct Bank {
+    pub msb: U7,
+    pub lsb: U7,
+}
+
+/// A channel voice message of the MIDI 2.0 protocol (M2-104-UM, MIDI 2.0 channel voice messages). Velocities and
+/// attributes have 16 bits and values 32, a bend with its centre at 80000000.
 #[derive(Clone, Copy, Debug, PartialEq, Eq)]
 pub enum Voice2 {
     /// Opcode 8.
@@ -22,4 +46,77 @@ pub enum Voice2 {
         attribute_type: u8,
         attribute: u16,
     },
+    /// Opcode A.
+    PolyPressure {
+        channel: U4,
+        note: U7,
+        value: u32,
+    },
+    /// Opcode B.
+    Control {
+        channel: U4,
+        index: U7,
+        value: u32,
+    },
+    /// Opcodes 2 and 3: the value of a registered or assignable parameter.
+    Set {
+        channel: U4,
+        param: Param,
+        value: u32,
+    },
+    /// Opcodes 4 and 5: a change of a registered or assignable parameter, relative to its value.
+    Shift {
+        channel: U4,
+        param: Param,
+        value: u32,
+    },
+    /// Opcode C.
+    Program {
+        channel: U4,
+        program: U7,
+        bank: Option<Bank>,
+    },
+    /// Opcode D: pressure of the channel.
+    Pressure {
+        channel: U4,
+        value: u32,
+    },
+    /// Opcode E.
+    Bend {
+        channel: U4,
+        value: u32,
+    },
+    /// Opcodes 0 and 1: a registered or assignable controller of one note.
+    NoteController {
+        channel: U4,
+        kind: ParamKind,
+        note: U7,
+        index: u8,
+        value: u32,
+    },
+    /// Opcode 6: the bend of one note.
+    NoteBend {
+        channel: U4,
+        note: U7,
+        value: u32,
+    },
+    /// Opcode F.
+    NoteManagement {
+        channel: U4,
+        note: U7,
+        flags: u8,
+    },
+}
+
+/// Which part of a message a packet has (M2-104-UM, system exclusive and stream messages).
+#[derive(Clone, Copy, Debug, PartialEq, Eq)]
+pub enum Form {
+    /// All of it.
+    Complete,
+    /// Its start.
+    Start,
+    /// A part between its start and its end.
+    Continue,
+    /// Its end.
+    End,
 }

@@ -1,0 +1,127 @@
+use Rattle.std.proofs.Common.{ℕ, ◌+◌, ◌*◌, ◌-◌, ◌/◌, ◌^◌, ◌≡◌, ◌<◌, ◌≤◌, refl, arith, max, leb}
+use Rattle.std.proofs.lemmas.Bool.{cond_both, leb-true, leb-false}
+use Rattle.bit_scaling.specs.Scaling.{up, down7, down14, release_down, velocity_down, IsIncreasing, KeepsEnds}
+
+-- raised and lowered again
+pub down7_up : (value : ℕ) → value < 128 → down7 (up value 7 32) ≡ value
+unfolding up down7
+down7_up value h =
+    cond_both (leb value 64) _ _ (λ u. u / 2 ^ 25 ≡ value) (λ e. omega arith) (λ e. omega (arith, leb-false value 64 e))
+
+pub down14_up : (value : ℕ) → value < 16384 → down14 (up value 14 32) ≡ value
+unfolding up down14
+down14_up value h =
+    cond_both (leb value 8192) _ _ (λ u. u / 2 ^ 18 ≡ value) (λ e. omega arith) (λ e. omega (arith, leb-false value 8192 e))
+
+pub release_down_up : (velocity : ℕ) → velocity < 128 → release_down (up velocity 7 16) ≡ velocity
+unfolding up release_down
+release_down_up velocity h =
+    cond_both (leb velocity 64) _ _ (λ u. u / 512 ≡ velocity) (λ e. omega arith) (λ e. omega (arith, leb-false velocity 64 e))
+
+pub velocity_down_up : (velocity : ℕ) → 0 < velocity → velocity < 128 → velocity_down (up velocity 7 16) ≡ velocity
+unfolding up velocity_down
+velocity_down_up velocity p h =
+    cond_both (leb velocity 64) _ _ (λ u. max 1 (u / 512) ≡ velocity) (λ e. omega arith) (λ e. omega (arith, leb-false velocity 64 e))
+
+pub ruleset lowered_again = (down7_up, down14_up, release_down_up, velocity_down_up)
+
+-- what is lowered fits
+pub down7_fits : (value : ℕ) → value < 2 ^ 32 → down7 value < 128
+unfolding down7
+down7_fits value h = omega arith
+
+pub down14_fits : (value : ℕ) → value < 2 ^ 32 → down14 value < 16384
+unfolding down14
+down14_fits value h = omega arith
+
+pub release_down_fits : (velocity : ℕ) → velocity < 2 ^ 16 → release_down velocity < 128
+unfolding release_down
+release_down_fits velocity h = omega arith
+
+pub velocity_down_fits : (velocity : ℕ) → velocity < 2 ^ 16 → velocity_down velocity < 128
+unfolding velocity_down
+velocity_down_fits velocity h = omega arith
+
+pub velocity_down_above_zero : (velocity : ℕ) → 0 < velocity_down velocity
+unfolding velocity_down
+velocity_down_above_zero velocity = omega arith
+
+-- what is raised fits
+pub up_7_16_fits : (velocity : ℕ) → velocity < 128 → up velocity 7 16 < 2 ^ 16
+unfolding up
+up_7_16_fits velocity h = grind (arith, cond_both)
+
+pub up_7_32_fits : (value : ℕ) → value < 128 → up value 7 32 < 2 ^ 32
+unfolding up
+up_7_32_fits value h = grind (arith, cond_both)
+
+pub up_14_32_fits : (value : ℕ) → value < 16384 → up value 14 32 < 2 ^ 32
+unfolding up
+up_14_32_fits value h = grind (arith, cond_both)
+
+-- strictly increasing
+pub up_7_16_increases : IsIncreasing 7 16
+unfolding up
+up_7_16_increases value greater h b = grind (arith, cond_both)
+
+pub up_7_32_increases : IsIncreasing 7 32
+unfolding up
+up_7_32_increases value greater h b = grind (arith, cond_both)
+
+pub up_14_32_increases : IsIncreasing 14 32
+unfolding up
+up_14_32_increases value greater h b = grind (arith, cond_both)
+
+pub ruleset increases = (up_7_16_increases, up_7_32_increases, up_14_32_increases)
+
+-- the least, the centre and the greatest
+pub up_7_16_ends : KeepsEnds 7 16
+unfolding up
+up_7_16_ends = (refl, refl, refl)
+
+pub up_7_32_ends : KeepsEnds 7 32
+unfolding up
+up_7_32_ends = (refl, refl, refl)
+
+pub up_14_32_ends : KeepsEnds 14 32
+unfolding up
+up_14_32_ends = (refl, refl, refl)
+
+pub ruleset keeps_ends = (up_7_16_ends, up_7_32_ends, up_14_32_ends)
+
+-- up to the centre, and above it, where the bits below the highest are repeated
+pub low_7_16 : (velocity : ℕ) → velocity ≤ 64 → up velocity 7 16 ≡ velocity * 512
+unfolding up
+low_7_16 velocity h = grind (arith, cond_both)
+
+pub high_7_16 : (velocity : ℕ) → 64 < velocity → velocity < 128 → up velocity 7 16 ≡ velocity * 512 + (velocity - 64) * 8 + (velocity - 64) / 8
+unfolding up
+high_7_16 velocity l h =
+    cond_both (leb velocity 64) _ _ (λ u. u ≡ velocity * 512 + (velocity - 64) * 8 + (velocity - 64) / 8)
+    (λ e. absurd (omega (arith, leb-true velocity 64 e))) (λ e. omega arith)
+
+pub low_7_32 : (value : ℕ) → value ≤ 64 → up value 7 32 ≡ value * 2 ^ 25
+unfolding up
+low_7_32 value h = grind (arith, cond_both)
+
+pub high_7_32 : (value : ℕ) → 64 < value → value < 128 → up value 7 32 ≡ value * 2 ^ 25 + (value - 64) * 2 ^ 19 + (value - 64) * 2 ^ 13 + (value - 64) * 2 ^ 7 + (value - 64) * 2 + (value - 64) / 32
+unfolding up
+high_7_32 value l h =
+    cond_both (leb value 64) _ _ (λ u. u ≡ value * 2 ^ 25 + (value - 64) * 2 ^ 19 + (value - 64) * 2 ^ 13 + (value - 64) * 2 ^ 7 + (value - 64) * 2 + (value - 64) / 32)
+    (λ e. absurd (omega (arith, leb-true value 64 e))) (λ e. omega arith)
+
+pub low_14_32 : (value : ℕ) → value ≤ 8192 → up value 14 32 ≡ value * 2 ^ 18
+unfolding up
+low_14_32 value h = grind (arith, cond_both)
+
+pub high_14_32 : (value : ℕ) → 8192 < value → value < 16384 → up value 14 32 ≡ value * 2 ^ 18 + (value - 8192) * 32 + (value - 8192) / 256
+unfolding up
+high_14_32 value l h =
+    cond_both (leb value 8192) _ _ (λ u. u ≡ value * 2 ^ 18 + (value - 8192) * 32 + (value - 8192) / 256)
+    (λ e. absurd (omega (arith, leb-true value 8192 e))) (λ e. omega arith)
+
+pub ruleset raised_7_16 = (low_7_16, high_7_16)
+
+pub ruleset raised_7_32 = (low_7_32, high_7_32)
+
+pub ruleset raised_14_32 = (low_14_32, high_14_32)

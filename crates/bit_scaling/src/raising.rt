@@ -1,0 +1,61 @@
+// Raising: a value up to the centre is shifted; above it, the bits below its highest are repeated behind it.
+ghost use Rattle.std.specs.Prelude.{◌≡◌, ◌<◌, ◌^◌};
+ghost use Rattle.bit_scaling.specs.Scaling.{up, IsScaling};
+
+use voice_messages::{U7, U14};
+
+/// A value of `narrow` bits as one of `wide` bits (M2-115-U, min-centre-max scaling). The scalings are from 7 to 16, from
+/// 7 to 32 and from 14 to 32 bits.
+pub fn up(value: u32, narrow: u32, wide: u32) -> u32
+    requires scaling { IsScaling narrow wide }
+    requires fits { value < 2 ^ narrow }
+    ensures { result ≡ up value narrow wide }
+{
+    match (narrow, wide) {
+        (7, 16) => velocity_up(U7::low_bits(value)) as u32,
+        (7, 32) => up7(U7::low_bits(value)),
+        _ => up14(U14::low_bits(value)),
+    }
+}
+
+/// A velocity of 7 bits as one of 16 (M2-115-U).
+#[tactic(auto, using(crate::proofs::ScalingLaws::raised_7_16))]
+pub fn velocity_up(velocity: U7) -> u16
+    ensures { result ≡ up velocity 7 16 }
+{
+    let velocity = velocity.get() as u16;
+    if velocity <= 64 {
+        velocity << 9
+    } else {
+        let above = velocity - 64;
+        (velocity << 9) + (above << 3) + (above >> 3)
+    }
+}
+
+/// A value of 7 bits as one of 32 (M2-115-U).
+#[tactic(auto, using(crate::proofs::ScalingLaws::raised_7_32))]
+pub fn up7(value: U7) -> u32
+    ensures { result ≡ up value 7 32 }
+{
+    let value = value.get() as u32;
+    if value <= 64 {
+        value << 25
+    } else {
+        let above = value - 64;
+        (value << 25) + (above << 19) + (above << 13) + (above << 7) + (above << 1) + (above >> 5)
+    }
+}
+
+/// A value of 14 bits as one of 32 (M2-115-U).
+#[tactic(auto, using(crate::proofs::ScalingLaws::raised_14_32))]
+pub fn up14(value: U14) -> u32
+    ensures { result ≡ up value 14 32 }
+{
+    let value = value.get() as u32;
+    if value <= 8192 {
+        value << 18
+    } else {
+        let above = value - 8192;
+        (value << 18) + (above << 5) + (above >> 8)
+    }
+}

@@ -1,0 +1,23 @@
+// What holds of all streams of bytes, which are listed the newest first.
+ghost use Rattle.std.specs.Prelude.{◌≡◌, ℕ, List, [], ◌∷◌, reverse, None, IfSome};
+ghost use Rattle.std.specs.List.{AllByRecursion, flat_map};
+ghost use Rattle.voice_messages.specs.declared.voice1.Voice1.TheVariants as voice1;
+ghost use Rattle.voice_messages.specs.declared.voice1.System.TheVariants as system;
+ghost use Rattle.midi1_bytes.specs.Messages.{Message, voice, real_time, IsMessage, spelled};
+ghost use Rattle.midi1_bytes.specs.Steps.{ReadsAs, completed, completed_by, step_of};
+ghost use Rattle.midi1_bytes.specs.Stream.{Room, open_in};
+
+/// Written messages are read again from any bytes in which nothing is open, and leave nothing open.
+pub fn written_messages_are_read_again()
+    ensures { (messages : List Message) (past : List ℕ) → AllByRecursion IsMessage messages → open_in None past ≡ None → ReadsAs past (flat_map spelled messages) messages }
+{}
+
+/// The message that a byte completes, if it completes one, has its fields in range.
+pub fn completed_messages_are_in_range()
+    ensures { (room : Room) (past : List ℕ) (byte : ℕ) → IfSome (completed_by (step_of room past byte)) IsMessage }
+{}
+
+/// A clock between the data bytes of a note under running status: the bytes complete a note, the clock, and a note.
+pub fn a_clock_stands_between_data_bytes()
+    ensures { completed (reverse (0x90 ∷ 0x3c ∷ 0x64 ∷ 0x3e ∷ 0xf8 ∷ 0x64 ∷ [])) ≡ voice (voice1.NoteOn 0 0x3c 0x64) ∷ real_time system.Clock ∷ voice (voice1.NoteOn 0 0x3e 0x64) ∷ [] }
+{}

@@ -1,0 +1,14 @@
+//! What the bytes of a MIDI 1.0 stream say, and the bytes of each message.
+#![tactic(auto)]
+
+pub mod laws;
+pub mod slow;
+pub mod step;
+pub mod writers;
+
+pub use crate::step::{AfterCut, CutKind};
+pub use crate::writers::{write_system, write_voice};
+pub use voice_messages::{System, U4, U7, U14, Voice1};
+
+#[cfg(test)]
+mod tests;

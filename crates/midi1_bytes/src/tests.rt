@@ -1,0 +1,108 @@
+// Worked rows: bytes, and what each of them does.
+use super::*;
+use crate::slow::{SlowStep, slow_step};
+use std::alloc::{AllocError, Global};
+use std::process::Abort;
+use std::test::Fail;
+
+// Runs the slow program over the bytes with a room of two bytes.
+fn check_row(
+    rt: &impl Abort,
+    alloc: Global,
+    bytes: &[u8],
+    steps: &[SlowStep],
+) -> Result<(), AllocError> {
+    let mut past = Vec::new(alloc);
+    assert_eq!(rt; bytes.len(), steps.len());
+    for (&byte, &step) in bytes.iter().zip(steps) {
+        assert_eq!(rt; slow_step(past.as_slice(), byte, 2), step, "at {byte}");
+        past.insert(0, byte)?;
+    }
+    Ok(())
+}
+
+fn note_on(note: u8, velocity: u8) -> SlowStep {
+    SlowStep::Voice(Voice1::NoteOn {
+        channel: U4::low_bits(0),
+        note: U7::low_bits(u32::from(note)),
+        velocity: U7::low_bits(u32::from(velocity)),
+    })
+}
+
+// What a status cuts off, and what comes of it besides.
+fn cut(start: usize, what: CutKind, after: AfterCut) -> SlowStep {
+    SlowStep::Cut { start, what, after }
+}
+
+fn held() -> SlowStep {
+    SlowStep::Held
+}
+
+fn clock() -> SlowStep {
+    SlowStep::RealTime(System::Clock)
+}
+
+fn begins(start: usize) -> SlowStep {
+    cut(start, CutKind::Message, AfterCut::Begins)
+}
+
+fn tune_in_exclusive(start: usize) -> SlowStep {
+    cut(start, CutKind::Exclusive, AfterCut::Tune)
+}
+
+#[test]
+fn running_status_goes_on_behind_real_time(rt: HostRuntime) -> Result<(), Fail> {
+    let bytes = [0x90, 60, 100, 62, 0xf8, 100];
+    let steps = [
+        held(),
+        held(),
+        note_on(60, 100),
+        held(),
+        clock(),
+        note_on(62, 100),
+    ];
+    check_row(&rt, rt.alloc(), &bytes, &steps)?;
+    let bytes = [0x90, 60, 100, 62, 0xf8, 0xf1];
+    let steps = [held(), held(), note_on(60, 100), held(), clock(), begins(3)];
+    check_row(&rt, rt.alloc(), &bytes, &steps)?;
+    Ok(())
+}
+
+#[test]
+fn what_is_open_is_cut(rt: HostRuntime) -> Result<(), Fail> {
+    let bytes = [5, 0x90, 60, 0xf0, 1, 0xf6, 0xf7];
+    let steps = [
+        SlowStep::Stray,
+        held(),
+        held(),
+        begins(1),
+        held(),
+        tune_in_exclusive(3),
+        SlowStep::Stray,
+    ];
+    check_row(&rt, rt.alloc(), &bytes, &steps)?;
+    let steps = [held(), held(), held(), SlowStep::Exclusive(2)];
+    check_row(&rt, rt.alloc(), &[0xf0, 1, 2, 0xf7], &steps)?;
+    let steps = [
+        held(),
+        held(),
+        held(),
+        SlowStep::TooLong,
+        SlowStep::Stray,
+        SlowStep::Stray,
+    ];
+    check_row(&rt, rt.alloc(), &[0xf0, 1, 2, 3, 4, 0xf7], &steps)?;
+    Ok(())
+}
+
+#[test]
+fn the_low_bits_come_first(rt: HostRuntime) {
+    let centre = Voice1::Bend {
+        channel: U4::low_bits(2),
+        value: U14::low_bits(8192),
+    };
+    assert_eq!(rt; write_voice(&centre).as_slice(), [0xe2, 0, 0x40].as_slice());
+    let position = System::Position(U14::low_bits(129));
+    assert_eq!(rt; write_system(&position).as_slice(), [0xf2, 1, 1].as_slice());
+    assert_eq!(rt; write_system(&System::Tune).as_slice(), [0xf6].as_slice());
+}

@@ -1,0 +1,4 @@
+pub mod Fields
+pub mod Voice1Lines
+pub mod Voice2Lines
+pub mod PacketLines

@@ -1,0 +1,115 @@
+// The lines of packets.
+ghost use Rattle.std.specs.Prelude.{◌≡◌, ◌≤◌, ◌+◌, ◌*◌, ◌++◌, length, codes, decimal};
+ghost use Rattle.midi_lines.specs.Fields.{hex_words, field};
+ghost use Rattle.midi_lines.specs.PacketLines.{packet_fields, packet_text, form_word, utility, exclusive, stream};
+
+use crate::put::{
+    Line, put_decimal, put_field, put_hex, put_hex_bytes, put_hex_field, put_text, put_word_field,
+};
+use crate::voice1::{put_system, put_voice1};
+use crate::voice2::put_voice2;
+use midi_edge::ShortList;
+use ump_grammar::Packet;
+use voice_messages::{Form, U4};
+
+/// The line of a packet that stands at this offset, with its one to four words: the offset in decimal digits, each word in
+/// eight hexadecimal digits, the kind of the packet and its fields.
+pub fn packet_line(packet: &Packet, words: &[u32], offset: u64) -> Line
+    requires { length words.now ≤ 4 }
+    ensures { result ≡ packet_text packet.now words.now offset }
+{
+    let mut line = Line::new();
+    put_decimal(&mut line, offset);
+    put_words(&mut line, words);
+    put_text(&mut line, " ");
+    put_packet(&mut line, packet);
+    put_text(&mut line, "\n");
+    line
+}
+
+// Each word with a space before it.
+fn put_words(line: &mut Line, words: &[u32])
+    requires few { length words.now ≤ 4 }
+    requires room { length line.old ≤ 20 }
+    ensures text { line.new ≡ line.old ++ hex_words words.now }
+    ensures room { length line.new ≤ length line.old + 36 }
+{
+    for word in words {
+        put_text(line, " ");
+        put_hex(line, 8, *word);
+    }
+}
+
+// The kind of a packet and its fields.
+fn put_packet(line: &mut Line, packet: &Packet)
+    requires { length line.old ≤ 60 }
+    ensures text { line.new ≡ line.old ++ packet_fields packet.now }
+    ensures room { length line.new ≤ 240 }
+{
+    match packet {
+        Packet::Utility { status, value } => put_utility(line, *status, *value),
+        Packet::System { group, message } => put_system(line, *group, message),
+        Packet::Voice1 { group, message } => put_voice1(line, *group, message),
+        Packet::Exclusive { group, form, bytes } => put_exclusive(line, *group, *form, bytes),
+        Packet::Voice2 { group, message } => put_voice2(line, *group, message),
+        Packet::Data8 { group, .. } => put_group(line, "data8", *group),
+        Packet::Flex { group, .. } => put_group(line, "flex", *group),
+        Packet::Stream { format, status, .. } => put_stream(line, *format, *status),
+        Packet::Reserved { .. } => put_text(line, "reserved"),
+    }
+}
+
+fn put_utility(line: &mut Line, status: u8, value: u32)
+    requires { length line.old ≤ 60 }
+    ensures text { line.new ≡ line.old ++ utility status value }
+    ensures room { length line.new ≤ 240 }
+{
+    put_text(line, "utility");
+    put_field(line, "status", status as u32);
+    put_field(line, "value", value);
+}
+
+// A kind whose only field is the group.
+fn put_group(line: &mut Line, kind: &str, group: U4)
+    requires { length line.old + length kind.now ≤ 80 }
+    ensures text { line.new ≡ line.old ++ kind.now ++ field (codes "group") group }
+    ensures room { length line.new ≤ 240 }
+{
+    put_text(line, kind);
+    put_field(line, "group", group.get() as u32);
+}
+
+// The word of a form.
+fn form_name(form: Form) -> &'static str
+    ensures word { result.now ≡ form_word form }
+    ensures size { length result.now ≤ 8 }
+{
+    match form {
+        Form::Complete => "complete",
+        Form::Start => "start",
+        Form::Continue => "continue",
+        Form::End => "end",
+    }
+}
+
+fn put_exclusive(line: &mut Line, group: U4, form: Form, bytes: &ShortList<u8, 6>)
+    requires { length line.old ≤ 60 }
+    ensures text { line.new ≡ line.old ++ exclusive group form bytes.now }
+    ensures room { length line.new ≤ 240 }
+{
+    put_text(line, "exclusive");
+    put_field(line, "group", group.get() as u32);
+    put_word_field(line, "form", form_name(form));
+    put_text(line, " bytes=");
+    put_hex_bytes(line, bytes.as_slice());
+}
+
+fn put_stream(line: &mut Line, format: u8, status: u16)
+    requires { length line.old ≤ 60 }
+    ensures text { line.new ≡ line.old ++ stream format status }
+    ensures room { length line.new ≤ 240 }
+{
+    put_text(line, "stream");
+    put_field(line, "format", format as u32);
+    put_hex_field(line, "status", 3, status as u32);
+}

@@ -1,0 +1,121 @@
+// The lines of messages of the MIDI 1.0 protocol, from their kind on.
+ghost use Rattle.std.specs.Prelude.{◌≡◌, ◌≤◌, ◌+◌, ◌++◌, length, codes};
+ghost use Rattle.midi_lines.specs.Fields.{field, group_and_channel};
+ghost use Rattle.midi_lines.specs.Voice1Lines.{voice1_fields, system_fields, system_status, m1_program};
+
+use crate::put::{Line, put_field, put_hex_field, put_text};
+use crate::voice::{put_control, put_note_value, put_value, put_voice};
+use voice_messages::{System, U4, U7, Voice1};
+
+/// Adds the kind and the fields of a channel voice message.
+pub fn put_voice1(line: &mut Line, group: U4, message: &Voice1)
+    requires { length line.old ≤ 60 }
+    ensures text { line.new ≡ line.old ++ voice1_fields group message.now }
+    ensures room { length line.new ≤ 240 }
+{
+    match message {
+        Voice1::NoteOff {
+            channel,
+            note,
+            velocity,
+        } => put_note(line, "m1-note-off", group, *channel, *note, *velocity),
+        Voice1::NoteOn {
+            channel,
+            note,
+            velocity,
+        } => put_note(line, "m1-note-on", group, *channel, *note, *velocity),
+        Voice1::PolyPressure {
+            channel,
+            note,
+            value,
+        } => put_note_value(line, "m1-poly", group, *channel, *note, value.get() as u32),
+        Voice1::Control {
+            channel,
+            index,
+            value,
+        } => put_control(
+            line,
+            "m1-control",
+            group,
+            *channel,
+            *index,
+            value.get() as u32,
+        ),
+        Voice1::Program { channel, program } => put_program(line, group, *channel, *program),
+        Voice1::Pressure { channel, value } => put_value(
+            line,
+            "m1-pressure",
+            group,
+            *channel,
+            value.get() as u32,
+        ),
+        Voice1::Bend { channel, value } => put_value(
+            line,
+            "m1-bend",
+            group,
+            *channel,
+            value.get() as u32,
+        ),
+    }
+}
+
+fn put_note(line: &mut Line, kind: &str, group: U4, channel: U4, note: U7, velocity: U7)
+    requires { length line.old + length kind.now ≤ 100 }
+    ensures text { line.new
+        ≡ line.old ++ kind.now ++ group_and_channel group channel ++ field (codes "note") note ++ field (codes "velocity") velocity }
+    ensures room { length line.new ≤ 240 }
+{
+    put_voice(line, kind, group, channel);
+    put_field(line, "note", note.get() as u32);
+    put_field(line, "velocity", velocity.get() as u32);
+}
+
+fn put_program(line: &mut Line, group: U4, channel: U4, program: U7)
+    requires { length line.old ≤ 60 }
+    ensures text { line.new ≡ line.old ++ m1_program group channel program }
+    ensures room { length line.new ≤ 240 }
+{
+    put_voice(line, "m1-program", group, channel);
+    put_field(line, "program", program.get() as u32);
+}
+
+/// Adds the kind and the fields of a system message.
+pub fn put_system(line: &mut Line, group: U4, message: &System)
+    requires { length line.old ≤ 60 }
+    ensures text { line.new ≡ line.old ++ system_fields group message.now }
+    ensures room { length line.new ≤ 240 }
+{
+    match message {
+        System::Quarter(value) => put_common(line, group, 0xF1, value.get() as u32),
+        System::Position(value) => put_common(line, group, 0xF2, value.get() as u32),
+        System::Song(value) => put_common(line, group, 0xF3, value.get() as u32),
+        System::Tune => put_status(line, group, 0xF6),
+        System::Clock => put_status(line, group, 0xF8),
+        System::Start => put_status(line, group, 0xFA),
+        System::Continue => put_status(line, group, 0xFB),
+        System::Stop => put_status(line, group, 0xFC),
+        System::Sensing => put_status(line, group, 0xFE),
+        System::Reset => put_status(line, group, 0xFF),
+    }
+}
+
+// A system common message with its value.
+fn put_common(line: &mut Line, group: U4, status: u8, value: u32)
+    requires { length line.old ≤ 60 }
+    ensures text { line.new ≡ line.old ++ system_status group status ++ field (codes "value") value }
+    ensures room { length line.new ≤ 240 }
+{
+    put_status(line, group, status);
+    put_field(line, "value", value);
+}
+
+// A system message by its status byte.
+fn put_status(line: &mut Line, group: U4, status: u8)
+    requires { length line.old ≤ 60 }
+    ensures text { line.new ≡ line.old ++ system_status group status }
+    ensures room { length line.new ≤ 120 }
+{
+    put_text(line, "system");
+    put_field(line, "group", group.get() as u32);
+    put_hex_field(line, "status", 2, status as u32);
+}

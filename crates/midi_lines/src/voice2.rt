@@ -1,0 +1,184 @@
+// The lines of messages of the MIDI 2.0 protocol, from their kind on.
+ghost use Rattle.std.specs.Prelude.{◌≡◌, ◌≤◌, ◌+◌, ◌++◌, length, codes};
+ghost use Rattle.midi_lines.specs.Fields.{field, word_field, group_and_channel};
+ghost use Rattle.midi_lines.specs.Voice2Lines.{voice2_fields, kind_word, bank_field, param_fields, controller_fields, program, note_management};
+
+use crate::put::{Line, put_decimal, put_field, put_text, put_word_field};
+use crate::voice::{put_control, put_note_value, put_value, put_voice};
+use voice_messages::{Bank, Param, ParamKind, U4, U7, Voice2};
+
+/// Adds the kind and the fields of a channel voice message.
+pub fn put_voice2(line: &mut Line, group: U4, message: &Voice2)
+    requires { length line.old ≤ 60 }
+    ensures text { line.new ≡ line.old ++ voice2_fields group message.now }
+    ensures room { length line.new ≤ 240 }
+{
+    match message {
+        Voice2::NoteOff {
+            channel,
+            note,
+            velocity,
+            attribute_type,
+            attribute,
+        } => {
+            put_voice(line, "note-off", group, *channel);
+            put_note(line, *note, *velocity, *attribute_type, *attribute);
+        }
+        Voice2::NoteOn {
+            channel,
+            note,
+            velocity,
+            attribute_type,
+            attribute,
+        } => {
+            put_voice(line, "note-on", group, *channel);
+            put_note(line, *note, *velocity, *attribute_type, *attribute);
+        }
+        Voice2::PolyPressure {
+            channel,
+            note,
+            value,
+        } => put_note_value(line, "poly", group, *channel, *note, *value),
+        Voice2::Control {
+            channel,
+            index,
+            value,
+        } => put_control(line, "control", group, *channel, *index, *value),
+        Voice2::Set {
+            channel,
+            param,
+            value,
+        } => put_param(line, "parameter", group, *channel, *param, *value),
+        Voice2::Shift {
+            channel,
+            param,
+            value,
+        } => put_param(line, "relative", group, *channel, *param, *value),
+        Voice2::Program {
+            channel,
+            program,
+            bank,
+        } => put_program(line, group, *channel, *program, bank),
+        Voice2::Pressure { channel, value } => put_value(line, "pressure", group, *channel, *value),
+        Voice2::Bend { channel, value } => put_value(line, "bend", group, *channel, *value),
+        Voice2::NoteController {
+            channel,
+            kind,
+            note,
+            index,
+            value,
+        } => {
+            put_voice(line, "note-controller", group, *channel);
+            put_controller_fields(line, *kind, *note, *index);
+            put_field(line, "value", *value);
+        }
+        Voice2::NoteBend {
+            channel,
+            note,
+            value,
+        } => put_note_value(line, "note-bend", group, *channel, *note, *value),
+        Voice2::NoteManagement {
+            channel,
+            note,
+            flags,
+        } => put_note_management(line, group, *channel, *note, *flags),
+    }
+}
+
+// The fields of a note off or note on behind its channel.
+fn put_note(line: &mut Line, note: U7, velocity: u16, attribute_type: u8, attribute: u16)
+    requires { length line.old ≤ 125 }
+    ensures text { line.new
+        ≡ line.old ++ field (codes "note") note ++ field (codes "velocity") velocity ++ field (codes "type") attribute_type ++ field (codes "attribute") attribute }
+    ensures room { length line.new ≤ 240 }
+{
+    put_field(line, "note", note.get() as u32);
+    put_field(line, "velocity", velocity as u32);
+    put_field(line, "type", attribute_type as u32);
+    put_field(line, "attribute", attribute as u32);
+}
+
+// The word of a kind of parameter.
+fn kind_name(kind: ParamKind) -> &'static str
+    ensures word { result.now ≡ kind_word kind }
+    ensures size { length result.now ≡ 10 }
+{
+    match kind {
+        ParamKind::Registered => "registered",
+        ParamKind::Assignable => "assignable",
+    }
+}
+
+// The kind and the number of a parameter.
+#[tactic(auto, unfolding(crate::specs::Voice2Lines::param_fields))]
+fn put_param_fields(line: &mut Line, param: Param)
+    requires { length line.old ≤ 160 }
+    ensures text { line.new ≡ line.old ++ param_fields param }
+    ensures room { length line.new ≤ length line.old + 70 }
+{
+    put_word_field(line, "kind", kind_name(param.kind));
+    put_field(line, "bank", param.bank.get() as u32);
+    put_field(line, "index", param.index.get() as u32);
+}
+
+// A value of a parameter, or a change of its value.
+fn put_param(line: &mut Line, kind: &str, group: U4, channel: U4, param: Param, value: u32)
+    requires { length line.old + length kind.now ≤ 80 }
+    ensures text { line.new
+        ≡ line.old ++ kind.now ++ group_and_channel group channel ++ param_fields param ++ field (codes "value") value }
+    ensures room { length line.new ≤ 240 }
+{
+    put_voice(line, kind, group, channel);
+    put_param_fields(line, param);
+    put_field(line, "value", value);
+}
+
+fn put_program(line: &mut Line, group: U4, channel: U4, number: U7, bank: &Option<Bank>)
+    requires { length line.old ≤ 60 }
+    ensures text { line.new ≡ line.old ++ program group channel number bank.now }
+    ensures room { length line.new ≤ 240 }
+{
+    put_voice(line, "program", group, channel);
+    put_field(line, "program", number.get() as u32);
+    put_bank(line, bank);
+}
+
+// The bank of a program.
+#[tactic(auto, unfolding(crate::specs::Voice2Lines::bank_field))]
+fn put_bank(line: &mut Line, bank: &Option<Bank>)
+    requires { length line.old ≤ 180 }
+    ensures text { line.new ≡ line.old ++ bank_field bank.now }
+    ensures room { length line.new ≤ length line.old + 50 }
+{
+    match bank {
+        None => put_text(line, " bank=none"),
+        Some(bank) => {
+            put_text(line, " bank=");
+            put_decimal(line, bank.msb.get() as u64);
+            put_text(line, "/");
+            put_decimal(line, bank.lsb.get() as u64);
+        }
+    }
+}
+
+// The kind, the note and the index of a note controller.
+#[tactic(auto, unfolding(crate::specs::Voice2Lines::controller_fields))]
+fn put_controller_fields(line: &mut Line, kind: ParamKind, note: U7, index: u8)
+    requires { length line.old ≤ 160 }
+    ensures text { line.new ≡ line.old ++ controller_fields kind note index }
+    ensures room { length line.new ≤ length line.old + 70 }
+{
+    put_word_field(line, "kind", kind_name(kind));
+    put_field(line, "note", note.get() as u32);
+    put_field(line, "index", index as u32);
+}
+
+fn put_note_management(line: &mut Line, group: U4, channel: U4, note: U7, flags: u8)
+    requires { length line.old ≤ 60 }
+    ensures text { line.new ≡ line.old ++ note_management group channel note flags }
+    ensures room { length line.new ≤ 240 }
+{
+    put_voice(line, "note-management", group, channel);
+    put_field(line, "note", note.get() as u32);
+    put_field(line, "flags", flags as u32);
+}

@@ -1,0 +1,32 @@
+// From packets to lines.
+ghost use Rattle.std.specs.Prelude.{◌≡◌, ℕ, List, Option, IfSome};
+ghost use Rattle.midi_tool.specs.Command.{show as show_lines};
+ghost use Rattle.midi_tool.specs.Outcome.{Says, Counts};
+
+use crate::next::{LIMIT, Next, next_packet};
+use crate::status::RunEnd;
+use midi_edge::{Sink, Source};
+use midi_lines::packet_line;
+use ump_words::{Order, WordReader};
+
+/// Puts a line for each packet of a recording, to its end or to the first packet that is refused. `ReadFault` and
+/// `OutputFault` come only where the count of that object rose; the lines before then stand.
+pub fn show<S: Source, W: Sink>(input: &mut S, output: &mut W) -> RunEnd
+    ensures content { (pieces : Option (List (ℕ × List ℕ))) → IfSome (S.left input.old) (λ bytes. Says show_lines bytes (S.left input.new)
+        (record { pieces = pieces; held = W.held output.old }) (record { pieces = pieces; held = W.held output.new }) result) }
+    ensures counts { Counts RunEnd.OutputFault result (S.faults input.old) (S.faults input.new) (W.faults output.old) (W.faults output.new) }
+{
+    let mut reader = WordReader::new(Order::Big, LIMIT);
+    loop {
+        match next_packet(&mut reader, input) {
+            Next::Packet { framed, packet } => {
+                let line = packet_line(&packet, framed.words.as_slice(), framed.offset);
+                match output.put(line.as_slice()) {
+                    Ok(()) => {}
+                    Err(_) => return RunEnd::OutputFault,
+                }
+            }
+            Next::Stop(end) => return end,
+        }
+    }
+}

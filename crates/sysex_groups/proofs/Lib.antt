@@ -1,0 +1,5 @@
+pub mod BufferLaws
+pub mod CutLaws
+pub mod DataLaws
+pub mod ExclusiveLaws
+pub mod TableLaws

@@ -1,0 +1,6 @@
+pub mod Buffers
+pub mod Cut
+pub mod Exclusives
+pub mod Fed
+pub mod Lend
+pub mod Table

@@ -1,0 +1,185 @@
+// The buffer of one group.
+ghost use Rattle.std.specs.Prelude.{◌≡◌, ◌≤◌, ◌+◌, ◌∷◌, ◌++◌, [], Some, None, length, take, vec_len, vec_capacity, nat_lt, IfOk, drop};
+ghost use Rattle.std.specs.Option.{ForSome};
+ghost use Rattle.sysex_groups.specs.Exclusives.{IsData, LendsData, framed};
+ghost use Rattle.voice_messages.specs.declared.voice2.Form.TheVariants as form;
+
+use crate::fed::Fed;
+use std::alloc::{AllocError, Global};
+use voice_messages::Form;
+
+const START_OF_EXCLUSIVE: u8 = 0xF0;
+
+const END_OF_EXCLUSIVE: u8 = 0xF7;
+
+/// The exclusive that a group has begun, if any. The bytes begin with F0 always; F7 is put behind them at the end. There is
+/// memory for `room` bytes between the two.
+#[derive(Drop)]
+pub struct Buffer {
+    start: Option<u64>,
+    bytes: Vec<u8>,
+    room: u32,
+    ghost reserved: { room + 2 ≤ vec_capacity bytes },
+    ghost framed: { take 1 bytes.items ≡ 240 ∷ [] },
+    ghost whole_packet: { 6 ≤ room },
+    ghost data_bytes: { ForSome start (λ _. IsData (drop 1 bytes.items)) },
+}
+
+/// Adds bytes for which memory is reserved.
+fn append(bytes: &mut Vec<u8>, more: &[u8])
+    requires { vec_len bytes.old + length more.now ≤ vec_capacity bytes.old }
+    ensures items { bytes.new.items ≡ bytes.old.items ++ more.now }
+    ensures capacity { vec_capacity bytes.old ≤ vec_capacity bytes.new }
+{
+    match bytes.extend_from_slice(more) {
+        Ok(()) => {}
+        Err(_) => unreachable!(),
+    }
+}
+
+/// Ends the exclusive that begins with F0: adds its last bytes and F7.
+fn close(bytes: &mut Vec<u8>, last: &[u8])
+    requires begins { take 1 bytes.old.items ≡ 240 ∷ [] }
+    requires room { vec_len bytes.old + length last.now + 1 ≤ vec_capacity bytes.old }
+    ensures items { bytes.new.items ≡ framed (drop 1 bytes.old.items ++ last.now) }
+    ensures capacity { vec_capacity bytes.old ≤ vec_capacity bytes.new }
+{
+    append(bytes, last);
+    append(bytes, &[END_OF_EXCLUSIVE]);
+}
+
+impl Buffer {
+    ghost use Rattle.sysex_groups.specs.Buffers.{state_of, idle, answer_in, after_in, KeepsState};
+    ghost use Rattle.sysex_groups.specs.Fed.{fed_view};
+    ghost use Rattle.std.specs.Option.{option_map};
+    ghost use Rattle.std.specs.Borrow.{sem};
+
+    /// A buffer in which nothing is begun, with memory for `room` bytes between F0 and F7.
+    pub fn new(alloc: Global, room: u32) -> Result<Buffer, AllocError>
+        requires { 6 ≤ room }
+        ensures { IfOk result (λ buffer. state_of buffer ≡ idle room) }
+    {
+        let mut bytes = Vec::with_capacity(alloc, room as usize + 2)?;
+        bytes.push(START_OF_EXCLUSIVE)?;
+        Ok(Buffer {
+            start: None,
+            bytes,
+            room,
+        })
+    }
+
+    /// The offset of the start of the exclusive that is begun.
+    pub fn begun_at(&self) -> Option<u64>
+        ensures { result ≡ option_map (λ begun. begun.start) (state_of self.now).begun }
+    {
+        self.start
+    }
+
+    /// Drops what was begun, F0 aside.
+    fn clear(&mut self)
+        ensures state { state_of self.new ≡ idle (state_of self.old).room }
+        ensures bytes { self.new.bytes.items ≡ 240 ∷ [] }
+    {
+        self.start = None;
+        self.bytes.truncate(1);
+    }
+
+    /// Whether the exclusive that is begun would have more bytes with these than the room.
+    fn passes_room(&self, bytes: &[u8]) -> bool
+        ensures { result ≡ nat_lt (self.now.room + 1) (length self.now.bytes.items + length bytes.now) }
+    {
+        // F0 is held too.
+        self.bytes.len() + bytes.len() > self.room as usize + 1
+    }
+
+    /// Begins an exclusive.
+    fn begin(&mut self, bytes: &[u8], offset: u64) -> Fed<'_>
+        requires few { length bytes.now ≤ 6 }
+        requires data_bytes { IsData bytes.now }
+        ensures answer { fed_view result ≡ answer_in (state_of self.old) form.Start bytes.now }
+        ensures data_bytes { LendsData (fed_view result) }
+        ensures* after { sem 𝓛 (KeepsState self.entry (after_in (state_of self.old) form.Start bytes.now offset)) }
+    {
+        let cut_at = self.start;
+        self.clear();
+        append(&mut self.bytes, bytes);
+        self.start = Some(offset);
+        match cut_at {
+            None => Fed::Held,
+            Some(cut_at) => Fed::Restarted { cut_at },
+        }
+    }
+
+    /// Takes an exclusive of one packet.
+    fn complete(&mut self, bytes: &[u8]) -> Fed<'_>
+        requires few { length bytes.now ≤ 6 }
+        requires data_bytes { IsData bytes.now }
+        ensures answer { fed_view result ≡ answer_in (state_of self.old) form.Complete bytes.now }
+        ensures data_bytes { LendsData (fed_view result) }
+        ensures* after { sem 𝓛 (KeepsState self.entry (after_in (state_of self.old) form.Complete bytes.now 0)) }
+    {
+        let cut_at = self.start;
+        self.clear();
+        close(&mut self.bytes, bytes);
+        let whole = self.bytes.as_slice();
+        match cut_at {
+            None => Fed::Whole(whole),
+            Some(cut_at) => Fed::RestartedWhole { cut_at, whole },
+        }
+    }
+
+    /// Goes on with the exclusive that is begun.
+    fn go_on(&mut self, bytes: &[u8]) -> Fed<'_>
+        requires few { length bytes.now ≤ 6 }
+        requires data_bytes { IsData bytes.now }
+        ensures answer { fed_view result ≡ answer_in (state_of self.old) form.Continue bytes.now }
+        ensures data_bytes { LendsData (fed_view result) }
+        ensures* after { sem 𝓛 (KeepsState self.entry (after_in (state_of self.old) form.Continue bytes.now 0)) }
+    {
+        if self.start.is_none() {
+            return Fed::Stray;
+        }
+        if self.passes_room(bytes) {
+            self.clear();
+            return Fed::TooLong;
+        }
+        append(&mut self.bytes, bytes);
+        Fed::Held
+    }
+
+    /// Ends the exclusive that is begun.
+    fn end(&mut self, bytes: &[u8]) -> Fed<'_>
+        requires few { length bytes.now ≤ 6 }
+        requires data_bytes { IsData bytes.now }
+        ensures answer { fed_view result ≡ answer_in (state_of self.old) form.End bytes.now }
+        ensures data_bytes { LendsData (fed_view result) }
+        ensures* after { sem 𝓛 (KeepsState self.entry (after_in (state_of self.old) form.End bytes.now 0)) }
+    {
+        let Some(_) = self.start else {
+            return Fed::Stray;
+        };
+        let passed = self.passes_room(bytes);
+        self.start = None;
+        if passed {
+            return Fed::TooLong;
+        }
+        close(&mut self.bytes, bytes);
+        Fed::Whole(self.bytes.as_slice())
+    }
+
+    /// Takes one more part of the group.
+    pub fn feed(&mut self, form: Form, bytes: &[u8], offset: u64) -> Fed<'_>
+        requires few { length bytes.now ≤ 6 }
+        requires data_bytes { IsData bytes.now }
+        ensures answer { fed_view result ≡ answer_in (state_of self.old) form bytes.now }
+        ensures data_bytes { LendsData (fed_view result) }
+        ensures* after { sem 𝓛 (KeepsState self.entry (after_in (state_of self.old) form bytes.now offset)) }
+    {
+        match form {
+            Form::Complete => self.complete(bytes),
+            Form::Start => self.begin(bytes, offset),
+            Form::Continue => self.go_on(bytes),
+            Form::End => self.end(bytes),
+        }
+    }
+}

@@ -1,0 +1,51 @@
+// A payload cut into packets.
+ghost use Rattle.std.specs.Prelude.{◌≡◌, ◌<◌};
+ghost use Rattle.std.specs.Fork.{slice_chunk};
+ghost use Rattle.sysex_groups.specs.Cut.{form_at, part_at};
+
+use midi_edge::ShortList;
+use voice_messages::Form;
+
+/// How many bytes of an exclusive a packet has at most.
+const PACKET_BYTES: usize = 6;
+
+/// The form of packet `k` of `count`.
+fn form_of(count: usize, k: usize) -> Form
+    requires { k < count }
+    ensures { result ≡ form_at count k }
+{
+    if count == 1 {
+        Form::Complete
+    } else if k == 0 {
+        Form::Start
+    } else if k + 1 == count {
+        Form::End
+    } else {
+        Form::Continue
+    }
+}
+
+/// The bytes of packet `k`.
+fn bytes_of(payload: &[u8], k: usize) -> ShortList<u8, 6>
+    ensures { result ≡ slice_chunk payload.now 6 k }
+{
+    let mut bytes = ShortList::new();
+    if let Some(chunk) = payload.chunks(PACKET_BYTES).nth(k) {
+        bytes.extend(chunk);
+    }
+    bytes
+}
+
+/// Packet `k` (counted from 0) of an exclusive's payload, the bytes between F0 and F7, cut every six bytes (M2-104-UM, system
+/// exclusive 7-bit messages): one `Complete` for up to 6 bytes, else a `Start`, `Continue`s, and an `End` of 1 to 6 bytes. A
+/// payload without bytes is one `Complete` without bytes (own rule). `None` exactly past the last.
+pub fn part(payload: &[u8], k: usize) -> Option<(Form, ShortList<u8, 6>)>
+    ensures { result ≡ part_at payload.now k }
+{
+    let count = payload.len().div_ceil(PACKET_BYTES).max(1);
+    if k < count {
+        Some((form_of(count, k), bytes_of(payload, k)))
+    } else {
+        None
+    }
+}

@@ -1,0 +1,16 @@
+//! The exclusives of sixteen groups, each joined from its own packets.
+#![tactic(auto)]
+
+mod buffer;
+pub mod cutting;
+pub mod fed;
+pub mod groups;
+pub mod laws;
+
+pub use crate::cutting::part;
+pub use crate::fed::Fed;
+pub use crate::groups::Groups;
+pub use crate::laws::{cut_payload_is_joined, fed_parts_are_the_definition};
+
+#[cfg(test)]
+mod tests;

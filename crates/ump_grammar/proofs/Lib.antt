@@ -1,0 +1,4 @@
+pub mod Encoded
+pub mod Fitting
+pub mod Marked
+pub mod OnePacket

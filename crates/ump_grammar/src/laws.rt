@@ -1,0 +1,21 @@
+// Laws of the grammar.
+ghost use Rattle.std.specs.Prelude.{◌≡◌, ℕ, List, true, None};
+ghost use Rattle.ump_grammar.specs.declared.packet.Packet.{Packet};
+ghost use Rattle.ump_grammar.specs.Ranges.{IsPacket};
+ghost use Rattle.ump_grammar.specs.Reason.{reason};
+ghost use Rattle.ump_grammar.specs.Spelling.{HasRow, IsRead, Spells, has_row};
+
+/// Words spell one packet only.
+pub fn words_spell_one_packet()
+    ensures { (p q : Packet) (words : List ℕ) → Spells p words → Spells q words → p ≡ q }
+{}
+
+/// The fields of a packet that words spell fit their places, where there is no reason to refuse the words.
+pub fn spelled_packets_fit()
+    ensures { (p : Packet) (words : List ℕ) → Spells p words → reason words ≡ None → IsPacket p }
+{}
+
+/// Words that the row of a packet gives aren't reserved.
+pub fn rows_are_not_reserved()
+    ensures { (p : Packet) (words : List ℕ) → IsRead p → HasRow p words → has_row words ≡ true }
+{}

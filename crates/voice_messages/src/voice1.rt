@@ -1,0 +1,47 @@
+// Messages of the MIDI 1.0 protocol.
+use crate::small::{U7, U14};
+use midi_edge::U4;
+
+/// A channel voice message of the MIDI 1.0 protocol (MIDI 1.0 Detailed Specification, channel voice messages).
+#[derive(Clone, Copy, Debug, PartialEq, Eq)]
+pub enum Voice1 {
+    /// Status 8n.
+    NoteOff { channel: U4, note: U7, velocity: U7 },
+    /// Status 9n.
+    NoteOn { channel: U4, note: U7, velocity: U7 },
+    /// Status An: pressure of one key.
+    PolyPressure { channel: U4, note: U7, value: U7 },
+    /// Status Bn: a control change.
+    Control { channel: U4, index: U7, value: U7 },
+    /// Status Cn: a program change.
+    Program { channel: U4, program: U7 },
+    /// Status Dn: pressure of the channel.
+    Pressure { channel: U4, value: U7 },
+    /// Status En: pitch bend, 8,192 being the centre.
+    Bend { channel: U4, value: U14 },
+}
+
+/// A system common or system real time message (MIDI 1.0 Detailed Specification, system messages).
+#[derive(Clone, Copy, Debug, PartialEq, Eq)]
+pub enum System {
+    /// F1: a quarter frame of MIDI time code.
+    Quarter(U7),
+    /// F2: the song position in MIDI beats.
+    Position(U14),
+    /// F3: song select.
+    Song(U7),
+    /// F6: tune request.
+    Tune,
+    /// F8: timing clock.
+    Clock,
+    /// FA: start.
+    Start,
+    /// FB: continue.
+    Continue,
+    /// FC: stop.
+    Stop,
+    /// FE: active sensing.
+    Sensing,
+    /// FF: system reset.
+    Reset,
+}

@@ -1,0 +1,121 @@
+-- The main induction: one more packet, with its plain piece, keeps what the lanes denote.
+use Rattle.std.proofs.Common.{ℕ, ◌≡◌, ◌<◌, ◌∙◌, ap, sym, refl, subst, arith, List, [], ◌∷◌, ◌++◌, reverse, Option, Some, None, Bool, true, false, cond}
+use Rattle.std.proofs.lemmas.Bool.{cond_both}
+use Rattle.std.proofs.lemmas.Grind.{fold-append}
+use Rattle.std.specs.Option.{IfSome}
+use Rattle.std.specs.List.{fold, flat_map, AllByRecursion}
+use Rattle.voice_messages.specs.declared.voice1.System.{System}
+use Rattle.voice_messages.specs.declared.voice1.System.TheVariants as system
+use Rattle.voice_messages.specs.declared.voice2.ParamKind.{ParamKind}
+use Rattle.voice_messages.specs.declared.voice2.ParamKind.TheVariants.{Registered, Assignable}
+use Rattle.voice_messages.specs.declared.voice2.Voice2.{Voice2}
+use Rattle.voice_messages.specs.declared.voice2.Voice2.TheVariants as voice2
+use Rattle.voice_messages.specs.Ranges.{IsSystem, IsVoice2}
+use Rattle.ump_grammar.specs.declared.packet.Packet.{Packet}
+use Rattle.ump_grammar.specs.declared.packet.Packet.TheVariants as packet
+use Rattle.bit_scaling.specs.Scaling.{up, down7, down14}
+use Rattle.midi1_bytes.specs.Messages.{Message, message_of, IsMessage, AreData, spelled}
+use Rattle.midi1_bytes.specs.Stream.{open_in}
+use Rattle.midi1_bytes.specs.Steps.{ReadsAs, completed}
+use Rattle.voice_state.specs.Registers.{is_null}
+use Rattle.voice_state.specs.Controllers.{role_of, number_msb_index, number_lsb_index}
+use Rattle.voice_state.specs.Messages.{as_they_come, start, step1, meaning1}
+use Rattle.voice_state.specs.Parts.{group_of, is_group, whole_of}
+use Rattle.voice_state.specs.Packets.{meaning2, step2, IsInRange}
+use Rattle.voice_state.specs.Listing.{is_carried_role}
+use Rattle.voice_state.specs.Plain.{voice_messages, ended_messages, plain_messages, plain_piece}
+use Rattle.voice_state.specs.Lanes.{Denotes, lane_after}
+use Rattle.voice_state.proofs.ScalingLaws.{down7_below, down14_below, release_down_below, velocity_down_below}
+use Rattle.voice_state.proofs.Packets.{GroupMatches, matches-packet}
+use Rattle.voice_state.proofs.Joined.{whole_data}
+
+-- ---- the plain messages can be spelled
+
+system_is_message : (m : System) → IsSystem m → IsMessage (message_of m)
+system_is_message (system.Quarter n) b = b
+system_is_message (system.Position n) b = b
+system_is_message (system.Song n) b = b
+system_is_message _ b = tt
+
+kind_numbers : (k : ParamKind) → (number_msb_index k < 128) × (number_lsb_index k < 128)
+kind_numbers Registered = (omega arith, omega arith)
+kind_numbers Assignable = (omega arith, omega arith)
+
+voice_is_message : (m : Voice2) → IsVoice2 m → AllByRecursion IsMessage (voice_messages m)
+voice_is_message (voice2.NoteOff ch n v t a) b = ((b.0, b.1, release_down_below v b.2), tt)
+voice_is_message (voice2.NoteOn ch n v t a) b = ((b.0, b.1, velocity_down_below v b.2), tt)
+voice_is_message (voice2.PolyPressure ch n v) b = ((b.0, b.1, down7_below v b.2), tt)
+voice_is_message (voice2.Control ch i v) b = cond_both (is_carried_role (role_of i)) _ _ (AllByRecursion IsMessage) (λ e. ((b.0, b.1, down7_below v b.2), tt)) (λ e. tt)
+voice_is_message (voice2.Set ch p v) b = let w = down14_below v b.2 in cond_both (is_null p) _ _ (AllByRecursion IsMessage) (λ e. tt) (λ e. ((b.0, (kind_numbers p.kind).0, b.1.0), ((b.0, (kind_numbers p.kind).1, b.1.1), ((b.0, omega arith, omega arith), ((b.0, omega arith, omega arith), tt)))))
+voice_is_message (voice2.Shift ch p v) b = tt
+voice_is_message (voice2.Program ch p None) b = ((b.0, b.1), tt)
+voice_is_message (voice2.Program ch p (Some k)) b = ((b.0, omega arith, b.2.0), ((b.0, omega arith, b.2.1), ((b.0, b.1), tt)))
+voice_is_message (voice2.Pressure ch v) b = ((b.0, down7_below v b.1), tt)
+voice_is_message (voice2.Bend ch v) b = ((b.0, down14_below v b.1), tt)
+voice_is_message _ b = tt
+
+whole_is_message : (o : Option (List ℕ)) → IfSome o AreData → AllByRecursion IsMessage (ended_messages o)
+whole_is_message None h = tt
+whole_is_message (Some bytes) h = (h, tt)
+
+pub plain_is_message : (whole : Option (List ℕ)) (p : Packet) → IfSome whole AreData → IsInRange p → AllByRecursion IsMessage (plain_messages whole p)
+plain_is_message whole (packet.System g m) a b = (system_is_message m b.1, tt)
+plain_is_message whole (packet.Voice1 g v) a b = (b.1, tt)
+plain_is_message whole (packet.Exclusive g f bytes) a b = whole_is_message whole a
+plain_is_message whole (packet.Voice2 g v) a b = voice_is_message v b.1
+plain_is_message whole _ a b = tt
+
+-- ---- the induction
+
+abbrev matches_of : (bytes : List ℕ) (past : List Packet) (g : ℕ) → Denotes bytes past g → GroupMatches (meaning1 bytes) (meaning2 past g)
+matches_of bytes past g d = record {
+  channels = λ j. record {
+    follows = record { agrees = d.agrees.channels j; bounded = d.bounded j };
+    registers = d.registers j;
+  };
+  commons = d.agrees.commons;
+  real_times = d.agrees.real_times;
+}
+
+denotes_of : (bytes : List ℕ) (past : List Packet) (g : ℕ) → GroupMatches (meaning1 bytes) (meaning2 past g) → open_in None bytes ≡ None → Denotes bytes past g
+denotes_of bytes past g m h = record {
+  agrees = record { channels = λ j. (m.channels j).follows.agrees; commons = m.commons; real_times = m.real_times };
+  registers = λ j. (m.channels j).registers;
+  closed = h;
+  bounded = λ j. (m.channels j).follows.bounded;
+}
+
+pub start_denotes : (g : ℕ) → Denotes [] [] g
+unfolding up down7 down14
+start_denotes g = record {
+  agrees = record {
+    channels = λ j. record { acts = refl; poly = λ n. refl; controllers = λ n. refl; pressure = refl; bend = refl; program = refl; params = λ p l. refl };
+    commons = refl;
+    real_times = refl;
+  };
+  registers = λ j. refl;
+  closed = refl;
+  bounded = λ j p. omega arith;
+}
+
+-- behind a piece that is read as these messages, they are folded
+meaning1-piece : (bytes piece : List ℕ) (ms : List Message) → ReadsAs bytes piece ms → meaning1 (reverse piece ++ bytes) ≡ fold step1 (meaning1 bytes) ms
+meaning1-piece bytes piece ms r = ap (fold step1 (start as_they_come)) r.completes ∙ fold-append step1 (start as_they_come) (completed bytes) ms
+
+-- a written list of messages is read again
+abbrev pub AreRead : Type 0
+AreRead = (ms : List Message) (past : List ℕ) → AllByRecursion IsMessage ms → open_in None past ≡ None → ReadsAs past (flat_map spelled ms) ms
+
+pub one_more : AreRead → (bytes : List ℕ) (past : List Packet) (p : Packet) (g : ℕ) → AllByRecursion IsInRange past → IsInRange p → Denotes bytes past g → Denotes (lane_after bytes past p g) (p ∷ past) g
+one_more reads bytes past p g a b d = go (is_group (group_of p) g) refl
+  where
+    matched : (t : Bool) → is_group (group_of p) g ≡ t → GroupMatches (meaning1 (cond t (reverse (plain_piece (whole_of past p) p) ++ bytes) bytes)) (cond t (step2 (meaning2 past g) p (whole_of past p)) (meaning2 past g)) → open_in None (cond t (reverse (plain_piece (whole_of past p) p) ++ bytes) bytes) ≡ None → Denotes (lane_after bytes past p g) (p ∷ past) g
+    matched t e m h = denotes_of (lane_after bytes past p g) (p ∷ past) g (subst (λ u. GroupMatches (meaning1 (cond u (reverse (plain_piece (whole_of past p) p) ++ bytes) bytes)) (cond u (step2 (meaning2 past g) p (whole_of past p)) (meaning2 past g))) (sym e) m) (subst (λ u. open_in None (cond u (reverse (plain_piece (whole_of past p) p) ++ bytes) bytes) ≡ None) (sym e) h)
+
+    go : (t : Bool) → is_group (group_of p) g ≡ t → Denotes (lane_after bytes past p g) (p ∷ past) g
+    go true e =
+        let ms = plain_messages (whole_of past p) p in
+        let r = reads ms bytes (plain_is_message (whole_of past p) p (whole_data past p a b) b) d.closed in
+        let m = matches-packet (whole_of past p) p (meaning1 bytes) (meaning2 past g) b (matches_of bytes past g d) in
+        matched true e (subst (λ s. GroupMatches s (step2 (meaning2 past g) p (whole_of past p))) (sym (meaning1-piece bytes (plain_piece (whole_of past p) p) ms r)) m) r.closed
+    go false e = matched false e (matches_of bytes past g d) d.closed

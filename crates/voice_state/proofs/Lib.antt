@@ -1,0 +1,10 @@
+pub mod Changes
+pub mod Induction
+pub mod Joined
+pub mod Messages
+pub mod Packets
+pub mod Recording
+pub mod Rooms
+pub mod Rows
+pub mod ScalingLaws
+pub mod Translation

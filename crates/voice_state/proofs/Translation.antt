@@ -1,0 +1,72 @@
+-- The plain pairs are a translation.
+use Rattle.std.proofs.Common.{ℕ, ◌≡◌, ◌∙◌, ap, sym, refl, subst, List, [], ◌∷◌, ◌++◌, reverse, length, take, drop, Option, Some, None, Bool, true, false, append_assoc, take-append-drop}
+use Rattle.std.specs.Prelude.{map}
+use Rattle.std.proofs.lemmas.List.{append-nil, reverse-append, map-append, length-map}
+use Rattle.std.proofs.Math.Seq.{take-append_seam}
+use Rattle.std.specs.List.{AllByRecursion}
+use Rattle.ump_grammar.specs.declared.packet.Packet.{Packet}
+use Rattle.voice_state.specs.Messages.{mean1}
+use Rattle.voice_state.specs.Parts.{group_of, whole_of}
+use Rattle.voice_state.specs.Packets.{mean2, IsInRange}
+use Rattle.voice_state.specs.Agreement.{Agrees}
+use Rattle.voice_state.specs.Listing.{is_carried}
+use Rattle.voice_state.specs.Plain.{plain_piece}
+use Rattle.voice_state.specs.Lanes.{pair_by, pair_of, pairs_behind, plain_pairs, lane_bytes}
+use Rattle.voice_state.specs.Translation.{lane_by, lanes_behind, carried_lanes, IsTranslation}
+use Rattle.voice_state.proofs.Induction.{AreRead}
+use Rattle.voice_state.proofs.Recording.{recording_agrees}
+
+-- ---- one pair for each packet that is carried
+
+pair_by-lane : (o : Option ℕ) (t : Bool) (piece : List ℕ) → map (λ (pair : ℕ × List ℕ). pair.0) (pair_by o t piece) ≡ lane_by o t
+pair_by-lane None t piece = refl
+pair_by-lane (Some l) true piece = refl
+pair_by-lane (Some l) false piece = refl
+
+pairs-lanes : (past : List Packet) → map (λ (pair : ℕ × List ℕ). pair.0) (pairs_behind past) ≡ lanes_behind past
+pairs-lanes [] = refl
+pairs-lanes (p ∷ past) =
+    let whole = whole_of past p in
+    map-append (λ (pair : ℕ × List ℕ). pair.0) (pairs_behind past) (pair_of past p)
+    ∙ ap (λ l. l ++ map (λ (pair : ℕ × List ℕ). pair.0) (pair_of past p)) (pairs-lanes past)
+    ∙ ap (λ l. lanes_behind past ++ l) (pair_by-lane (group_of p) (is_carried whole p) (plain_piece whole p))
+
+length-pairs : (packets : List Packet) → length (plain_pairs packets) ≡ length (carried_lanes packets)
+length-pairs packets = sym (length-map (plain_pairs packets) (λ (pair : ℕ × List ℕ). pair.0)) ∙ ap length (pairs-lanes (reverse packets))
+
+-- ---- the pairs of the first packets come first
+
+-- the pairs of further packets, the newest first as those before them
+pairs_since : List Packet → List Packet → List (ℕ × List ℕ)
+pairs_since past [] = []
+pairs_since past (p ∷ more) = pairs_since past more ++ pair_of (more ++ past) p
+
+pairs_behind-more : (more past : List Packet) → pairs_behind (more ++ past) ≡ pairs_behind past ++ pairs_since past more
+unfolding pairs_since
+pairs_behind-more [] past = sym (append-nil (pairs_behind past))
+pairs_behind-more (p ∷ more) past = ap (λ l. l ++ pair_of (more ++ past) p) (pairs_behind-more more past) ∙ append_assoc (pairs_behind past) (pairs_since past more) (pair_of (more ++ past) p)
+
+plain_pairs-append : (before after : List Packet) → plain_pairs (before ++ after) ≡ plain_pairs before ++ pairs_since (reverse before) (reverse after)
+plain_pairs-append before after = ap pairs_behind (reverse-append before after) ∙ pairs_behind-more (reverse after) (reverse before)
+
+pairs_of_first : (before after : List Packet) → take (length (carried_lanes before)) (plain_pairs (before ++ after)) ≡ plain_pairs before
+pairs_of_first before after =
+    ap (λ n. take n (plain_pairs (before ++ after))) (sym (length-pairs before))
+    ∙ ap (take (length (plain_pairs before))) (plain_pairs-append before after)
+    ∙ take-append_seam (plain_pairs before) (pairs_since (reverse before) (reverse after))
+
+all_take : (count : ℕ) (packets : List Packet) → AllByRecursion IsInRange packets → AllByRecursion IsInRange (take count packets)
+all_take count packets a = first (take count packets) (drop count packets) (subst (AllByRecursion IsInRange) (sym (take-append-drop count packets)) a)
+  where
+    first : (before after : List Packet) → AllByRecursion IsInRange (before ++ after) → AllByRecursion IsInRange before
+    first [] after a = tt
+    first (p ∷ before) after a = (a.0, first before after a.1)
+
+pub plain_is_translation : AreRead → (packets : List Packet) → AllByRecursion IsInRange packets → IsTranslation packets (plain_pairs packets)
+plain_is_translation reads packets a = record {
+  lanes = pairs-lanes (reverse packets);
+  agrees = λ count group.
+      let before = take count packets in
+      let first : take (length (carried_lanes before)) (plain_pairs packets) ≡ plain_pairs before = ap (λ l. take (length (carried_lanes before)) (plain_pairs l)) (sym (take-append-drop count packets)) ∙ pairs_of_first before (drop count packets) in
+      subst (λ pairs. Agrees (mean1 (lane_bytes group pairs)) (mean2 before group)) (sym first) (recording_agrees reads before group (all_take count packets a));
+}

@@ -1,0 +1,5 @@
+use Rattle.voice_state.proofs.Recording.{recording_agrees}
+use Rattle.voice_state.proofs.laws.plain_pairs_mean_the_packets.Goals as goal
+
+pub returns : goal.returns
+returns c = recording_agrees c.written_messages_are_read_again.ensures

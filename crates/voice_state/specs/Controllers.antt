@@ -1,0 +1,42 @@
+-- What a control change is by its index (MIDI 1.0 Detailed Specification, the table of controller numbers).
+use Rattle.std.specs.Prelude.{ℕ, nat_le, ◌==◌, if◌then◌else◌}
+use Rattle.voice_messages.specs.declared.voice2.ParamKind.{ParamKind}
+use Rattle.voice_messages.specs.declared.voice2.ParamKind.TheVariants.{Registered, Assignable}
+
+pub data Role : Type 0 where
+  bank_msb : Role
+  bank_lsb : Role
+  data_msb : Role
+  data_lsb : Role
+  data_step : Role
+  number_msb : ParamKind → Role
+  number_lsb : ParamKind → Role
+  reset_all : Role
+  channel_mode : Role
+  plain : Role
+
+-- 120 to 127 are channel mode messages; 121 among them resets all controllers
+unfoldable pub role_of : ℕ → Role
+role_of index =
+    if index == 0 then bank_msb
+    else if index == 32 then bank_lsb
+    else if index == 6 then data_msb
+    else if index == 38 then data_lsb
+    else if index == 96 then data_step
+    else if index == 97 then data_step
+    else if index == 98 then number_lsb Assignable
+    else if index == 99 then number_msb Assignable
+    else if index == 100 then number_lsb Registered
+    else if index == 101 then number_msb Registered
+    else if index == 121 then reset_all
+    else if nat_le 120 index then channel_mode
+    else plain
+
+-- the indexes of a parameter's number
+abbrev pub number_msb_index : ParamKind → ℕ
+number_msb_index Registered = 101
+number_msb_index Assignable = 99
+
+abbrev pub number_lsb_index : ParamKind → ℕ
+number_lsb_index Registered = 100
+number_lsb_index Assignable = 98

@@ -1,0 +1,15 @@
+pub mod Agreement
+pub mod Controllers
+pub mod Ended
+pub mod Lanes
+pub mod Listing
+pub mod Messages
+pub mod Packets
+pub mod Parts
+pub mod Plain
+pub mod Refusal
+pub mod Registers
+pub mod Rooms
+pub mod Rows
+pub mod State
+pub mod Translation

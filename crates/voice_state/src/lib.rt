@@ -1,0 +1,7 @@
+//! What the bytes of a MIDI 1.0 stream and the packets of a group mean, and when they mean the same.
+#![tactic(auto)]
+
+pub mod laws;
+pub mod listed;
+
+pub use crate::listed::{BadStep, Kind, Listed};

@@ -1,0 +1,73 @@
+// Lines of the listing, and why a message is refused.
+use thiserror::Error;
+use voice_messages::U4;
+
+/// What a line of the listing tells of.
+#[derive(Clone, Copy, Debug, PartialEq, Eq)]
+pub enum Kind {
+    /// A utility packet.
+    Utility,
+    /// A stream message.
+    Stream,
+    /// A packet of a reserved type, status, opcode or form.
+    Reserved,
+    /// A packet of 8-bit data.
+    Data8,
+    /// A flex data packet.
+    Flex,
+    /// A note with an attribute, which is carried without it.
+    NoteAttribute,
+    /// A registered or assignable controller of one note.
+    NoteController,
+    /// The bend of one note.
+    NoteBend,
+    /// Note management.
+    NoteManagement,
+    /// A value or change of the null parameter 127/127.
+    NullParameter,
+    /// A relative change of a parameter.
+    RelativeParameter,
+    /// A MIDI 2.0 control change of a bank, data entry or parameter number.
+    MisplacedController,
+    /// A packet that goes on with an exclusive where none is begun, or ends one.
+    StrayExclusive,
+    /// An exclusive that another one, or a status byte, cut off.
+    CutExclusive,
+    /// An exclusive that is begun at the end of input.
+    OpenExclusive,
+    /// A byte that belongs to nothing.
+    Stray,
+    /// A status byte that no message has.
+    Undefined,
+    /// A message that a status byte cut off.
+    CutMessage,
+    /// A message that is begun at the end of input.
+    OpenMessage,
+    /// A data entry without a selected parameter.
+    IgnoredDataEntry,
+}
+
+/// A line of the listing.
+#[derive(Clone, Copy, Debug, PartialEq, Eq)]
+pub struct Listed {
+    /// The number of input bytes before what is listed.
+    pub offset: u64,
+    /// Its group, where it has one.
+    pub group: Option<U4>,
+    /// What it is.
+    pub kind: Kind,
+}
+
+/// Why a translator refuses a message (own rule).
+#[derive(Clone, Copy, Debug, PartialEq, Eq, Error)]
+pub enum BadStep {
+    /// A data increment, control change 96.
+    #[error("a data increment can't be carried")]
+    DataIncrement,
+    /// A data decrement, control change 97.
+    #[error("a data decrement can't be carried")]
+    DataDecrement,
+    /// An exclusive passes its room.
+    #[error("an exclusive is too long")]
+    ExclusiveTooLong,
+}
