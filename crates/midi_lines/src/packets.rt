@@ -1,5 +1,5 @@
 // The lines of packets.
-ghost use Rattle.std.specs.Prelude.{◌≡◌, ◌≤◌, ◌+◌, ◌*◌, ◌++◌, length, codes, decimal};
+ghost use Rattle.std.specs.Prelude.{◌≡◌, ◌<◌, ◌≤◌, ◌+◌, ◌*◌, ◌++◌, length, codes, decimal};
 ghost use Rattle.midi_lines.specs.Fields.{hex_words, field};
 ghost use Rattle.midi_lines.specs.PacketLines.{packet_fields, packet_text, form_word, utility, exclusive, stream};
 
@@ -16,7 +16,8 @@ use voice_messages::{Form, U4};
 /// eight hexadecimal digits, the kind of the packet and its fields.
 pub fn packet_line(packet: &Packet, words: &[u32], offset: u64) -> Line
     requires { length words.now ≤ 4 }
-    ensures { result ≡ packet_text packet.now words.now offset }
+    ensures text { result ≡ packet_text packet.now words.now offset }
+    ensures some { 0 < length result }
 {
     let mut line = Line::new();
     put_decimal(&mut line, offset);

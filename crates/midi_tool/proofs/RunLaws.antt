@@ -1,5 +1,5 @@
 -- From how a pass over a recording ends to the status of a run.
-use Rattle.std.proofs.Common.{◌≡◌, ◌⊎◌, ℕ, List, [], Option, None, Some, refl, ap, sym, ◌∙◌, subst, inl}
+use Rattle.std.proofs.Common.{◌≡◌, ◌⊎◌, ◌≤◌, ℕ, List, [], Option, None, Some, refl, ap, sym, ◌∙◌, subst, inl, inr, arith}
 use Rattle.std.specs.Prelude.{IfSome}
 use Rattle.midi_edge.specs.Outside.{Rose}
 use Rattle.ump_words.specs.Cut.{IsCutInto}
@@ -7,84 +7,73 @@ use Rattle.ump_words.specs.declared.words.Framed.{Framed}
 use Rattle.ump_words.specs.declared.words.Order.TheVariants.{Big}
 use Rattle.ump_words.specs.declared.words.Tail.TheVariants.{End}
 use Rattle.midi_tool.specs.Command.{Asked}
+use Rattle.midi_tool.specs.LastLine.{GainsLine}
 use Rattle.midi_tool.specs.Next.{limit}
-use Rattle.midi_tool.specs.Outcome.{Told, AreTaken, Stops, IsDone, Says, Counts, status_after}
-use Rattle.midi_tool.specs.declared.status.Reason.{Reason}
+use Rattle.midi_tool.specs.Outcome.{Pass, pass_of, showing, Told, AreTaken, Says, RunSays, Counts, CountsAfter, RunCounts, IsDoneUnless, status_after}
 use Rattle.midi_tool.specs.declared.status.RunEnd.{RunEnd}
-use Rattle.midi_tool.specs.declared.status.RunEnd.TheVariants.{Done, Refused, ReadFault, LaneFault, OutputFault}
+use Rattle.midi_tool.specs.declared.status.RunEnd.TheVariants.{Done, Refused, ReadFault, LaneFault, OutputFault, NoteFault}
 use Rattle.midi_tool.specs.declared.status.Status.{Status}
 use Rattle.midi_tool.specs.declared.status.Status.TheVariants as status
 use Rattle.midi_tool.proofs.WorkLaws.{no_stop}
 
-abbrev Told_done : Asked → Option (List ℕ) → Option (List ℕ) → Told → Told → Type 0
-Told_done asked before left old new = IfSome before (λ bytes. (left ≡ Some []) × IsDone asked bytes old new)
+pub map_told : (before : Option (List ℕ)) (P Q : List ℕ → Type 0) → ((bytes : List ℕ) → P bytes → Q bytes) → IfSome before P → IfSome before Q
+map_told None P Q f told = tt
+map_told (Some bytes) P Q f told = f bytes told
 
-pub done : (asked : Asked) (before left : Option (List ℕ)) (old new : Told) (end : RunEnd) → IfSome before (λ bytes. Says asked bytes left old new end) → status_after end ≡ status.Done → Told_done asked before left old new
-done asked None left old new end says e = tt
-done asked (Some bytes) left old new Done says e = (says.1, says.0)
-done asked (Some bytes) left old new (Refused reason offset) says e = let f : status.Refused reason offset ≡ status.Done = e in cc
-done asked (Some bytes) left old new ReadFault says e = let f : status.ReadFault ≡ status.Done = e in cc
-done asked (Some bytes) left old new LaneFault says e = let f : status.LaneFault ≡ status.Done = e in cc
-done asked (Some bytes) left old new OutputFault says e = let f : status.OutputFault ≡ status.Done = e in cc
+says_run : (asked : Asked) (bytes : List ℕ) (left : Option (List ℕ)) (old new : Told) (end : RunEnd) → Says Big (pass_of asked) bytes left old new end → RunSays (Some asked) bytes left old new (status_after end)
+says_run asked bytes left old new Done says = says
+says_run asked bytes left old new (Refused reason offset) says = says
+says_run asked bytes left old new ReadFault says = tt
+says_run asked bytes left old new LaneFault says = tt
+says_run asked bytes left old new OutputFault says = tt
+says_run asked bytes left old new NoteFault says = tt
 
-pub done_counts : (fault end : RunEnd) (read read' put put' : ℕ) → Counts fault end read read' put put' → status_after end ≡ status.Done → (read' ≡ read) × (put' ≡ put)
-done_counts fault Done read read' put put' counts e = counts
-done_counts fault (Refused reason offset) read read' put put' counts e = counts
-done_counts fault ReadFault read read' put put' counts e = let f : status.ReadFault ≡ status.Done = e in cc
-done_counts fault LaneFault read read' put put' counts e = let f : status.LaneFault ≡ status.Done = e in cc
-done_counts fault OutputFault read read' put put' counts e = let f : status.OutputFault ≡ status.Done = e in cc
+pub run_says : (asked : Asked) (before left : Option (List ℕ)) (old new : Told) (end : RunEnd) → IfSome before (λ bytes. Says Big (pass_of asked) bytes left old new end) → IfSome before (λ bytes. RunSays (Some asked) bytes left old new (status_after end))
+run_says asked before left old new end says =
+    map_told before (λ bytes. Says Big (pass_of asked) bytes left old new end) (λ bytes. RunSays (Some asked) bytes left old new (status_after end)) (λ bytes s. says_run asked bytes left old new end s) says
 
-pub refused : (asked : Asked) (before left : Option (List ℕ)) (old new : Told) (end : RunEnd) (reason : Reason) (offset : ℕ)
-    → IfSome before (λ bytes. Says asked bytes left old new end) → status_after end ≡ status.Refused reason offset → IfSome before (λ bytes. Stops asked bytes reason offset old new)
-refused asked None left old new end reason offset says e = tt
-refused asked (Some bytes) left old new Done reason offset says e = let f : status.Done ≡ status.Refused reason offset = e in cc
-refused asked (Some bytes) left old new (Refused r o) reason offset says e =
-    let f : status.Refused r o ≡ status.Refused reason offset = e in
-    let same_reason : r ≡ reason = cc in
-    let same_offset : o ≡ offset = cc in
-    let P : Reason → Type 0 = λ x. Stops asked bytes x offset old new in
-    let Q : ℕ → Type 0 = λ x. Stops asked bytes r x old new in
-    subst P same_reason (subst Q same_offset says)
-refused asked (Some bytes) left old new ReadFault reason offset says e = let f : status.ReadFault ≡ status.Refused reason offset = e in cc
-refused asked (Some bytes) left old new LaneFault reason offset says e = let f : status.LaneFault ≡ status.Refused reason offset = e in cc
-refused asked (Some bytes) left old new OutputFault reason offset says e = let f : status.OutputFault ≡ status.Refused reason offset = e in cc
+pub run_counts : (asked : Asked) (end : RunEnd) (old new : Counts) → CountsAfter (pass_of asked) end old new → RunCounts (Some asked) old new (status_after end)
+run_counts asked Done old new counts = counts.1
+run_counts asked (Refused reason offset) old new counts = counts.1
+run_counts asked ReadFault old new counts = (counts.0, counts.1)
+run_counts asked LaneFault old new counts = (counts.0, counts.1)
+run_counts asked OutputFault old new counts = (counts.0, counts.1)
+run_counts asked NoteFault old new counts = (counts.0, counts.1)
 
-abbrev IsDoneUnless : Asked → List ℕ → Status → ℕ → ℕ → ℕ → ℕ → Type 0
-IsDoneUnless asked bytes answer read read' put put' =
-    (framed : List Framed) → IsCutInto Big limit bytes framed End → AreTaken asked framed → (Rose read read' → ⊥) → (Rose put put' → ⊥) → (answer ≡ status.Done) ⊎ (answer ≡ status.NoMemory)
+unless : (asked : Asked) (bytes : List ℕ) (left : Option (List ℕ)) (told told' : Told) (end : RunEnd) (old new : Counts) → Says Big (pass_of asked) bytes left told told' end → CountsAfter (pass_of asked) end old new → IsDoneUnless asked bytes old new (status_after end)
+unless asked bytes left told told' Done old new says counts framed cut taken reads lanes output notes = inl refl
+unless asked bytes left told told' (Refused reason offset) old new says counts framed cut taken reads lanes output notes = absurd (no_stop Big (pass_of asked) bytes framed reason offset told told' cut taken says)
+unless asked bytes left told told' ReadFault old new says counts framed cut taken reads lanes output notes = absurd (reads counts.1.0)
+unless asked bytes left told told' LaneFault old new says counts framed cut taken reads lanes output notes = absurd (lanes counts.1.0)
+unless asked bytes left told told' OutputFault old new says counts framed cut taken reads lanes output notes = absurd (output counts.1.0)
+unless asked bytes left told told' NoteFault old new says counts framed cut taken reads lanes output notes = absurd (notes counts.1.0)
 
-done_unless : (asked : Asked) (bytes : List ℕ) (left : Option (List ℕ)) (old new : Told) (fault end : RunEnd) (read read' put put' : ℕ)
-    → Says asked bytes left old new end → Counts fault end read read' put put' → IsDoneUnless asked bytes (status_after end) read read' put put'
-done_unless asked bytes left old new fault Done read read' put put' says counts framed cut taken calm_read calm_put = inl refl
-done_unless asked bytes left old new fault (Refused reason offset) read read' put put' says counts framed cut taken calm_read calm_put = absurd (no_stop asked bytes framed reason offset old new cut taken says)
-done_unless asked bytes left old new fault ReadFault read read' put put' says counts framed cut taken calm_read calm_put = absurd (calm_read counts.0)
-done_unless asked bytes left old new fault LaneFault read read' put put' says counts framed cut taken calm_read calm_put = absurd (calm_put counts.2)
-done_unless asked bytes left old new fault OutputFault read read' put put' says counts framed cut taken calm_read calm_put = absurd (calm_put counts.2)
+pub done_unless : (asked : Asked) (before left : Option (List ℕ)) (told told' : Told) (end : RunEnd) (old new : Counts) → IfSome before (λ bytes. Says Big (pass_of asked) bytes left told told' end) → CountsAfter (pass_of asked) end old new
+    → IfSome before (λ bytes. IsDoneUnless asked bytes old new (status_after end))
+done_unless asked before left told told' end old new says counts =
+    map_told before (λ bytes. Says Big (pass_of asked) bytes left told told' end) (λ bytes. IsDoneUnless asked bytes old new (status_after end)) (λ bytes s. unless asked bytes left told told' end old new s counts) says
 
-pub complete : (asked : Asked) (before left : Option (List ℕ)) (old new : Told) (fault end : RunEnd) (read read' put put' : ℕ)
-    → IfSome before (λ bytes. Says asked bytes left old new end) → Counts fault end read read' put put' → IfSome before (λ bytes. IsDoneUnless asked bytes (status_after end) read read' put put')
-complete asked None left old new fault end read read' put put' says counts = tt
-complete asked (Some bytes) left old new fault end read read' put put' says counts = done_unless asked bytes left old new fault end read read' put put' says counts
+-- lines never fail in a lane
+pub no_lane : (end : RunEnd) (old new : Counts) → CountsAfter showing end old new → status_after end ≡ status.LaneFault → ⊥
+no_lane Done old new counts e = let f : status.Done ≡ status.LaneFault = e in cc
+no_lane (Refused reason offset) old new counts e = let f : status.Refused reason offset ≡ status.LaneFault = e in cc
+no_lane ReadFault old new counts e = let f : status.ReadFault ≡ status.LaneFault = e in cc
+no_lane LaneFault old new counts e = counts.0
+no_lane OutputFault old new counts e = let f : status.OutputFault ≡ status.LaneFault = e in cc
+no_lane NoteFault old new counts e = counts.0
 
-map-told : (before : Option (List ℕ)) (P Q : List ℕ → Type 0) → ((bytes : List ℕ) → P bytes → Q bytes) → IfSome before P → IfSome before Q
-map-told None P Q f told = tt
-map-told (Some bytes) P Q f told = f bytes told
+-- ---- behind the last line
 
-abbrev pub IsDoneUnlessAny : Asked → List ℕ → Status → ℕ → ℕ → ℕ → ℕ → ℕ → ℕ → Type 0
-IsDoneUnlessAny asked bytes answer read read' lanes lanes' output output' =
-    (framed : List Framed) → IsCutInto Big limit bytes framed End → AreTaken asked framed → (Rose read read' → ⊥) → (Rose lanes lanes' → ⊥) → (Rose output output' → ⊥)
-    → (answer ≡ status.Done) ⊎ (answer ≡ status.NoMemory)
+later : (old new : Option (List ℕ)) (before now : ℕ) (text : Option (List ℕ)) → GainsLine old new before now text → before ≤ now
+later old new before now None gains = omega (arith, gains.1)
+later old new before now (Some text) gains = elim gains [ inl whole ↦ omega (arith, whole.1) | inr part ↦ part.1 ]
 
-pub complete_down : (asked : Asked) (before left : Option (List ℕ)) (old new : Told) (end : RunEnd) (read read' lanes lanes' output output' : ℕ)
-    → IfSome before (λ bytes. Says asked bytes left old new end) → Counts LaneFault end read read' lanes lanes' → IfSome before (λ bytes. IsDoneUnlessAny asked bytes (status_after end) read read' lanes lanes' output output')
-complete_down asked before left old new end read read' lanes lanes' output output' says counts =
-    map-told before (λ bytes. IsDoneUnless asked bytes (status_after end) read read' lanes lanes') (λ bytes. IsDoneUnlessAny asked bytes (status_after end) read read' lanes lanes' output output')
-    (λ bytes h framed cut taken calm_read calm_lanes calm_output. h framed cut taken calm_read calm_lanes)
-    (complete asked before left old new LaneFault end read read' lanes lanes' says counts)
+still_rose : (first before now : ℕ) → before ≤ now → Rose first before → Rose first now
+still_rose first before now order rose = omega (arith, order, rose)
 
-pub complete_show : (asked : Asked) (before left : Option (List ℕ)) (old new : Told) (end : RunEnd) (read read' lanes lanes' output output' : ℕ)
-    → IfSome before (λ bytes. Says asked bytes left old new end) → Counts OutputFault end read read' output output' → IfSome before (λ bytes. IsDoneUnlessAny asked bytes (status_after end) read read' lanes lanes' output output')
-complete_show asked before left old new end read read' lanes lanes' output output' says counts =
-    map-told before (λ bytes. IsDoneUnless asked bytes (status_after end) read read' output output') (λ bytes. IsDoneUnlessAny asked bytes (status_after end) read read' lanes lanes' output output')
-    (λ bytes h framed cut taken calm_read calm_lanes calm_output. h framed cut taken calm_read calm_output)
-    (complete asked before left old new OutputFault end read read' output output' says counts)
+pub unless_later : (asked : Asked) (told : Option (List ℕ)) (reads reads' lanes lanes' output output' notes before now : ℕ) (answer : Status) (old new : Option (List ℕ)) (text : Option (List ℕ))
+    → GainsLine old new before now text
+    → IfSome told (λ bytes. IsDoneUnless asked bytes (record { reads = reads; lanes = lanes; output = output; notes = notes }) (record { reads = reads'; lanes = lanes'; output = output'; notes = before }) answer)
+    → IfSome told (λ bytes. IsDoneUnless asked bytes (record { reads = reads; lanes = lanes; output = output; notes = notes }) (record { reads = reads'; lanes = lanes'; output = output'; notes = now }) answer)
+unless_later asked told reads reads' lanes lanes' output output' notes before now answer old new text gains =
+    map_told told _ _ (λ bytes h framed cut taken r l o n. h framed cut taken r l o (λ rose. n (still_rose notes before now (later old new before now text gains) rose)))

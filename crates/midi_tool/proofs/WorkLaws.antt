@@ -1,16 +1,16 @@
--- What a command has done so far, and what its end says.
-use Rattle.std.proofs.Common.{◌≡◌, ℕ, List, [], ◌∷◌, ◌++◌, Bool, true, false, cond, eqb, Option, None, Some, refl, ap, sym, ◌∙◌, subst}
-use Rattle.std.specs.Prelude.{IfSome}
+-- What a pass over a recording has done so far, and what its end says.
+use Rattle.std.proofs.Common.{◌≡◌, ◌<◌, ◌≤◌, ℕ, List, [], ◌∷◌, ◌++◌, map, Option, None, Some, refl, ap, sym, ◌∙◌, subst, lit<, lit≤}
+use Rattle.std.specs.Prelude.{IfSome, reverse}
 use Rattle.std.specs.List.{AllByRecursion, flat_map}
-use Rattle.std.proofs.lemmas.List.{append_assoc, append-nil}
+use Rattle.std.specs.Option.{option_map, option_to_list}
+use Rattle.std.proofs.lemmas.List.{append_assoc, append-nil, map_push, reverse-append}
 use Rattle.std.proofs.lemmas.List.Concat.{flat_map-append}
-use Rattle.voice_messages.specs.declared.voice2.Voice2.{Voice2}
-use Rattle.voice_messages.specs.declared.voice2.Voice2.TheVariants as voice2
+use Rattle.std.proofs.lemmas.List.Elements.{recursion_from_All}
 use Rattle.midi_edge.specs.Outside.{Gains, ahead}
 use Rattle.ump_words.specs.Cut.{IsCutInto}
 use Rattle.ump_words.specs.Reader.{Reading, GivesPacket, Finishes}
 use Rattle.ump_words.specs.declared.words.Framed.{Framed}
-use Rattle.ump_words.specs.declared.words.Order.TheVariants.{Big}
+use Rattle.ump_words.specs.declared.words.Order.{Order}
 use Rattle.ump_words.specs.declared.words.Tail.{Tail}
 use Rattle.ump_words.specs.declared.words.Tail.TheVariants.{End, Truncated as TailTruncated, TooLong}
 use Rattle.ump_words.proofs.SoFar.{ReadSoFar, StandsBehind, start, step, one_cut, finishes, nothing_left, stands_behind}
@@ -18,25 +18,45 @@ use Rattle.ump_grammar.specs.declared.packet.Bad.TheVariants as bad
 use Rattle.ump_grammar.specs.declared.packet.Packet.{Packet}
 use Rattle.ump_grammar.specs.declared.packet.Packet.TheVariants as packet
 use Rattle.ump_grammar.specs.Ranges.{IsPacket}
+use Rattle.ump_grammar.specs.Spelling.{Spells}
+use Rattle.ump_grammar.specs.Reason.{reason as reason_of}
 use Rattle.ump_grammar.proofs.Fitting.{IsPacket-spelled}
 use Rattle.ump_grammar.proofs.OnePacket.{one_packet}
-use Rattle.midi_lines.specs.PacketLines.{packet_text}
-use Rattle.midi_tool.specs.Command.{Asked, down, show}
+use Rattle.voice_state.specs.declared.listed.BadStep.{BadStep}
+use Rattle.voice_state.specs.declared.listed.BadStep.TheVariants as steps
+use Rattle.voice_state.specs.declared.listed.Kind.TheVariants as kinds
+use Rattle.voice_state.specs.Lanes.{pair_of, plain_pairs}
+use Rattle.voice_state.specs.Listing.{begun_before, lines_behind, end_lines, end_line, line_of, groups}
+use Rattle.voice_state.specs.Packets.{IsInRange}
+use Rattle.voice_state.specs.Parts.{Placed, parts_of}
+use Rattle.voice_state.specs.Refusal.{bad_step}
+use Rattle.voice_state.specs.Translation.{IsTranslation}
+use Rattle.voice_state.proofs.Recording.{plain_pairs-more}
+use Rattle.voice_messages.specs.declared.voice2.Form.TheVariants as form
+use Rattle.sysex_groups.specs.Table.{Table, empty_table}
+use Rattle.down_translator.specs.declared.carried.Carried.{Carried}
+use Rattle.down_translator.specs.Carried.{line_in}
+use Rattle.down_translator.specs.Held.{begun_at_in, refusal_in, table_behind}
+use Rattle.down_translator.specs.Recording.{packets_of, AreInRange, table_of, AreAccepted, pair_put}
+use Rattle.down_translator.specs.Step.{IsPlainStep}
+use Rattle.down_translator.proofs.HeldLaws.{packet_in_range}
+use mathlib.Core.List.{reverse-cons}
 use Rattle.midi_tool.specs.Next.{limit, Gives, Stops as StopsReading}
-use Rattle.midi_tool.specs.NoteMeaning.{Note, note, note_of, note_in, unless_attribute}
-use Rattle.midi_tool.specs.Outcome.{Told, IsRead, Takes, IsTaken, AreTaken, IsRefused, RefusesBehind, IsFirstStop, AreNotes, AreCarried, AreLines, AreShown, IsWork, Stops, IsDone, Says}
-use Rattle.midi_tool.specs.Translation.{pair_of, IsNoteOf, IsTranslation}
+use Rattle.midi_tool.specs.Outcome.{Pass, carrying, showing, Told, AreTaken, IsBadStep, IsRefused, RefusesBehind, IsFirstStop, AreCarried, AreShown, IsWork, Stops, IsDone, Says}
+use Rattle.midi_tool.specs.Recording.{IsRead, AreRead, to_a_refusal, to_the_end, lines_of, shown, texts}
+use Rattle.midi_tool.specs.Step.{Puts, reason_of as reason_for, RefusesStep, EndsStep, ListsOpen, Closes, open_line, open_lines}
 use Rattle.midi_tool.specs.declared.status.Reason.{Reason}
-use Rattle.midi_tool.specs.declared.status.Reason.TheVariants.{Truncated, InputTooLong, BadCount, HighBit, NotBuilt}
+use Rattle.midi_tool.specs.declared.status.Reason.TheVariants.{Truncated, InputTooLong, BadCount, HighBit, DataIncrement, DataDecrement, ExclusiveTooLong}
 use Rattle.midi_tool.specs.declared.status.RunEnd.{RunEnd}
-use Rattle.midi_tool.specs.declared.status.RunEnd.TheVariants.{Done, Refused, ReadFault, LaneFault, OutputFault}
-use Rattle.midi_tool.proofs.NoteLaws.{IsTranslation-push, IsTranslation-none}
+use Rattle.midi_tool.specs.declared.status.RunEnd.TheVariants.{Done, Refused, ReadFault, LaneFault, OutputFault, NoteFault}
+use Rattle.midi_lines.specs.ListingLines.{listing_text}
+use Rattle.midi_lines.specs.PacketLines.{packet_text}
 
-Gains-none : {A : Type 0} (items : Option (List A)) → Gains items items []
+pub Gains-none : {A : Type 0} (items : Option (List A)) → Gains items items []
 Gains-none None = tt
 Gains-none (Some items) = sym (append-nil items)
 
-Gains-more : {A : Type 0} (a b c : Option (List A)) (xs ys : List A) → Gains a b xs → Gains b c ys → Gains a c (xs ++ ys)
+pub Gains-more : {A : Type 0} (a b c : Option (List A)) (xs ys : List A) → Gains a b xs → Gains b c ys → Gains a c (xs ++ ys)
 Gains-more None None None xs ys p q = tt
 Gains-more (Some a) (Some b) (Some c) xs ys p q = q ∙ ap (λ zs. zs ++ ys) p ∙ append_assoc a xs ys
 Gains-more None None (Some c) xs ys p q = absurd q
@@ -44,217 +64,400 @@ Gains-more None (Some b) c xs ys p q = absurd p
 Gains-more (Some a) None c xs ys p q = absurd p
 Gains-more (Some a) (Some b) None xs ys p q = absurd q
 
-AllByRecursion-push : {X : Type 0} (P : X → Type 0) (xs : List X) (x : X) → AllByRecursion P xs → P x → AllByRecursion P (xs ++ x ∷ [])
-AllByRecursion-push P [] x p q = (q, tt)
-AllByRecursion-push P (y ∷ xs) x p q = (p.0, AllByRecursion-push P xs x p.1 q)
+-- ---- packets that are read
 
-AllByRecursion-at : {X : Type 0} (P : X → Type 0) (xs : List X) (x : X) (ys : List X) → AllByRecursion P (xs ++ x ∷ ys) → P x
-AllByRecursion-at P [] x ys p = p.0
-AllByRecursion-at P (y ∷ xs) x ys p = AllByRecursion-at P xs x ys p.1
+AreRead-push : (all : List Placed) (framed : List Framed) (p : Placed) (f : Framed) → AreRead all framed → IsRead p f → AreRead (all ++ p ∷ []) (framed ++ f ∷ [])
+AreRead-push [] [] p f are read = (read, tt)
+AreRead-push (m ∷ ms) (g ∷ gs) p f are read = (are.0, AreRead-push ms gs p f are.1 read)
+AreRead-push [] (g ∷ gs) p f are read = absurd are
+AreRead-push (m ∷ ms) [] p f are read = absurd are
 
--- ---- the work on one more packet
+shown-push : (all : List Placed) (framed : List Framed) (p : Placed) (f : Framed) → AreRead all framed → shown (all ++ p ∷ []) (framed ++ f ∷ []) ≡ shown all framed ++ packet_text p.packet f.words f.offset
+shown-push [] [] p f are = append-nil (packet_text p.packet f.words f.offset)
+shown-push (m ∷ ms) (g ∷ gs) p f are = ap (λ xs. packet_text m.packet g.words g.offset ++ xs) (shown-push ms gs p f are.1) ∙ sym (append_assoc (packet_text m.packet g.words g.offset) (shown ms gs) (packet_text p.packet f.words f.offset))
+shown-push [] (g ∷ gs) p f are = absurd are
+shown-push (m ∷ ms) [] p f are = absurd are
 
-AreNotes-push : (notes : List Note) (framed : List Framed) (n : Note) (f : Framed) (p : Packet) → AreNotes notes framed → IsRead p f.words → note_of p ≡ Some n → AreNotes (notes ++ n ∷ []) (framed ++ f ∷ [])
-AreNotes-push [] [] n f p are read is = ((p, read, is), tt)
-AreNotes-push (m ∷ ms) (g ∷ gs) n f p are read is = (are.0, AreNotes-push ms gs n f p are.1 read is)
-AreNotes-push [] (g ∷ gs) n f p are read is = absurd are
-AreNotes-push (m ∷ ms) [] n f p are read is = absurd are
+AreInRange-read : (all : List Placed) (framed : List Framed) → AreRead all framed → AllByRecursion IsInRange (packets_of all)
+AreInRange-read [] [] are = tt
+AreInRange-read (p ∷ all) (f ∷ fs) are = (packet_in_range p.packet (IsPacket-spelled p.packet f.words are.0.spells are.0.fine), AreInRange-read all fs are.1)
+AreInRange-read [] (f ∷ fs) are = absurd are
+AreInRange-read (p ∷ all) [] are = absurd are
 
-AreLines-push : (lines : List (List ℕ)) (framed : List Framed) (line : List ℕ) (f : Framed) (p : Packet) → AreLines lines framed → IsRead p f.words → line ≡ packet_text p f.words f.offset → AreLines (lines ++ line ∷ []) (framed ++ f ∷ [])
-AreLines-push [] [] line f p are read is = ((p, read, is), tt)
-AreLines-push (m ∷ ms) (g ∷ gs) line f p are read is = (are.0, AreLines-push ms gs line f p are.1 read is)
-AreLines-push [] (g ∷ gs) line f p are read is = absurd are
-AreLines-push (m ∷ ms) [] line f p are read is = absurd are
+packets_of-reverse : (all : List Placed) → reverse (packets_of all) ≡ packets_of (reverse all)
+packets_of-reverse [] = refl
+packets_of-reverse (p ∷ all) =
+    reverse-cons p.packet (packets_of all)
+    ∙ ap (λ xs. xs ++ p.packet ∷ []) (packets_of-reverse all)
+    ∙ sym (map_push (λ q. q.packet) (reverse all) p)
+    ∙ ap packets_of (sym (reverse-cons p all))
 
--- what is so far: the packets that were read, each taken, and the work on them
-pub record SoFar (asked : Asked) (reader : Reading) (before now : Option (List ℕ)) (old new : Told) : Type 0 where
-  pub framed : List Framed
-  pub read : ReadSoFar Big limit reader before now framed
-  pub taken : AreTaken asked framed
-  pub work : IsWork asked framed old new
+reverse-push : {A : Type 0} (xs : List A) (x : A) → reverse (xs ++ x ∷ []) ≡ x ∷ reverse xs
+reverse-push xs x = reverse-append xs (x ∷ [])
 
-module _ (asked : Asked) (reader : Reading) (before now : Option (List ℕ)) (old new : Told) (so_far : SoFar asked reader before now old new) where
-  read_stop : (reader' : Reading) (now' : Option (List ℕ)) (tail : Tail) → Finishes reader reader' (ahead reader.pending now) (ahead reader'.pending now') tail
-      → IfSome before (λ bytes. IsCutInto Big limit bytes so_far.framed tail)
-  read_stop reader' now' tail ends = finishes Big limit reader before now so_far.framed so_far.read reader' now' tail ends
+-- what holds of all recordings, by the public laws of the crates below
+pub record Laws : Type 0 where
+  pub translated : (packets : List Packet) → AllByRecursion IsInRange packets → IsTranslation packets (plain_pairs packets)
+  pub begun : (room : ℕ) (past : List Placed) → 6 ≤ room → AreInRange past → (packet : Packet) → begun_at_in (table_of room past) packet ≡ begun_before (Some room) (parts_of past) packet
+  pub refusal : (room : ℕ) (past : List Placed) → 6 ≤ room → AreInRange past → (packet : Packet) → refusal_in (table_of room past) packet ≡ bad_step (Some room) (parts_of past) packet
+  pub behind : (room : ℕ) (past : List Placed) (placed : Placed) → table_behind placed.offset placed.packet (table_of room past) ≡ table_of room (placed ∷ past)
+  pub pair : (room : ℕ) (past : List Placed) (placed : Placed) (carried : Carried) → 6 ≤ room → AreInRange past → AreAccepted room past → IsPlainStep (table_of room past) placed.offset placed.packet carried → pair_put carried ≡ pair_of (packets_of past) placed.packet
+  pub line : (room : ℕ) (past : List Placed) (placed : Placed) (carried : Carried) → 6 ≤ room → AreInRange past → IsPlainStep (table_of room past) placed.offset placed.packet carried → line_in carried ≡ line_of (Some room) (parts_of past) placed
 
+-- the lines of the exclusives that are still begun
+open_lines-some : (laws : Laws) (room : ℕ) (past : List Placed) → 6 ≤ room → AreInRange past → (some : List ℕ) → open_lines (table_of room past) some ≡ flat_map (λ group. option_to_list (end_line (Some room) (parts_of past) group)) some
+open_lines-some laws room past least range [] = refl
+open_lines-some laws room past least range (group ∷ some) =
+    let start = laws.begun room past least range (packet.Exclusive group form.Complete []) in
+    ap (λ o. option_to_list (option_map (λ s. record { offset = s; group = Some group; kind = kinds.OpenExclusive }) o) ++ open_lines (table_of room past) some) start
+    ∙ ap (λ xs. option_to_list (end_line (Some room) (parts_of past) group) ++ xs) (open_lines-some laws room past least range some)
+
+-- ---- ends
+
+module _ (order : Order) (pass : Pass) (reader : Reading) (before now : Option (List ℕ)) (old new : Told) (framed : List Framed)
+    (read : ReadSoFar order limit reader before now framed) (taken : AreTaken pass framed) (work : IsWork pass to_a_refusal framed old new) where
   -- where a packet that is given out is refused
   pub refuses : (reader' : Reading) (now' : Option (List ℕ)) (f : Framed) (reason : Reason) (offset : ℕ)
-      → GivesPacket reader reader' (ahead reader.pending now) (ahead reader'.pending now') f → IsRefused asked f.words reason → offset ≡ f.offset
-      → IfSome before (λ bytes. Stops asked bytes reason offset old new)
-  refuses reader' now' f reason offset gives cause place = by_told before (stands_behind Big limit reader before now so_far.framed so_far.read reader' now' f gives)
+      → GivesPacket reader reader' (ahead reader.pending now) (ahead reader'.pending now') f → IsRefused pass framed f reason → offset ≡ f.offset
+      → IfSome before (λ bytes. Stops order pass bytes reason offset old new)
+  refuses reader' now' f reason offset gives cause place = by_told before (stands_behind order limit reader before now framed read reader' now' f gives)
     where
-      first : (r : Reason) → IsRefused asked f.words r → (after : List Framed) (tail : Tail) → IsFirstStop asked so_far.framed (so_far.framed ++ f ∷ after) tail r offset
+      first : (r : Reason) → IsRefused pass framed f r → (after : List Framed) (tail : Tail) → IsFirstStop pass framed (framed ++ f ∷ after) tail r offset
       first Truncated cause after tail = absurd cause
       first InputTooLong cause after tail = absurd cause
       first BadCount cause after tail = record { refused = f; after = after; parts = refl; cause = cause; place = place }
       first HighBit cause after tail = record { refused = f; after = after; parts = refl; cause = cause; place = place }
-      first NotBuilt cause after tail = record { refused = f; after = after; parts = refl; cause = cause; place = place }
+      first DataIncrement cause after tail = record { refused = f; after = after; parts = refl; cause = cause; place = place }
+      first DataDecrement cause after tail = record { refused = f; after = after; parts = refl; cause = cause; place = place }
+      first ExclusiveTooLong cause after tail = record { refused = f; after = after; parts = refl; cause = cause; place = place }
 
-      by_told : (b : Option (List ℕ)) → IfSome b (λ bytes. StandsBehind Big limit bytes so_far.framed f) → IfSome b (λ bytes. Stops asked bytes reason offset old new)
+      by_told : (b : Option (List ℕ)) → IfSome b (λ bytes. StandsBehind order limit bytes framed f) → IfSome b (λ bytes. Stops order pass bytes reason offset old new)
       by_told None stands = tt
       by_told (Some bytes) stands =
-          record { before = so_far.framed; framed = so_far.framed ++ f ∷ stands.after; tail = stands.tail; cut = stands.cut; first = first reason cause stands.after stands.tail; work = so_far.work }
+          record { before = framed; framed = framed ++ f ∷ stands.after; tail = stands.tail; cut = stands.cut; first = first reason cause stands.after stands.tail; work = work }
 
-  says_refused : (reader' : Reading) (now' : Option (List ℕ)) (reason : Reason) (offset : ℕ)
-      → StopsReading reader reader' (ahead reader.pending now) (ahead reader'.pending now') (Refused reason offset) → IfSome before (λ bytes. Stops asked bytes reason offset old new)
-  says_refused reader' now' Truncated offset ends = by_told before (read_stop reader' now' (TailTruncated offset) ends)
+  -- where the reading stops before the end
+  pub says_refused : (reader' : Reading) (now' : Option (List ℕ)) (reason : Reason) (offset : ℕ)
+      → StopsReading reader reader' (ahead reader.pending now) (ahead reader'.pending now') (Refused reason offset) → IfSome before (λ bytes. Stops order pass bytes reason offset old new)
+  says_refused reader' now' Truncated offset ends = by_told before (finishes order limit reader before now framed read reader' now' (TailTruncated offset) ends)
     where
-      by_told : (b : Option (List ℕ)) → IfSome b (λ bytes. IsCutInto Big limit bytes so_far.framed (TailTruncated offset)) → IfSome b (λ bytes. Stops asked bytes Truncated offset old new)
+      by_told : (b : Option (List ℕ)) → IfSome b (λ bytes. IsCutInto order limit bytes framed (TailTruncated offset)) → IfSome b (λ bytes. Stops order pass bytes Truncated offset old new)
       by_told None cut = tt
-      by_told (Some bytes) cut = record { before = so_far.framed; framed = so_far.framed; tail = TailTruncated offset; cut = cut; first = (refl, refl); work = so_far.work }
-  says_refused reader' now' InputTooLong offset ends = by_told before (read_stop reader' now' TooLong ends.0)
+      by_told (Some bytes) cut = record { before = framed; framed = framed; tail = TailTruncated offset; cut = cut; first = (refl, refl); work = work }
+  says_refused reader' now' InputTooLong offset ends = by_told before (finishes order limit reader before now framed read reader' now' TooLong ends.0)
     where
-      by_told : (b : Option (List ℕ)) → IfSome b (λ bytes. IsCutInto Big limit bytes so_far.framed TooLong) → IfSome b (λ bytes. Stops asked bytes InputTooLong offset old new)
+      by_told : (b : Option (List ℕ)) → IfSome b (λ bytes. IsCutInto order limit bytes framed TooLong) → IfSome b (λ bytes. Stops order pass bytes InputTooLong offset old new)
       by_told None cut = tt
-      by_told (Some bytes) cut = record { before = so_far.framed; framed = so_far.framed; tail = TooLong; cut = cut; first = (refl, refl, ends.1); work = so_far.work }
+      by_told (Some bytes) cut = record { before = framed; framed = framed; tail = TooLong; cut = cut; first = (refl, refl, ends.1); work = work }
   says_refused reader' now' BadCount offset ends = refuses reader' now' ends.0 BadCount offset ends.1 ends.2 ends.3
   says_refused reader' now' HighBit offset ends = refuses reader' now' ends.0 HighBit offset ends.1 ends.2 ends.3
-  says_refused reader' now' NotBuilt offset ends = absurd ends
+  says_refused reader' now' DataIncrement offset ends = absurd ends
+  says_refused reader' now' DataDecrement offset ends = absurd ends
+  says_refused reader' now' ExclusiveTooLong offset ends = absurd ends
 
-  says_done : (reader' : Reading) (now' : Option (List ℕ)) → Finishes reader reader' (ahead reader.pending now) (ahead reader'.pending now') End → IfSome before (λ bytes. Says asked bytes now' old new Done)
-  says_done reader' now' ends = by_told before (read_stop reader' now' End ends) (nothing_left Big limit reader before now so_far.framed so_far.read reader' now' ends)
+  -- where the recording is read to its end, and this is what the objects then tell
+  pub says_done : (reader' : Reading) (now' : Option (List ℕ)) (after : Told) → Finishes reader reader' (ahead reader.pending now) (ahead reader'.pending now') End → IsWork pass to_the_end framed old after
+      → IfSome before (λ bytes. Says order pass bytes now' old after Done)
+  says_done reader' now' after ends whole = by_told before (finishes order limit reader before now framed read reader' now' End ends) (nothing_left order limit reader before now framed read reader' now' ends)
     where
-      by_told : (b : Option (List ℕ)) → IfSome b (λ bytes. IsCutInto Big limit bytes so_far.framed End) → IfSome b (λ bytes. now' ≡ Some []) → IfSome b (λ bytes. Says asked bytes now' old new Done)
+      by_told : (b : Option (List ℕ)) → IfSome b (λ bytes. IsCutInto order limit bytes framed End) → IfSome b (λ bytes. now' ≡ Some []) → IfSome b (λ bytes. Says order pass bytes now' old after Done)
       by_told None cut left = tt
-      by_told (Some bytes) cut left = (record { framed = so_far.framed; cut = cut; taken = so_far.taken; work = so_far.work }, left)
+      by_told (Some bytes) cut left = (record { framed = framed; cut = cut; taken = taken; work = whole }, left)
 
-  untold : (b : Option (List ℕ)) → IfSome b (λ bytes. Unit {0})
-  untold None = tt
-  untold (Some bytes) = tt
+pub untold : (b : Option (List ℕ)) → IfSome b (λ bytes. Unit {0})
+untold None = tt
+untold (Some bytes) = tt
+
+-- ---- a translation down
+
+-- what is so far: the packets that were read, none refused, what the groups have begun, and the work
+pub record CarriedSoFar (order : Order) (room : ℕ) (reader : Reading) (before now : Option (List ℕ)) (table : Table) (old new : Option (List (ℕ × List ℕ))) (noted noted' : Option (List ℕ)) : Type 0 where
+  pub framed : List Framed
+  pub read : ReadSoFar order limit reader before now framed
+  pub all : List Placed
+  pub are : AreRead all framed
+  pub accepted : AreAccepted room (reverse all)
+  pub in_range : AreInRange (reverse all)
+  pub table_is : table ≡ table_of room (reverse all)
+  pub pieces : Gains old new (plain_pairs (packets_of all))
+  pub listed : Gains noted noted' (texts (lines_behind (Some room) (reverse all)))
+
+pub carries_none : (order : Order) (room : ℕ) (left : Option (List ℕ)) (pieces : Option (List (ℕ × List ℕ))) (noted : Option (List ℕ))
+    → CarriedSoFar order room (record { order = order; pending = []; offset = 0; limit = limit; end = None }) left left (empty_table room) pieces pieces noted noted
+carries_none order room left pieces noted =
+    record { framed = []; read = start order limit left; all = []; are = tt; accepted = tt; in_range = tt; table_is = refl; pieces = Gains-none pieces; listed = Gains-none noted }
+
+module _ (laws : Laws) (order : Order) (room : ℕ) (least : 6 ≤ room) (reader : Reading) (before now : Option (List ℕ)) (table : Table) (old new : Option (List (ℕ × List ℕ))) (noted noted' held : Option (List ℕ))
+    (so_far : CarriedSoFar order room reader before now table old new noted noted') where
+  abbrev told_before : Told
+  told_before = record { pieces = old; held = held; noted = noted }
+
+  abbrev told_now : Told
+  told_now = record { pieces = new; held = held; noted = noted' }
+
+  taken : AreTaken (carrying room) so_far.framed
+  taken = (so_far.all, so_far.are, so_far.accepted)
+
+  work : IsWork (carrying room) to_a_refusal so_far.framed told_before told_now
+  work = (
+    record {
+      all = so_far.all;
+      read = so_far.are;
+      pieces = so_far.pieces;
+      translation = laws.translated (packets_of so_far.all) (AreInRange-read so_far.all so_far.framed so_far.are);
+      listed = so_far.listed;
+    },
+    refl,
+  )
+
+  -- one more packet is carried
+  pub carries : (reader' : Reading) (now' : Option (List ℕ)) (f : Framed) (p : Packet) (table' : Table) (new' : Option (List (ℕ × List ℕ))) (noted'' : Option (List ℕ))
+      → GivesPacket reader reader' (ahead reader.pending now) (ahead reader'.pending now') f → reason_of f.words ≡ None → Spells p f.words
+      → table' ≡ table_behind f.offset p table → Puts table f.offset p new new' noted' noted''
+      → CarriedSoFar order room reader' before now' table' old new' noted noted''
+  carries reader' now' f p table' new' noted'' gives fine spells behind puts =
+      let placed : Placed = record { offset = f.offset; packet = p } in
+      let past : List Placed = reverse so_far.all in
+      let all : List Placed = so_far.all ++ placed ∷ [] in
+      let turned : reverse all ≡ placed ∷ past = reverse-push so_far.all placed in
+      let P : Table → Type 0 = λ q. IsPlainStep q f.offset p puts.carried in
+      let plain : IsPlainStep (table_of room past) f.offset p puts.carried = subst P so_far.table_is puts.step in
+      let accepted : bad_step (Some room) (parts_of past) p ≡ None = sym (laws.refusal room past least so_far.in_range p) ∙ plain.accepted in
+      let packets : packets_of all ≡ packets_of so_far.all ++ p ∷ [] = map_push (λ q. q.packet) so_far.all placed in
+      let pairs : plain_pairs (packets_of all) ≡ plain_pairs (packets_of so_far.all) ++ pair_put puts.carried =
+      ap plain_pairs packets ∙ plain_pairs-more (packets_of so_far.all) p
+      ∙ ap (λ xs. plain_pairs (packets_of so_far.all) ++ xs) (ap (λ q. pair_of q p) (packets_of-reverse so_far.all) ∙ sym (laws.pair room past placed puts.carried least so_far.in_range so_far.accepted plain)) in
+      let lines : texts (lines_behind (Some room) (reverse all)) ≡ texts (lines_behind (Some room) past) ++ texts (option_to_list (line_in puts.carried)) =
+      ap (λ q. texts (lines_behind (Some room) q)) turned
+      ∙ flat_map-append listing_text (lines_behind (Some room) past) (option_to_list (line_of (Some room) (parts_of past) placed))
+      ∙ ap (λ q. texts (lines_behind (Some room) past) ++ texts (option_to_list q)) (sym (laws.line room past placed puts.carried least so_far.in_range plain)) in
+      let A : List Placed → Type 0 = λ q. AreAccepted room q in
+      let H : List Placed → Type 0 = λ q. table' ≡ table_of room q in
+      let R : List Placed → Type 0 = λ q. AreInRange q in
+      let G : List (ℕ × List ℕ) → Type 0 = λ q. Gains old new' q in
+      let N : List ℕ → Type 0 = λ q. Gains noted noted'' q in
+      record {
+        framed = so_far.framed ++ f ∷ [];
+        read = step order limit reader before now so_far.framed so_far.read reader' now' f gives;
+        all = all;
+        are = AreRead-push so_far.all so_far.framed placed f so_far.are (record { fine = fine; spells = spells; place = refl });
+        accepted = subst A (sym turned) (accepted, so_far.accepted);
+        in_range = subst R (sym turned) (packet_in_range p (IsPacket-spelled p f.words spells fine), so_far.in_range);
+        table_is = subst H (sym turned) (behind ∙ ap (table_behind f.offset p) so_far.table_is ∙ laws.behind room past placed);
+        pieces = subst G (sym pairs) (Gains-more old new new' (plain_pairs (packets_of so_far.all)) (pair_put puts.carried) so_far.pieces puts.pieces);
+        listed = subst N (sym lines) (Gains-more noted noted' noted'' (texts (lines_behind (Some room) past)) (texts (option_to_list (line_in puts.carried))) so_far.listed puts.listed);
+      }
+
+  -- one more packet is refused
+  pub refuses_step : (reader' : Reading) (now' : Option (List ℕ)) (f : Framed) (p : Packet) (reason : Reason) (offset : ℕ) (new' : Option (List (ℕ × List ℕ))) (noted'' : Option (List ℕ))
+      → GivesPacket reader reader' (ahead reader.pending now) (ahead reader'.pending now') f → reason_of f.words ≡ None → Spells p f.words
+      → RefusesStep table p reason new new' noted' noted'' → offset ≡ f.offset
+      → IfSome before (λ bytes. Stops order (carrying room) bytes reason offset told_before (record { pieces = new'; held = held; noted = noted'' }))
+  refuses_step reader' now' f p reason offset new' noted'' gives fine spells refused place =
+      let placed : Placed = record { offset = f.offset; packet = p } in
+      let past : List Placed = reverse so_far.all in
+      let bad : bad_step (Some room) (parts_of past) p ≡ Some refused.bad = sym (laws.refusal room past least so_far.in_range p) ∙ ap (λ q. refusal_in q p) (sym so_far.table_is) ∙ refused.refused in
+      let R : Reason → Type 0 = λ r. IsRefused (carrying room) so_far.framed f r in
+      let P : Option (List (ℕ × List ℕ)) → Type 0 = λ q. IfSome before (λ bytes. Stops order (carrying room) bytes reason offset told_before (record { pieces = q; held = held; noted = noted'' })) in
+      let N : Option (List ℕ) → Type 0 = λ q. IfSome before (λ bytes. Stops order (carrying room) bytes reason offset told_before (record { pieces = new; held = held; noted = q })) in
+      let is_read : IsRead placed f = record { fine = fine; spells = spells; place = refl } in
+      subst P (sym refused.pieces)
+      (subst N (sym refused.listed)
+      (refuses order (carrying room) reader before now told_before told_now so_far.framed so_far.read taken work reader' now' f reason offset gives
+      (subst R (sym refused.reason_is) (by_bad refused.bad (so_far.all, so_far.are, placed, is_read, bad))) place))
+    where
+      by_bad : (b : BadStep) → IsBadStep (carrying room) so_far.framed f b → IsRefused (carrying room) so_far.framed f (reason_for b)
+      by_bad steps.DataIncrement cause = cause
+      by_bad steps.DataDecrement cause = cause
+      by_bad steps.ExclusiveTooLong cause = cause
+
+  -- what the end of the reading says, where it isn't the end of the recording
+  pub carries_stop : (reader' : Reading) (now' : Option (List ℕ)) (reason : Reason) (offset : ℕ) → StopsReading reader reader' (ahead reader.pending now) (ahead reader'.pending now') (Refused reason offset)
+      → IfSome before (λ bytes. Stops order (carrying room) bytes reason offset told_before told_now)
+  carries_stop reader' now' reason offset ends =
+      says_refused order (carrying room) reader before now told_before told_now so_far.framed so_far.read taken work reader' now' reason offset ends
+
+  -- what the end of the recording says, once the open exclusives are listed
+  pub carries_done : (reader' : Reading) (now' : Option (List ℕ)) (noted'' : Option (List ℕ)) → Finishes reader reader' (ahead reader.pending now) (ahead reader'.pending now') End
+      → Gains noted' noted'' (texts (open_lines table groups))
+      → IfSome before (λ bytes. Says order (carrying room) bytes now' told_before (record { pieces = new; held = held; noted = noted'' }) Done)
+  carries_done reader' now' noted'' ends opened =
+      let past : List Placed = reverse so_far.all in
+      let lines : texts (lines_behind (Some room) past ++ end_lines (Some room) (parts_of past)) ≡ texts (lines_behind (Some room) past) ++ texts (open_lines table groups) =
+      flat_map-append listing_text (lines_behind (Some room) past) (end_lines (Some room) (parts_of past))
+      ∙ ap (λ q. texts (lines_behind (Some room) past) ++ texts q) (sym (open_lines-some laws room past least so_far.in_range groups) ∙ ap (λ q. open_lines q groups) (sym so_far.table_is)) in
+      let N : List ℕ → Type 0 = λ q. Gains noted noted'' q in
+      says_done order (carrying room) reader before now told_before told_now so_far.framed so_far.read taken work reader' now' (record { pieces = new; held = held; noted = noted'' }) ends (
+        record {
+          all = so_far.all;
+          read = so_far.are;
+          pieces = so_far.pieces;
+          translation = laws.translated (packets_of so_far.all) (AreInRange-read so_far.all so_far.framed so_far.are);
+          listed = subst N (sym lines) (Gains-more noted noted' noted'' (texts (lines_behind (Some room) past)) (texts (open_lines table groups)) so_far.listed opened);
+        },
+        refl,
+      )
+
+  -- what the last packet says
+  pub carries_err : (reader' : Reading) (now' : Option (List ℕ)) (f : Framed) (p : Packet) (end : RunEnd) (new' : Option (List (ℕ × List ℕ))) (noted'' : Option (List ℕ))
+      → GivesPacket reader reader' (ahead reader.pending now) (ahead reader'.pending now') f → reason_of f.words ≡ None → Spells p f.words
+      → EndsStep table f.offset p end new new' noted' noted''
+      → IfSome before (λ bytes. Says order (carrying room) bytes now' told_before (record { pieces = new'; held = held; noted = noted'' }) end)
+  carries_err reader' now' f p (Refused reason offset) new' noted'' gives fine spells ends = refuses_step reader' now' f p reason offset new' noted'' gives fine spells ends.0 ends.1
+  carries_err reader' now' f p LaneFault new' noted'' gives fine spells ends = untold before
+  carries_err reader' now' f p NoteFault new' noted'' gives fine spells ends = untold before
+  carries_err reader' now' f p Done new' noted'' gives fine spells ends = absurd ends
+  carries_err reader' now' f p ReadFault new' noted'' gives fine spells ends = absurd ends
+  carries_err reader' now' f p OutputFault new' noted'' gives fine spells ends = absurd ends
+
+  lists_open : (reader' : Reading) (now' : Option (List ℕ)) (end : RunEnd) (noted'' : Option (List ℕ)) (notes notes' : ℕ)
+      → Finishes reader reader' (ahead reader.pending now) (ahead reader'.pending now') End → ListsOpen end table noted' noted'' notes notes'
+      → IfSome before (λ bytes. Says order (carrying room) bytes now' told_before (record { pieces = new; held = held; noted = noted'' }) end)
+  lists_open reader' now' Done noted'' notes notes' ends lists = carries_done reader' now' noted'' ends lists.0
+  lists_open reader' now' NoteFault noted'' notes notes' ends lists = untold before
+  lists_open reader' now' (Refused reason offset) noted'' notes notes' ends lists = absurd lists
+  lists_open reader' now' ReadFault noted'' notes notes' ends lists = absurd lists
+  lists_open reader' now' LaneFault noted'' notes notes' ends lists = absurd lists
+  lists_open reader' now' OutputFault noted'' notes notes' ends lists = absurd lists
+
+  -- what the end says, once the open exclusives are listed
+  pub carries_close : (reader' : Reading) (now' : Option (List ℕ)) (first end : RunEnd) (noted'' : Option (List ℕ)) (notes notes' : ℕ)
+      → StopsReading reader reader' (ahead reader.pending now) (ahead reader'.pending now') first → Closes first end table noted' noted'' notes notes'
+      → IfSome before (λ bytes. Says order (carrying room) bytes now' told_before (record { pieces = new; held = held; noted = noted'' }) end)
+  carries_close reader' now' Done end noted'' notes notes' ends closes = lists_open reader' now' end noted'' notes notes' ends closes
+  carries_close reader' now' (Refused reason offset) end noted'' notes notes' ends closes =
+      let E : RunEnd → Type 0 = λ e. IfSome before (λ bytes. Says order (carrying room) bytes now' told_before (record { pieces = new; held = held; noted = noted'' }) e) in
+      let N : Option (List ℕ) → Type 0 = λ n. IfSome before (λ bytes. Stops order (carrying room) bytes reason offset told_before (record { pieces = new; held = held; noted = n })) in
+      subst E (sym closes.0) (subst N (sym closes.1) (carries_stop reader' now' reason offset ends))
+  carries_close reader' now' ReadFault end noted'' notes notes' ends closes =
+      let E : RunEnd → Type 0 = λ e. IfSome before (λ bytes. Says order (carrying room) bytes now' told_before (record { pieces = new; held = held; noted = noted'' }) e) in
+      subst E (sym closes.0) (untold before)
+  carries_close reader' now' LaneFault end noted'' notes notes' ends closes = absurd ends
+  carries_close reader' now' OutputFault end noted'' notes notes' ends closes = absurd ends
+  carries_close reader' now' NoteFault end noted'' notes notes' ends closes = absurd ends
+
+-- ---- lines
+
+pub record ShownSoFar (order : Order) (reader : Reading) (before now : Option (List ℕ)) (old new : Option (List ℕ)) : Type 0 where
+  pub framed : List Framed
+  pub read : ReadSoFar order limit reader before now framed
+  pub all : List Placed
+  pub are : AreRead all framed
+  pub lines : Gains old new (shown all framed)
+
+pub shows_none : (order : Order) (left held : Option (List ℕ)) → ShownSoFar order (record { order = order; pending = []; offset = 0; limit = limit; end = None }) left left held held
+shows_none order left held = record { framed = []; read = start order limit left; all = []; are = tt; lines = Gains-none held }
+
+module _ (order : Order) (reader : Reading) (before now : Option (List ℕ)) (old new : Option (List ℕ)) (so_far : ShownSoFar order reader before now old new) where
+  -- one more packet is shown
+  pub shows : (reader' : Reading) (now' : Option (List ℕ)) (f : Framed) (p : Packet) (line : List ℕ) (new' : Option (List ℕ))
+      → GivesPacket reader reader' (ahead reader.pending now) (ahead reader'.pending now') f → reason_of f.words ≡ None → Spells p f.words → line ≡ packet_text p f.words f.offset → Gains new new' line
+      → ShownSoFar order reader' before now' old new'
+  shows reader' now' f p line new' gives fine spells is gained =
+      let placed : Placed = record { offset = f.offset; packet = p } in
+      let G : List ℕ → Type 0 = λ xs. Gains old new' xs in
+      record {
+        framed = so_far.framed ++ f ∷ [];
+        read = step order limit reader before now so_far.framed so_far.read reader' now' f gives;
+        all = so_far.all ++ placed ∷ [];
+        are = AreRead-push so_far.all so_far.framed placed f so_far.are (record { fine = fine; spells = spells; place = refl });
+        lines = subst G (sym (shown-push so_far.all so_far.framed placed f so_far.are ∙ ap (λ xs. shown so_far.all so_far.framed ++ xs) (sym is))) (Gains-more old new new' (shown so_far.all so_far.framed) line so_far.lines gained);
+      }
+
+module _ (order : Order) (reader : Reading) (before now : Option (List ℕ)) (old new noted : Option (List ℕ)) (pieces : Option (List (ℕ × List ℕ))) (so_far : ShownSoFar order reader before now old new) where
+  abbrev shown_before : Told
+  shown_before = record { pieces = pieces; held = old; noted = noted }
+
+  abbrev shown_now : Told
+  shown_now = record { pieces = pieces; held = new; noted = noted }
 
   -- what the end of the reading says
-  pub says_stop : (reader' : Reading) (now' : Option (List ℕ)) (end : RunEnd) → StopsReading reader reader' (ahead reader.pending now) (ahead reader'.pending now') end → IfSome before (λ bytes. Says asked bytes now' old new end)
-  says_stop reader' now' Done ends = says_done reader' now' ends
-  says_stop reader' now' (Refused reason offset) ends = says_refused reader' now' reason offset ends
-  says_stop reader' now' ReadFault ends = untold before
-  says_stop reader' now' LaneFault ends = absurd ends
-  says_stop reader' now' OutputFault ends = absurd ends
+  pub shows_stop : (reader' : Reading) (now' : Option (List ℕ)) (end : RunEnd) → StopsReading reader reader' (ahead reader.pending now) (ahead reader'.pending now') end
+      → IfSome before (λ bytes. Says order showing bytes now' shown_before shown_now end)
+  shows_stop reader' now' Done ends =
+      says_done order showing reader before now shown_before shown_now so_far.framed so_far.read (so_far.all, so_far.are) (record { all = so_far.all; read = so_far.are; lines = so_far.lines }, refl, refl)
+      reader' now' shown_now ends (record { all = so_far.all; read = so_far.are; lines = so_far.lines }, refl, refl)
+  shows_stop reader' now' (Refused reason offset) ends =
+      says_refused order showing reader before now shown_before shown_now so_far.framed so_far.read (so_far.all, so_far.are) (record { all = so_far.all; read = so_far.are; lines = so_far.lines }, refl, refl)
+      reader' now' reason offset ends
+  shows_stop reader' now' ReadFault ends = untold before
+  shows_stop reader' now' LaneFault ends = absurd ends
+  shows_stop reader' now' OutputFault ends = absurd ends
+  shows_stop reader' now' NoteFault ends = absurd ends
 
--- what was read is within its places, and nothing else is read from the same words
-IsPacket-read : (p : Packet) (words : List ℕ) → IsRead p words → IsPacket p
-IsPacket-read p words read = IsPacket-spelled p words read.spells read.fine
+-- ---- a recording that is taken and ends at a packet has no refusal
 
-one_packet-read : (p q : Packet) (words : List ℕ) → IsRead p words → IsRead q words → p ≡ q
-one_packet-read p q words read read' = one_packet p q words read.spells read'.spells
+-- the packets of the same words are the same
+one_placed : (p q : Placed) (f : Framed) → IsRead p f → IsRead q f → p ≡ q
+one_placed p q f one two =
+    let same : p.packet ≡ q.packet = one_packet p.packet q.packet f.words one.spells two.spells in
+    let at : p.offset ≡ q.offset = one.place ∙ sym two.place in
+    ap (λ n. record { offset = n; packet = p.packet }) at ∙ ap (λ x. record { offset = q.offset; packet = x }) same
 
--- a note that was read is within its places
-within_by_test : (group : ℕ) (message : Voice2) (attribute_type : ℕ) (n : Note) (b : Bool) → eqb attribute_type 0 ≡ b → IsNoteOf (note group message) → unless_attribute group message attribute_type ≡ Some n → IsNoteOf n
-within_by_test group message attribute_type n true e fits is =
-    let same : Some (note group message) ≡ Some n = sym (ap (λ t. cond t (Some (note group message)) None) e) ∙ is in
-    let one : note group message ≡ n = cc in
-    let P : Note → Type 0 = λ m. IsNoteOf m in
-    subst P one fits
-within_by_test group message attribute_type n false e fits is =
-    let none : None ≡ Some n = sym (ap (λ t. cond t (Some (note group message)) None) e) ∙ is in
+-- the packets of a front, and what stands behind it
+front : (all : List Placed) (before : List Framed) (f : Framed) (after : List Framed) (fore : List Placed) (p : Placed) → AreRead all (before ++ f ∷ after) → AreRead fore before → IsRead p f
+    → (rest : List Placed) × (all ≡ fore ++ p ∷ rest)
+front [] [] f after fore p are are' read = absurd are
+front (q ∷ all) [] f after [] p are are' read = (all, ap (λ x. x ∷ all) (one_placed q p f are.0 read))
+front (q ∷ all) [] f after (r ∷ fore) p are are' read = absurd are'
+front [] (b ∷ before) f after fore p are are' read = absurd are
+front (q ∷ all) (b ∷ before) f after [] p are are' read = absurd are'
+front (q ∷ all) (b ∷ before) f after (r ∷ fore) p are are' read =
+    let more = front all before f after fore p are.1 are'.1 read in
+    (more.0, ap (λ x. x ∷ all) (one_placed q r b are.0 are'.0) ∙ ap (λ xs. r ∷ xs) more.1)
+
+accepted_at : (room : ℕ) (newer : List Placed) (p : Placed) (past : List Placed) → AreAccepted room (newer ++ p ∷ past) → bad_step (Some room) (parts_of past) p.packet ≡ None
+accepted_at room [] p past accepted = accepted.0
+accepted_at room (q ∷ newer) p past accepted = accepted_at room newer p past accepted.1
+
+turned_at : (fore : List Placed) (p : Placed) (rest : List Placed) → reverse (fore ++ p ∷ rest) ≡ reverse rest ++ p ∷ reverse fore
+turned_at fore p rest =
+    ap reverse (sym (append_assoc fore (p ∷ []) rest)) ∙ reverse-append (fore ++ p ∷ []) rest ∙ ap (λ xs. reverse rest ++ xs) (reverse-push fore p)
+
+taken_or_bad : (pass : Pass) (before : List Framed) (f : Framed) (after : List Framed) (b : BadStep) → AreTaken pass (before ++ f ∷ after) → IsBadStep pass before f b → ⊥
+taken_or_bad showing before f after b taken cause = cause
+taken_or_bad (carrying room) before f after b taken cause =
+    let split = front taken.0 before f after cause.0 cause.2 taken.1 cause.1 cause.3 in
+    let A : List Placed → Type 0 = λ xs. AreAccepted room xs in
+    let accepted = subst A (turned_at cause.0 cause.2 split.0) (subst A (ap reverse split.1) taken.2) in
+    let same : None ≡ Some b = sym (accepted_at room (reverse split.0) cause.2 (reverse cause.0) accepted) ∙ cause.4 in
     cc
 
-IsNoteOf-read : (p : Packet) (n : Note) → IsPacket p → note_of p ≡ Some n → IsNoteOf n
-IsNoteOf-read (packet.Voice2 group (voice2.NoteOff channel key velocity attribute_type attribute)) n fits is =
-    within_by_test group (voice2.NoteOff channel key velocity attribute_type attribute) attribute_type n (eqb attribute_type 0) refl (fits.1.0, fits.1.1, fits.1.2) is
-IsNoteOf-read (packet.Voice2 group (voice2.NoteOn channel key velocity attribute_type attribute)) n fits is =
-    within_by_test group (voice2.NoteOn channel key velocity attribute_type attribute) attribute_type n (eqb attribute_type 0) refl (fits.1.0, fits.1.1, fits.1.2) is
-IsNoteOf-read _ n fits is = let none : None ≡ Some n = is in cc
+read_at : (all : List Placed) (before : List Framed) (f : Framed) (after : List Framed) → AreRead all (before ++ f ∷ after) → reason_of f.words ≡ None
+read_at [] [] f after are = absurd are
+read_at (q ∷ all) [] f after are = are.0.fine
+read_at [] (b ∷ before) f after are = absurd are
+read_at (q ∷ all) (b ∷ before) f after are = read_at all before f after are.1
 
--- one more packet is carried
-pub carries : (folder : List ℕ) (reader : Reading) (before now : Option (List ℕ)) (old new new' : Option (List (ℕ × List ℕ))) (held : Option (List ℕ))
-    → SoFar (down folder) reader before now (record { pieces = old; held = held }) (record { pieces = new; held = held })
-    → (reader' : Reading) (now' : Option (List ℕ)) (f : Framed) (p : Packet) (n : Note)
-    → GivesPacket reader reader' (ahead reader.pending now) (ahead reader'.pending now') f → IsRead p f.words → note_of p ≡ Some n → Gains new new' (pair_of n ∷ [])
-    → SoFar (down folder) reader' before now' (record { pieces = old; held = held }) (record { pieces = new'; held = held })
-carries folder reader before now old new new' held so_far reader' now' f p n gives read is gained =
-    let carried = so_far.work.0 in
-    record {
-      framed = so_far.framed ++ f ∷ [];
-      read = step Big limit reader before now so_far.framed so_far.read reader' now' f gives;
-      taken = AllByRecursion-push (IsTaken (down folder)) so_far.framed f so_far.taken (p, read, (n, is));
-      work = (
-        record {
-          notes = carried.notes ++ n ∷ [];
-          pairs = carried.pairs ++ pair_of n ∷ [];
-          spelled = AreNotes-push carried.notes so_far.framed n f p carried.spelled read is;
-          gained = Gains-more old new new' carried.pairs (pair_of n ∷ []) carried.gained gained;
-          translation = IsTranslation-push carried.notes carried.pairs n carried.translation (IsNoteOf-read p n (IsPacket-read p f.words read) is);
-        },
-        refl,
-      );
-    }
+fine_at : (pass : Pass) (before : List Framed) (f : Framed) (after : List Framed) → AreTaken pass (before ++ f ∷ after) → reason_of f.words ≡ None
+fine_at (carrying room) before f after taken = read_at taken.0 before f after taken.1
+fine_at showing before f after taken = read_at taken.0 before f after taken.1
 
--- one more packet is shown
-pub shows : (reader : Reading) (before now : Option (List ℕ)) (old new new' : Option (List ℕ)) (pieces : Option (List (ℕ × List ℕ)))
-    → SoFar show reader before now (record { pieces = pieces; held = old }) (record { pieces = pieces; held = new })
-    → (reader' : Reading) (now' : Option (List ℕ)) (f : Framed) (p : Packet) (line : List ℕ)
-    → GivesPacket reader reader' (ahead reader.pending now) (ahead reader'.pending now') f → IsRead p f.words → line ≡ packet_text p f.words f.offset → Gains new new' line
-    → SoFar show reader' before now' (record { pieces = pieces; held = old }) (record { pieces = pieces; held = new' })
-shows reader before now old new new' pieces so_far reader' now' f p line gives read is gained =
-    let shown = so_far.work.0 in
-    let lines : List (List ℕ) = shown.lines ++ line ∷ [] in
-    let all : flat_map (λ l. l) lines ≡ flat_map (λ l. l) shown.lines ++ line =
-    flat_map-append (λ l. l) shown.lines (line ∷ []) ∙ ap (λ xs. flat_map (λ l. l) shown.lines ++ xs) (append-nil line) in
-    let G : List ℕ → Type 0 = λ xs. Gains old new' xs in
-    record {
-      framed = so_far.framed ++ f ∷ [];
-      read = step Big limit reader before now so_far.framed so_far.read reader' now' f gives;
-      taken = AllByRecursion-push (IsTaken show) so_far.framed f so_far.taken (p, read, tt);
-      work = (
-        record {
-          lines = lines;
-          texts = AreLines-push shown.lines so_far.framed line f p shown.texts read is;
-          gained = subst G (sym all) (Gains-more old new new' (flat_map (λ l. l) shown.lines) line shown.gained gained);
-        },
-        refl,
-      );
-    }
+taken_or_refused : (pass : Pass) (before : List Framed) (f : Framed) (after : List Framed) (reason : Reason) → AreTaken pass (before ++ f ∷ after) → IsRefused pass before f reason → ⊥
+taken_or_refused pass before f after Truncated taken refused = refused
+taken_or_refused pass before f after InputTooLong taken refused = refused
+taken_or_refused pass before f after BadCount taken refused = let same : None ≡ Some bad.BadCount = sym (fine_at pass before f after taken) ∙ refused in cc
+taken_or_refused pass before f after HighBit taken refused = let same : None ≡ Some bad.HighBit = sym (fine_at pass before f after taken) ∙ refused in cc
+taken_or_refused pass before f after DataIncrement taken refused = taken_or_bad pass before f after steps.DataIncrement taken refused
+taken_or_refused pass before f after DataDecrement taken refused = taken_or_bad pass before f after steps.DataDecrement taken refused
+taken_or_refused pass before f after ExclusiveTooLong taken refused = taken_or_bad pass before f after steps.ExclusiveTooLong taken refused
 
-pub carries_none : (folder : List ℕ) (left : Option (List ℕ)) (pieces : Option (List (ℕ × List ℕ))) (held : Option (List ℕ))
-    → SoFar (down folder) (record { order = Big; pending = []; offset = 0; limit = limit; end = None }) left left (record { pieces = pieces; held = held }) (record { pieces = pieces; held = held })
-carries_none folder left pieces held =
-    record {
-      framed = [];
-      read = start Big limit left;
-      taken = tt;
-      work = (record { notes = []; pairs = []; spelled = tt; gained = Gains-none pieces; translation = IsTranslation-none }, refl);
-    }
+behind_or_taken : (pass : Pass) (before fs : List Framed) (reason : Reason) (offset : ℕ) → AreTaken pass fs → RefusesBehind pass before fs reason offset → ⊥
+behind_or_taken pass before fs reason offset taken behind =
+    let B : List Framed → Type 0 = λ xs. AreTaken pass xs in
+    taken_or_refused pass before behind.refused behind.after reason (subst B behind.parts taken) behind.cause
 
-pub shows_none : (left : Option (List ℕ)) (pieces : Option (List (ℕ × List ℕ))) (held : Option (List ℕ))
-    → SoFar show (record { order = Big; pending = []; offset = 0; limit = limit; end = None }) left left (record { pieces = pieces; held = held }) (record { pieces = pieces; held = held })
-shows_none left pieces held =
-    record {
-      framed = [];
-      read = start Big limit left;
-      taken = tt;
-      work = (record { lines = []; texts = tt; gained = Gains-none held }, refl);
-    }
-
--- a packet that has no note is not built
-pub refuses_other : (folder : List ℕ) (p : Packet) (words : List ℕ) → IsRead p words → note_of p ≡ None → IsRefused (down folder) words NotBuilt
-refuses_other folder p words read none = (p, read, λ taken. let same : None ≡ Some taken.0 = sym none ∙ taken.1 in cc)
-
--- ---- a recording whose packets are all taken and that ends at a packet has no refusal
-
-taken_or_refused : (asked : Asked) (f : Framed) (reason : Reason) → IsTaken asked f → IsRefused asked f.words reason → ⊥
-taken_or_refused asked f Truncated taken refused = refused
-taken_or_refused asked f InputTooLong taken refused = refused
-taken_or_refused asked f BadCount taken refused = let same : None ≡ Some bad.BadCount = sym taken.1.fine ∙ refused in cc
-taken_or_refused asked f HighBit taken refused = let same : None ≡ Some bad.HighBit = sym taken.1.fine ∙ refused in cc
-taken_or_refused asked f NotBuilt taken refused =
-    let P : Packet → Type 0 = λ p. Takes asked p in
-    refused.2 (subst P (one_packet-read taken.0 refused.0 f.words taken.1 refused.1) taken.2)
-
-behind_or_taken : (asked : Asked) (before fs : List Framed) (reason : Reason) (offset : ℕ) → AreTaken asked fs → RefusesBehind asked before fs reason offset → ⊥
-behind_or_taken asked before fs reason offset taken behind =
-    let B : List Framed → Type 0 = λ xs. AreTaken asked xs in
-    taken_or_refused asked behind.refused reason (AllByRecursion-at (IsTaken asked) before behind.refused behind.after (subst B behind.parts taken)) behind.cause
-
-pub no_stop : (asked : Asked) (bytes : List ℕ) (framed : List Framed) (reason : Reason) (offset : ℕ) (old new : Told) → IsCutInto Big limit bytes framed End → AreTaken asked framed → Stops asked bytes reason offset old new → ⊥
-no_stop asked bytes framed reason offset old new cut taken stops =
-    let one = one_cut Big limit bytes framed stops.framed End stops.tail cut stops.cut in
-    let B : List Framed → Type 0 = λ fs. AreTaken asked fs in
+pub no_stop : (order : Order) (pass : Pass) (bytes : List ℕ) (framed : List Framed) (reason : Reason) (offset : ℕ) (old new : Told) → IsCutInto order limit bytes framed End → AreTaken pass framed → Stops order pass bytes reason offset old new → ⊥
+no_stop order pass bytes framed reason offset old new cut taken stops =
+    let one = one_cut order limit bytes framed stops.framed End stops.tail cut stops.cut in
+    let B : List Framed → Type 0 = λ fs. AreTaken pass fs in
     by_reason reason (subst B one.0 taken) one.1 stops.first
   where
-    by_reason : (reason : Reason) → AreTaken asked stops.framed → End ≡ stops.tail → IsFirstStop asked stops.before stops.framed stops.tail reason offset → ⊥
+    by_reason : (reason : Reason) → AreTaken pass stops.framed → End ≡ stops.tail → IsFirstStop pass stops.before stops.framed stops.tail reason offset → ⊥
     by_reason Truncated taken end first = let e : End ≡ TailTruncated offset = end ∙ first.1 in cc
     by_reason InputTooLong taken end first = let e : End ≡ TooLong = end ∙ first.1 in cc
-    by_reason BadCount taken end first = behind_or_taken asked stops.before stops.framed BadCount offset taken first
-    by_reason HighBit taken end first = behind_or_taken asked stops.before stops.framed HighBit offset taken first
-    by_reason NotBuilt taken end first = behind_or_taken asked stops.before stops.framed NotBuilt offset taken first
+    by_reason BadCount taken end first = behind_or_taken pass stops.before stops.framed BadCount offset taken first
+    by_reason HighBit taken end first = behind_or_taken pass stops.before stops.framed HighBit offset taken first
+    by_reason DataIncrement taken end first = behind_or_taken pass stops.before stops.framed DataIncrement offset taken first
+    by_reason DataDecrement taken end first = behind_or_taken pass stops.before stops.framed DataDecrement offset taken first
+    by_reason ExclusiveTooLong taken end first = behind_or_taken pass stops.before stops.framed ExclusiveTooLong offset taken first

@@ -1,7 +1,8 @@
-pub mod ByteSteps
 pub mod Command
 pub mod ExitCode
+pub mod LastLine
 pub mod Next
-pub mod NoteMeaning
 pub mod Outcome
-pub mod Translation
+pub mod Ready
+pub mod Recording
+pub mod Step

@@ -11,9 +11,9 @@ use Rattle.ump_grammar.specs.Spelling.{Spells}
 use Rattle.midi_tool.specs.declared.next.Next.{Next}
 use Rattle.midi_tool.specs.declared.next.Next.TheVariants.{Packet, Stop}
 use Rattle.midi_tool.specs.declared.status.Reason.{Reason}
-use Rattle.midi_tool.specs.declared.status.Reason.TheVariants.{Truncated, InputTooLong, BadCount, HighBit, NotBuilt}
+use Rattle.midi_tool.specs.declared.status.Reason.TheVariants.{Truncated, InputTooLong, BadCount, HighBit, DataIncrement, DataDecrement, ExclusiveTooLong}
 use Rattle.midi_tool.specs.declared.status.RunEnd.{RunEnd}
-use Rattle.midi_tool.specs.declared.status.RunEnd.TheVariants.{Done, Refused, ReadFault, LaneFault, OutputFault}
+use Rattle.midi_tool.specs.declared.status.RunEnd.TheVariants.{Done, Refused, ReadFault, LaneFault, OutputFault, NoteFault}
 
 -- the most bytes that a recording may have
 abbrev pub limit : ℕ
@@ -29,7 +29,9 @@ Refuses old new before after Truncated offset = Finishes old new before after (T
 Refuses old new before after InputTooLong offset = Finishes old new before after TooLong × (offset ≡ limit)
 Refuses old new before after BadCount offset = GivesBad old new before after bad.BadCount offset
 Refuses old new before after HighBit offset = GivesBad old new before after bad.HighBit offset
-Refuses old new before after NotBuilt offset = ⊥
+Refuses old new before after DataIncrement offset = ⊥
+Refuses old new before after DataDecrement offset = ⊥
+Refuses old new before after ExclusiveTooLong offset = ⊥
 
 abbrev pub Stops : Reading → Reading → Option (List ℕ) → Option (List ℕ) → RunEnd → Type 0
 Stops old new before after Done = Finishes old new before after End
@@ -37,6 +39,7 @@ Stops old new before after (Refused reason offset) = Refuses old new before afte
 Stops old new before after ReadFault = Unit {0}
 Stops old new before after LaneFault = ⊥
 Stops old new before after OutputFault = ⊥
+Stops old new before after NoteFault = ⊥
 
 abbrev pub Gives : Reading → Reading → Option (List ℕ) → Option (List ℕ) → Next → Type 0
 Gives old new before after (Packet framed packet) =

@@ -3,31 +3,32 @@
 
 mod command;
 mod down;
-mod meaning;
+mod last_line;
 mod next;
-mod notes;
 mod run;
 mod show;
 mod status;
 #[cfg(test)]
 mod tests;
 
+use crate::last_line::put_last;
 use crate::run::run;
 use crate::status::Status;
 use midi_edge::{FolderLanes, MemShelf, ReadSource, WriteSink};
+use std::io::Write;
 use std::process::ExitCode;
 use std::{env, io};
 
 fn main(rt: HostRuntime) -> io::Result<ExitCode> {
     let alloc = rt.alloc();
+    let mut notes = WriteSink::new(rt.stderr());
     let words: Vec<String> = match env::args(&rt) {
         Ok(words) => words.skip(1).collect(alloc)?,
-        Err(error) => return Ok(ExitCode::from(unread_words(error.kind()).exit_code())),
+        Err(error) => return Ok(unread_words(error.kind(), &mut notes)),
     };
     let mut input = ReadSource::new(rt.stdin());
     let mut lanes = FolderLanes::new(rt.clone()?);
     let mut output = WriteSink::new(rt.stdout());
-    let mut notes = WriteSink::new(rt.stderr());
     let mut shelf = MemShelf::new(Vec::new(alloc), Vec::new(alloc));
     let status = run(
         alloc,
@@ -41,10 +42,12 @@ fn main(rt: HostRuntime) -> io::Result<ExitCode> {
     Ok(ExitCode::from(status.exit_code()))
 }
 
-// The status where the words cannot be had: one that is no UTF-8 is a faulty command line.
-fn unread_words(kind: io::ErrorKind) -> Status {
-    match kind {
+// Where the words cannot be had, tells why: one that is no UTF-8 is a faulty command line.
+fn unread_words<N: Write>(kind: io::ErrorKind, notes: &mut WriteSink<N>) -> ExitCode {
+    let status = match kind {
         io::ErrorKind::OutOfMemory => Status::NoMemory,
         _ => Status::Usage,
-    }
+    };
+    put_last(status, notes);
+    ExitCode::from(status.exit_code())
 }

@@ -12,8 +12,12 @@ pub enum Reason {
     BadCount,
     /// A byte that carries seven bits is 128 or more.
     HighBit,
-    /// The packet is none that is translated so far.
-    NotBuilt,
+    /// A data increment, control change 96 of either protocol.
+    DataIncrement,
+    /// A data decrement, control change 97 of either protocol.
+    DataDecrement,
+    /// An exclusive has more bytes between F0 and F7 than the room.
+    ExclusiveTooLong,
 }
 
 /// How a pass over a recording ends.
@@ -29,6 +33,8 @@ pub enum RunEnd {
     LaneFault,
     /// A write to the output failed.
     OutputFault,
+    /// A write to the notes failed.
+    NoteFault,
 }
 
 /// How a run ends.
@@ -44,6 +50,8 @@ pub enum Status {
     LaneFault,
     /// A write to the output failed.
     OutputFault,
+    /// A write to the notes failed.
+    NoteFault,
     /// The words are no command.
     Usage,
     /// There was no memory.
@@ -53,7 +61,8 @@ pub enum Status {
 impl Status {
     ghost use Rattle.midi_tool.specs.ExitCode.{exit_code_of};
 
-    /// The exit code: 0 for `Done`, 1 for `Refused`, 2 to 4 for faults of reading, of the lanes and of the output, 7 for
+    /// The exit code: 0 for `Done`, 1 for `Refused`, 2 to 5 for faults of reading, of the lanes, of the output
+    /// and of the notes, 7 for
     /// `Usage`, 10 for `NoMemory`.
     pub fn exit_code(self) -> u8
         ensures { result ≡ exit_code_of self }
@@ -64,6 +73,7 @@ impl Status {
             Status::ReadFault => 2,
             Status::LaneFault => 3,
             Status::OutputFault => 4,
+            Status::NoteFault => 5,
             Status::Usage => 7,
             Status::NoMemory => 10,
         }

@@ -25,7 +25,7 @@ use Rattle.voice_state.specs.Packets.{meaning2, step2, IsInRange}
 use Rattle.voice_state.specs.Listing.{is_carried_role}
 use Rattle.voice_state.specs.Plain.{voice_messages, ended_messages, plain_messages, plain_piece}
 use Rattle.voice_state.specs.Lanes.{Denotes, lane_after}
-use Rattle.voice_state.proofs.ScalingLaws.{down7_below, down14_below, release_down_below, velocity_down_below}
+use Rattle.bit_scaling.proofs.ScalingLaws.{down7_fits, down14_fits, release_down_fits, velocity_down_fits}
 use Rattle.voice_state.proofs.Packets.{GroupMatches, matches-packet}
 use Rattle.voice_state.proofs.Joined.{whole_data}
 
@@ -42,16 +42,16 @@ kind_numbers Registered = (omega arith, omega arith)
 kind_numbers Assignable = (omega arith, omega arith)
 
 voice_is_message : (m : Voice2) → IsVoice2 m → AllByRecursion IsMessage (voice_messages m)
-voice_is_message (voice2.NoteOff ch n v t a) b = ((b.0, b.1, release_down_below v b.2), tt)
-voice_is_message (voice2.NoteOn ch n v t a) b = ((b.0, b.1, velocity_down_below v b.2), tt)
-voice_is_message (voice2.PolyPressure ch n v) b = ((b.0, b.1, down7_below v b.2), tt)
-voice_is_message (voice2.Control ch i v) b = cond_both (is_carried_role (role_of i)) _ _ (AllByRecursion IsMessage) (λ e. ((b.0, b.1, down7_below v b.2), tt)) (λ e. tt)
-voice_is_message (voice2.Set ch p v) b = let w = down14_below v b.2 in cond_both (is_null p) _ _ (AllByRecursion IsMessage) (λ e. tt) (λ e. ((b.0, (kind_numbers p.kind).0, b.1.0), ((b.0, (kind_numbers p.kind).1, b.1.1), ((b.0, omega arith, omega arith), ((b.0, omega arith, omega arith), tt)))))
+voice_is_message (voice2.NoteOff ch n v t a) b = ((b.0, b.1, release_down_fits v b.2), tt)
+voice_is_message (voice2.NoteOn ch n v t a) b = ((b.0, b.1, velocity_down_fits v b.2), tt)
+voice_is_message (voice2.PolyPressure ch n v) b = ((b.0, b.1, down7_fits v b.2), tt)
+voice_is_message (voice2.Control ch i v) b = cond_both (is_carried_role (role_of i)) _ _ (AllByRecursion IsMessage) (λ e. ((b.0, b.1, down7_fits v b.2), tt)) (λ e. tt)
+voice_is_message (voice2.Set ch p v) b = let w = down14_fits v b.2 in cond_both (is_null p) _ _ (AllByRecursion IsMessage) (λ e. tt) (λ e. ((b.0, (kind_numbers p.kind).0, b.1.0), ((b.0, (kind_numbers p.kind).1, b.1.1), ((b.0, omega arith, omega arith), ((b.0, omega arith, omega arith), tt)))))
 voice_is_message (voice2.Shift ch p v) b = tt
 voice_is_message (voice2.Program ch p None) b = ((b.0, b.1), tt)
 voice_is_message (voice2.Program ch p (Some k)) b = ((b.0, omega arith, b.2.0), ((b.0, omega arith, b.2.1), ((b.0, b.1), tt)))
-voice_is_message (voice2.Pressure ch v) b = ((b.0, down7_below v b.1), tt)
-voice_is_message (voice2.Bend ch v) b = ((b.0, down14_below v b.1), tt)
+voice_is_message (voice2.Pressure ch v) b = ((b.0, down7_fits v b.1), tt)
+voice_is_message (voice2.Bend ch v) b = ((b.0, down14_fits v b.1), tt)
 voice_is_message _ b = tt
 
 whole_is_message : (o : Option (List ℕ)) → IfSome o AreData → AllByRecursion IsMessage (ended_messages o)

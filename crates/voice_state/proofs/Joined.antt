@@ -12,9 +12,8 @@ use Rattle.voice_messages.specs.declared.voice2.Form.{Form}
 use Rattle.voice_messages.specs.declared.voice2.Form.TheVariants as form
 use Rattle.ump_grammar.specs.declared.packet.Packet.{Packet}
 use Rattle.ump_grammar.specs.declared.packet.Packet.TheVariants as packet
-use Rattle.sysex_groups.specs.Exclusives.{Part, of_group, since_start, since_start_by, bytes_of, within, joined}
+use Rattle.sysex_groups.specs.Exclusives.{Part, of_group, since_start, since_start_by, bytes_of, within, joined, ended_by}
 use Rattle.midi1_bytes.specs.Messages.{AreData}
-use Rattle.voice_state.specs.Ended.{ended_by}
 use Rattle.voice_state.specs.Parts.{Placed, part_of, parts_of, packet_parts, whole_of}
 use Rattle.voice_state.specs.Packets.{IsInRange}
 

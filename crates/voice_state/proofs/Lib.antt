@@ -6,5 +6,4 @@ pub mod Packets
 pub mod Recording
 pub mod Rooms
 pub mod Rows
-pub mod ScalingLaws
 pub mod Translation

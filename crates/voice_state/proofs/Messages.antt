@@ -13,7 +13,7 @@ use Rattle.voice_state.specs.Controllers.{Role, bank_msb, bank_lsb, data_msb, da
 use Rattle.voice_state.specs.State.{Act, on, off, mode, Channel, with_act, with_registers}
 use Rattle.voice_state.specs.Messages.{as_they_come, raised, reset, enter_msb, enter_lsb, control, voice_at}
 use Rattle.voice_state.specs.Agreement.{lowered}
-use Rattle.voice_state.proofs.ScalingLaws.{down7-up, down14-up, release_down-up, velocity_down-up}
+use Rattle.bit_scaling.proofs.ScalingLaws.{down7_up, down14_up, release_down_up, velocity_down_up}
 use Rattle.voice_state.proofs.Changes.{Follows, follows-act, follows-poly, follows-controller, follows-pressure, follows-bend, follows-program, follows-registers, follows-param, follows-value, follows-reset}
 
 pub record Matches (c1 c2 : Channel) : Type 0 where
@@ -33,7 +33,7 @@ matches-registers f c1 c2 h = record { follows = follows-registers c1 c2 _ _ h.f
 
 entered_msb : (o : Option Param) (v : ℕ) (c1 c2 : Channel) → v < 128 → Matches c1 c2 → Matches (enter_msb as_they_come o v c1) (enter_msb raised o v c2)
 entered_msb None v c1 c2 b h = h
-entered_msb (Some p) v c1 c2 b h = record { follows = follows-param c1 c2 p (v * 128) (up (v * 128) 14 32) h.follows (omega arith) (sym (down14-up (v * 128) (omega arith))); registers = h.registers }
+entered_msb (Some p) v c1 c2 b h = record { follows = follows-param c1 c2 p (v * 128) (up (v * 128) 14 32) h.follows (omega arith) (sym (down14_up (v * 128) (omega arith))); registers = h.registers }
 
 narrowed : (o1 o2 : Option ℕ) → o1 ≡ option_map down14 o2 → unwrap_or o1 0 ≡ down14 (unwrap_or o2 0)
 unfolding down14
@@ -48,7 +48,7 @@ entered_lsb (Some p) v c1 c2 b h =
     let new : old / 128 * 128 + v < 16384 = omega arith in
     record {
       follows = follows-value c1 c2 p (old / 128 * 128 + v) _ h.follows new (λ l.
-          sym (down14-up (old / 128 * 128 + v) new) ∙ ap (λ n. down14 (up (n / 128 * 128 + v) 14 32)) (narrowed (c1.params p) (c2.params p) (h.follows.agrees.params p l)));
+          sym (down14_up (old / 128 * 128 + v) new) ∙ ap (λ n. down14 (up (n / 128 * 128 + v) 14 32)) (narrowed (c1.params p) (c2.params p) (h.follows.agrees.params p l)));
       registers = h.registers;
     }
 
@@ -62,9 +62,9 @@ matches-control data_lsb i v c1 c2 b h = subst (λ r. Matches (enter_lsb as_they
 matches-control data_step i v c1 c2 b h = h
 matches-control (number_msb k) i v c1 c2 b h = matches-registers (with_number_msb k v) c1 c2 h
 matches-control (number_lsb k) i v c1 c2 b h = matches-registers (with_number_lsb k v) c1 c2 h
-matches-control reset_all i v c1 c2 b h = matches-reset _ _ (matches-act c1 c2 _ _ h (ap (mode i) (sym (down7-up v b))))
-matches-control channel_mode i v c1 c2 b h = matches-act c1 c2 _ _ h (ap (mode i) (sym (down7-up v b)))
-matches-control plain i v c1 c2 b h = record { follows = follows-controller c1 c2 i _ _ h.follows (sym (down7-up v b)); registers = h.registers }
+matches-control reset_all i v c1 c2 b h = matches-reset _ _ (matches-act c1 c2 _ _ h (ap (mode i) (sym (down7_up v b))))
+matches-control channel_mode i v c1 c2 b h = matches-act c1 c2 _ _ h (ap (mode i) (sym (down7_up v b)))
+matches-control plain i v c1 c2 b h = record { follows = follows-controller c1 c2 i _ _ h.follows (sym (down7_up v b)); registers = h.registers }
 
 -- ---- voice messages
 
@@ -72,14 +72,14 @@ note_on-same : (n v : ℕ) → v < 128 → cond (eqb v 0) (off n 64) (on n v) �
 note_on-same n v b = at_velocity (eqb v 0) refl
   where
     at_velocity : (t : Bool) → eqb v 0 ≡ t → cond t (off n 64) (on n v) ≡ lowered (cond t (off n (up 64 7 16)) (on n (up v 7 16)))
-    at_velocity true e = ap (off n) (sym (release_down-up 64 (omega arith)))
-    at_velocity false e = ap (on n) (sym (velocity_down-up v (grind (arith, eqb-false v 0 e)) b))
+    at_velocity true e = ap (off n) (sym (release_down_up 64 (omega arith)))
+    at_velocity false e = ap (on n) (sym (velocity_down_up v (grind (arith, eqb-false v 0 e)) b))
 
 pub matches-voice : (m : Voice1) (c1 c2 : Channel) → IsVoice1 m → Matches c1 c2 → Matches (voice_at as_they_come m c1) (voice_at raised m c2)
-matches-voice (voice1.NoteOff ch n v) c1 c2 b h = matches-act c1 c2 _ _ h (ap (off n) (sym (release_down-up v b.2)))
+matches-voice (voice1.NoteOff ch n v) c1 c2 b h = matches-act c1 c2 _ _ h (ap (off n) (sym (release_down_up v b.2)))
 matches-voice (voice1.NoteOn ch n v) c1 c2 b h = matches-act c1 c2 _ _ h (note_on-same n v b.2)
-matches-voice (voice1.PolyPressure ch n v) c1 c2 b h = record { follows = follows-poly c1 c2 n _ _ h.follows (sym (down7-up v b.2)); registers = h.registers }
+matches-voice (voice1.PolyPressure ch n v) c1 c2 b h = record { follows = follows-poly c1 c2 n _ _ h.follows (sym (down7_up v b.2)); registers = h.registers }
 matches-voice (voice1.Control ch i v) c1 c2 b h = matches-control (role_of i) i v c1 c2 b.2 h
 matches-voice (voice1.Program ch p) c1 c2 b h = record { follows = follows-program c1 c2 p h.follows (ap bank_of h.registers); registers = h.registers }
-matches-voice (voice1.Pressure ch v) c1 c2 b h = record { follows = follows-pressure c1 c2 _ _ h.follows (sym (down7-up v b.1)); registers = h.registers }
-matches-voice (voice1.Bend ch v) c1 c2 b h = record { follows = follows-bend c1 c2 _ _ h.follows (sym (down14-up v b.1)); registers = h.registers }
+matches-voice (voice1.Pressure ch v) c1 c2 b h = record { follows = follows-pressure c1 c2 _ _ h.follows (sym (down7_up v b.1)); registers = h.registers }
+matches-voice (voice1.Bend ch v) c1 c2 b h = record { follows = follows-bend c1 c2 _ _ h.follows (sym (down14_up v b.1)); registers = h.registers }

@@ -27,7 +27,7 @@ use Rattle.voice_state.specs.Messages.{as_they_come, raised, enter_msb, enter_ls
 use Rattle.voice_state.specs.Packets.{control2, set_param, program2, channel2, voice2_at, with_ended, step2, IsInRange}
 use Rattle.voice_state.specs.Listing.{is_carried_role}
 use Rattle.voice_state.specs.Plain.{set_messages, voice_messages, ended_messages, plain_messages}
-use Rattle.voice_state.proofs.ScalingLaws.{down14_below, velocity_down_pos}
+use Rattle.bit_scaling.proofs.ScalingLaws.{down14_fits, velocity_down_above_zero}
 use Rattle.voice_state.proofs.Changes.{follows-poly, follows-controller, follows-pressure, follows-bend, follows-program, follows-param, follows-loose}
 use Rattle.voice_state.proofs.Messages.{Matches, matches-act, matches-reset, matches-registers, matches-voice}
 
@@ -95,7 +95,7 @@ matches-set : (k : ParamKind) (m l v : ℕ) (c1 c2 : Channel) → is_null (recor
 matches-set k m l v c1 c2 n b h =
     let p : Param = record { kind = k; bank = m; index = l } in
     let r : Matches (numbered k m l c1) (numbered k m l c2) = matches-registers (with_selected p) c1 c2 h in
-    let s : Matches (with_param p (down14 v) (numbered k m l c1)) (with_param p v (numbered k m l c2)) = record { follows = follows-param (numbered k m l c1) (numbered k m l c2) p (down14 v) v r.follows (down14_below v b) refl; registers = r.registers } in
+    let s : Matches (with_param p (down14 v) (numbered k m l c1)) (with_param p v (numbered k m l c2)) = record { follows = follows-param (numbered k m l c1) (numbered k m l c2) p (down14 v) v r.follows (down14_fits v b) refl; registers = r.registers } in
     subst (λ c. Matches c (set_param p v c2)) (sym (set_with-is k m l (down14 v) c1 n)) s
 
 -- ---- control changes that are carried
@@ -127,7 +127,7 @@ matches-banked p b c1 c2 h = matches-program p _ _ (matches-registers (with_bank
 -- ---- one packet
 
 note_on_positive : (n v : ℕ) → cond (eqb (velocity_down v) 0) (off n 64) (on n (velocity_down v)) ≡ on n (velocity_down v)
-note_on_positive n v = rw (ne_eqb (velocity_down v) 0 (λ e. omega (arith, velocity_down_pos v)))
+note_on_positive n v = rw (ne_eqb (velocity_down v) 0 (λ e. omega (arith, velocity_down_above_zero v)))
 
 same_group : (g1 g1' g2 : GroupState) → g1' ≡ g1 → GroupMatches g1 g2 → GroupMatches g1' g2
 same_group g1 g1' g2 e h = subst (λ g. GroupMatches g g2) (sym e) h

@@ -6,8 +6,7 @@ use Rattle.std.proofs.lemmas.Bool.{le-leb, leb-true, eqb-true}
 use lib.Dec.{eqb, leb}
 use Rattle.voice_messages.specs.declared.voice2.Form.{Form}
 use Rattle.voice_messages.specs.declared.voice2.Form.TheVariants as form
-use Rattle.sysex_groups.specs.Exclusives.{Part, of_group, since_start, since_start_by, bytes_of, within, opened, joined}
-use Rattle.voice_state.specs.Ended.{goes_on, passes_by, passes_room, ended_by, ended}
+use Rattle.sysex_groups.specs.Exclusives.{Part, of_group, since_start, since_start_by, bytes_of, within, opened, joined, goes_on, passes_by, passes_room, ended_by, ended}
 use Rattle.voice_state.specs.Rooms.{AreWithinRoom}
 use Rattle.voice_state.proofs.Joined.{bytes_of-more}
 

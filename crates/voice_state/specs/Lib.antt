@@ -1,6 +1,5 @@
 pub mod Agreement
 pub mod Controllers
-pub mod Ended
 pub mod Lanes
 pub mod Listing
 pub mod Messages

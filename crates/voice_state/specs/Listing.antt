@@ -9,11 +9,10 @@ use Rattle.voice_messages.specs.declared.voice2.Voice2.{Voice2}
 use Rattle.voice_messages.specs.declared.voice2.Voice2.TheVariants as voice2
 use Rattle.ump_grammar.specs.declared.packet.Packet.{Packet}
 use Rattle.ump_grammar.specs.declared.packet.Packet.TheVariants as packet
-use Rattle.sysex_groups.specs.Exclusives.{Part, Room}
+use Rattle.sysex_groups.specs.Exclusives.{Part, Room, started}
 use Rattle.voice_state.specs.declared.listed.Kind.{Kind}
 use Rattle.voice_state.specs.declared.listed.Kind.TheVariants as kinds
 use Rattle.voice_state.specs.declared.listed.Listed.{Listed}
-use Rattle.voice_state.specs.Ended.{started}
 use Rattle.voice_state.specs.Registers.{is_null}
 use Rattle.voice_state.specs.Controllers.{Role, data_step, reset_all, channel_mode, plain, role_of}
 use Rattle.voice_state.specs.Parts.{Placed, group_of, parts_of, whole_by}

@@ -3,8 +3,7 @@ use Rattle.std.specs.Prelude.{ℕ, ◌==◌, Bool, false, List, [], ◌∷◌, �
 use Rattle.std.specs.Option.{option_to_list, option_and_then}
 use Rattle.ump_grammar.specs.declared.packet.Packet.{Packet}
 use Rattle.ump_grammar.specs.declared.packet.Packet.TheVariants as packet
-use Rattle.sysex_groups.specs.Exclusives.{Part, Room}
-use Rattle.voice_state.specs.Ended.{ended}
+use Rattle.sysex_groups.specs.Exclusives.{Part, Room, ended}
 
 -- a packet and the number of bytes before it
 pub record Placed : Type 0 where

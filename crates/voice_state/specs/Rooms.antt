@@ -1,7 +1,6 @@
 -- When no exclusive passes its room.
 use Rattle.std.specs.Prelude.{◌≡◌, ℕ, ◌≤◌, List, [], ◌∷◌, length, false, Some}
-use Rattle.sysex_groups.specs.Exclusives.{Part}
-use Rattle.voice_state.specs.Ended.{passes_room}
+use Rattle.sysex_groups.specs.Exclusives.{Part, passes_room}
 
 -- No part passes the room behind those before it, and each fits it alone. The parts are the newest first.
 abbrev pub AreWithinRoom : ℕ → List Part → Type 0

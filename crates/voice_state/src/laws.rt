@@ -2,10 +2,9 @@
 ghost use Rattle.std.specs.Prelude.{◌≡◌, ◌↔◌, ◌<◌, ℕ, List, [], ◌∷◌, ◌++◌, reverse, map, length, Option, Some, None, IsTrue, false};
 ghost use Rattle.std.specs.List.{AllByRecursion};
 ghost use Rattle.ump_grammar.specs.declared.packet.Packet.{Packet};
-ghost use Rattle.sysex_groups.specs.Exclusives.{Part, joined, opened};
+ghost use Rattle.sysex_groups.specs.Exclusives.{Part, joined, opened, ended, passes_room};
 ghost use Rattle.voice_state.specs.declared.listed.Kind.TheVariants as kinds;
 ghost use Rattle.voice_state.specs.Agreement.{Agrees};
-ghost use Rattle.voice_state.specs.Ended.{ended, passes_room};
 ghost use Rattle.voice_state.specs.Lanes.{Denotes, lane_after, lane_bytes, pair_of, plain_pairs};
 ghost use Rattle.voice_state.specs.Listing.{is_carried, listing_of};
 ghost use Rattle.voice_state.specs.Messages.{mean1};

@@ -1,13 +1,12 @@
-use Rattle.std.proofs.Common.{◌∙◌, ℕ, List, [], ◌∷◌, ap, subst}
-use Rattle.midi_edge.specs.Outside.{Gains}
-use Rattle.midi_tool.specs.NoteMeaning.{note, note_of}
+use Rattle.std.proofs.Common.{List, ℕ, Option, Err, Ok}
+use Rattle.std.specs.Prelude.{Result, OnOk}
+use Rattle.midi_tool.specs.declared.status.RunEnd.{RunEnd}
 use Rattle.midi_tool.proofs.down.carry.Goals as goal
+
+on_ok : {P Q : Type 0} (r : Result (Unit {0}) RunEnd) → (P → Q) → OnOk r P → OnOk r Q
+on_ok (Ok done) f p = f p
+on_ok (Err end) f p = tt
 
 pub returns-in-Ok-clause-ok : goal.returns-in-Ok-clause-ok
 returns-in-Ok-clause-ok g c =
-    let P : List ℕ → Type 0 = λ piece. Gains (g.L.Lanes.pieces c.args.lanes.now) (g.L.Lanes.pieces c.put.new.self) ((c.in-Voice2.group, piece) ∷ []) in (
-      note c.in-Voice2.group c.in-Voice2.message,
-      ap note_of c.in-Voice2.is ∙ c.in-Some.ensures.0 c.in-Voice2.group,
-      subst P c.in-Some.ensures.1 c.in-Ok.ensures.pieces,
-      c.in-Ok.ensures.cause.kept,
-    )
+    on_ok c.put_carried.result (λ put. record { carried = c.in-Ok.carried; step = c.in-Ok.ensures.answer; pieces = put.0; listed = put.1 }) c.put_carried.ensures.ok

@@ -1,0 +1,148 @@
+-- What is held is the definition that looks back over the packets.
+use Rattle.std.proofs.Common.{ℕ, ◌≡◌, ◌<◌, ◌≤◌, ◌∙◌, ap, refl, List, [], ◌∷◌, ◌++◌, length, Option, Some, None, Bool, true, false, cond}
+use Rattle.std.proofs.lemmas.List.Elements.{recursion_from_All}
+use Rattle.std.specs.Option.{option_map}
+use Rattle.voice_messages.specs.declared.voice2.Form.{Form}
+use Rattle.voice_messages.specs.declared.voice2.Form.TheVariants as form
+use Rattle.ump_grammar.specs.declared.packet.Packet.{Packet}
+use Rattle.ump_grammar.specs.declared.packet.Packet.TheVariants as packet
+use Rattle.ump_grammar.specs.Ranges.{IsPacket}
+use Rattle.sysex_groups.specs.Exclusives.{Part, Room, opened, joined, started, ended_by, passes_by, fits, goes_on, bytes_of, start_of, answer_from, answer_at}
+use Rattle.sysex_groups.specs.Table.{Begun, begun_in, begun_of, begun_behind, answer_to, table_after, AreParts}
+use Rattle.voice_state.specs.declared.listed.BadStep.TheVariants as bad
+use Rattle.voice_state.specs.Parts.{Placed, parts_of, whole_by}
+use Rattle.voice_state.specs.Packets.{IsInRange}
+use Rattle.voice_state.specs.Listing.{begun_before}
+use Rattle.voice_state.specs.Refusal.{bad_step}
+use Rattle.down_translator.specs.Held.{whole_in, begun_at_in, bad_answer, refusal_in, table_behind}
+use Rattle.down_translator.specs.Recording.{AreInRange, table_of}
+
+-- what holds of fed parts
+abbrev pub BegunIsFed : Type 0
+BegunIsFed = (room : ℕ) (past : List Part) → 6 ≤ room → AreParts past → (group : ℕ) → begun_in (table_after room past) group ≡ begun_behind (Some room) group past
+
+abbrev pub AnswersAreFed : Type 0
+AnswersAreFed = (room : ℕ) (past : List Part) → 6 ≤ room → AreParts past → (part : Part) → answer_to (table_after room past) part ≡ answer_at (Some room) past part
+
+-- ---- ranges
+
+pub packet_in_range : (p : Packet) → IsPacket p → IsInRange p
+packet_in_range (packet.Utility s v) h = tt
+packet_in_range (packet.System g m) h = h
+packet_in_range (packet.Voice1 g m) h = h
+packet_in_range (packet.Exclusive g f bytes) h = (h.0, h.1, recursion_from_All (λ b. b < 128) bytes h.2)
+packet_in_range (packet.Voice2 g m) h = h
+packet_in_range (packet.Data8 g w) h = tt
+packet_in_range (packet.Flex g w) h = tt
+packet_in_range (packet.Stream f s l w x y) h = tt
+packet_in_range (packet.Reserved w) h = tt
+
+more_parts : (offset : ℕ) (p : Packet) (past : List Placed) → IsInRange p → AreParts (parts_of past) → AreParts (parts_of (record { offset = offset; packet = p } ∷ past))
+more_parts offset (packet.Exclusive g f bytes) past h a = ((h.0, h.1), a)
+more_parts offset (packet.Utility s v) past h a = a
+more_parts offset (packet.System g m) past h a = a
+more_parts offset (packet.Voice1 g m) past h a = a
+more_parts offset (packet.Voice2 g m) past h a = a
+more_parts offset (packet.Data8 g w) past h a = a
+more_parts offset (packet.Flex g w) past h a = a
+more_parts offset (packet.Stream f s l w x y) past h a = a
+more_parts offset (packet.Reserved w) past h a = a
+
+pub parts_in_range : (past : List Placed) → AreInRange past → AreParts (parts_of past)
+parts_in_range [] a = tt
+parts_in_range (placed ∷ past) a = more_parts placed.offset placed.packet past a.0 (parts_in_range past a.1)
+
+-- ---- what is begun
+
+table_room : (room : ℕ) (parts : List Part) → (table_after room parts).room ≡ room
+table_room room [] = refl
+table_room room (part ∷ parts) = table_room room parts
+
+begun-bytes : (o : Option (List Part)) → option_map (λ (begun : Begun). begun.bytes) (option_map begun_of o) ≡ option_map bytes_of o
+begun-bytes None = refl
+begun-bytes (Some parts) = refl
+
+begun-start : (o : Option (List Part)) → option_map (λ (begun : Begun). begun.start) (option_map begun_of o) ≡ option_map start_of o
+begun-start None = refl
+begun-start (Some parts) = refl
+
+pub held-whole : BegunIsFed → (room : ℕ) (past : List Placed) → 6 ≤ room → AreInRange past → (p : Packet) → whole_in (table_of room past) p ≡ whole_by (Some room) (parts_of past) p
+held-whole fed room past least a (packet.Exclusive g f bytes) =
+    ap (λ r. ended_by (Some r) f (option_map (λ (begun : Begun). begun.bytes) (begun_in (table_of room past) g)) bytes) (table_room room (parts_of past))
+    ∙ ap (λ o. ended_by (Some room) f (option_map (λ (begun : Begun). begun.bytes) o) bytes) (fed room (parts_of past) least (parts_in_range past a) g)
+    ∙ ap (λ o. ended_by (Some room) f o bytes) (begun-bytes (opened (Some room) g (parts_of past)))
+held-whole fed room past least a (packet.Utility s v) = refl
+held-whole fed room past least a (packet.System g m) = refl
+held-whole fed room past least a (packet.Voice1 g m) = refl
+held-whole fed room past least a (packet.Voice2 g m) = refl
+held-whole fed room past least a (packet.Data8 g w) = refl
+held-whole fed room past least a (packet.Flex g w) = refl
+held-whole fed room past least a (packet.Stream f s l w x y) = refl
+held-whole fed room past least a (packet.Reserved w) = refl
+
+pub held-begun : BegunIsFed → (room : ℕ) (past : List Placed) → 6 ≤ room → AreInRange past → (p : Packet) → begun_at_in (table_of room past) p ≡ begun_before (Some room) (parts_of past) p
+held-begun fed room past least a (packet.Exclusive g f bytes) =
+    ap (option_map (λ (begun : Begun). begun.start)) (fed room (parts_of past) least (parts_in_range past a) g)
+    ∙ begun-start (opened (Some room) g (parts_of past))
+held-begun fed room past least a (packet.Utility s v) = refl
+held-begun fed room past least a (packet.System g m) = refl
+held-begun fed room past least a (packet.Voice1 g m) = refl
+held-begun fed room past least a (packet.Voice2 g m) = refl
+held-begun fed room past least a (packet.Data8 g w) = refl
+held-begun fed room past least a (packet.Flex g w) = refl
+held-begun fed room past least a (packet.Stream f s l w x y) = refl
+held-begun fed room past least a (packet.Reserved w) = refl
+
+-- ---- what is refused
+
+-- an answer is that the exclusive is too long exactly where the part passes the room
+bad-answer : (room : Room) (f : Form) (start : Option ℕ) (before : Option (List ℕ)) (bytes : List ℕ) (stray : Bool) →
+    bad_answer (answer_from (cond (goes_on f) None start) (ended_by room f before bytes) (cond (goes_on f) (passes_by room before bytes) false) (cond (goes_on f) stray false)) ≡
+    cond (cond (goes_on f) (passes_by room before bytes) false) (Some bad.ExclusiveTooLong) None
+bad-answer room form.Complete None before bytes stray = refl
+bad-answer room form.Complete (Some start) before bytes stray = refl
+bad-answer room form.Start None before bytes stray = refl
+bad-answer room form.Start (Some start) before bytes stray = refl
+bad-answer room form.Continue start before bytes stray = go (passes_by room before bytes) stray
+  where
+    go : (t u : Bool) → bad_answer (answer_from None None t u) ≡ cond t (Some bad.ExclusiveTooLong) None
+    go true u = refl
+    go false true = refl
+    go false false = refl
+bad-answer room form.End start None bytes true = refl
+bad-answer room form.End start None bytes false = refl
+bad-answer room form.End start (Some before) bytes stray = go (fits room (length (before ++ bytes))) stray
+  where
+    go : (t u : Bool) → bad_answer (answer_from None (cond t (Some (before ++ bytes)) None) (cond t false true) u) ≡ cond (cond t false true) (Some bad.ExclusiveTooLong) None
+    go true u = refl
+    go false u = refl
+
+pub held-refusal : AnswersAreFed → (room : ℕ) (past : List Placed) → 6 ≤ room → AreInRange past → (p : Packet) → refusal_in (table_of room past) p ≡ bad_step (Some room) (parts_of past) p
+held-refusal fed room past least a (packet.Exclusive g f bytes) =
+    let part : Part = record { group = g; form = f; bytes = bytes; offset = 0 } in
+    ap bad_answer (fed room (parts_of past) least (parts_in_range past a) part)
+    ∙ bad-answer (Some room) f (started (Some room) g (parts_of past)) (joined (Some room) g (parts_of past)) bytes _
+held-refusal fed room past least a (packet.Utility s v) = refl
+held-refusal fed room past least a (packet.System g m) = refl
+held-refusal fed room past least a (packet.Voice1 g m) = refl
+held-refusal fed room past least a (packet.Voice2 g m) = refl
+held-refusal fed room past least a (packet.Data8 g w) = refl
+held-refusal fed room past least a (packet.Flex g w) = refl
+held-refusal fed room past least a (packet.Stream f s l w x y) = refl
+held-refusal fed room past least a (packet.Reserved w) = refl
+
+-- ---- what stands behind a packet
+
+pub held-behind : (room : ℕ) (past : List Placed) (placed : Placed) → table_behind placed.offset placed.packet (table_of room past) ≡ table_of room (placed ∷ past)
+held-behind room past placed = go placed.offset placed.packet
+  where
+    go : (offset : ℕ) (p : Packet) → table_behind offset p (table_of room past) ≡ table_of room (record { offset = offset; packet = p } ∷ past)
+    go offset (packet.Exclusive g f bytes) = refl
+    go offset (packet.Utility s v) = refl
+    go offset (packet.System g m) = refl
+    go offset (packet.Voice1 g m) = refl
+    go offset (packet.Voice2 g m) = refl
+    go offset (packet.Data8 g w) = refl
+    go offset (packet.Flex g w) = refl
+    go offset (packet.Stream f s l w x y) = refl
+    go offset (packet.Reserved w) = refl

@@ -1,0 +1,3 @@
+pub mod HeldLaws
+pub mod RecordingLaws
+pub mod Spelling

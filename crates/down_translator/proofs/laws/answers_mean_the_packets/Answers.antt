@@ -1,0 +1,13 @@
+use Rattle.down_translator.proofs.RecordingLaws.{steps-plain, steps-translation}
+use Rattle.down_translator.proofs.laws.answers_mean_the_packets.Goals as goal
+
+pub returns : goal.returns
+returns c =
+    let fed = c.fed_parts_are_the_definition.ensures in
+    let rooms = c.rooms_that_are_not_passed_do_not_matter.ensures in
+    let offsets = c.joined_bytes_know_no_offsets.ensures in
+    let pieces = c.carried_packets_have_a_piece.ensures in
+    record {
+      pairs = steps-plain fed.begun fed.answers rooms.ended offsets pieces;
+      translation = steps-translation c.plain_pairs_are_a_translation.ensures fed.begun fed.answers rooms.ended offsets pieces;
+    }

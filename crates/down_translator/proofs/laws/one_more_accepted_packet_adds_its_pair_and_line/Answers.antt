@@ -1,0 +1,12 @@
+use Rattle.down_translator.proofs.RecordingLaws.{accepted-within, step-pair, step-line, line-without_room}
+use Rattle.down_translator.proofs.laws.one_more_accepted_packet_adds_its_pair_and_line.Goals as goal
+
+pub returns : goal.returns
+returns c =
+    let fed = c.fed_parts_are_the_definition.ensures in
+    let rooms = c.rooms_that_are_not_passed_do_not_matter.ensures in
+    record {
+      pair = step-pair fed.begun fed.answers rooms.ended c.joined_bytes_know_no_offsets.ensures c.carried_packets_have_a_piece.ensures;
+      line = step-line fed.begun;
+      without_room = λ room past placed least a b. line-without_room rooms.opened room past placed (accepted-within room past least a b);
+    }

@@ -1,0 +1,5 @@
+pub mod Carried
+pub mod Held
+pub mod Lend
+pub mod Recording
+pub mod Step

@@ -1,0 +1,51 @@
+-- What the translator answers to the packets of a recording, one after the other. Packets and answers are listed the newest
+-- first.
+use Rattle.std.specs.Prelude.{◌≡◌, ℕ, ◌==◌, if◌then◌else◌, List, [], ◌∷◌, ◌++◌, length, map, Some, None}
+use Rattle.std.specs.List.{AllByRecursion}
+use Rattle.std.specs.Option.{option_to_list}
+use Rattle.ump_grammar.specs.declared.packet.Packet.{Packet}
+use Rattle.sysex_groups.specs.Table.{Table, table_after}
+use Rattle.voice_state.specs.declared.listed.Listed.{Listed}
+use Rattle.voice_state.specs.Parts.{Placed, parts_of}
+use Rattle.voice_state.specs.Packets.{IsInRange}
+use Rattle.voice_state.specs.Refusal.{bad_step}
+use Rattle.down_translator.specs.declared.carried.Carried.{Carried}
+use Rattle.down_translator.specs.Carried.{lane_in, line_in}
+use Rattle.down_translator.specs.Step.{IsPlainStep}
+
+abbrev pub packets_of : List Placed → List Packet
+packets_of past = map (λ placed. placed.packet) past
+
+-- each packet's fields are in range
+abbrev pub AreInRange : List Placed → Type 0
+AreInRange past = AllByRecursion (λ placed. IsInRange placed.packet) past
+
+-- what the groups have begun behind these packets
+abbrev pub table_of : ℕ → List Placed → Table
+table_of room past = table_after room (parts_of past)
+
+-- no packet is refused behind those before it
+abbrev pub AreAccepted : ℕ → List Placed → Type 0
+AreAccepted room [] = Unit {0}
+AreAccepted room (placed ∷ past) = (bad_step (Some room) (parts_of past) placed.packet ≡ None) × AreAccepted room past
+
+-- each answer is that of its packet behind those before it
+abbrev pub AreSteps : ℕ → List Placed → List Carried → Type 0
+AreSteps room [] [] = Unit {0}
+AreSteps room (placed ∷ past) (carried ∷ before) =
+    IsPlainStep (table_of room past) placed.offset placed.packet carried × AreSteps room past before
+AreSteps room _ _ = ⊥
+
+-- what is put for an answer: nothing where its piece is empty
+abbrev pub pair_put : Carried → List (ℕ × List ℕ)
+pair_put carried = if length carried.piece.now == 0 then [] else (lane_in carried, carried.piece.now) ∷ []
+
+-- what is put for the answers, in the order in which they came
+abbrev pub pairs_put : List Carried → List (ℕ × List ℕ)
+pairs_put [] = []
+pairs_put (carried ∷ before) = pairs_put before ++ pair_put carried
+
+-- what is listed for them, in the order in which they came
+abbrev pub lines_put : List Carried → List Listed
+lines_put [] = []
+lines_put (carried ∷ before) = lines_put before ++ option_to_list (line_in carried)

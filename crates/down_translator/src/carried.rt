@@ -1,0 +1,147 @@
+// What is carried of a packet.
+ghost use Rattle.std.specs.Prelude.{◌<◌};
+
+use midi_edge::U4;
+use voice_state::{Kind, Listed};
+
+// A group, 0 to 15. What is lent holds no type that contracts see as another value, so this stands there for `U4`.
+#[derive(Clone, Copy, Debug)]
+struct Group {
+    number: u8,
+    ghost below: { number < 16 },
+}
+
+impl Group {
+    ghost use Rattle.std.specs.Prelude.{◌≡◌};
+
+    fn of(group: U4) -> Group
+        ensures { result.number ≡ group }
+    {
+        Group {
+            number: group.get(),
+        }
+    }
+
+    fn get(self) -> U4
+        ensures { result ≡ self.number }
+    {
+        U4::low_bits(self.number as u32)
+    }
+}
+
+// A line of the listing, in the same way.
+#[derive(Clone, Copy, Debug)]
+struct Line {
+    offset: u64,
+    group: Option<Group>,
+    kind: Kind,
+}
+
+impl Line {
+    ghost use Rattle.std.specs.Prelude.{◌≡◌};
+    ghost use Rattle.down_translator.specs.Carried.{listed_by};
+
+    fn of(listed: Listed) -> Line
+        ensures { listed_by result ≡ listed }
+    {
+        let Listed {
+            offset,
+            group,
+            kind,
+        } = listed;
+        let group = match group {
+            None => None,
+            Some(group) => Some(Group::of(group)),
+        };
+        Line {
+            offset,
+            group,
+            kind,
+        }
+    }
+
+    fn get(self) -> Listed
+        ensures { result ≡ listed_by self }
+    {
+        let group = match self.group {
+            None => None,
+            Some(group) => Some(group.get()),
+        };
+        Listed {
+            offset: self.offset,
+            group,
+            kind: self.kind,
+        }
+    }
+}
+
+/// What comes of a packet.
+#[derive(Clone, Copy, Debug)]
+pub struct Carried<'a> {
+    /// The MIDI 1.0 bytes of the packet, empty exactly where it isn't carried.
+    pub piece: &'a [u8],
+    lane: Group,
+    line: Option<Line>,
+}
+
+impl<'a> Carried<'a> {
+    ghost use Rattle.std.specs.Prelude.{◌≡◌, [], Some, None};
+    ghost use Rattle.down_translator.specs.Carried.{lane_in, line_in};
+
+    /// A piece in a lane.
+    pub(crate) fn new(lane: U4, piece: &'a [u8], listed: Option<Listed>) -> Carried<'a>
+        ensures lane { lane_in result ≡ lane }
+        ensures piece { result.piece.now ≡ piece.now }
+        ensures line { line_in result ≡ listed }
+    {
+        let line = match listed {
+            None => None,
+            Some(listed) => Some(Line::of(listed)),
+        };
+        Carried {
+            piece,
+            lane: Group::of(lane),
+            line,
+        }
+    }
+
+    /// No piece and no line.
+    pub(crate) fn nothing() -> Carried<'a>
+        ensures lane { lane_in result ≡ 0 }
+        ensures piece { result.piece.now ≡ [] }
+        ensures line { line_in result ≡ None }
+    {
+        Carried::new(U4::low_bits(0), &[], None)
+    }
+
+    /// A line alone.
+    pub(crate) fn only_listed(offset: u64, group: Option<U4>, kind: Kind) -> Carried<'a>
+        ensures lane { lane_in result ≡ 0 }
+        ensures piece { result.piece.now ≡ [] }
+        ensures line { line_in result ≡ Some (record { offset = offset; group = group; kind = kind }) }
+    {
+        let listed = Listed {
+            offset,
+            group,
+            kind,
+        };
+        Carried::new(U4::low_bits(0), &[], Some(listed))
+    }
+
+    /// The lane: the packet's group where it is carried, and else 0.
+    pub fn lane(&self) -> U4
+        ensures { result ≡ lane_in self.now }
+    {
+        self.lane.get()
+    }
+
+    /// The line of the listing, where the packet has one.
+    pub fn listed(&self) -> Option<Listed>
+        ensures { result ≡ line_in self.now }
+    {
+        match self.line {
+            None => None,
+            Some(line) => Some(line.get()),
+        }
+    }
+}

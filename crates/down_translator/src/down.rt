@@ -1,0 +1,171 @@
+// The translator down, in plain style.
+ghost use Rattle.std.specs.Prelude.{◌≡◌, ◌≤◌, ◌<◌, ◌==◌, if◌then◌else◌, IfOk, [], Some, None, length};
+ghost use Rattle.std.specs.List.{All};
+ghost use Rattle.sysex_groups.specs.Exclusives.{IsData};
+ghost use Rattle.ump_grammar.specs.Ranges.{IsPacket};
+ghost use Rattle.ump_grammar.specs.declared.packet.Packet.TheVariants as packet;
+
+use crate::carried::Carried;
+use crate::listing::{line, voice_kind};
+use crate::pieces::{Piece, system_piece, voice1_piece, voice2_piece};
+use crate::refusals::{bad_voice1, bad_voice2};
+use crate::style::Style;
+use midi_edge::{NoMemory, U4};
+use std::alloc::Global;
+use std::marker::Model;
+use sysex_groups::{Fed, Groups};
+use ump_grammar::Packet;
+use voice_messages::{Form, Voice1, Voice2};
+use voice_state::laws::carried_packets_have_a_piece;
+use voice_state::{BadStep, Kind, Listed};
+
+/// The translator of packets to the MIDI 1.0 bytes of sixteen lanes, a lane for each group. To a contract it is what the groups
+/// have begun of exclusives.
+#[derive(Drop)]
+pub struct Down {
+    groups: Groups,
+    piece: Piece,
+}
+
+impl Model for Down {
+    ghost use Rattle.sysex_groups.specs.Table.{Table};
+
+    ghost Value = { Table };
+
+    ghost view = { λ down. down.groups };
+}
+
+impl Down {
+    ghost use Rattle.std.specs.Borrow.{sem};
+    ghost use Rattle.std.specs.Option.{option_map};
+    ghost use Rattle.sysex_groups.specs.Table.{empty_table, begun_in, with_part};
+    ghost use Rattle.down_translator.specs.Carried.{lane_in, line_in};
+    ghost use Rattle.down_translator.specs.Held.{table_behind};
+    ghost use Rattle.down_translator.specs.Lend.{KeepsDown};
+    ghost use Rattle.down_translator.specs.Step.{Translates};
+
+    /// A translator in which nothing is begun. Reserves memory for exclusives of `room` bytes between F0 and F7 in each group, 6
+    /// to 1,048,576; no other call takes any. `NoMemory` where there isn't so much.
+    pub fn new(alloc: Global, room: u32, _style: Style) -> Result<Down, NoMemory>
+        requires least { 6 ≤ room }
+        requires most { room ≤ 1048576 }
+        ensures { IfOk result (λ down. down ≡ empty_table room) }
+    {
+        match Groups::new(alloc, room) {
+            Ok(groups) => Ok(Down {
+                groups,
+                piece: Piece::new(),
+            }),
+            Err(NoMemory) => Err(NoMemory),
+        }
+    }
+
+    /// Lends the piece in the lane of its group.
+    fn carry(&mut self, group: U4, piece: Piece, listed: Option<Listed>) -> Carried<'_>
+        ensures lane { lane_in result ≡ (if length piece == 0 then 0 else group) }
+        ensures piece { result.piece.now ≡ piece }
+        ensures line { line_in result ≡ listed }
+        ensures* after { sem 𝓛 (KeepsDown self.entry self.old) }
+    {
+        self.piece = piece;
+        let lane = if self.piece.is_empty() {
+            U4::low_bits(0)
+        } else {
+            group
+        };
+        Carried::new(lane, self.piece.as_slice(), listed)
+    }
+
+    /// Takes one more packet of an exclusive.
+    fn exclusive(
+        &mut self,
+        group: U4,
+        form: Form,
+        bytes: &[u8],
+        offset: u64,
+    ) -> Result<Carried<'_>, BadStep>
+        requires few { length bytes.now ≤ 6 }
+        requires data_bytes { IsData bytes.now }
+        ensures answer { Translates self.old offset (packet.Exclusive group form bytes.now) result }
+        ensures* after { sem 𝓛 (KeepsDown self.entry
+            (with_part (record { group = group; form = form; bytes = bytes.now; offset = offset }) self.old)) }
+    {
+        match self.groups.feed(group, form, bytes, offset) {
+            Fed::Held => Ok(Carried::nothing()),
+            Fed::Whole(piece) => Ok(Carried::new(group, piece, None)),
+            Fed::Stray => Ok(Carried::only_listed(offset, Some(group), Kind::StrayExclusive)),
+            Fed::Restarted { cut_at } => {
+                Ok(Carried::only_listed(cut_at, Some(group), Kind::CutExclusive))
+            }
+            Fed::RestartedWhole { cut_at, whole } => {
+                let listed = line(cut_at, group, Some(Kind::CutExclusive));
+                Ok(Carried::new(group, whole, listed))
+            }
+            Fed::TooLong => Err(BadStep::ExclusiveTooLong),
+        }
+    }
+
+    fn voice1(&mut self, group: U4, message: &Voice1, offset: u64) -> Result<Carried<'_>, BadStep>
+        ensures answer { Translates self.old offset (packet.Voice1 group message.now) result }
+        ensures* after { sem 𝓛 (KeepsDown self.entry self.old) }
+    {
+        carried_packets_have_a_piece();
+        match bad_voice1(message) {
+            Some(bad) => Err(bad),
+            None => Ok(self.carry(group, voice1_piece(message), None)),
+        }
+    }
+
+    fn voice2(&mut self, group: U4, message: &Voice2, offset: u64) -> Result<Carried<'_>, BadStep>
+        ensures answer { Translates self.old offset (packet.Voice2 group message.now) result }
+        ensures* after { sem 𝓛 (KeepsDown self.entry self.old) }
+    {
+        carried_packets_have_a_piece();
+        match bad_voice2(message) {
+            Some(bad) => Err(bad),
+            None => {
+                let listed = line(offset, group, voice_kind(message));
+                Ok(self.carry(group, voice2_piece(message), listed))
+            }
+        }
+    }
+
+    /// The MIDI 1.0 bytes of one more packet, its lane, and its line of the listing (M2-104-UM, default translation; what that
+    /// leaves out is listed by own rule). The offset is the number of input bytes before the packet.
+    ///
+    /// `DataIncrement` and `DataDecrement` come exactly for a control change 96 and 97 of either protocol, and leave the
+    /// translator as it was. `ExclusiveTooLong` comes exactly where the packet goes on with an exclusive that then has more
+    /// bytes than the room; that group has nothing begun afterwards, and all else stays (own rules).
+    pub fn packet(&mut self, packet: &Packet, offset: u64) -> Result<Carried<'_>, BadStep>
+        requires { IsPacket packet.now }
+        ensures answer { Translates self.old offset packet.now result }
+        ensures* after { sem 𝓛 (KeepsDown self.entry (table_behind offset packet.now self.old)) }
+    {
+        match packet {
+            Packet::Utility { .. } => Ok(Carried::only_listed(offset, None, Kind::Utility)),
+            Packet::System { group, message } => {
+                Ok(self.carry(*group, system_piece(message), None))
+            }
+            Packet::Voice1 { group, message } => self.voice1(*group, message, offset),
+            Packet::Exclusive { group, form, bytes } => {
+                self.exclusive(*group, *form, bytes.as_slice(), offset)
+            }
+            Packet::Voice2 { group, message } => self.voice2(*group, message, offset),
+            Packet::Data8 { group, .. } => {
+                Ok(Carried::only_listed(offset, Some(*group), Kind::Data8))
+            }
+            Packet::Flex { group, .. } => {
+                Ok(Carried::only_listed(offset, Some(*group), Kind::Flex))
+            }
+            Packet::Stream { .. } => Ok(Carried::only_listed(offset, None, Kind::Stream)),
+            Packet::Reserved { .. } => Ok(Carried::only_listed(offset, None, Kind::Reserved)),
+        }
+    }
+
+    /// The offset of the packet that began the group's exclusive; `None` exactly where nothing is begun.
+    pub fn begun_at(&self, group: U4) -> Option<u64>
+        ensures { result ≡ option_map (λ begun. begun.start) (begun_in self.now group) }
+    {
+        self.groups.begun_at(group)
+    }
+}

@@ -1,0 +1,18 @@
+//! Packets of the Universal MIDI Packet format as the bytes of MIDI 1.0 streams, a lane for each group.
+#![tactic(auto)]
+
+pub mod carried;
+pub mod down;
+pub mod laws;
+mod listing;
+mod pieces;
+mod refusals;
+pub mod style;
+
+pub use crate::carried::Carried;
+pub use crate::down::Down;
+pub use crate::style::Style;
+pub use voice_state::{BadStep, Kind, Listed};
+
+#[cfg(test)]
+mod tests;

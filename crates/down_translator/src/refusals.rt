@@ -1,0 +1,40 @@
+// Which voice messages are refused.
+ghost use Rattle.std.specs.Prelude.{◌≡◌};
+ghost use Rattle.voice_state.specs.Refusal.{bad_control, bad_voice1, bad_voice2};
+
+use voice_messages::{U7, Voice1, Voice2};
+use voice_state::BadStep;
+
+const DATA_INCREMENT: u8 = 96;
+
+const DATA_DECREMENT: u8 = 97;
+
+fn bad_control(index: U7) -> Option<BadStep>
+    ensures { result ≡ bad_control index }
+{
+    match index.get() {
+        DATA_INCREMENT => Some(BadStep::DataIncrement),
+        DATA_DECREMENT => Some(BadStep::DataDecrement),
+        _ => None,
+    }
+}
+
+/// Why a message of MIDI 1.0 is refused, if it is refused (own rule).
+pub fn bad_voice1(message: &Voice1) -> Option<BadStep>
+    ensures { result ≡ bad_voice1 message.now }
+{
+    match message {
+        Voice1::Control { index, .. } => bad_control(*index),
+        _ => None,
+    }
+}
+
+/// Why a message of MIDI 2.0 is refused, if it is refused (own rule).
+pub fn bad_voice2(message: &Voice2) -> Option<BadStep>
+    ensures { result ≡ bad_voice2 message.now }
+{
+    match message {
+        Voice2::Control { index, .. } => bad_control(*index),
+        _ => None,
+    }
+}

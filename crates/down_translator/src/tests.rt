@@ -1,0 +1,250 @@
+// Worked rows: the packets of recordings, and what comes of each.
+ghost use Rattle.std.specs.Prelude.{IfSome};
+ghost use Rattle.ump_grammar.specs.Ranges.{IsPacket};
+
+use super::*;
+use midi_edge::U4;
+use std::process::Abort;
+use ump_grammar::{Packet, decode};
+use ump_words::words::words_in_packet;
+use ump_words::{Framed, Words};
+
+// The packet of the words; `None` where there is none.
+fn read(words: &[u32]) -> Option<Packet>
+    ensures { IfSome result IsPacket }
+{
+    if words.is_empty() || words.len() > 4 || words_in_packet(words[0]) != words.len() {
+        return None;
+    }
+    let framed = Framed {
+        offset: 0,
+        words: Words::from_slice(words),
+    };
+    match decode(&framed) {
+        Ok(packet) => Some(packet),
+        Err(_) => None,
+    }
+}
+
+// What comes of the packet at an offset: its lane, its piece and its line.
+fn gives(
+    rt: &impl Abort,
+    down: &mut Down,
+    offset: u64,
+    words: &[u32],
+    lane: u32,
+    piece: &[u8],
+    listed: Option<Listed>,
+) {
+    let Some(packet) = read(words) else {
+        assert!(rt; false, "no packet at {offset}");
+        return;
+    };
+    match down.packet(&packet, offset) {
+        Ok(carried) => {
+            assert_eq!(rt; carried.lane(), U4::low_bits(lane), "lane at {offset}");
+            assert_eq!(rt; carried.piece, piece, "piece at {offset}");
+            assert_eq!(rt; carried.listed(), listed, "line at {offset}");
+        }
+        Err(bad) => assert!(rt; false, "{bad} at {offset}"),
+    }
+}
+
+fn refuses(rt: &impl Abort, down: &mut Down, words: &[u32], bad: BadStep) {
+    let Some(packet) = read(words) else {
+        assert!(rt; false, "no packet");
+        return;
+    };
+    match down.packet(&packet, 0) {
+        Ok(_) => assert!(rt; false, "not {bad}"),
+        Err(found) => assert_eq!(rt; found, bad),
+    }
+}
+
+fn at(offset: u64, group: u32, kind: Kind) -> Option<Listed> {
+    Some(Listed {
+        offset,
+        group: Some(U4::low_bits(group)),
+        kind,
+    })
+}
+
+#[test]
+fn voice_messages_of_midi_2(rt: HostRuntime) {
+    let Ok(mut down) = Down::new(rt.alloc(), 6, Style::Plain) else {
+        assert!(rt; false, "memory is ample");
+        return;
+    };
+    let down = &mut down;
+    gives(
+        &rt,
+        down,
+        0,
+        &[0x4090_3C00, 0x01FF_0000],
+        0,
+        &[0x90, 0x3C, 0x01],
+        None,
+    );
+    gives(
+        &rt,
+        down,
+        8,
+        &[0x40C0_0001, 0x0500_0102],
+        0,
+        &[0xB0, 0x00, 0x01, 0xB0, 0x20, 0x02, 0xC0, 0x05],
+        None,
+    );
+    gives(
+        &rt,
+        down,
+        16,
+        &[0x4020_0000, 0x0400_0000],
+        0,
+        &[
+            0xB0, 0x65, 0x00, 0xB0, 0x64, 0x00, 0xB0, 0x06, 0x02, 0xB0, 0x26, 0x00,
+        ],
+        None,
+    );
+    let null = at(24, 0, Kind::NullParameter);
+    gives(&rt, down, 24, &[0x4030_7F7F, 0x0000_0000], 0, &[], null);
+    let relative = at(32, 0, Kind::RelativeParameter);
+    gives(&rt, down, 32, &[0x4040_0000, 0x0000_0001], 0, &[], relative);
+    let attribute = at(40, 2, Kind::NoteAttribute);
+    gives(
+        &rt,
+        down,
+        40,
+        &[0x4290_3C03, 0xC924_0000],
+        2,
+        &[0x90, 0x3C, 0x64],
+        attribute,
+    );
+}
+
+#[test]
+fn exclusives_of_two_groups(rt: HostRuntime) {
+    let Ok(mut down) = Down::new(rt.alloc(), 1_048_576, Style::Plain) else {
+        assert!(rt; false, "memory is ample");
+        return;
+    };
+    let down = &mut down;
+    gives(&rt, down, 0, &[0x3016_0102, 0x0304_0506], 0, &[], None);
+    gives(
+        &rt,
+        down,
+        8,
+        &[0x3102_1112, 0x0000_0000],
+        1,
+        &[0xF0, 0x11, 0x12, 0xF7],
+        None,
+    );
+    gives(
+        &rt,
+        down,
+        16,
+        &[0x3031_0700, 0x0000_0000],
+        0,
+        &[0xF0, 1, 2, 3, 4, 5, 6, 7, 0xF7],
+        None,
+    );
+    assert_eq!(rt; down.begun_at(U4::low_bits(0)), None);
+}
+
+#[test]
+fn cut_stray_and_open_exclusives(rt: HostRuntime) {
+    let Ok(mut down) = Down::new(rt.alloc(), 1_048_576, Style::Plain) else {
+        assert!(rt; false, "memory is ample");
+        return;
+    };
+    let down = &mut down;
+    gives(&rt, down, 0, &[0x3016_0102, 0x0304_0506], 0, &[], None);
+    let cut = at(0, 0, Kind::CutExclusive);
+    gives(
+        &rt,
+        down,
+        8,
+        &[0x3002_0708, 0x0000_0000],
+        0,
+        &[0xF0, 7, 8, 0xF7],
+        cut,
+    );
+    let stray = at(16, 0, Kind::StrayExclusive);
+    gives(&rt, down, 16, &[0x3021_0900, 0x0000_0000], 0, &[], stray);
+    gives(&rt, down, 24, &[0x3011_0A00, 0x0000_0000], 0, &[], None);
+    assert_eq!(rt; down.begun_at(U4::low_bits(0)), Some(24));
+}
+
+#[test]
+fn a_keyboard_and_mixed_protocols(rt: HostRuntime) {
+    let Ok(mut down) = Down::new(rt.alloc(), 6, Style::Plain) else {
+        assert!(rt; false, "memory is ample");
+        return;
+    };
+    let down = &mut down;
+    let utility = Some(Listed {
+        offset: 0,
+        group: None,
+        kind: Kind::Utility,
+    });
+    gives(&rt, down, 0, &[0x0020_0010], 0, &[], utility);
+    gives(
+        &rt,
+        down,
+        4,
+        &[0x4090_3C00, 0xC924_0000],
+        0,
+        &[0x90, 0x3C, 0x64],
+        None,
+    );
+    gives(
+        &rt,
+        down,
+        12,
+        &[0x40E0_0000, 0xA000_0000],
+        0,
+        &[0xE0, 0x00, 0x50],
+        None,
+    );
+    gives(
+        &rt,
+        down,
+        20,
+        &[0x4080_3C00, 0x8000_0000],
+        0,
+        &[0x80, 0x3C, 0x40],
+        None,
+    );
+    gives(&rt, down, 28, &[0x20B0_6500], 0, &[0xB0, 0x65, 0x00], None);
+    gives(&rt, down, 32, &[0x20B0_6401], 0, &[0xB0, 0x64, 0x01], None);
+    gives(&rt, down, 36, &[0x20B0_0603], 0, &[0xB0, 0x06, 0x03], None);
+    gives(&rt, down, 40, &[0x15F8_0000], 5, &[0xF8], None);
+}
+
+#[test]
+fn refusals_and_what_stands_after_them(rt: HostRuntime) {
+    let Ok(mut down) = Down::new(rt.alloc(), 6, Style::Plain) else {
+        assert!(rt; false, "memory is ample");
+        return;
+    };
+    let down = &mut down;
+    let whole = [0xF0, 1, 2, 3, 4, 5, 6, 0xF7];
+    gives(&rt, down, 0, &[0x3006_0102, 0x0304_0506], 0, &whole, None);
+    gives(&rt, down, 8, &[0x3016_0102, 0x0304_0506], 0, &[], None);
+    gives(&rt, down, 16, &[0x3111_0700, 0x0000_0000], 0, &[], None);
+    refuses(&rt, down, &[0x20B0_6000], BadStep::DataIncrement);
+    refuses(
+        &rt,
+        down,
+        &[0x40B0_6100, 0x0000_0000],
+        BadStep::DataDecrement,
+    );
+    assert_eq!(rt; down.begun_at(U4::low_bits(0)), Some(8));
+    refuses(
+        &rt,
+        down,
+        &[0x3031_0700, 0x0000_0000],
+        BadStep::ExclusiveTooLong,
+    );
+    assert_eq!(rt; down.begun_at(U4::low_bits(0)), None);
+    assert_eq!(rt; down.begun_at(U4::low_bits(1)), Some(16));
+}
