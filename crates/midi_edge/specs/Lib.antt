@@ -1,3 +1,4 @@
+pub mod Adapters
 pub mod Entries
 pub mod KeptText
 pub mod MemLanes

@@ -6,3 +6,4 @@ pub mod Outcome
 pub mod Ready
 pub mod Recording
 pub mod Step
+pub mod Writing

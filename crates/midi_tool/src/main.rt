@@ -17,6 +17,7 @@ use crate::status::Status;
 use midi_edge::{FolderLanes, MemShelf, ReadSource, WriteSink};
 use std::io::Write;
 use std::process::ExitCode;
+use std::rt::Files;
 use std::{env, io};
 
 fn main(rt: HostRuntime) -> io::Result<ExitCode> {
@@ -39,7 +40,24 @@ fn main(rt: HostRuntime) -> io::Result<ExitCode> {
         &mut notes,
         &mut shelf,
     );
+    let status = written_out(status, &mut lanes, &mut output, &mut notes);
     Ok(ExitCode::from(status.exit_code()))
+}
+
+// Writes out what the objects have gathered, whatever the status, the notes last, since the last line stands there.
+fn written_out<R: Files + AllocGlobal, O: Write, N: Write>(
+    status: Status,
+    lanes: &mut FolderLanes<R>,
+    output: &mut WriteSink<O>,
+    notes: &mut WriteSink<N>,
+) -> Status {
+    let behind = status
+        .after_writing(lanes.flush(), Status::LaneFault)
+        .after_writing(output.flush(), Status::OutputFault);
+    if behind != status {
+        put_last(behind, notes);
+    }
+    behind.after_writing(notes.flush(), Status::NoteFault)
 }
 
 // Where the words cannot be had, tells why: one that is no UTF-8 is a faulty command line.
@@ -49,5 +67,6 @@ fn unread_words<N: Write>(kind: io::ErrorKind, notes: &mut WriteSink<N>) -> Exit
         _ => Status::Usage,
     };
     put_last(status, notes);
+    let _ = notes.flush();
     ExitCode::from(status.exit_code())
 }

@@ -1,6 +1,8 @@
 // How a run ends.
 ghost use Rattle.std.specs.Prelude.{◌≡◌};
 
+use midi_edge::Failed;
+
 /// Why a recording is refused.
 #[derive(Clone, Copy, Debug, PartialEq, Eq)]
 pub enum Reason {
@@ -60,6 +62,7 @@ pub enum Status {
 
 impl Status {
     ghost use Rattle.midi_tool.specs.ExitCode.{exit_code_of};
+    ghost use Rattle.midi_tool.specs.Writing.{after_writing as status_behind};
 
     /// The exit code: 0 for `Done`, 1 for `Refused`, 2 to 5 for faults of reading, of the lanes, of the output
     /// and of the notes, 7 for
@@ -76,6 +79,17 @@ impl Status {
             Status::NoteFault => 5,
             Status::Usage => 7,
             Status::NoMemory => 10,
+        }
+    }
+
+    /// The status once an object has written out what it gathered: `Done` becomes this fault where that failed. Every other
+    /// status has its cause already, and stays.
+    pub fn after_writing(self, answer: Result<(), Failed>, fault: Status) -> Status
+        ensures { result ≡ status_behind self answer fault }
+    {
+        match (self, answer) {
+            (Status::Done, Err(_)) => fault,
+            (status, _) => status,
         }
     }
 }

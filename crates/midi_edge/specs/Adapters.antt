@@ -1,0 +1,23 @@
+-- What a clause reads of the adapters.
+use Rattle.std.specs.Prelude.{◌≡◌, ℕ, List, [], All, take, Option, Result, MatchResult}
+use Rattle.std.specs.Io.Buffered.{writer_buffer}
+use Rattle.std.specs.Io.KnownBytes.{Appends, append_known}
+use Rattle.midi_edge.specs.declared.adapters.write_sink.WriteSink.{WriteSink}
+use Rattle.midi_edge.specs.declared.adapters.folder_lanes.FolderLanes.{FolderLanes}
+
+-- the bytes that a sink has accepted and not yet written out
+abbrev pub unwritten : {W : Type 0} → WriteSink W → List ℕ
+unwritten s = s.gathered
+
+-- the bytes that the writer of a sink holds, where it tells them, and then those not yet written out
+abbrev pub accepted : {W : Type 0} → (W → Option (List ℕ)) → WriteSink W → Option (List ℕ)
+accepted contents s = append_known (contents s.writer) (unwritten s)
+
+-- the piece is accepted behind what was, or at `Err` a front of it
+abbrev pub Accepts : {T E : Type 0} → Option (List ℕ) → Option (List ℕ) → Result T E → List ℕ → Type 0
+Accepts old new result piece =
+    MatchResult result (λ _. Appends old new piece) (λ _. (n : ℕ) × Appends old new (take n piece))
+
+-- no lane holds bytes that are not yet written out
+abbrev pub IsWrittenOut : {R F A : Type 0} → FolderLanes R F A → Type 0
+IsWrittenOut l = All (λ w. writer_buffer w ≡ []) l.lanes.items

@@ -1,0 +1,132 @@
+// Lanes over a folder.
+ghost use Rattle.std.specs.Prelude.{◌≡◌, ◌==◌, None, false, [], All, length, vec_len, IfOk, OnOk};
+ghost use Rattle.std.specs.Io.Buffered.{writer_buffer};
+ghost use Rattle.midi_edge.specs.Adapters.{IsWrittenOut};
+ghost use Rattle.midi_edge.specs.Outside.{HasCause};
+
+use super::{CAPACITY, counted};
+use crate::few_bits::U4;
+use crate::kept_text::KeptText;
+use crate::outside::{Failed, Lanes, OpenFault};
+use std::io::{BufWriter, Write};
+use std::rt::Files;
+use std::{fs, io};
+
+/// Sixteen files in a folder, one for each lane, each with a buffer of 8,192 bytes that `begin` takes. A small piece is
+/// gathered there, and written out when a later one has no room. So an `Ok` of `put` says that the piece was accepted,
+/// and a fault shows at the `put` that makes room, or at `flush`. A fault takes nothing from what was accepted before:
+/// what it left unwritten is written out by the next call that writes to this lane. Call `flush` when all is put, since
+/// the drop of the lanes tells no fault.
+#[derive(Drop)]
+pub struct FolderLanes<R: Files + AllocGlobal> {
+    rt: R,
+    lanes: Vec<BufWriter<R::File>>,
+    pub(super) faults: u64,
+    path: KeptText,
+}
+
+impl<R: Files + AllocGlobal> FolderLanes<R> {
+    /// Lanes that are not yet opened, and take no memory.
+    pub fn new(rt: R) -> Self
+        ensures folder { ⟦<FolderLanes<R> as Lanes>⟧.folder result ≡ None }
+        ensures begun { ⟦<FolderLanes<R> as Lanes>⟧.begun result ≡ false }
+    {
+        let lanes = Vec::new(rt.alloc());
+        FolderLanes {
+            rt,
+            lanes,
+            faults: 0,
+            path: KeptText::new(),
+        }
+    }
+
+    /// Writes out what is gathered, of every lane, also behind one that fails. After an `Err` what is not yet written
+    /// stays gathered, and a later call goes on from there. Before `begin` there is nothing to write.
+    pub fn flush(&mut self) -> Result<(), Failed>
+        ensures begun { ⟦<FolderLanes<R> as Lanes>⟧.begun self.new ≡ ⟦<FolderLanes<R> as Lanes>⟧.begun self.old }
+        ensures folder { ⟦<FolderLanes<R> as Lanes>⟧.folder self.new ≡ ⟦<FolderLanes<R> as Lanes>⟧.folder self.old }
+        ensures cause { HasCause (⟦<FolderLanes<R> as Lanes>⟧.faults self.old) (⟦<FolderLanes<R> as Lanes>⟧.faults self.new) result }
+        ensures written { OnOk result (IsWrittenOut self.new) }
+    {
+        let answer = flush_each(&mut self.lanes);
+        counted(answer, &mut self.faults)
+    }
+}
+
+// Flushes every writer, and answers the first fault.
+fn flush_each<W: Write + Drop>(writers: &mut [BufWriter<W>]) -> io::Result<()>
+    ensures count { length writers.new ≡ length writers.old }
+    ensures written { OnOk result (All (λ w. writer_buffer w ≡ []) writers.new) }
+{
+    let mut outcome = Ok(());
+    for writer in writers {
+        let answer = writer.flush();
+        outcome = outcome.and(answer);
+    }
+    outcome
+}
+
+// Creates or empties the sixteen files.
+fn open_lanes<R: Files + AllocGlobal>(
+    rt: &R,
+    folder: &str,
+) -> Result<Vec<BufWriter<R::File>>, OpenFault>
+    ensures { IfOk result (λ lanes. vec_len lanes ≡ 16) }
+{
+    let mut lanes = Vec::new(rt.alloc());
+    for lane in 0..16u8 {
+        let writer = open_lane(rt, folder, lane)?;
+        if lanes.push(writer).is_err() {
+            return Err(OpenFault::NoMemory);
+        }
+    }
+    Ok(lanes)
+}
+
+// Creates or empties the file of a lane, and takes its buffer.
+fn open_lane<R: Files + AllocGlobal>(
+    rt: &R,
+    folder: &str,
+    lane: u8,
+) -> Result<BufWriter<R::File>, OpenFault> {
+    let Ok(name) = format!(in rt.alloc(); "{folder}/group-{lane:02}.midi1") else {
+        return Err(OpenFault::NoMemory);
+    };
+    let Ok(file) = fs::create(rt, name.as_str()) else {
+        return Err(OpenFault::Failed);
+    };
+    let Ok(writer) = BufWriter::with_capacity(rt.alloc(), CAPACITY, file) else {
+        return Err(OpenFault::NoMemory);
+    };
+    Ok(writer)
+}
+
+impl<R: Files + AllocGlobal> Lanes for FolderLanes<R> {
+    ghost begun = { λ l. vec_len l.lanes == 16 };
+
+    ghost folder = { λ l. l.path };
+
+    ghost pieces = { λ _. None };
+
+    ghost faults = { λ l. l.faults };
+
+    fn begin(&mut self, path: &str) -> Result<(), OpenFault> {
+        self.path.keep(path);
+        match open_lanes(&self.rt, path) {
+            Ok(lanes) => {
+                self.lanes = lanes;
+                Ok(())
+            }
+            Err(OpenFault::Failed) => {
+                self.faults = self.faults.saturating_add(1);
+                Err(OpenFault::Failed)
+            }
+            Err(OpenFault::NoMemory) => Err(OpenFault::NoMemory),
+        }
+    }
+
+    fn put(&mut self, lane: U4, piece: &[u8]) -> Result<(), Failed> {
+        let answer = self.lanes[usize::from(lane.get())].write_all(piece);
+        counted(answer, &mut self.faults)
+    }
+}

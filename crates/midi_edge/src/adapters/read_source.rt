@@ -1,0 +1,46 @@
+// A source over a reader.
+ghost use Rattle.std.specs.Prelude.{None};
+ghost use Rattle.std.specs.Io.{ReadsAtMost};
+
+use super::counted;
+use crate::outside::{Failed, Source};
+use std::io;
+use std::io::{ErrorKind, Read};
+
+/// A source over any reader. A read that a signal interrupts is tried again.
+#[derive(Drop)]
+pub struct ReadSource<R: Read> {
+    reader: R,
+    pub(super) faults: u64,
+}
+
+impl<R: Read> ReadSource<R> {
+    /// A source that gives what the reader gives.
+    pub fn new(reader: R) -> Self {
+        ReadSource { reader, faults: 0 }
+    }
+}
+
+impl<R: Read> Source for ReadSource<R> {
+    ghost left = { λ _. None };
+
+    ghost faults = { λ s. s.faults };
+
+    fn take(&mut self, buf: &mut [u8]) -> Result<usize, Failed> {
+        let answer = read_once(&mut self.reader, buf);
+        counted(answer, &mut self.faults)
+    }
+}
+
+// One read, tried again where a signal interrupts it.
+fn read_once<R: Read>(reader: &mut R, buf: &mut [u8]) -> io::Result<usize>
+    ensures { ReadsAtMost result buf.new }
+{
+    for _ in 0..u64::MAX {
+        match reader.read(buf) {
+            Err(error) if error.kind() == ErrorKind::Interrupted => {}
+            answer => return answer,
+        }
+    }
+    Err(io::Error::from(ErrorKind::Interrupted))
+}

@@ -1,0 +1,159 @@
+// A sink over a writer.
+ghost use Rattle.std.specs.Prelude.{◌≡◌, ◌<◌, ◌≤◌, [], length, take, drop, None, OnOk};
+ghost use Rattle.std.specs.Io.{WritesAtMost};
+ghost use Rattle.std.specs.Io.KnownBytes.{Keeps, Appends, WriteAppends};
+ghost use Rattle.midi_edge.specs.Adapters.{unwritten, accepted, Accepts};
+ghost use Rattle.midi_edge.specs.Outside.{HasCause, Puts};
+
+use super::{CAPACITY, counted};
+use crate::outside::{Failed, Sink};
+use crate::short_list::ShortList;
+use std::io;
+use std::io::{ErrorKind, Write};
+
+/// A sink over any writer, which gathers small pieces, up to 8,192 bytes, and writes them out when the next piece has no
+/// room. So an `Ok` of `put` says that the piece was accepted, and a fault shows at the `put` that makes room, or at
+/// `flush`. A fault takes nothing from what was accepted before: what it left unwritten is written out by the next call
+/// that writes. What is still gathered when the sink is dropped is lost, so call `flush` when all is put.
+#[derive(Drop)]
+pub struct WriteSink<W: Write> {
+    pub(super) writer: W,
+    gathered: ShortList<u8, 8192>,
+    pub(super) faults: u64,
+}
+
+impl<W: Write> WriteSink<W> {
+    /// A sink that puts into the writer.
+    pub fn new(writer: W) -> Self {
+        WriteSink {
+            writer,
+            gathered: ShortList::new(),
+            faults: 0,
+        }
+    }
+
+    /// Writes out what is gathered, and flushes the writer. After an `Err` what is not yet written stays gathered, and a
+    /// later call goes on from there.
+    pub fn flush(&mut self) -> Result<(), Failed>
+        ensures bytes { Keeps (accepted W.contents self.old) (accepted W.contents self.new) }
+        ensures written { OnOk result (unwritten self.new ≡ []) }
+        ensures cause { HasCause (⟦<WriteSink<W> as Sink>⟧.faults self.old) (⟦<WriteSink<W> as Sink>⟧.faults self.new) result }
+    {
+        let answer = self.flush_writer();
+        counted(answer, &mut self.faults)
+    }
+
+    fn flush_writer(&mut self) -> io::Result<()>
+        ensures bytes { Keeps (accepted W.contents self.old) (accepted W.contents self.new) }
+        ensures written { OnOk result (unwritten self.new ≡ []) }
+        ensures faults { self.new.faults ≡ self.old.faults }
+    {
+        self.write_gathered()?;
+        self.writer.flush()
+    }
+
+    // Gathers the piece, or writes it where it is larger than the room for gathered bytes.
+    fn gather(&mut self, piece: &[u8]) -> io::Result<()>
+        ensures accepts { Accepts (accepted W.contents self.old) (accepted W.contents self.new) result piece.now }
+        ensures faults { self.new.faults ≡ self.old.faults }
+    {
+        if piece.len() <= CAPACITY - self.gathered.len() {
+            self.gathered.extend(piece);
+            return Ok(());
+        }
+        self.write_gathered()?;
+        if piece.len() > CAPACITY {
+            return self.write_past(piece);
+        }
+        self.gathered.extend(piece);
+        Ok(())
+    }
+
+    // Writes a piece, where nothing is gathered.
+    fn write_past(&mut self, piece: &[u8]) -> io::Result<()>
+        requires { unwritten self.old ≡ [] }
+        ensures accepts { Accepts (accepted W.contents self.old) (accepted W.contents self.new) result piece.now }
+        ensures faults { self.new.faults ≡ self.old.faults }
+    {
+        let (_, answer) = write_out(&mut self.writer, piece);
+        answer
+    }
+
+    // What a fault leaves unwritten stays gathered.
+    #[inline(never)]
+    fn write_gathered(&mut self) -> io::Result<()>
+        ensures bytes { Keeps (accepted W.contents self.old) (accepted W.contents self.new) }
+        ensures written { OnOk result (unwritten self.new ≡ []) }
+        ensures faults { self.new.faults ≡ self.old.faults }
+    {
+        let (written, answer) = write_out(&mut self.writer, self.gathered.as_slice());
+        match answer {
+            Ok(()) => {
+                self.gathered.clear();
+                Ok(())
+            }
+            Err(error) => {
+                self.gathered = behind(&self.gathered, written);
+                Err(error)
+            }
+        }
+    }
+}
+
+impl<W: Write> Sink for WriteSink<W> {
+    ghost held = { λ _. None };
+
+    ghost faults = { λ s. s.faults };
+
+    fn put(&mut self, piece: &[u8]) -> Result<(), Failed>
+        requires { 0 < length piece.now }
+        ensures bytes { Puts None None result piece.now }
+        ensures cause { HasCause self.old.faults self.new.faults result }
+        ensures accepts { Accepts (accepted W.contents self.old) (accepted W.contents self.new) result piece.now }
+    {
+        let answer = self.gather(piece);
+        counted(answer, &mut self.faults)
+    }
+}
+
+// One write, tried again where a signal interrupts it.
+fn write_once<W: Write>(writer: &mut W, bytes: &[u8]) -> io::Result<usize>
+    ensures bound { WritesAtMost result bytes.now }
+    ensures bytes { WriteAppends (W.contents writer.old) (W.contents writer.new) result bytes.now }
+{
+    for _ in 0..u64::MAX {
+        match writer.write(bytes) {
+            Err(error) if error.kind() == ErrorKind::Interrupted => {}
+            answer => return answer,
+        }
+    }
+    Err(io::Error::from(ErrorKind::Interrupted))
+}
+
+// Writes until all is written or a write fails, and says how many bytes were written. A write that takes nothing is a
+// fault.
+fn write_out<W: Write>(writer: &mut W, bytes: &[u8]) -> (usize, io::Result<()>)
+    ensures bound { result.0 ≤ length bytes.now }
+    ensures all { OnOk result.1 (result.0 ≡ length bytes.now) }
+    ensures bytes { Appends (W.contents writer.old) (W.contents writer.new) (take result.0 bytes.now) }
+{
+    let mut written = 0;
+    while written < bytes.len() {
+        match write_once(writer, &bytes[written..]) {
+            Ok(0) => return (written, Err(io::Error::from(ErrorKind::WriteZero))),
+            Ok(count) => written += count,
+            Err(error) => return (written, Err(error)),
+        }
+    }
+    (written, Ok(()))
+}
+
+// The bytes behind the first `count`.
+fn behind(bytes: &ShortList<u8, 8192>, count: usize) -> ShortList<u8, 8192>
+    requires { count ≤ length bytes.now }
+    ensures { result ≡ drop count bytes.now }
+{
+    let mut rest = ShortList::new();
+    rest.extend(&bytes.as_slice()[count..]);
+    rest
+}
