@@ -175,7 +175,7 @@ fn cut_stray_and_open_exclusives(rt: HostRuntime) {
 }
 
 #[test]
-fn a_keyboard_and_mixed_protocols(rt: HostRuntime) {
+fn a_keyboard_and_a_clock(rt: HostRuntime) {
     let Ok(mut down) = Down::new(rt.alloc(), 6, Style::Plain) else {
         assert!(rt; false, "memory is ample");
         return;
@@ -214,10 +214,30 @@ fn a_keyboard_and_mixed_protocols(rt: HostRuntime) {
         &[0x80, 0x3C, 0x40],
         None,
     );
-    gives(&rt, down, 28, &[0x20B0_6500], 0, &[0xB0, 0x65, 0x00], None);
-    gives(&rt, down, 32, &[0x20B0_6401], 0, &[0xB0, 0x64, 0x01], None);
-    gives(&rt, down, 36, &[0x20B0_0603], 0, &[0xB0, 0x06, 0x03], None);
-    gives(&rt, down, 40, &[0x15F8_0000], 5, &[0xF8], None);
+    gives(&rt, down, 28, &[0x15F8_0000], 5, &[0xF8], None);
+}
+
+#[test]
+fn parameters_of_both_protocols(rt: HostRuntime) {
+    let Ok(mut down) = Down::new(rt.alloc(), 6, Style::Plain) else {
+        assert!(rt; false, "memory is ample");
+        return;
+    };
+    let down = &mut down;
+    gives(&rt, down, 0, &[0x20B0_6500], 0, &[0xB0, 0x65, 0x00], None);
+    gives(&rt, down, 4, &[0x20B0_6401], 0, &[0xB0, 0x64, 0x01], None);
+    gives(
+        &rt,
+        down,
+        8,
+        &[0x4020_0000, 0x0400_0000],
+        0,
+        &[
+            0xB0, 0x65, 0x00, 0xB0, 0x64, 0x00, 0xB0, 0x06, 0x02, 0xB0, 0x26, 0x00,
+        ],
+        None,
+    );
+    gives(&rt, down, 16, &[0x20B0_0603], 0, &[0xB0, 0x06, 0x03], None);
 }
 
 #[test]
