@@ -1,6 +1,7 @@
 // What is carried of a packet.
-ghost use Rattle.std.specs.Prelude.{◌<◌};
+ghost use Rattle.std.specs.Prelude.{◌<◌, ◌==◌, if◌then◌else◌, length};
 
+use crate::pieces::Piece;
 use midi_edge::U4;
 use voice_state::{Kind, Listed};
 
@@ -103,6 +104,20 @@ impl<'a> Carried<'a> {
             lane: Group::of(lane),
             line,
         }
+    }
+
+    /// A piece in the lane of its group, or none where it is empty.
+    pub(crate) fn lent(group: U4, piece: &'a Piece, listed: Option<Listed>) -> Carried<'a>
+        ensures lane { lane_in result ≡ (if length piece.now == 0 then 0 else group) }
+        ensures piece { result.piece.now ≡ piece.now }
+        ensures line { line_in result ≡ listed }
+    {
+        let lane = if piece.is_empty() {
+            U4::low_bits(0)
+        } else {
+            group
+        };
+        Carried::new(lane, piece.as_slice(), listed)
     }
 
     /// No piece and no line.

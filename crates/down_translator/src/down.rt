@@ -7,7 +7,7 @@ ghost use Rattle.ump_grammar.specs.declared.packet.Packet.TheVariants as packet;
 
 use crate::carried::Carried;
 use crate::listing::{line, voice_kind};
-use crate::pieces::{Piece, system_piece, voice1_piece, voice2_piece};
+use crate::pieces::{Piece, fill_system, fill_voice1, fill_voice2};
 use crate::refusals::{bad_voice1, bad_voice2};
 use crate::style::Style;
 use midi_edge::{NoMemory, U4};
@@ -60,22 +60,6 @@ impl Down {
         }
     }
 
-    /// Lends the piece in the lane of its group.
-    fn carry(&mut self, group: U4, piece: Piece, listed: Option<Listed>) -> Carried<'_>
-        ensures lane { lane_in result ≡ (if length piece == 0 then 0 else group) }
-        ensures piece { result.piece.now ≡ piece }
-        ensures line { line_in result ≡ listed }
-        ensures* after { sem 𝓛 (KeepsDown self.entry self.old) }
-    {
-        self.piece = piece;
-        let lane = if self.piece.is_empty() {
-            U4::low_bits(0)
-        } else {
-            group
-        };
-        Carried::new(lane, self.piece.as_slice(), listed)
-    }
-
     /// Takes one more packet of an exclusive.
     fn exclusive(
         &mut self,
@@ -112,7 +96,10 @@ impl Down {
         carried_packets_have_a_piece();
         match bad_voice1(message) {
             Some(bad) => Err(bad),
-            None => Ok(self.carry(group, voice1_piece(message), None)),
+            None => {
+                fill_voice1(&mut self.piece, message);
+                Ok(Carried::lent(group, &self.piece, None))
+            }
         }
     }
 
@@ -125,7 +112,8 @@ impl Down {
             Some(bad) => Err(bad),
             None => {
                 let listed = line(offset, group, voice_kind(message));
-                Ok(self.carry(group, voice2_piece(message), listed))
+                fill_voice2(&mut self.piece, message);
+                Ok(Carried::lent(group, &self.piece, listed))
             }
         }
     }
@@ -144,7 +132,8 @@ impl Down {
         match packet {
             Packet::Utility { .. } => Ok(Carried::only_listed(offset, None, Kind::Utility)),
             Packet::System { group, message } => {
-                Ok(self.carry(*group, system_piece(message), None))
+                fill_system(&mut self.piece, message);
+                Ok(Carried::lent(*group, &self.piece, None))
             }
             Packet::Voice1 { group, message } => self.voice1(*group, message, offset),
             Packet::Exclusive { group, form, bytes } => {

@@ -38,24 +38,22 @@ fn control(channel: U4, index: u32, value: U7) -> Voice1
     }
 }
 
-/// The bytes of one message.
-pub fn voice1_piece(message: &Voice1) -> Piece
-    ensures { result ≡ flat_map spelled (voice message.now ∷ []) }
+/// Makes the piece that of one message.
+pub fn fill_voice1(piece: &mut Piece, message: &Voice1)
+    ensures { piece.new ≡ flat_map spelled (voice message.now ∷ []) }
 {
-    let mut piece = Piece::new();
-    add(&mut piece, message);
-    piece
+    *piece = Piece::new();
+    add(piece, message);
 }
 
-/// The bytes of a system message.
+/// Makes the piece that of a system message.
 #[tactic(auto, using(crate::proofs::Spelling::spelled_message_of))]
-pub fn system_piece(message: &System) -> Piece
-    ensures { result ≡ flat_map spelled (message_of message.now ∷ []) }
+pub fn fill_system(piece: &mut Piece, message: &System)
+    ensures { piece.new ≡ flat_map spelled (message_of message.now ∷ []) }
 {
-    let mut piece = Piece::new();
+    *piece = Piece::new();
     let bytes = write_system(message);
     piece.extend(bytes.as_slice());
-    piece
 }
 
 /// Whether this is the null parameter, 127/127.
@@ -74,109 +72,125 @@ fn is_carried_index(index: U7) -> bool
     !(index == 0 || index == 6 || index == 32 || index == 38 || (96 <= index && index <= 101))
 }
 
-fn control_piece(channel: U4, index: U7, value: u32) -> Piece
-    ensures { result ≡ flat_map spelled (voice_messages (voice2.Control channel index value)) }
+fn add_control(piece: &mut Piece, channel: U4, index: U7, value: u32)
+    requires { piece.old ≡ [] }
+    ensures { piece.new ≡ flat_map spelled (voice_messages (voice2.Control channel index value)) }
 {
     if is_carried_index(index) {
         let value = down7(value);
-        voice1_piece(&Voice1::Control {
-            channel,
-            index,
-            value,
-        })
-    } else {
-        Piece::new()
+        add(
+            piece,
+            &Voice1::Control {
+                channel,
+                index,
+                value,
+            },
+        );
     }
 }
 
 /// The four control changes that set a parameter.
-fn set_piece(channel: U4, param: &Param, value: U14) -> Piece
-    ensures { result ≡ flat_map spelled (set_messages channel param.now value) }
+fn add_set(piece: &mut Piece, channel: U4, param: &Param, value: U14)
+    requires { piece.old ≡ [] }
+    ensures { piece.new ≡ flat_map spelled (set_messages channel param.now value) }
 {
     let (number_msb, number_lsb) = match param.kind {
         ParamKind::Registered => (101, 100),
         ParamKind::Assignable => (99, 98),
     };
     let value = value.get() as u32;
-    let mut piece = Piece::new();
-    add(&mut piece, &control(channel, number_msb, param.bank));
-    add(&mut piece, &control(channel, number_lsb, param.index));
-    add(&mut piece, &control(channel, 6, U7::low_bits(value / 128)));
-    add(&mut piece, &control(channel, 38, U7::low_bits(value)));
-    piece
+    add(piece, &control(channel, number_msb, param.bank));
+    add(piece, &control(channel, number_lsb, param.index));
+    add(piece, &control(channel, 6, U7::low_bits(value / 128)));
+    add(piece, &control(channel, 38, U7::low_bits(value)));
 }
 
 /// A program change, behind its bank where it has one.
-fn program_piece(channel: U4, program: U7, bank: &Option<Bank>) -> Piece
-    ensures { result ≡ flat_map spelled (program_messages channel program bank.now) }
+fn add_program(piece: &mut Piece, channel: U4, program: U7, bank: &Option<Bank>)
+    requires { piece.old ≡ [] }
+    ensures { piece.new ≡ flat_map spelled (program_messages channel program bank.now) }
 {
-    let mut piece = Piece::new();
     if let Some(bank) = bank {
-        add(&mut piece, &control(channel, 0, bank.msb));
-        add(&mut piece, &control(channel, 32, bank.lsb));
+        add(piece, &control(channel, 0, bank.msb));
+        add(piece, &control(channel, 32, bank.lsb));
     }
-    add(&mut piece, &Voice1::Program { channel, program });
-    piece
+    add(piece, &Voice1::Program { channel, program });
 }
 
-/// The plain piece of a MIDI 2.0 voice message, empty where it isn't carried (M2-104-UM, default translation).
-pub fn voice2_piece(message: &Voice2) -> Piece
-    ensures { result ≡ flat_map spelled (voice_messages message.now) }
+/// Makes the piece the plain one of a MIDI 2.0 voice message, empty where that isn't carried (M2-104-UM, default translation).
+pub fn fill_voice2(piece: &mut Piece, message: &Voice2)
+    ensures { piece.new ≡ flat_map spelled (voice_messages message.now) }
 {
+    *piece = Piece::new();
     match *message {
         Voice2::NoteOff {
             channel,
             note,
             velocity,
             ..
-        } => voice1_piece(&Voice1::NoteOff {
-            channel,
-            note,
-            velocity: release_down(velocity),
-        }),
+        } => add(
+            piece,
+            &Voice1::NoteOff {
+                channel,
+                note,
+                velocity: release_down(velocity),
+            },
+        ),
         Voice2::NoteOn {
             channel,
             note,
             velocity,
             ..
-        } => voice1_piece(&Voice1::NoteOn {
-            channel,
-            note,
-            velocity: velocity_down(velocity),
-        }),
+        } => add(
+            piece,
+            &Voice1::NoteOn {
+                channel,
+                note,
+                velocity: velocity_down(velocity),
+            },
+        ),
         Voice2::PolyPressure {
             channel,
             note,
             value,
-        } => voice1_piece(&Voice1::PolyPressure {
-            channel,
-            note,
-            value: down7(value),
-        }),
+        } => add(
+            piece,
+            &Voice1::PolyPressure {
+                channel,
+                note,
+                value: down7(value),
+            },
+        ),
         Voice2::Control {
             channel,
             index,
             value,
-        } => control_piece(channel, index, value),
-        Voice2::Set { param, .. } if is_null_param(&param) => Piece::new(),
+        } => add_control(piece, channel, index, value),
+        Voice2::Set { param, .. } if is_null_param(&param) => {}
         Voice2::Set {
             channel,
             param,
             value,
-        } => set_piece(channel, &param, down14(value)),
+        } => add_set(piece, channel, &param, down14(value)),
         Voice2::Program {
             channel,
             program,
             bank,
-        } => program_piece(channel, program, &bank),
-        Voice2::Pressure { channel, value } => voice1_piece(&Voice1::Pressure {
-            channel,
-            value: down7(value),
-        }),
-        Voice2::Bend { channel, value } => voice1_piece(&Voice1::Bend {
-            channel,
-            value: down14(value),
-        }),
-        _ => Piece::new(),
+        } => add_program(piece, channel, program, &bank),
+        Voice2::Pressure { channel, value } => add(
+            piece,
+            &Voice1::Pressure {
+                channel,
+                value: down7(value),
+            },
+        ),
+        Voice2::Bend { channel, value } => add(
+            piece,
+            &Voice1::Bend {
+                channel,
+                value: down14(value),
+            },
+        ),
+        _ => {}
     }
 }

@@ -1,5 +1,10 @@
+pub mod Answers
+pub mod Held
+pub mod Lend
 pub mod Messages
+pub mod Parsing
 pub mod Slow
 pub mod Sorts
+pub mod Spoken
 pub mod Steps
 pub mod Stream

@@ -1,12 +1,18 @@
 //! What the bytes of a MIDI 1.0 stream say, and the bytes of each message.
 #![tactic(auto)]
 
+mod begun;
 pub mod laws;
+mod messages;
+pub mod parser;
 pub mod slow;
+pub mod spoken;
 pub mod step;
 pub mod writers;
 
-pub use crate::step::{AfterCut, CutKind};
+pub use crate::parser::Parser;
+pub use crate::spoken::{CommonBytes, RealTimeByte, VoiceBytes};
+pub use crate::step::{AfterCut, CutKind, Step};
 pub use crate::writers::{write_system, write_voice};
 pub use voice_messages::{System, U4, U7, U14, Voice1};
 

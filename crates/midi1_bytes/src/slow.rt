@@ -1,13 +1,13 @@
 // A plain, slow program that looks back over all the bytes before at each byte, to be compared with others.
 ghost use Rattle.std.specs.Prelude.{◌≡◌, ◌<◌, ◌≤◌, ◌↔◌, ◌+◌, ◌*◌, length, slice_index, [], ◌∷◌, Some, IsTrue};
-ghost use Rattle.midi1_bytes.specs.Messages.{voice_of, common_of, real_time_of};
 ghost use Rattle.midi1_bytes.specs.Slow.{told};
-ghost use Rattle.midi1_bytes.specs.Sorts.{one, two, data_byte, exclusive_end, sort_of, is_data, is_real_time, voice_status, common_status};
+ghost use Rattle.midi1_bytes.specs.Sorts.{data_byte, exclusive_end, sort_of, is_data, is_real_time};
 ghost use Rattle.midi1_bytes.specs.Steps.{step_of, step_under};
 ghost use Rattle.midi1_bytes.specs.Stream.{last_status, last_data, without_real_time, offset_before, open_in, start_in};
 
+use crate::messages::{fourteen_bits, real_time, seven_bits, voice_of_one, voice_of_two};
 use crate::step::{AfterCut, CutKind};
-use voice_messages::{System, U4, U7, U14, Voice1};
+use voice_messages::{System, Voice1};
 
 /// What a byte does, in the eyes of the slow program.
 #[derive(Clone, Copy, Debug, PartialEq, Eq)]
@@ -147,72 +147,6 @@ fn start(past: &[u8]) -> usize
     offset_before(behind, past)
 }
 
-fn seven_bits(byte: u8) -> U7
-    requires { byte < 128 }
-    ensures { result ≡ byte }
-{
-    U7::low_bits(u32::from(byte))
-}
-
-fn fourteen_bits(first: u8, second: u8) -> U14
-    requires first_below { first < 128 }
-    requires second_below { second < 128 }
-    ensures { result ≡ second * 128 + first }
-{
-    U14::low_bits(u32::from(second) * 128 + u32::from(first))
-}
-
-fn voice_of_two(status: u8, first: u8, second: u8) -> Voice1
-    requires first_below { first < 128 }
-    requires second_below { second < 128 }
-    ensures { result ≡ voice_of two status second (first ∷ []) }
-{
-    let channel = U4::low_bits(u32::from(status));
-    let (note, value) = (seven_bits(first), seven_bits(second));
-    match status / 16 {
-        8 => Voice1::NoteOff {
-            channel,
-            note,
-            velocity: value,
-        },
-        9 => Voice1::NoteOn {
-            channel,
-            note,
-            velocity: value,
-        },
-        10 => Voice1::PolyPressure {
-            channel,
-            note,
-            value,
-        },
-        11 => Voice1::Control {
-            channel,
-            index: note,
-            value,
-        },
-        _ => Voice1::Bend {
-            channel,
-            value: fourteen_bits(first, second),
-        },
-    }
-}
-
-fn voice_of_one(status: u8, only: u8) -> Voice1
-    requires { only < 128 }
-    ensures { result ≡ voice_of one status only [] }
-{
-    let channel = U4::low_bits(u32::from(status));
-    let value = seven_bits(only);
-    if status / 16 == 12 {
-        Voice1::Program {
-            channel,
-            program: value,
-        }
-    } else {
-        Voice1::Pressure { channel, value }
-    }
-}
-
 // A data byte.
 #[tactic(auto, unfolding(crate::specs::Sorts::sort_of))]
 fn data_step(past: &[u8], byte: u8, room: usize) -> SlowStep
@@ -253,19 +187,6 @@ fn end_step(past: &[u8], room: usize) -> SlowStep
             after: AfterCut::Stray,
         },
         None => SlowStep::Stray,
-    }
-}
-
-fn real_time(byte: u8) -> System
-    ensures { result ≡ real_time_of byte }
-{
-    match byte {
-        0xf8 => System::Clock,
-        0xfa => System::Start,
-        0xfb => System::Continue,
-        0xfc => System::Stop,
-        0xfe => System::Sensing,
-        _ => System::Reset,
     }
 }
 

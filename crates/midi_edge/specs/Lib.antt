@@ -1,4 +1,5 @@
 pub mod Adapters
+pub mod ByteReader
 pub mod Entries
 pub mod KeptText
 pub mod MemLanes

@@ -3,6 +3,7 @@
 #![tactic(auto)]
 
 pub mod adapters;
+pub mod byte_reader;
 pub mod few_bits;
 pub mod kept_text;
 pub mod mem_lanes;
@@ -15,6 +16,7 @@ pub mod short_list;
 pub mod window;
 
 pub use crate::adapters::{FolderLanes, ReadSource, WriteSink};
+pub use crate::byte_reader::ByteReader;
 pub use crate::few_bits::U4;
 pub use crate::mem_lanes::MemLanes;
 pub use crate::mem_shelf::MemShelf;
@@ -23,3 +25,6 @@ pub use crate::mem_source::{MemSource, PlainSource};
 pub use crate::outside::{Failed, Lanes, NoMemory, OpenFault, ReadStop, Shelf, Sink, Source};
 pub use crate::short_list::ShortList;
 pub use crate::window::Window;
+
+#[cfg(test)]
+mod byte_reader_tests;

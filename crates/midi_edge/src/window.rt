@@ -1,5 +1,5 @@
 // A buffer between a source and its reader.
-ghost use Rattle.std.specs.Prelude.{◌≡◌, ◌+◌, ◌<◌, ◌≤◌, [], drop, length, OnErr, IfOk, MatchBool};
+ghost use Rattle.std.specs.Prelude.{◌≡◌, ◌+◌, ◌<◌, ◌≤◌, [], ◌∷◌, drop, length, OnErr, IfOk, MatchBool, MatchOption};
 ghost use Rattle.midi_edge.specs.Outside.{HasCause, IsUsedUp, ahead};
 
 use crate::outside::{Failed, Source};
@@ -38,6 +38,7 @@ impl Window {
     }
 
     /// The bytes that it holds, at most 4,096.
+    #[inline]
     pub fn bytes(&self) -> &[u8]
         ensures bytes { result.now ≡ self.now }
         ensures size { length self.now ≤ 4096 }
@@ -46,6 +47,7 @@ impl Window {
     }
 
     /// Gives out the first `count` bytes.
+    #[inline]
     pub fn consume(&mut self, count: usize)
         requires { count ≤ length self.old }
         ensures { self.new ≡ drop count self.old }
@@ -53,7 +55,21 @@ impl Window {
         self.start += count;
     }
 
+    /// Gives out the first byte, if there is one.
+    #[inline]
+    pub fn pop_front(&mut self) -> Option<u8>
+        ensures { MatchOption result ((self.old ≡ []) × (self.new ≡ [])) (λ byte. self.old ≡ byte ∷ self.new) }
+    {
+        if self.start == self.end {
+            return None;
+        }
+        let byte = self.bytes[self.start];
+        self.start += 1;
+        Some(byte)
+    }
+
     /// Takes more bytes by one `take`. The answer is false at the end of the source. After an `Err` all is as it was.
+    #[inline(never)]
     pub fn fill<S: Source>(&mut self, source: &mut S) -> Result<bool, Failed>
         requires { length self.old < 4096 }
         ensures ahead { ahead self.new (S.left source.new) ≡ ahead self.old (S.left source.old) }

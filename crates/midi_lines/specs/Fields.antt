@@ -1,5 +1,5 @@
 -- The fields of lines.
-use Rattle.std.specs.Prelude.{ℕ, zero, suc, ◌+◌, ◌-◌, ◌/◌, ◌%◌, List, [], ◌∷◌, ◌++◌, codes, decimal, flat_map, if◌then◌else◌, nat_lt}
+use Rattle.std.specs.Prelude.{ℕ, zero, suc, ◌+◌, ◌-◌, ◌/◌, ◌%◌, List, [], ◌∷◌, ◌++◌, codes, decimal, flat_map, if◌then◌else◌, nat_lt, Option, None, Some}
 
 -- an upper case hexadecimal digit: 0 to 9 from 48 on, A to F from 65 on
 abbrev pub hex_digit : ℕ → ℕ
@@ -30,6 +30,11 @@ word_field name word = codes " " ++ name ++ codes "=" ++ word
 unfoldable pub hex_field : List ℕ → ℕ → ℕ → List ℕ
 hex_field name width value = codes " " ++ name ++ codes "=" ++ hex width value
 
--- ` group=GROUP channel=CHANNEL`
-unfoldable pub group_and_channel : ℕ → ℕ → List ℕ
-group_and_channel group channel = field (codes "group") group ++ field (codes "channel") channel
+-- ` group=GROUP`, or nothing where there is no group
+unfoldable pub group_field : Option ℕ → List ℕ
+group_field None = []
+group_field (Some group) = field (codes "group") group
+
+-- the group, and ` channel=CHANNEL`
+unfoldable pub group_and_channel : Option ℕ → ℕ → List ℕ
+group_and_channel group channel = group_field group ++ field (codes "channel") channel

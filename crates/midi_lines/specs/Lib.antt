@@ -1,5 +1,6 @@
 pub mod Fields
+pub mod ListingLines
+pub mod PacketLines
+pub mod StepLines
 pub mod Voice1Lines
 pub mod Voice2Lines
-pub mod PacketLines
-pub mod ListingLines

@@ -1,5 +1,5 @@
 -- The line of a packet: its offset, its words, its kind and its fields.
-use Rattle.std.specs.Prelude.{ℕ, List, ◌++◌, codes, decimal}
+use Rattle.std.specs.Prelude.{ℕ, List, ◌++◌, codes, decimal, Some}
 use Rattle.midi_lines.specs.Fields.{field, word_field, hex_field, hex_bytes, hex_words}
 use Rattle.midi_lines.specs.Voice1Lines.{voice1_fields, system_fields}
 use Rattle.midi_lines.specs.Voice2Lines.{voice2_fields}
@@ -34,10 +34,10 @@ stream format status = codes "stream" ++ field (codes "format") format ++ hex_fi
 -- the kind of a packet and its fields
 abbrev pub packet_fields : Packet → List ℕ
 packet_fields (packet.Utility status value) = utility status value
-packet_fields (packet.System group message) = system_fields group message
-packet_fields (packet.Voice1 group message) = voice1_fields group message
+packet_fields (packet.System group message) = system_fields (Some group) message
+packet_fields (packet.Voice1 group message) = voice1_fields (Some group) message
 packet_fields (packet.Exclusive group form bytes) = exclusive group form bytes
-packet_fields (packet.Voice2 group message) = voice2_fields group message
+packet_fields (packet.Voice2 group message) = voice2_fields (Some group) message
 packet_fields (packet.Data8 group words) = data8 group
 packet_fields (packet.Flex group words) = flex group
 packet_fields (packet.Stream format status low second third fourth) = stream format status

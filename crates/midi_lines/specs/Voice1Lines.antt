@@ -1,40 +1,41 @@
--- The lines of channel voice and system messages of the MIDI 1.0 protocol, from their kind on.
-use Rattle.std.specs.Prelude.{ℕ, List, ◌++◌, codes}
-use Rattle.midi_lines.specs.Fields.{group_and_channel, field, hex_field}
+-- The lines of channel voice and system messages of the MIDI 1.0 protocol, from their kind on. A message of a stream of bytes has
+-- no group.
+use Rattle.std.specs.Prelude.{ℕ, List, ◌++◌, codes, Option}
+use Rattle.midi_lines.specs.Fields.{group_field, group_and_channel, field, hex_field}
 use Rattle.voice_messages.specs.declared.voice1.Voice1.{Voice1}
 use Rattle.voice_messages.specs.declared.voice1.Voice1.TheVariants as voice1
 use Rattle.voice_messages.specs.declared.voice1.System.{System}
 use Rattle.voice_messages.specs.declared.voice1.System.TheVariants as system
 
-abbrev pub m1_note_off : ℕ → ℕ → ℕ → ℕ → List ℕ
+abbrev pub m1_note_off : Option ℕ → ℕ → ℕ → ℕ → List ℕ
 m1_note_off group channel note velocity =
     codes "m1-note-off" ++ group_and_channel group channel ++ field (codes "note") note ++ field (codes "velocity") velocity
 
-abbrev pub m1_note_on : ℕ → ℕ → ℕ → ℕ → List ℕ
+abbrev pub m1_note_on : Option ℕ → ℕ → ℕ → ℕ → List ℕ
 m1_note_on group channel note velocity =
     codes "m1-note-on" ++ group_and_channel group channel ++ field (codes "note") note ++ field (codes "velocity") velocity
 
-abbrev pub m1_poly : ℕ → ℕ → ℕ → ℕ → List ℕ
+abbrev pub m1_poly : Option ℕ → ℕ → ℕ → ℕ → List ℕ
 m1_poly group channel note value =
     codes "m1-poly" ++ group_and_channel group channel ++ field (codes "note") note ++ field (codes "value") value
 
-abbrev pub m1_control : ℕ → ℕ → ℕ → ℕ → List ℕ
+abbrev pub m1_control : Option ℕ → ℕ → ℕ → ℕ → List ℕ
 m1_control group channel index value =
     codes "m1-control" ++ group_and_channel group channel ++ field (codes "index") index ++ field (codes "value") value
 
-abbrev pub m1_program : ℕ → ℕ → ℕ → List ℕ
+abbrev pub m1_program : Option ℕ → ℕ → ℕ → List ℕ
 m1_program group channel program =
     codes "m1-program" ++ group_and_channel group channel ++ field (codes "program") program
 
-abbrev pub m1_pressure : ℕ → ℕ → ℕ → List ℕ
+abbrev pub m1_pressure : Option ℕ → ℕ → ℕ → List ℕ
 m1_pressure group channel value =
     codes "m1-pressure" ++ group_and_channel group channel ++ field (codes "value") value
 
-abbrev pub m1_bend : ℕ → ℕ → ℕ → List ℕ
+abbrev pub m1_bend : Option ℕ → ℕ → ℕ → List ℕ
 m1_bend group channel value =
     codes "m1-bend" ++ group_and_channel group channel ++ field (codes "value") value
 
-abbrev pub voice1_fields : ℕ → Voice1 → List ℕ
+abbrev pub voice1_fields : Option ℕ → Voice1 → List ℕ
 voice1_fields group (voice1.NoteOff channel note velocity) = m1_note_off group channel note velocity
 voice1_fields group (voice1.NoteOn channel note velocity) = m1_note_on group channel note velocity
 voice1_fields group (voice1.PolyPressure channel note value) = m1_poly group channel note value
@@ -44,11 +45,11 @@ voice1_fields group (voice1.Pressure channel value) = m1_pressure group channel 
 voice1_fields group (voice1.Bend channel value) = m1_bend group channel value
 
 -- `system` with the status byte in two hexadecimal digits
-abbrev pub system_status : ℕ → ℕ → List ℕ
-system_status group status = codes "system" ++ field (codes "group") group ++ hex_field (codes "status") 2 status
+abbrev pub system_status : Option ℕ → ℕ → List ℕ
+system_status group status = codes "system" ++ group_field group ++ hex_field (codes "status") 2 status
 
 -- the messages with data bytes have their value
-abbrev pub system_fields : ℕ → System → List ℕ
+abbrev pub system_fields : Option ℕ → System → List ℕ
 system_fields group (system.Quarter value) = system_status group 0xF1 ++ field (codes "value") value
 system_fields group (system.Position value) = system_status group 0xF2 ++ field (codes "value") value
 system_fields group (system.Song value) = system_status group 0xF3 ++ field (codes "value") value

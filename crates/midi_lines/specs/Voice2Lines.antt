@@ -25,55 +25,55 @@ unfoldable pub bank_field : Option Bank → List ℕ
 bank_field None = codes " bank=none"
 bank_field (Some bank) = codes " bank=" ++ decimal bank.msb ++ codes "/" ++ decimal bank.lsb
 
-abbrev pub note_off : ℕ → ℕ → ℕ → ℕ → ℕ → ℕ → List ℕ
+abbrev pub note_off : Option ℕ → ℕ → ℕ → ℕ → ℕ → ℕ → List ℕ
 note_off group channel note velocity attribute_type attribute =
     codes "note-off" ++ group_and_channel group channel ++ field (codes "note") note ++ field (codes "velocity") velocity ++ field (codes "type") attribute_type ++ field (codes "attribute") attribute
 
-abbrev pub note_on : ℕ → ℕ → ℕ → ℕ → ℕ → ℕ → List ℕ
+abbrev pub note_on : Option ℕ → ℕ → ℕ → ℕ → ℕ → ℕ → List ℕ
 note_on group channel note velocity attribute_type attribute =
     codes "note-on" ++ group_and_channel group channel ++ field (codes "note") note ++ field (codes "velocity") velocity ++ field (codes "type") attribute_type ++ field (codes "attribute") attribute
 
-abbrev pub poly : ℕ → ℕ → ℕ → ℕ → List ℕ
+abbrev pub poly : Option ℕ → ℕ → ℕ → ℕ → List ℕ
 poly group channel note value =
     codes "poly" ++ group_and_channel group channel ++ field (codes "note") note ++ field (codes "value") value
 
-abbrev pub note_bend : ℕ → ℕ → ℕ → ℕ → List ℕ
+abbrev pub note_bend : Option ℕ → ℕ → ℕ → ℕ → List ℕ
 note_bend group channel note value =
     codes "note-bend" ++ group_and_channel group channel ++ field (codes "note") note ++ field (codes "value") value
 
-abbrev pub control : ℕ → ℕ → ℕ → ℕ → List ℕ
+abbrev pub control : Option ℕ → ℕ → ℕ → ℕ → List ℕ
 control group channel index value =
     codes "control" ++ group_and_channel group channel ++ field (codes "index") index ++ field (codes "value") value
 
-abbrev pub parameter : ℕ → ℕ → Param → ℕ → List ℕ
+abbrev pub parameter : Option ℕ → ℕ → Param → ℕ → List ℕ
 parameter group channel param value =
     codes "parameter" ++ group_and_channel group channel ++ param_fields param ++ field (codes "value") value
 
-abbrev pub relative : ℕ → ℕ → Param → ℕ → List ℕ
+abbrev pub relative : Option ℕ → ℕ → Param → ℕ → List ℕ
 relative group channel param value =
     codes "relative" ++ group_and_channel group channel ++ param_fields param ++ field (codes "value") value
 
-abbrev pub program : ℕ → ℕ → ℕ → Option Bank → List ℕ
+abbrev pub program : Option ℕ → ℕ → ℕ → Option Bank → List ℕ
 program group channel number bank =
     codes "program" ++ group_and_channel group channel ++ field (codes "program") number ++ bank_field bank
 
-abbrev pub pressure : ℕ → ℕ → ℕ → List ℕ
+abbrev pub pressure : Option ℕ → ℕ → ℕ → List ℕ
 pressure group channel value =
     codes "pressure" ++ group_and_channel group channel ++ field (codes "value") value
 
-abbrev pub bend : ℕ → ℕ → ℕ → List ℕ
+abbrev pub bend : Option ℕ → ℕ → ℕ → List ℕ
 bend group channel value =
     codes "bend" ++ group_and_channel group channel ++ field (codes "value") value
 
-abbrev pub note_controller : ℕ → ℕ → ParamKind → ℕ → ℕ → ℕ → List ℕ
+abbrev pub note_controller : Option ℕ → ℕ → ParamKind → ℕ → ℕ → ℕ → List ℕ
 note_controller group channel kind note index value =
     codes "note-controller" ++ group_and_channel group channel ++ controller_fields kind note index ++ field (codes "value") value
 
-abbrev pub note_management : ℕ → ℕ → ℕ → ℕ → List ℕ
+abbrev pub note_management : Option ℕ → ℕ → ℕ → ℕ → List ℕ
 note_management group channel note flags =
     codes "note-management" ++ group_and_channel group channel ++ field (codes "note") note ++ field (codes "flags") flags
 
-abbrev pub voice2_fields : ℕ → Voice2 → List ℕ
+abbrev pub voice2_fields : Option ℕ → Voice2 → List ℕ
 voice2_fields group (voice2.NoteOff channel note velocity attribute_type attribute) = note_off group channel note velocity attribute_type attribute
 voice2_fields group (voice2.NoteOn channel note velocity attribute_type attribute) = note_on group channel note velocity attribute_type attribute
 voice2_fields group (voice2.PolyPressure channel note value) = poly group channel note value

@@ -4,13 +4,15 @@
 mod listing;
 mod packets;
 mod put;
+mod steps;
 mod voice;
 mod voice1;
 mod voice2;
 
-pub use crate::listing::listing_line;
-pub use crate::packets::packet_line;
+pub use crate::listing::{byte_listing, fill_listing_line, listing_line};
+pub use crate::packets::{fill_packet_line, packet_line};
 pub use crate::put::{Line, put_decimal, put_text};
+pub use crate::steps::step_line;
 
 #[cfg(test)]
 mod tests;

@@ -1,6 +1,7 @@
 // The lines of the listing.
 ghost use Rattle.std.specs.Prelude.{◌≡◌, ◌<◌, ◌≤◌, ◌+◌, ◌++◌, length, codes};
 ghost use Rattle.midi_lines.specs.ListingLines.{group_text, listed_word, listing_text};
+ghost use Rattle.midi_lines.specs.StepLines.{byte_listing_text};
 
 use crate::put::{Line, put_decimal, put_text};
 use voice_messages::U4;
@@ -12,25 +13,55 @@ pub fn listing_line(listed: &Listed) -> Line
     ensures some { 0 < length result }
 {
     let mut line = Line::new();
-    put_decimal(&mut line, listed.offset);
-    put_listed_group(&mut line, listed.group);
-    put_text(&mut line, " ");
-    put_text(&mut line, kind_name(listed.kind));
-    put_text(&mut line, "\n");
+    fill_listing_line(&mut line, listed);
     line
 }
 
-// A group, or a hyphen for none, with a space before it.
+/// Makes the line that of what is listed, as `listing_line` does, in the place of another one.
+pub fn fill_listing_line(line: &mut Line, listed: &Listed)
+    ensures text { line.new ≡ listing_text listed.now }
+    ensures some { 0 < length line.new }
+{
+    line.clear();
+    put_decimal(line, listed.offset);
+    put_text(line, " ");
+    put_listed_group(line, listed.group);
+    put_kind(line, listed.kind);
+}
+
+/// The line of what is listed of a stream of MIDI 1.0 bytes, which has no groups: the offset in decimal digits, and the kind (own
+/// rule).
+pub fn byte_listing(kind: Kind, offset: u64) -> Line
+    ensures text { result ≡ byte_listing_text kind offset }
+    ensures some { 0 < length result }
+{
+    let mut line = Line::new();
+    put_decimal(&mut line, offset);
+    put_kind(&mut line, kind);
+    line
+}
+
+// A group, or a hyphen for none.
 fn put_listed_group(line: &mut Line, group: Option<U4>)
     requires { length line.old ≤ 60 }
-    ensures text { line.new ≡ line.old ++ codes " " ++ group_text group }
-    ensures room { length line.new ≤ length line.old + 21 }
+    ensures text { line.new ≡ line.old ++ group_text group }
+    ensures room { length line.new ≤ length line.old + 20 }
 {
-    put_text(line, " ");
     match group {
         Some(group) => put_decimal(line, group.get() as u64),
         None => put_text(line, "-"),
     }
+}
+
+// The word of a kind, with a space before it, and the end of the line.
+fn put_kind(line: &mut Line, kind: Kind)
+    requires { length line.old ≤ 90 }
+    ensures text { line.new ≡ line.old ++ codes " " ++ listed_word kind ++ codes "\n" }
+    ensures some { 0 < length line.new }
+{
+    put_text(line, " ");
+    put_text(line, kind_name(kind));
+    put_text(line, "\n");
 }
 
 // The word of a kind.

@@ -4,7 +4,7 @@ ghost use Rattle.midi_lines.specs.Fields.{hex_words, field};
 ghost use Rattle.midi_lines.specs.PacketLines.{packet_fields, packet_text, form_word, utility, exclusive, stream};
 
 use crate::put::{
-    Line, put_decimal, put_field, put_hex, put_hex_bytes, put_hex_field, put_text, put_word_field,
+    Line, put_decimal, put_field, put_hex_bytes, put_hex_field, put_text, put_word, put_word_field,
 };
 use crate::voice1::{put_system, put_voice1};
 use crate::voice2::put_voice2;
@@ -20,12 +20,22 @@ pub fn packet_line(packet: &Packet, words: &[u32], offset: u64) -> Line
     ensures some { 0 < length result }
 {
     let mut line = Line::new();
-    put_decimal(&mut line, offset);
-    put_words(&mut line, words);
-    put_text(&mut line, " ");
-    put_packet(&mut line, packet);
-    put_text(&mut line, "\n");
+    fill_packet_line(&mut line, packet, words, offset);
     line
+}
+
+/// Makes the line that of a packet, as `packet_line` does, in the place of another one.
+pub fn fill_packet_line(line: &mut Line, packet: &Packet, words: &[u32], offset: u64)
+    requires { length words.now ≤ 4 }
+    ensures text { line.new ≡ packet_text packet.now words.now offset }
+    ensures some { 0 < length line.new }
+{
+    line.clear();
+    put_decimal(line, offset);
+    put_words(line, words);
+    put_text(line, " ");
+    put_packet(line, packet);
+    put_text(line, "\n");
 }
 
 // Each word with a space before it.
@@ -37,7 +47,7 @@ fn put_words(line: &mut Line, words: &[u32])
 {
     for word in words {
         put_text(line, " ");
-        put_hex(line, 8, *word);
+        put_word(line, *word);
     }
 }
 
@@ -49,10 +59,10 @@ fn put_packet(line: &mut Line, packet: &Packet)
 {
     match packet {
         Packet::Utility { status, value } => put_utility(line, *status, *value),
-        Packet::System { group, message } => put_system(line, *group, message),
-        Packet::Voice1 { group, message } => put_voice1(line, *group, message),
+        Packet::System { group, message } => put_system(line, Some(*group), message),
+        Packet::Voice1 { group, message } => put_voice1(line, Some(*group), message),
         Packet::Exclusive { group, form, bytes } => put_exclusive(line, *group, *form, bytes),
-        Packet::Voice2 { group, message } => put_voice2(line, *group, message),
+        Packet::Voice2 { group, message } => put_voice2(line, Some(*group), message),
         Packet::Data8 { group, .. } => put_group(line, "data8", *group),
         Packet::Flex { group, .. } => put_group(line, "flex", *group),
         Packet::Stream { format, status, .. } => put_stream(line, *format, *status),

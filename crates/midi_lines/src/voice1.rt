@@ -4,11 +4,11 @@ ghost use Rattle.midi_lines.specs.Fields.{field, group_and_channel};
 ghost use Rattle.midi_lines.specs.Voice1Lines.{voice1_fields, system_fields, system_status, m1_program};
 
 use crate::put::{Line, put_field, put_hex_field, put_text};
-use crate::voice::{put_control, put_note_value, put_value, put_voice};
+use crate::voice::{put_control, put_group_field, put_note_value, put_value, put_voice};
 use voice_messages::{System, U4, U7, Voice1};
 
 /// Adds the kind and the fields of a channel voice message.
-pub fn put_voice1(line: &mut Line, group: U4, message: &Voice1)
+pub fn put_voice1(line: &mut Line, group: Option<U4>, message: &Voice1)
     requires { length line.old ≤ 60 }
     ensures text { line.new ≡ line.old ++ voice1_fields group message.now }
     ensures room { length line.new ≤ 240 }
@@ -59,7 +59,7 @@ pub fn put_voice1(line: &mut Line, group: U4, message: &Voice1)
     }
 }
 
-fn put_note(line: &mut Line, kind: &str, group: U4, channel: U4, note: U7, velocity: U7)
+fn put_note(line: &mut Line, kind: &str, group: Option<U4>, channel: U4, note: U7, velocity: U7)
     requires { length line.old + length kind.now ≤ 100 }
     ensures text { line.new
         ≡ line.old ++ kind.now ++ group_and_channel group channel ++ field (codes "note") note ++ field (codes "velocity") velocity }
@@ -70,7 +70,7 @@ fn put_note(line: &mut Line, kind: &str, group: U4, channel: U4, note: U7, veloc
     put_field(line, "velocity", velocity.get() as u32);
 }
 
-fn put_program(line: &mut Line, group: U4, channel: U4, program: U7)
+fn put_program(line: &mut Line, group: Option<U4>, channel: U4, program: U7)
     requires { length line.old ≤ 60 }
     ensures text { line.new ≡ line.old ++ m1_program group channel program }
     ensures room { length line.new ≤ 240 }
@@ -80,7 +80,7 @@ fn put_program(line: &mut Line, group: U4, channel: U4, program: U7)
 }
 
 /// Adds the kind and the fields of a system message.
-pub fn put_system(line: &mut Line, group: U4, message: &System)
+pub fn put_system(line: &mut Line, group: Option<U4>, message: &System)
     requires { length line.old ≤ 60 }
     ensures text { line.new ≡ line.old ++ system_fields group message.now }
     ensures room { length line.new ≤ 240 }
@@ -100,7 +100,7 @@ pub fn put_system(line: &mut Line, group: U4, message: &System)
 }
 
 // A system common message with its value.
-fn put_common(line: &mut Line, group: U4, status: u8, value: u32)
+fn put_common(line: &mut Line, group: Option<U4>, status: u8, value: u32)
     requires { length line.old ≤ 60 }
     ensures text { line.new ≡ line.old ++ system_status group status ++ field (codes "value") value }
     ensures room { length line.new ≤ 240 }
@@ -110,12 +110,12 @@ fn put_common(line: &mut Line, group: U4, status: u8, value: u32)
 }
 
 // A system message by its status byte.
-fn put_status(line: &mut Line, group: U4, status: u8)
+fn put_status(line: &mut Line, group: Option<U4>, status: u8)
     requires { length line.old ≤ 60 }
     ensures text { line.new ≡ line.old ++ system_status group status }
     ensures room { length line.new ≤ 120 }
 {
     put_text(line, "system");
-    put_field(line, "group", group.get() as u32);
+    put_group_field(line, group);
     put_hex_field(line, "status", 2, status as u32);
 }

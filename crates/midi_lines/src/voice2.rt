@@ -8,7 +8,7 @@ use crate::voice::{put_control, put_note_value, put_value, put_voice};
 use voice_messages::{Bank, Param, ParamKind, U4, U7, Voice2};
 
 /// Adds the kind and the fields of a channel voice message.
-pub fn put_voice2(line: &mut Line, group: U4, message: &Voice2)
+pub fn put_voice2(line: &mut Line, group: Option<U4>, message: &Voice2)
     requires { length line.old ≤ 60 }
     ensures text { line.new ≡ line.old ++ voice2_fields group message.now }
     ensures room { length line.new ≤ 240 }
@@ -122,7 +122,7 @@ fn put_param_fields(line: &mut Line, param: Param)
 }
 
 // A value of a parameter, or a change of its value.
-fn put_param(line: &mut Line, kind: &str, group: U4, channel: U4, param: Param, value: u32)
+fn put_param(line: &mut Line, kind: &str, group: Option<U4>, channel: U4, param: Param, value: u32)
     requires { length line.old + length kind.now ≤ 80 }
     ensures text { line.new
         ≡ line.old ++ kind.now ++ group_and_channel group channel ++ param_fields param ++ field (codes "value") value }
@@ -133,7 +133,7 @@ fn put_param(line: &mut Line, kind: &str, group: U4, channel: U4, param: Param, 
     put_field(line, "value", value);
 }
 
-fn put_program(line: &mut Line, group: U4, channel: U4, number: U7, bank: &Option<Bank>)
+fn put_program(line: &mut Line, group: Option<U4>, channel: U4, number: U7, bank: &Option<Bank>)
     requires { length line.old ≤ 60 }
     ensures text { line.new ≡ line.old ++ program group channel number bank.now }
     ensures room { length line.new ≤ 240 }
@@ -173,7 +173,7 @@ fn put_controller_fields(line: &mut Line, kind: ParamKind, note: U7, index: u8)
     put_field(line, "index", index as u32);
 }
 
-fn put_note_management(line: &mut Line, group: U4, channel: U4, note: U7, flags: u8)
+fn put_note_management(line: &mut Line, group: Option<U4>, channel: U4, note: U7, flags: u8)
     requires { length line.old ≤ 60 }
     ensures text { line.new ≡ line.old ++ note_management group channel note flags }
     ensures room { length line.new ≤ 240 }

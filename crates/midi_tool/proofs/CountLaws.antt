@@ -4,8 +4,11 @@ use Rattle.midi_edge.specs.Outside.{Rose}
 use Rattle.ump_grammar.specs.declared.packet.Packet.{Packet}
 use Rattle.sysex_groups.specs.Table.{Table}
 use Rattle.ump_words.specs.Reader.{Reading}
+use Rattle.ump_words.specs.declared.words.Framed.{Framed}
 use Rattle.midi_tool.specs.Next.{StopCause, Stops as StopsReading}
-use Rattle.midi_tool.specs.Outcome.{Counts, carrying, CountsAfter}
+use Rattle.midi_tool.specs.Outcome.{carrying, showing, CountsAfter}
+use Rattle.midi_tool.specs.ShowPacket.{ShowEnds}
+use Rattle.midi_tool.specs.Told.{Counts}
 use Rattle.midi_tool.specs.Step.{EndsStep, EndCounts, ListsOpen, Closes}
 use Rattle.midi_tool.specs.declared.status.RunEnd.{RunEnd}
 use Rattle.midi_tool.specs.declared.status.RunEnd.TheVariants.{Done, Refused, ReadFault, LaneFault, OutputFault, NoteFault}
@@ -53,3 +56,16 @@ close_counts room reader reader' before after ReadFault end table noted noted' r
 close_counts room reader reader' before after LaneFault end table noted noted' r r' r'' l l' o n n' n'' stops cause closes e f g = absurd stops
 close_counts room reader reader' before after OutputFault end table noted noted' r r' r'' l l' o n n' n'' stops cause closes e f g = absurd stops
 close_counts room reader reader' before after NoteFault end table noted noted' r r' r'' l l' o n n' n'' stops cause closes e f g = absurd stops
+
+-- ---- lines
+
+-- behind a packet that is the last one that is shown
+pub shown_counts : (room : ℕ) (table : Table) (f : Framed) (p : Packet) (end : RunEnd) (new new' : Option (List ℕ)) (r r' l o o' o'' n : ℕ)
+    → ShowEnds table f p end new new' o' o'' → r' ≡ r → o' ≡ o → CountsAfter (showing room) end (counts r l o n) (counts r' l o'' n)
+shown_counts room table f p (Refused reason at) new new' r r' l o o' o'' n ends d e = (tt, ap (λ x. counts x l o'' n) d ∙ ap (λ x. counts r l x n) (ends.5 ∙ e))
+shown_counts room table f p OutputFault new new' r r' l o o' o'' n ends d e =
+    let P : ℕ → Type 0 = λ x. Rose x o'' in (tt, (subst P e ends, ap (λ x. counts x l o'' n) d))
+shown_counts room table f p Done new new' r r' l o o' o'' n ends d e = absurd ends
+shown_counts room table f p ReadFault new new' r r' l o o' o'' n ends d e = absurd ends
+shown_counts room table f p LaneFault new new' r r' l o o' o'' n ends d e = absurd ends
+shown_counts room table f p NoteFault new new' r r' l o o' o'' n ends d e = absurd ends

@@ -42,8 +42,10 @@ use Rattle.down_translator.specs.Step.{IsPlainStep}
 use Rattle.down_translator.proofs.HeldLaws.{packet_in_range}
 use mathlib.Core.List.{reverse-cons}
 use Rattle.midi_tool.specs.Next.{limit, Gives, Stops as StopsReading}
-use Rattle.midi_tool.specs.Outcome.{Pass, carrying, showing, Told, AreTaken, IsBadStep, IsRefused, RefusesBehind, IsFirstStop, AreCarried, AreShown, IsWork, Stops, IsDone, Says}
+use Rattle.midi_tool.specs.Outcome.{Pass, carrying, showing, bad_in, AreWithin, HasNoBad, AreTaken, IsBadStep, IsRefused, RefusesBehind, IsFirstStop, AreCarried, AreShown, IsWork, Stops, IsDone, Says}
 use Rattle.midi_tool.specs.Recording.{IsRead, AreRead, to_a_refusal, to_the_end, lines_of, shown, texts}
+use Rattle.midi_tool.specs.ShowPacket.{bad_join, ShowEnds}
+use Rattle.midi_tool.specs.Told.{Told}
 use Rattle.midi_tool.specs.Step.{Puts, reason_of as reason_for, RefusesStep, EndsStep, ListsOpen, Closes, open_line, open_lines}
 use Rattle.midi_tool.specs.declared.status.Reason.{Reason}
 use Rattle.midi_tool.specs.declared.status.Reason.TheVariants.{Truncated, InputTooLong, BadCount, HighBit, DataIncrement, DataDecrement, ExclusiveTooLong}
@@ -92,7 +94,7 @@ packets_of-reverse (p ∷ all) =
     ∙ sym (map_push (λ q. q.packet) (reverse all) p)
     ∙ ap packets_of (sym (reverse-cons p all))
 
-reverse-push : {A : Type 0} (xs : List A) (x : A) → reverse (xs ++ x ∷ []) ≡ x ∷ reverse xs
+pub reverse-push : {A : Type 0} (xs : List A) (x : A) → reverse (xs ++ x ∷ []) ≡ x ∷ reverse xs
 reverse-push xs x = reverse-append xs (x ∷ [])
 
 -- what holds of all recordings, by the public laws of the crates below
@@ -103,6 +105,11 @@ pub record Laws : Type 0 where
   pub behind : (room : ℕ) (past : List Placed) (placed : Placed) → table_behind placed.offset placed.packet (table_of room past) ≡ table_of room (placed ∷ past)
   pub pair : (room : ℕ) (past : List Placed) (placed : Placed) (carried : Carried) → 6 ≤ room → AreInRange past → AreAccepted room past → IsPlainStep (table_of room past) placed.offset placed.packet carried → pair_put carried ≡ pair_of (packets_of past) placed.packet
   pub line : (room : ℕ) (past : List Placed) (placed : Placed) (carried : Carried) → 6 ≤ room → AreInRange past → IsPlainStep (table_of room past) placed.offset placed.packet carried → line_in carried ≡ line_of (Some room) (parts_of past) placed
+
+-- the two of them that lines need
+pub record ShowLaws : Type 0 where
+  pub refusal : (room : ℕ) (past : List Placed) → 6 ≤ room → AreInRange past → (packet : Packet) → refusal_in (table_of room past) packet ≡ bad_step (Some room) (parts_of past) packet
+  pub behind : (room : ℕ) (past : List Placed) (placed : Placed) → table_behind placed.offset placed.packet (table_of room past) ≡ table_of room (placed ∷ past)
 
 -- the lines of the exclusives that are still begun
 open_lines-some : (laws : Laws) (room : ℕ) (past : List Placed) → 6 ≤ room → AreInRange past → (some : List ℕ) → open_lines (table_of room past) some ≡ flat_map (λ group. option_to_list (end_line (Some room) (parts_of past) group)) some
@@ -163,6 +170,12 @@ module _ (order : Order) (pass : Pass) (reader : Reading) (before now : Option (
       by_told : (b : Option (List ℕ)) → IfSome b (λ bytes. IsCutInto order limit bytes framed End) → IfSome b (λ bytes. now' ≡ Some []) → IfSome b (λ bytes. Says order pass bytes now' old after Done)
       by_told None cut left = tt
       by_told (Some bytes) cut left = (record { framed = framed; cut = cut; taken = taken; work = whole }, left)
+
+-- a bad step is a reason
+by_bad : (pass : Pass) (framed : List Framed) (f : Framed) (b : BadStep) → IsBadStep pass framed f b → IsRefused pass framed f (reason_for b)
+by_bad pass framed f steps.DataIncrement cause = cause
+by_bad pass framed f steps.DataDecrement cause = cause
+by_bad pass framed f steps.ExclusiveTooLong cause = cause
 
 pub untold : (b : Option (List ℕ)) → IfSome b (λ bytes. Unit {0})
 untold None = tt
@@ -264,12 +277,7 @@ module _ (laws : Laws) (order : Order) (room : ℕ) (least : 6 ≤ room) (reader
       subst P (sym refused.pieces)
       (subst N (sym refused.listed)
       (refuses order (carrying room) reader before now told_before told_now so_far.framed so_far.read taken work reader' now' f reason offset gives
-      (subst R (sym refused.reason_is) (by_bad refused.bad (so_far.all, so_far.are, placed, is_read, bad))) place))
-    where
-      by_bad : (b : BadStep) → IsBadStep (carrying room) so_far.framed f b → IsRefused (carrying room) so_far.framed f (reason_for b)
-      by_bad steps.DataIncrement cause = cause
-      by_bad steps.DataDecrement cause = cause
-      by_bad steps.ExclusiveTooLong cause = cause
+      (subst R (sym refused.reason_is) (by_bad (carrying room) so_far.framed f refused.bad (so_far.all, so_far.are, placed, is_read, bad))) place))
 
   -- what the end of the reading says, where it isn't the end of the recording
   pub carries_stop : (reader' : Reading) (now' : Option (List ℕ)) (reason : Reason) (offset : ℕ) → StopsReading reader reader' (ahead reader.pending now) (ahead reader'.pending now') (Refused reason offset)
@@ -338,52 +346,96 @@ module _ (laws : Laws) (order : Order) (room : ℕ) (least : 6 ≤ room) (reader
 
 -- ---- lines
 
-pub record ShownSoFar (order : Order) (reader : Reading) (before now : Option (List ℕ)) (old new : Option (List ℕ)) : Type 0 where
+-- by the public law of the translator down, what the groups hold says which packet passes the room
+bad_join-is : (laws : ShowLaws) (room : ℕ) (past : List Placed) → 6 ≤ room → AreInRange past → (p : Packet) → bad_join (table_of room past) p ≡ bad_in (showing room) past p
+bad_join-is laws room past least range (packet.Exclusive g f bytes) = laws.refusal room past least range (packet.Exclusive g f bytes)
+bad_join-is laws room past least range (packet.Utility s v) = refl
+bad_join-is laws room past least range (packet.System g m) = refl
+bad_join-is laws room past least range (packet.Voice1 g m) = refl
+bad_join-is laws room past least range (packet.Voice2 g m) = refl
+bad_join-is laws room past least range (packet.Data8 g w) = refl
+bad_join-is laws room past least range (packet.Flex g w) = refl
+bad_join-is laws room past least range (packet.Stream f s l w x y) = refl
+bad_join-is laws room past least range (packet.Reserved w) = refl
+
+-- what is so far: the packets that were read, none refused, what the groups have begun, and their lines
+pub record ShownSoFar (order : Order) (room : ℕ) (reader : Reading) (before now : Option (List ℕ)) (table : Table) (old new : Option (List ℕ)) : Type 0 where
   pub framed : List Framed
   pub read : ReadSoFar order limit reader before now framed
   pub all : List Placed
   pub are : AreRead all framed
+  pub within : AreWithin room (reverse all)
+  pub in_range : AreInRange (reverse all)
+  pub table_is : table ≡ table_of room (reverse all)
   pub lines : Gains old new (shown all framed)
 
-pub shows_none : (order : Order) (left held : Option (List ℕ)) → ShownSoFar order (record { order = order; pending = []; offset = 0; limit = limit; end = None }) left left held held
-shows_none order left held = record { framed = []; read = start order limit left; all = []; are = tt; lines = Gains-none held }
+pub shows_none : (order : Order) (room : ℕ) (left held : Option (List ℕ)) → ShownSoFar order room (record { order = order; pending = []; offset = 0; limit = limit; end = None }) left left (empty_table room) held held
+shows_none order room left held = record { framed = []; read = start order limit left; all = []; are = tt; within = tt; in_range = tt; table_is = refl; lines = Gains-none held }
 
-module _ (order : Order) (reader : Reading) (before now : Option (List ℕ)) (old new : Option (List ℕ)) (so_far : ShownSoFar order reader before now old new) where
+module _ (laws : ShowLaws) (order : Order) (room : ℕ) (least : 6 ≤ room) (reader : Reading) (before now : Option (List ℕ)) (table : Table) (old new : Option (List ℕ)) (so_far : ShownSoFar order room reader before now table old new) where
   -- one more packet is shown
-  pub shows : (reader' : Reading) (now' : Option (List ℕ)) (f : Framed) (p : Packet) (line : List ℕ) (new' : Option (List ℕ))
-      → GivesPacket reader reader' (ahead reader.pending now) (ahead reader'.pending now') f → reason_of f.words ≡ None → Spells p f.words → line ≡ packet_text p f.words f.offset → Gains new new' line
-      → ShownSoFar order reader' before now' old new'
-  shows reader' now' f p line new' gives fine spells is gained =
+  pub shows : (reader' : Reading) (now' : Option (List ℕ)) (f : Framed) (p : Packet) (table' : Table) (new' : Option (List ℕ))
+      → GivesPacket reader reader' (ahead reader.pending now) (ahead reader'.pending now') f → reason_of f.words ≡ None → Spells p f.words
+      → table' ≡ table_behind f.offset p table → bad_join table p ≡ None → Gains new new' (packet_text p f.words f.offset)
+      → ShownSoFar order room reader' before now' table' old new'
+  shows reader' now' f p table' new' gives fine spells behind fits gained =
       let placed : Placed = record { offset = f.offset; packet = p } in
+      let past : List Placed = reverse so_far.all in
+      let turned : reverse (so_far.all ++ placed ∷ []) ≡ placed ∷ past = reverse-push so_far.all placed in
+      let within : bad_in (showing room) past p ≡ None = sym (bad_join-is laws room past least so_far.in_range p) ∙ ap (λ q. bad_join q p) (sym so_far.table_is) ∙ fits in
+      let W : List Placed → Type 0 = λ q. AreWithin room q in
+      let H : List Placed → Type 0 = λ q. table' ≡ table_of room q in
+      let R : List Placed → Type 0 = λ q. AreInRange q in
       let G : List ℕ → Type 0 = λ xs. Gains old new' xs in
       record {
         framed = so_far.framed ++ f ∷ [];
         read = step order limit reader before now so_far.framed so_far.read reader' now' f gives;
         all = so_far.all ++ placed ∷ [];
         are = AreRead-push so_far.all so_far.framed placed f so_far.are (record { fine = fine; spells = spells; place = refl });
-        lines = subst G (sym (shown-push so_far.all so_far.framed placed f so_far.are ∙ ap (λ xs. shown so_far.all so_far.framed ++ xs) (sym is))) (Gains-more old new new' (shown so_far.all so_far.framed) line so_far.lines gained);
+        within = subst W (sym turned) (within, so_far.within);
+        in_range = subst R (sym turned) (packet_in_range p (IsPacket-spelled p f.words spells fine), so_far.in_range);
+        table_is = subst H (sym turned) (behind ∙ ap (table_behind f.offset p) so_far.table_is ∙ laws.behind room past placed);
+        lines = subst G (sym (shown-push so_far.all so_far.framed placed f so_far.are)) (Gains-more old new new' (shown so_far.all so_far.framed) (packet_text p f.words f.offset) so_far.lines gained);
       }
 
-module _ (order : Order) (reader : Reading) (before now : Option (List ℕ)) (old new noted : Option (List ℕ)) (pieces : Option (List (ℕ × List ℕ))) (so_far : ShownSoFar order reader before now old new) where
-  abbrev shown_before : Told
-  shown_before = record { pieces = pieces; held = old; noted = noted }
+  module _ (noted : Option (List ℕ)) (pieces : Option (List (ℕ × List ℕ))) where
+    abbrev shown_told : Option (List ℕ) → Told
+    shown_told held = record { pieces = pieces; held = held; noted = noted }
 
-  abbrev shown_now : Told
-  shown_now = record { pieces = pieces; held = new; noted = noted }
+    -- one more packet is refused, or its put failed
+    pub shows_err : (reader' : Reading) (now' : Option (List ℕ)) (f : Framed) (p : Packet) (end : RunEnd) (new' : Option (List ℕ)) (faults faults' : ℕ)
+        → GivesPacket reader reader' (ahead reader.pending now) (ahead reader'.pending now') f → reason_of f.words ≡ None → Spells p f.words
+        → ShowEnds table f p end new new' faults faults' → IfSome before (λ bytes. Says order (showing room) bytes now' (shown_told old) (shown_told new') end)
+    shows_err reader' now' f p (Refused reason offset) new' faults faults' gives fine spells ends =
+        let placed : Placed = record { offset = f.offset; packet = p } in
+        let past : List Placed = reverse so_far.all in
+        let bad : bad_in (showing room) past p ≡ Some ends.0 = sym (bad_join-is laws room past least so_far.in_range p) ∙ ap (λ q. bad_join q p) (sym so_far.table_is) ∙ ends.1 in
+        let R : Reason → Type 0 = λ r. IsRefused (showing room) so_far.framed f r in
+        let P : Option (List ℕ) → Type 0 = λ q. IfSome before (λ bytes. Stops order (showing room) bytes reason offset (shown_told old) (shown_told q)) in
+        let is_read : IsRead placed f = record { fine = fine; spells = spells; place = refl } in
+        subst P (sym ends.4)
+        (refuses order (showing room) reader before now (shown_told old) (shown_told new) so_far.framed so_far.read (so_far.all, so_far.are, so_far.within)
+        (record { all = so_far.all; read = so_far.are; lines = so_far.lines }, refl, refl) reader' now' f reason offset gives
+        (subst R (sym ends.2) (by_bad (showing room) so_far.framed f ends.0 (so_far.all, so_far.are, placed, is_read, bad))) ends.3)
+    shows_err reader' now' f p OutputFault new' faults faults' gives fine spells ends = untold before
+    shows_err reader' now' f p Done new' faults faults' gives fine spells ends = absurd ends
+    shows_err reader' now' f p ReadFault new' faults faults' gives fine spells ends = absurd ends
+    shows_err reader' now' f p LaneFault new' faults faults' gives fine spells ends = absurd ends
+    shows_err reader' now' f p NoteFault new' faults faults' gives fine spells ends = absurd ends
 
-  -- what the end of the reading says
-  pub shows_stop : (reader' : Reading) (now' : Option (List ℕ)) (end : RunEnd) → StopsReading reader reader' (ahead reader.pending now) (ahead reader'.pending now') end
-      → IfSome before (λ bytes. Says order showing bytes now' shown_before shown_now end)
-  shows_stop reader' now' Done ends =
-      says_done order showing reader before now shown_before shown_now so_far.framed so_far.read (so_far.all, so_far.are) (record { all = so_far.all; read = so_far.are; lines = so_far.lines }, refl, refl)
-      reader' now' shown_now ends (record { all = so_far.all; read = so_far.are; lines = so_far.lines }, refl, refl)
-  shows_stop reader' now' (Refused reason offset) ends =
-      says_refused order showing reader before now shown_before shown_now so_far.framed so_far.read (so_far.all, so_far.are) (record { all = so_far.all; read = so_far.are; lines = so_far.lines }, refl, refl)
-      reader' now' reason offset ends
-  shows_stop reader' now' ReadFault ends = untold before
-  shows_stop reader' now' LaneFault ends = absurd ends
-  shows_stop reader' now' OutputFault ends = absurd ends
-  shows_stop reader' now' NoteFault ends = absurd ends
+    -- what the end of the reading says
+    pub shows_stop : (reader' : Reading) (now' : Option (List ℕ)) (end : RunEnd) → StopsReading reader reader' (ahead reader.pending now) (ahead reader'.pending now') end
+        → IfSome before (λ bytes. Says order (showing room) bytes now' (shown_told old) (shown_told new) end)
+    shows_stop reader' now' Done ends =
+        says_done order (showing room) reader before now (shown_told old) (shown_told new) so_far.framed so_far.read (so_far.all, so_far.are, so_far.within) (record { all = so_far.all; read = so_far.are; lines = so_far.lines }, refl, refl)
+        reader' now' (shown_told new) ends (record { all = so_far.all; read = so_far.are; lines = so_far.lines }, refl, refl)
+    shows_stop reader' now' (Refused reason offset) ends =
+        says_refused order (showing room) reader before now (shown_told old) (shown_told new) so_far.framed so_far.read (so_far.all, so_far.are, so_far.within) (record { all = so_far.all; read = so_far.are; lines = so_far.lines }, refl, refl)
+        reader' now' reason offset ends
+    shows_stop reader' now' ReadFault ends = untold before
+    shows_stop reader' now' LaneFault ends = absurd ends
+    shows_stop reader' now' OutputFault ends = absurd ends
+    shows_stop reader' now' NoteFault ends = absurd ends
 
 -- ---- a recording that is taken and ends at a packet has no refusal
 
@@ -406,21 +458,22 @@ front (q ∷ all) (b ∷ before) f after (r ∷ fore) p are are' read =
     let more = front all before f after fore p are.1 are'.1 read in
     (more.0, ap (λ x. x ∷ all) (one_placed q r b are.0 are'.0) ∙ ap (λ xs. r ∷ xs) more.1)
 
-accepted_at : (room : ℕ) (newer : List Placed) (p : Placed) (past : List Placed) → AreAccepted room (newer ++ p ∷ past) → bad_step (Some room) (parts_of past) p.packet ≡ None
-accepted_at room [] p past accepted = accepted.0
-accepted_at room (q ∷ newer) p past accepted = accepted_at room newer p past accepted.1
+no_bad_at : (pass : Pass) (newer : List Placed) (p : Placed) (past : List Placed) → HasNoBad pass (newer ++ p ∷ past) → bad_in pass past p.packet ≡ None
+no_bad_at (carrying room) [] p past none = none.0
+no_bad_at (carrying room) (q ∷ newer) p past none = no_bad_at (carrying room) newer p past none.1
+no_bad_at (showing room) [] p past none = none.0
+no_bad_at (showing room) (q ∷ newer) p past none = no_bad_at (showing room) newer p past none.1
 
 turned_at : (fore : List Placed) (p : Placed) (rest : List Placed) → reverse (fore ++ p ∷ rest) ≡ reverse rest ++ p ∷ reverse fore
 turned_at fore p rest =
     ap reverse (sym (append_assoc fore (p ∷ []) rest)) ∙ reverse-append (fore ++ p ∷ []) rest ∙ ap (λ xs. reverse rest ++ xs) (reverse-push fore p)
 
 taken_or_bad : (pass : Pass) (before : List Framed) (f : Framed) (after : List Framed) (b : BadStep) → AreTaken pass (before ++ f ∷ after) → IsBadStep pass before f b → ⊥
-taken_or_bad showing before f after b taken cause = cause
-taken_or_bad (carrying room) before f after b taken cause =
+taken_or_bad pass before f after b taken cause =
     let split = front taken.0 before f after cause.0 cause.2 taken.1 cause.1 cause.3 in
-    let A : List Placed → Type 0 = λ xs. AreAccepted room xs in
-    let accepted = subst A (turned_at cause.0 cause.2 split.0) (subst A (ap reverse split.1) taken.2) in
-    let same : None ≡ Some b = sym (accepted_at room (reverse split.0) cause.2 (reverse cause.0) accepted) ∙ cause.4 in
+    let A : List Placed → Type 0 = λ xs. HasNoBad pass xs in
+    let none = subst A (turned_at cause.0 cause.2 split.0) (subst A (ap reverse split.1) taken.2) in
+    let same : None ≡ Some b = sym (no_bad_at pass (reverse split.0) cause.2 (reverse cause.0) none) ∙ cause.4 in
     cc
 
 read_at : (all : List Placed) (before : List Framed) (f : Framed) (after : List Framed) → AreRead all (before ++ f ∷ after) → reason_of f.words ≡ None
@@ -430,8 +483,7 @@ read_at [] (b ∷ before) f after are = absurd are
 read_at (q ∷ all) (b ∷ before) f after are = read_at all before f after are.1
 
 fine_at : (pass : Pass) (before : List Framed) (f : Framed) (after : List Framed) → AreTaken pass (before ++ f ∷ after) → reason_of f.words ≡ None
-fine_at (carrying room) before f after taken = read_at taken.0 before f after taken.1
-fine_at showing before f after taken = read_at taken.0 before f after taken.1
+fine_at pass before f after taken = read_at taken.0 before f after taken.1
 
 taken_or_refused : (pass : Pass) (before : List Framed) (f : Framed) (after : List Framed) (reason : Reason) → AreTaken pass (before ++ f ∷ after) → IsRefused pass before f reason → ⊥
 taken_or_refused pass before f after Truncated taken refused = refused

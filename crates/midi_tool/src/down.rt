@@ -7,7 +7,8 @@ ghost use Rattle.down_translator.specs.Carried.{line_in};
 ghost use Rattle.down_translator.specs.Held.{table_behind};
 ghost use Rattle.down_translator.specs.Recording.{pair_put};
 ghost use Rattle.sysex_groups.specs.Table.{empty_table};
-ghost use Rattle.midi_tool.specs.Outcome.{carrying as carrying_with, Told, Says, Counts, CountsAfter};
+ghost use Rattle.midi_tool.specs.Outcome.{carrying as carrying_with, Says, CountsAfter};
+ghost use Rattle.midi_tool.specs.Told.{Told, Counts};
 ghost use Rattle.midi_tool.specs.Recording.{texts};
 ghost use Rattle.midi_tool.specs.Step.{Puts, EndsStep, StepCounts, ListsOpen, Closes, reason_of as reason_for, open_line};
 
@@ -18,7 +19,7 @@ use down_translator::laws::{
 };
 use down_translator::{BadStep, Carried, Down, Kind, Listed, Style};
 use midi_edge::{Lanes, NoMemory, Sink, Source, U4};
-use midi_lines::listing_line;
+use midi_lines::{Line, fill_listing_line};
 use std::alloc::Global;
 use std::marker::Model;
 use ump_grammar::Packet;
@@ -59,8 +60,8 @@ impl DownRun {
     }
 }
 
-// The reason for a bad step.
-fn reason_of(bad: BadStep) -> Reason
+/// The reason for a bad step.
+pub(crate) fn reason_of(bad: BadStep) -> Reason
     ensures { result ≡ reason_for bad }
 {
     match bad {
@@ -70,12 +71,13 @@ fn reason_of(bad: BadStep) -> Reason
     }
 }
 
-// Puts a line of the listing.
-fn put_line<N: Sink>(listed: &Listed, notes: &mut N) -> Result<(), RunEnd>
+/// Puts a line of the listing.
+pub(crate) fn put_line<N: Sink>(listed: &Listed, notes: &mut N) -> Result<(), RunEnd>
     ensures ok { OnOk result (Gains (N.held notes.old) (N.held notes.new) (texts (listed.now ∷ [])) × (N.faults notes.new ≡ N.faults notes.old)) }
     ensures err { OnErr result ((result ≡ Err RunEnd.NoteFault) × Rose (N.faults notes.old) (N.faults notes.new)) }
 {
-    let line = listing_line(listed);
+    let mut line = Line::new();
+    fill_listing_line(&mut line, listed);
     match notes.put(line.as_slice()) {
         Ok(()) => Ok(()),
         Err(_) => Err(RunEnd::NoteFault),

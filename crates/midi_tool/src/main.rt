@@ -1,15 +1,18 @@
 //! Translates recordings of Universal MIDI Packets into MIDI 1.0 streams.
 #![tactic(auto)]
 
-mod command;
+mod back;
 mod down;
 mod last_line;
 mod next;
+mod next_byte;
 mod run;
 mod show;
+mod show_bytes;
 mod status;
 #[cfg(test)]
 mod tests;
+mod up;
 
 use crate::last_line::put_last;
 use crate::run::run;

@@ -21,6 +21,7 @@ pub enum Next {
 }
 
 /// Reads the next packet. `Stop(ReadFault)` comes only where the source's count rose.
+#[inline(always)]
 pub fn next_packet<S: Source>(reader: &mut WordReader, input: &mut S) -> Next
     requires { reader.old.end ≡ None }
     ensures answer { Gives reader.old reader.new (ahead reader.old.pending (S.left input.old)) (ahead reader.new.pending (S.left input.new)) result }

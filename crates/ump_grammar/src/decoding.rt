@@ -18,6 +18,7 @@ use voice_messages::Form;
 /// The packet that the words spell (M2-104-UM). `Err(BadCount)` comes exactly where a 7-bit exclusive counts more than six
 /// bytes, and `Err(HighBit)` exactly where another packet has a byte of 128 or more in a place of seven bits.
 #[tactic(auto, using(crate::proofs::Fitting::decoded_fits))]
+#[inline(always)]
 pub fn decode(framed: &Framed) -> Result<Packet, Bad>
     requires { IsWhole framed.now.words }
     ensures answer { Decodes framed.now.words result }
@@ -63,6 +64,7 @@ fn is_system_status(status: u8) -> bool
     )
 }
 
+#[inline(always)]
 fn system(words: &Words) -> Result<Packet, Bad>
     requires whole { IsWhole words.now }
     requires kind { type_of words.now ≡ 0x1 }
@@ -81,6 +83,7 @@ fn system(words: &Words) -> Result<Packet, Bad>
     }
 }
 
+#[inline(always)]
 fn voice1(words: &Words) -> Result<Packet, Bad>
     requires whole { IsWhole words.now }
     requires kind { type_of words.now ≡ 0x2 }
@@ -99,6 +102,7 @@ fn voice1(words: &Words) -> Result<Packet, Bad>
     }
 }
 
+#[inline(always)]
 fn voice2(words: &Words) -> Result<Packet, Bad>
     requires whole { IsWhole words.now }
     requires kind { type_of words.now ≡ 0x4 }
@@ -166,6 +170,7 @@ fn reserved(words: &Words) -> Result<Packet, Bad>
     })
 }
 
+#[inline(always)]
 fn exclusive(words: &Words) -> Result<Packet, Bad>
     requires whole { IsWhole words.now }
     requires kind { type_of words.now ≡ 0x3 }

@@ -15,6 +15,7 @@ fn both(low: U7, high: U7) -> U14
 }
 
 /// The message of a type 1 packet; `None` exactly where a byte that carries seven bits is 128 or more.
+#[inline(always)]
 pub fn system_message(words: &[u32]) -> Option<System>
     requires size { length words.now ≡ 1 }
     requires row { is_system_status (byte_of words.now 2) ≡ true }
@@ -36,6 +37,7 @@ pub fn system_message(words: &[u32]) -> Option<System>
 }
 
 /// The message of a type 2 packet; `None` exactly where a byte that carries seven bits is 128 or more.
+#[inline(always)]
 pub fn voice1_message(words: &[u32]) -> Option<Voice1>
     requires size { length words.now ≡ 1 }
     requires row { (0x8 ≤ opcode_of words.now) × (opcode_of words.now ≤ 0xE) }

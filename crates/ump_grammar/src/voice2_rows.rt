@@ -7,84 +7,144 @@ use crate::fields::{bits, byte, data_byte, half, nibble};
 use voice_messages::{Bank, Param, ParamKind, Voice2};
 
 /// The message of a type 4 packet; `None` exactly where a byte that carries seven bits is 128 or more.
+#[inline(always)]
 pub fn voice2_message(words: &[u32]) -> Option<Voice2>
     requires size { length words.now ≡ 2 }
     requires row { opcode_of words.now ≢ 0x7 }
     ensures { ReadsVoice2 words.now result }
 {
     match bits(words[0], 20, 4) {
-        0x0 | 0x1 | 0x6 | 0x8..=0xB | 0xF => note_message(words),
+        0x0 | 0x1 => note_controller(words),
         0x2..=0x5 => parameter_message(words),
+        0x6 => note_bend(words),
+        0x8 => note_off(words),
+        0x9 => note_on(words),
+        0xA => poly_pressure(words),
+        0xB => control(words),
         0xC => program_message(words),
+        0xF => note_management(words),
         _ => Some(channel_message(words)),
     }
 }
 
-// The rows with a note, or the index of a controller, in byte 3.
-fn note_message(words: &[u32]) -> Option<Voice2>
+// The rows of controllers of one note: opcode 0 of registered ones, 1 of assignable ones.
+#[inline(always)]
+fn note_controller(words: &[u32]) -> Option<Voice2>
     requires size { length words.now ≡ 2 }
-    requires row { (opcode_of words.now ≤ 0x1) ⊎ (opcode_of words.now ≡ 0x6) ⊎ ((0x8 ≤ opcode_of words.now) × (opcode_of words.now ≤ 0xB)) ⊎ (opcode_of words.now ≡ 0xF) }
+    requires row { opcode_of words.now ≤ 0x1 }
     ensures { ReadsVoice2 words.now result }
 {
-    let third = data_byte(words[0], 8)?;
-    let channel = nibble(words[0], 16);
-    let fourth = byte(words[0], 0);
-    let velocity = half(words[1], 16);
-    let attribute = half(words[1], 0);
-    let value = words[1];
-    Some(match bits(words[0], 20, 4) {
-        0x0 => Voice2::NoteController {
-            channel,
-            kind: ParamKind::Registered,
-            note: third,
-            index: fourth,
-            value,
-        },
-        0x1 => Voice2::NoteController {
-            channel,
-            kind: ParamKind::Assignable,
-            note: third,
-            index: fourth,
-            value,
-        },
-        0x6 => Voice2::NoteBend {
-            channel,
-            note: third,
-            value,
-        },
-        0x8 => Voice2::NoteOff {
-            channel,
-            note: third,
-            velocity,
-            attribute_type: fourth,
-            attribute,
-        },
-        0x9 => Voice2::NoteOn {
-            channel,
-            note: third,
-            velocity,
-            attribute_type: fourth,
-            attribute,
-        },
-        0xA => Voice2::PolyPressure {
-            channel,
-            note: third,
-            value,
-        },
-        0xB => Voice2::Control {
-            channel,
-            index: third,
-            value,
-        },
-        _ => Voice2::NoteManagement {
-            channel,
-            note: third,
-            flags: fourth,
-        },
+    let note = data_byte(words[0], 8)?;
+    let kind = if bits(words[0], 20, 4) == 0x0 {
+        ParamKind::Registered
+    } else {
+        ParamKind::Assignable
+    };
+    Some(Voice2::NoteController {
+        channel: nibble(words[0], 16),
+        kind,
+        note,
+        index: byte(words[0], 0),
+        value: words[1],
+    })
+}
+
+// The row of the bend of one note.
+#[inline(always)]
+fn note_bend(words: &[u32]) -> Option<Voice2>
+    requires size { length words.now ≡ 2 }
+    requires row { opcode_of words.now ≡ 0x6 }
+    ensures { ReadsVoice2 words.now result }
+{
+    let note = data_byte(words[0], 8)?;
+    Some(Voice2::NoteBend {
+        channel: nibble(words[0], 16),
+        note,
+        value: words[1],
+    })
+}
+
+// The row of a note off.
+#[inline(always)]
+fn note_off(words: &[u32]) -> Option<Voice2>
+    requires size { length words.now ≡ 2 }
+    requires row { opcode_of words.now ≡ 0x8 }
+    ensures { ReadsVoice2 words.now result }
+{
+    let note = data_byte(words[0], 8)?;
+    Some(Voice2::NoteOff {
+        channel: nibble(words[0], 16),
+        note,
+        velocity: half(words[1], 16),
+        attribute_type: byte(words[0], 0),
+        attribute: half(words[1], 0),
+    })
+}
+
+// The row of a note on.
+#[inline(always)]
+fn note_on(words: &[u32]) -> Option<Voice2>
+    requires size { length words.now ≡ 2 }
+    requires row { opcode_of words.now ≡ 0x9 }
+    ensures { ReadsVoice2 words.now result }
+{
+    let note = data_byte(words[0], 8)?;
+    Some(Voice2::NoteOn {
+        channel: nibble(words[0], 16),
+        note,
+        velocity: half(words[1], 16),
+        attribute_type: byte(words[0], 0),
+        attribute: half(words[1], 0),
+    })
+}
+
+// The row of the pressure of one note.
+#[inline(always)]
+fn poly_pressure(words: &[u32]) -> Option<Voice2>
+    requires size { length words.now ≡ 2 }
+    requires row { opcode_of words.now ≡ 0xA }
+    ensures { ReadsVoice2 words.now result }
+{
+    let note = data_byte(words[0], 8)?;
+    Some(Voice2::PolyPressure {
+        channel: nibble(words[0], 16),
+        note,
+        value: words[1],
+    })
+}
+
+// The row of a control change.
+#[inline(always)]
+fn control(words: &[u32]) -> Option<Voice2>
+    requires size { length words.now ≡ 2 }
+    requires row { opcode_of words.now ≡ 0xB }
+    ensures { ReadsVoice2 words.now result }
+{
+    let index = data_byte(words[0], 8)?;
+    Some(Voice2::Control {
+        channel: nibble(words[0], 16),
+        index,
+        value: words[1],
+    })
+}
+
+// The row of the management of one note.
+#[inline(always)]
+fn note_management(words: &[u32]) -> Option<Voice2>
+    requires size { length words.now ≡ 2 }
+    requires row { opcode_of words.now ≡ 0xF }
+    ensures { ReadsVoice2 words.now result }
+{
+    let note = data_byte(words[0], 8)?;
+    Some(Voice2::NoteManagement {
+        channel: nibble(words[0], 16),
+        note,
+        flags: byte(words[0], 0),
     })
 }
 
 // The rows of parameters: opcodes 2 and 3 set one, 4 and 5 shift it.
+#[inline(always)]
 fn parameter_message(words: &[u32]) -> Option<Voice2>
     requires size { length words.now ≡ 2 }
     requires row { (0x2 ≤ opcode_of words.now) × (opcode_of words.now ≤ 0x5) }
@@ -116,6 +176,7 @@ fn parameter_message(words: &[u32]) -> Option<Voice2>
 }
 
 // The row of programs.
+#[inline(always)]
 fn program_message(words: &[u32]) -> Option<Voice2>
     requires size { length words.now ≡ 2 }
     requires row { opcode_of words.now ≡ 0xC }
@@ -140,6 +201,7 @@ fn program_message(words: &[u32]) -> Option<Voice2>
 }
 
 // The rows without a note.
+#[inline(always)]
 fn channel_message(words: &[u32]) -> Voice2
     requires size { length words.now ≡ 2 }
     requires row { (opcode_of words.now ≡ 0xD) ⊎ (opcode_of words.now ≡ 0xE) }

@@ -3,10 +3,10 @@ use Rattle.std.specs.Prelude.{◌≡◌, ◌⊎◌, ℕ, ◌+◌, ◌-◌, ◌*�
 use Rattle.std.proofs.Common.{zero, suc}
 use Rattle.std.specs.List.{concat}
 use Rattle.std.specs.List.{AllByRecursion}
-use Rattle.byteorder.specs.Endian.{big_number}
+use Rattle.byteorder.specs.Endian.{big_number, little_number, big_bytes, little_bytes}
 use Rattle.ump_words.specs.declared.words.Framed.{Framed}
 use Rattle.ump_words.specs.declared.words.Order.{Order}
-use Rattle.ump_words.specs.declared.words.Order.TheVariants.{Big}
+use Rattle.ump_words.specs.declared.words.Order.TheVariants.{Big, Little}
 use Rattle.ump_words.specs.declared.words.Tail.{Tail}
 use Rattle.ump_words.specs.declared.words.Tail.TheVariants.{End, Truncated, TooLong}
 
@@ -21,6 +21,12 @@ words_asked first = slice_index_or word_counts (first / 2 ^ 28) 4
 -- the number of these four bytes
 abbrev pub number_of : Order → List ℕ → ℕ
 number_of Big bytes = big_number 4 bytes
+number_of Little bytes = little_number 4 bytes
+
+-- the four bytes of a word
+abbrev pub word_bytes : Order → ℕ → List ℕ
+word_bytes Big word = big_bytes 4 word
+word_bytes Little word = little_bytes 4 word
 
 -- the word at index i
 abbrev pub word_at : Order → List ℕ → ℕ → ℕ

@@ -1,7 +1,7 @@
 // A reader of packets from a source.
-ghost use Rattle.std.specs.Prelude.{◌≡◌, ◌≤◌, ◌==◌, ◌^◌, [], length, IfSome, IfOk, OnErr, if◌then◌else◌};
+ghost use Rattle.std.specs.Prelude.{◌≡◌, ◌≤◌, ◌+◌, ◌-◌, ◌==◌, ◌^◌, [], length, take, drop, IfSome, IfOk, OnErr, if◌then◌else◌};
 ghost use Rattle.midi_edge.specs.Outside.{ahead, HasCause, IsUsedUp};
-ghost use Rattle.ump_words.specs.Cut.{IsRest};
+ghost use Rattle.ump_words.specs.Cut.{IsRest, words_of};
 ghost use Rattle.ump_words.specs.Front.{Sees};
 ghost use Rattle.ump_words.specs.Reader.{Answers, ReadCause, answer_of};
 
@@ -47,6 +47,7 @@ impl WordReader {
 
     /// The next packet, or `None` at the end. After an `Err(Read(..))` a later call goes on from there. Each other
     /// answer that is no packet is given again from then on.
+    #[inline(always)]
     pub fn next<S: Source>(&mut self, src: &mut S) -> Result<Option<Framed>, ReadStop>
         ensures answer { self.old.end ≡ None → Answers self.old self.new
             (ahead self.old.pending (S.left src.old)) (ahead self.new.pending (S.left src.new)) result }
@@ -58,13 +59,7 @@ impl WordReader {
         }
         let room = self.limit - self.offset;
         match look_ahead(self.order, &mut self.window, room, src) {
-            Ok(Front::Packet(size)) => {
-                let words = words_in(self.order, &self.window.bytes()[..size]);
-                let offset = self.offset;
-                self.window.consume(size);
-                self.offset += size as u64;
-                Ok(Some(Framed { offset, words }))
-            }
+            Ok(Front::Packet(size)) => Ok(Some(self.give(size))),
             Ok(Front::TooLong) => {
                 self.end = Some(Tail::TooLong);
                 Err(ReadStop::TooLong)
@@ -76,6 +71,20 @@ impl WordReader {
             }
             Err(failed) => Err(ReadStop::Read(failed)),
         }
+    }
+
+    // Gives out the packet of this many bytes that stands next.
+    #[inline(always)]
+    fn give(&mut self, size: usize) -> Framed
+        requires front { Sees self.old.order self.old.pending (self.old.limit - self.old.offset) (Front.Packet size) }
+        ensures framed { result ≡ record { offset = self.old.offset; words = words_of self.old.order (take size self.old.pending) } }
+        ensures after { self.new ≡ record self.old { pending = drop size self.old.pending; offset = self.old.offset + size } }
+    {
+        let offset = self.offset;
+        let words = words_in(self.order, &self.window.bytes()[..size]);
+        self.window.consume(size);
+        self.offset += size as u64;
+        Framed { offset, words }
     }
 }
 
@@ -101,6 +110,7 @@ fn answer(tail: Tail) -> Result<Option<Framed>, ReadStop>
 }
 
 // Takes bytes until there is a packet, too many bytes, or the end.
+#[inline(always)]
 fn look_ahead<S: Source>(
     order: Order,
     window: &mut Window,

@@ -1,9 +1,10 @@
 // The words of a packet.
-ghost use Rattle.std.specs.Prelude.{◌≡◌, ◌≤◌, ◌+◌, ◌*◌, ◌<◌, length};
-ghost use Rattle.ump_words.specs.Cut.{words_asked, word_at, words_of, IsPacket};
+ghost use Rattle.std.specs.Prelude.{◌≡◌, ◌≤◌, ◌+◌, ◌*◌, ◌<◌, length, flat_map};
+ghost use Rattle.ump_words.specs.Cut.{words_asked, word_at, words_of, word_bytes, IsPacket};
 
-use byteorder::{BigEndian, ByteOrder};
+use byteorder::{BigEndian, ByteOrder, LittleEndian};
 use midi_edge::ShortList;
+use std::fmt;
 use std::marker::Model;
 
 /// The order of the bytes of a word.
@@ -11,6 +12,8 @@ use std::marker::Model;
 pub enum Order {
     /// The most significant byte first.
     Big,
+    /// The least significant byte first.
+    Little,
 }
 
 /// How the packets of a stream end.
@@ -25,19 +28,20 @@ pub enum Tail {
 }
 
 /// One to four words of 32 bits. To a contract it is the list of the words.
-#[derive(Debug, Drop)]
+#[derive(Drop)]
 pub struct Words {
-    items: ShortList<u32, 4>,
+    cells: [u32; 4],
+    count: usize,
 }
 
 impl Model for Words {
-    ghost use Rattle.std.specs.Prelude.{ℕ, ◌≤◌, ◌<◌, List, length};
+    ghost use Rattle.std.specs.Prelude.{ℕ, ◌≤◌, ◌<◌, List, take};
 
     ghost Value = { List ℕ };
 
-    ghost view = { λ w. w.items };
+    ghost view = { λ w. take w.count w.cells };
 
-    ghost invariant = { λ w. (0 < length w.items) × (length w.items ≤ 4) };
+    ghost invariant = { λ w. (0 < w.count) × (w.count ≤ 4) };
 }
 
 impl Words {
@@ -46,25 +50,36 @@ impl Words {
         requires { (0 < length words.now) × (length words.now ≤ 4) }
         ensures { result ≡ words.now }
     {
-        let mut items = ShortList::new();
-        items.extend(words);
-        Words { items }
+        let cells = match *words {
+            [first] => [first, 0, 0, 0],
+            [first, second] => [first, second, 0, 0],
+            [first, second, third] => [first, second, third, 0],
+            [first, second, third, fourth, ..] => [first, second, third, fourth],
+            [] => [0; 4],
+        };
+        Words {
+            cells,
+            count: words.len(),
+        }
     }
 
     /// The words, one to four.
+    #[inline]
     pub fn as_slice(&self) -> &[u32]
         ensures words { result.now ≡ self.now }
         ensures size { (0 < length self.now) × (length self.now ≤ 4) }
     {
-        self.items.as_slice()
+        &self.cells[..self.count]
     }
 
     /// The same words again. Unlike `clone` it cannot fail.
+    #[inline]
     pub fn copied(&self) -> Self
         ensures { result ≡ self.now }
     {
         Words {
-            items: self.items.copied(),
+            cells: self.cells,
+            count: self.count,
         }
     }
 }
@@ -79,7 +94,7 @@ impl PartialEq for Words {
     ghost laws = { partial_equiv_from_equiv nat_list_eq_equiv };
 
     fn eq(&self, other: &Self) -> bool {
-        self.items == other.items
+        self.as_slice() == other.as_slice()
     }
 }
 
@@ -87,6 +102,12 @@ impl Eq for Words {
     ghost use Rattle.std.specs.Cmp.Lexicographic.{nat_list_eq_equiv};
 
     ghost laws = { nat_list_eq_equiv };
+}
+
+impl fmt::Debug for Words {
+    fn fmt<W: fmt::Write>(&self, f: &mut fmt::Formatter<W>) -> fmt::Result {
+        f.debug_list().entries(self.as_slice()).finish()
+    }
 }
 
 /// The words of a packet, and where it stands.
@@ -102,6 +123,7 @@ pub struct Framed {
 const WORD_COUNTS: [usize; 16] = [1, 1, 1, 2, 2, 4, 1, 1, 2, 2, 2, 3, 3, 4, 4, 4];
 
 /// How many words a packet has that begins with this one, 1 to 4 (M2-104-UM, message types).
+#[inline]
 pub fn words_in_packet(first: u32) -> usize
     ensures count { result ≡ words_asked first }
     ensures size { (0 < words_asked first) × (words_asked first ≤ 4) }
@@ -110,6 +132,7 @@ pub fn words_in_packet(first: u32) -> usize
 }
 
 /// The word at index `i`.
+#[inline]
 pub fn word_in(order: Order, bytes: &[u8], i: usize) -> u32
     requires { 4 * i + 4 ≤ length bytes.now }
     ensures { result ≡ word_at order bytes.now i }
@@ -117,17 +140,52 @@ pub fn word_in(order: Order, bytes: &[u8], i: usize) -> u32
     let part = &bytes[4 * i..4 * i + 4];
     match order {
         Order::Big => BigEndian::read_u32(part),
+        Order::Little => LittleEndian::read_u32(part),
     }
 }
 
 /// The words of the bytes of one packet.
+#[inline]
 pub fn words_in(order: Order, bytes: &[u8]) -> Words
     requires { IsPacket order bytes.now }
     ensures { result ≡ words_of order bytes.now }
 {
-    let mut items = ShortList::new();
-    for i in 0..bytes.len() / 4 {
-        items.push(word_in(order, bytes, i));
+    let first = word_in(order, bytes, 0);
+    let count = words_in_packet(first);
+    let cells = match count {
+        1 => [first, 0, 0, 0],
+        2 => [first, word_in(order, bytes, 1), 0, 0],
+        3 => [first, word_in(order, bytes, 1), word_in(order, bytes, 2), 0],
+        _ => [
+            first,
+            word_in(order, bytes, 1),
+            word_in(order, bytes, 2),
+            word_in(order, bytes, 3),
+        ],
+    };
+    Words { cells, count }
+}
+
+// The bytes of a word.
+fn word_bytes(word: u32, order: Order) -> [u8; 4]
+    ensures { result ≡ word_bytes order word }
+{
+    let mut bytes = [0; 4];
+    match order {
+        Order::Big => BigEndian::write_u32(&mut bytes, word),
+        Order::Little => LittleEndian::write_u32(&mut bytes, word),
     }
-    Words { items }
+    bytes
+}
+
+/// The bytes of these words, at most four, one word after the other.
+pub fn write_words(words: &[u32], order: Order) -> ShortList<u8, 16>
+    requires { length words.now ≤ 4 }
+    ensures { result ≡ flat_map (word_bytes order) words.now }
+{
+    let mut bytes = ShortList::new();
+    for word in words {
+        bytes.extend(&word_bytes(*word, order));
+    }
+    bytes
 }

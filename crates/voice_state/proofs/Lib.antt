@@ -1,9 +1,17 @@
+pub mod Back
+pub mod ByteRooms
 pub mod Changes
+pub mod ComesBack
 pub mod Induction
 pub mod Joined
 pub mod Messages
 pub mod Packets
+pub mod RaisedRanges
+pub mod Raising
 pub mod Recording
 pub mod Rooms
 pub mod Rows
+pub mod Silent
 pub mod Translation
+pub mod Up
+pub mod UpRows

@@ -119,7 +119,7 @@ carried_has_piece whole p = (carried whole p, go (is_carried whole p) refl)
 
 -- ---- the lanes
 
-lane_bytes-pair : (g : ℕ) (o : Option ℕ) (t : Bool) (piece : List ℕ) → (t ≡ false → piece ≡ []) → lane_bytes g (pair_by o t piece) ≡ cond (is_group o g) piece []
+pub lane_bytes-pair : (g : ℕ) (o : Option ℕ) (t : Bool) (piece : List ℕ) → (t ≡ false → piece ≡ []) → lane_bytes g (pair_by o t piece) ≡ cond (is_group o g) piece []
 lane_bytes-pair g None t piece h = refl
 lane_bytes-pair g (Some l) true piece h = append-nil (cond (eqb l g) piece [])
 lane_bytes-pair g (Some l) false piece h = cond_both (eqb l g) piece [] (λ bytes. [] ≡ bytes) (λ e. sym (h refl)) (λ e. refl)

@@ -1,4 +1,5 @@
 pub mod Agreement
+pub mod Back
 pub mod Controllers
 pub mod Lanes
 pub mod Listing
@@ -6,9 +7,12 @@ pub mod Messages
 pub mod Packets
 pub mod Parts
 pub mod Plain
+pub mod Raising
 pub mod Refusal
 pub mod Registers
 pub mod Rooms
 pub mod Rows
 pub mod State
+pub mod StepListing
 pub mod Translation
+pub mod UpRefusal

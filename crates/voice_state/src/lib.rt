@@ -3,5 +3,7 @@
 
 pub mod laws;
 pub mod listed;
+pub mod up_laws;
+pub mod up_rows;
 
 pub use crate::listed::{BadStep, Kind, Listed};

@@ -1,5 +1,5 @@
 // Lanes over a folder.
-ghost use Rattle.std.specs.Prelude.{◌≡◌, ◌==◌, None, false, [], All, length, vec_len, IfOk, OnOk};
+ghost use Rattle.std.specs.Prelude.{◌≡◌, ◌==◌, None, Err, false, [], All, length, vec_len, IfOk, OnOk};
 ghost use Rattle.std.specs.Io.Buffered.{writer_buffer};
 ghost use Rattle.midi_edge.specs.Adapters.{IsWrittenOut};
 ghost use Rattle.midi_edge.specs.Outside.{HasCause};
@@ -12,11 +12,11 @@ use std::io::{BufWriter, Write};
 use std::rt::Files;
 use std::{fs, io};
 
-/// Sixteen files in a folder, one for each lane, each with a buffer of 8,192 bytes that `begin` takes. A small piece is
-/// gathered there, and written out when a later one has no room. So an `Ok` of `put` says that the piece was accepted,
-/// and a fault shows at the `put` that makes room, or at `flush`. A fault takes nothing from what was accepted before:
-/// what it left unwritten is written out by the next call that writes to this lane. Call `flush` when all is put, since
-/// the drop of the lanes tells no fault.
+/// Sixteen files in a folder, one for each lane, each with a buffer of 8,192 bytes that `begin` takes. An empty path is no folder,
+/// so opening it fails. A small piece is gathered in the buffer, and written out when a later one has no room. So an `Ok` of `put`
+/// says that the piece was accepted, and a fault shows at the `put` that makes room, or at `flush`. A fault takes nothing from what
+/// was accepted before: what it left unwritten is written out by the next call that writes to this lane. Call `flush` when all is
+/// put, since the drop of the lanes tells no fault.
 #[derive(Drop)]
 pub struct FolderLanes<R: Files + AllocGlobal> {
     rt: R,
@@ -66,13 +66,17 @@ fn flush_each<W: Write + Drop>(writers: &mut [BufWriter<W>]) -> io::Result<()>
     outcome
 }
 
-// Creates or empties the sixteen files.
+// Creates or empties the sixteen files. No folder has an empty path.
 fn open_lanes<R: Files + AllocGlobal>(
     rt: &R,
     folder: &str,
 ) -> Result<Vec<BufWriter<R::File>>, OpenFault>
-    ensures { IfOk result (λ lanes. vec_len lanes ≡ 16) }
+    ensures lanes { IfOk result (λ lanes. vec_len lanes ≡ 16) }
+    ensures empty { folder.now ≡ [] → result ≡ Err OpenFault.Failed }
 {
+    if folder.is_empty() {
+        return Err(OpenFault::Failed);
+    }
     let mut lanes = Vec::new(rt.alloc());
     for lane in 0..16u8 {
         let writer = open_lane(rt, folder, lane)?;

@@ -3,7 +3,7 @@ ghost use Rattle.std.specs.Prelude.{◌≤◌, IfOk};
 
 use super::*;
 use crate::few_bits::U4;
-use crate::outside::{Lanes, Sink, Source};
+use crate::outside::{Lanes, OpenFault, Sink, Source};
 use std::alloc::Global;
 use std::io::{ErrorKind, Read, Write};
 use std::os::unix::fs::symlink;
@@ -156,5 +156,13 @@ fn lanes_are_gathered_into_files(rt: HostRuntime) -> Result<(), Fail> {
     assert!(rt; lanes.put(U4::low_bits(3), &[b'x'; 9000]) == Err(Failed));
     assert_eq!(rt; lanes.faults, 2);
     fs::remove_dir_all(&rt, folder.as_str())?;
+    Ok(())
+}
+
+#[test]
+fn an_empty_path_is_no_folder(rt: HostRuntime) -> Result<(), Fail> {
+    let mut lanes = FolderLanes::new(rt.clone()?);
+    assert!(rt; lanes.begin("") == Err(OpenFault::Failed));
+    assert_eq!(rt; lanes.faults, 1);
     Ok(())
 }

@@ -1,0 +1,79 @@
+-- The command of the words of a command line: what the matches of `clap` ask for, by the rules that it isn't told.
+use Rattle.std.specs.Prelude.{◌&&◌, ℕ, Bool, true, false, List, length, codes, Option, Some, None, option_map, option_and_then, if◌then◌else◌, nat_le}
+use Rattle.std.specs.List.{list_all}
+use Rattle.std.specs.Str.{bytes_eq}
+use Rattle.std.specs.Str.Parse.{digits_value}
+use Rattle.std.specs.Char.{is_ascii_digit}
+use Rattle.clap.specs.Walk.{Text, Row, first_of}
+use Rattle.clap.specs.Simple.{subcommand_of}
+use Rattle.command_line.specs.Asked.{Asked, down, up, back, show, show_bytes}
+use Rattle.command_line.specs.Words.{cli, is_taken, is_set}
+
+-- one to ten decimal digits
+abbrev pub is_number : Text → Bool
+is_number t = nat_le 1 (length t) && (nat_le (length t) 10 && list_all is_ascii_digit t)
+
+abbrev pub within : ℕ → ℕ → ℕ → Option ℕ
+within least most n = if nat_le least n && nat_le n most then Some n else None
+
+-- the number of a text, from the least to the most
+abbrev pub number_of : ℕ → ℕ → Text → Option ℕ
+number_of least most t = if is_number t then within least most (digits_value 10 t) else None
+
+-- the same of an option, which may be left out
+abbrev pub number_or : ℕ → ℕ → ℕ → Option Text → Option ℕ
+number_or least most absent None = Some absent
+number_or least most absent (Some t) = number_of least most t
+
+-- the room for an exclusive: 6 to 1,048,576, at first the greatest
+abbrev pub room_in : Option Text → Option ℕ
+room_in = number_or 6 1048576 1048576
+
+-- a group: 0 to 15, at first 0
+abbrev pub group_in : Option Text → Option ℕ
+group_in = number_or 0 15 0
+
+-- down: with a folder, without a group
+abbrev pub down_of : Option Text → Option Text → Bool → Option Text → Option Asked
+down_of (Some folder) None little room = option_map (down folder little) (room_in room)
+down_of _ _ little room = None
+
+-- up: without a folder
+abbrev pub up_of : Option Text → Option Text → Bool → Option Text → Option Asked
+up_of None group little room = option_and_then (λ g. option_map (up g little) (room_in room)) (group_in group)
+up_of (Some folder) group little room = None
+
+-- back: without a folder, and not little
+abbrev pub back_of : Option Text → Option Text → Bool → Option Text → Option Asked
+back_of None group false room = option_and_then (λ g. option_map (back g) (room_in room)) (group_in group)
+back_of _ group _ room = None
+
+-- direction, folder, group, little, room
+abbrev pub translate_of : Text → Option Text → Option Text → Bool → Option Text → Option Asked
+translate_of direction folder group little room =
+    if bytes_eq direction (codes "down") then down_of folder group little room
+    else (if bytes_eq direction (codes "up") then up_of folder group little room
+    else (if bytes_eq direction (codes "back") then back_of folder group little room else None))
+
+-- bytes, little, room: not both flags
+abbrev pub show_of : Bool → Bool → Option Text → Option Asked
+show_of true true room = None
+show_of true false room = option_map show_bytes (room_in room)
+show_of false little room = option_map (show little) (room_in room)
+
+-- what a subcommand with its rows asks for
+abbrev pub asked_in : Text → List Row → Option Asked
+asked_in name rows =
+    let at : Text → Option Text = λ id. first_of id rows in
+    if bytes_eq name (codes "translate") then option_and_then (λ d. translate_of d (at (codes "folder")) (at (codes "group"))
+    (is_set (codes "little") rows) (at (codes "room"))) (at (codes "direction"))
+    else (if bytes_eq name (codes "show") then show_of (is_set (codes "bytes") rows) (is_set (codes "little") rows) (at (codes "room"))
+    else None)
+
+-- what the matches of the words ask for
+abbrev pub asked_by : List Text → Option Asked
+asked_by words = option_and_then (λ p. asked_in p.0 p.1) (subcommand_of cli words)
+
+-- the command of the words, or none where `clap` doesn't take them or a rule is broken
+unfoldable pub command_of : List Text → Option Asked
+command_of words = if is_taken words then asked_by words else None

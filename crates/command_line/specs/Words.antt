@@ -1,0 +1,48 @@
+-- The command that `clap` reads, and the words that it takes.
+use Rattle.std.specs.Prelude.{Bool, true, false, List, [], ◌∷◌, codes, Some}
+use Rattle.std.specs.Option.{option_map_or}
+use Rattle.std.specs.Str.{bytes_eq}
+use Rattle.clap.specs.Walk.{Text, Row, Rule, first_of, is_empty}
+use Rattle.clap.specs.Simple.{App, new_app, new_rule, with_rule, with_subcommand}
+use Rattle.clap.specs.Faults.{fault_of}
+use Rattle.clap.specs.declared.builder.ArgAction.TheVariants.{Set, SetTrue}
+
+-- a word that stands by its place and must be given
+abbrev pub positional : Text → Rule
+positional id = record (new_rule id) { required = true; action = Some Set }
+
+-- an option by its long name, with a text as value
+abbrev pub option : Text → Rule
+option id = record (new_rule id) { long = Some id; action = Some Set }
+
+-- an option by its long name, without a value
+abbrev pub flag : Text → Rule
+flag id = record (new_rule id) { long = Some id; action = Some SetTrue }
+
+abbrev pub with_rules : App → List Rule → App
+with_rules a [] = a
+with_rules a (r ∷ rs) = with_rules (with_rule a r) rs
+
+-- translate DIRECTION [--folder F] [--group G] [--little] [--room R]
+abbrev pub translate_app : App
+translate_app = with_rules (new_app (codes "translate")) (positional (codes "direction") ∷ option (codes "folder") ∷ option (codes "group")
+    ∷ flag (codes "little") ∷ option (codes "room") ∷ [])
+
+-- show [--bytes] [--little] [--room R]
+abbrev pub show_app : App
+show_app = with_rules (new_app (codes "show")) (flag (codes "bytes") ∷ flag (codes "little") ∷ option (codes "room") ∷ [])
+
+-- the words come without the program's name, and a subcommand must be among them
+abbrev pub bare_app : App
+bare_app = let a = new_app (codes "larboardyuzu") in record a { top = record a.top { no_binary_name = true; subcommand_required = true } }
+
+unfoldable pub cli : App
+cli = with_subcommand (with_subcommand bare_app translate_app.top) show_app.top
+
+-- `clap`, by what it states of this command, takes the words
+abbrev pub is_taken : List Text → Bool
+is_taken words = is_empty (fault_of cli words)
+
+-- a flag is given: the matches of words have a row "true" or "false" for it
+abbrev pub is_set : Text → List Row → Bool
+is_set id rows = option_map_or (λ t. bytes_eq t (codes "true")) (first_of id rows) false

@@ -1,0 +1,43 @@
+// What a command line asks for.
+use midi_edge::U4;
+
+/// What a command line asks for. `little` says that each word of a recording has its least significant byte first, and
+/// `room` is the greatest number of bytes of an exclusive between F0 and F7, 6 to 1,048,576.
+#[derive(Clone, Copy, Debug, PartialEq, Eq)]
+pub enum Command<'a> {
+    /// `translate down`: words become a MIDI 1.0 stream for each group, in this folder.
+    Down {
+        folder: &'a str,
+        little: bool,
+        room: u32,
+    },
+    /// `translate up`: MIDI 1.0 bytes become words of this group.
+    Up {
+        group: U4,
+        little: bool,
+        room: u32,
+    },
+    /// `translate back`: MIDI 1.0 bytes become words of this group, and these become bytes again.
+    Back {
+        group: U4,
+        room: u32,
+    },
+    /// `show`: the packets of words become lines.
+    Show {
+        little: bool,
+        room: u32,
+    },
+    /// `show --bytes`: the messages of MIDI 1.0 bytes become lines.
+    ShowBytes {
+        room: u32,
+    },
+}
+
+/// Why words give no command.
+#[derive(Clone, Copy, Debug, PartialEq, Eq)]
+pub enum WordsFault {
+    /// The words aren't those of a command.
+    Usage,
+    /// There wasn't memory enough to read them.
+    NoMemory,
+}

@@ -1,0 +1,168 @@
+// The command that the matches ask for, by the rules that `clap` isn't told.
+ghost use Rattle.std.specs.Prelude.{◌≡◌, None, Some, IfOk, IfSome, map, option_map, option_and_then, string_bytes};
+ghost use Rattle.std.specs.Option.{option_copied};
+ghost use Rattle.clap.specs.Words.{found_of, rows_of};
+ghost use Rattle.clap.specs.Simple.{subcommand_rows_of};
+ghost use Rattle.command_line.specs.Asked.{asked_of, IsInRange};
+ghost use Rattle.command_line.specs.Rules.{down_of, up_of, back_of, translate_of, show_of, asked_in, command_of};
+
+use crate::command::{Command, WordsFault};
+use crate::matches::{is_flag_set, matches_of, text};
+use crate::numbers::{group, room};
+use clap::ArgMatches;
+use std::alloc::Global;
+
+fn down<'a>(
+    folder: Option<&'a str>,
+    group: Option<&str>,
+    little: bool,
+    room_text: Option<&str>,
+) -> Option<Command<'a>>
+    ensures command { option_map asked_of result
+        ≡ down_of (option_copied folder.entry) (option_copied group.entry) little (option_copied room_text.entry) }
+    ensures range { IfSome result (λ c. IsInRange (asked_of c)) }
+{
+    let folder = folder?;
+    if group.is_some() {
+        return None;
+    }
+    let room = room(room_text)?;
+    Some(Command::Down {
+        folder,
+        little,
+        room,
+    })
+}
+
+fn up<'a>(
+    folder: Option<&str>,
+    group_text: Option<&str>,
+    little: bool,
+    room_text: Option<&str>,
+) -> Option<Command<'a>>
+    ensures command { option_map asked_of result
+        ≡ up_of (option_copied folder.entry) (option_copied group_text.entry) little (option_copied room_text.entry) }
+    ensures range { IfSome result (λ c. IsInRange (asked_of c)) }
+{
+    if folder.is_some() {
+        return None;
+    }
+    let group = group(group_text)?;
+    let room = room(room_text)?;
+    Some(Command::Up {
+        group,
+        little,
+        room,
+    })
+}
+
+fn back<'a>(
+    folder: Option<&str>,
+    group_text: Option<&str>,
+    little: bool,
+    room_text: Option<&str>,
+) -> Option<Command<'a>>
+    ensures command { option_map asked_of result
+        ≡ back_of (option_copied folder.entry) (option_copied group_text.entry) little (option_copied room_text.entry) }
+    ensures range { IfSome result (λ c. IsInRange (asked_of c)) }
+{
+    if folder.is_some() || little {
+        return None;
+    }
+    let group = group(group_text)?;
+    let room = room(room_text)?;
+    Some(Command::Back { group, room })
+}
+
+fn translate<'a>(
+    direction: &str,
+    folder: Option<&'a str>,
+    group: Option<&str>,
+    little: bool,
+    room: Option<&str>,
+) -> Option<Command<'a>>
+    ensures command { option_map asked_of result
+        ≡ translate_of direction.now (option_copied folder.entry) (option_copied group.entry) little (option_copied room.entry) }
+    ensures range { IfSome result (λ c. IsInRange (asked_of c)) }
+{
+    if direction == "down" {
+        down(folder, group, little, room)
+    } else if direction == "up" {
+        up(folder, group, little, room)
+    } else if direction == "back" {
+        back(folder, group, little, room)
+    } else {
+        None
+    }
+}
+
+fn show<'a>(bytes: bool, little: bool, room_text: Option<&str>) -> Option<Command<'a>>
+    ensures command { option_map asked_of result ≡ show_of bytes little (option_copied room_text.entry) }
+    ensures range { IfSome result (λ c. IsInRange (asked_of c)) }
+{
+    if bytes && little {
+        return None;
+    }
+    let room = room(room_text)?;
+    if bytes {
+        Some(Command::ShowBytes { room })
+    } else {
+        Some(Command::Show { little, room })
+    }
+}
+
+// The command of a subcommand's name and matches.
+fn command_in<'a>(name: &str, matches: &ArgMatches<'a>) -> Option<Command<'a>>
+    ensures command { option_map asked_of result ≡ asked_in name.now (rows_of (found_of matches.now)) }
+    ensures range { IfSome result (λ c. IsInRange (asked_of c)) }
+{
+    if name == "translate" {
+        let direction = text(matches, "direction")?;
+        translate(
+            direction,
+            text(matches, "folder"),
+            text(matches, "group"),
+            is_flag_set(matches, "little"),
+            text(matches, "room"),
+        )
+    } else if name == "show" {
+        show(
+            is_flag_set(matches, "bytes"),
+            is_flag_set(matches, "little"),
+            text(matches, "room"),
+        )
+    } else {
+        None
+    }
+}
+
+// The command of the matches of the whole line.
+fn command_below<'a>(matches: &ArgMatches<'a>) -> Option<Command<'a>>
+    ensures command { option_map asked_of result ≡ option_and_then (λ p. asked_in p.0 p.1) (subcommand_rows_of matches.now) }
+    ensures range { IfSome result (λ c. IsInRange (asked_of c)) }
+{
+    match matches.subcommand() {
+        Some((name, inner)) => command_in(name, inner),
+        None => None,
+    }
+}
+
+/// The command of the words, which come without the program's name (own rule). A folder is borrowed from the words.
+///
+/// `Usage` only where `clap` doesn't take the words, as with a request for help, or a rule of ours is broken, and such words
+/// never give a command: the direction is `down`, `up` or `back`; `--folder`, which may be empty, is given with `down` and
+/// with no other direction; `--group` isn't given with `down`; `--little` isn't given with `back`, nor with `--bytes`; a
+/// number has 1 to 10 digits and lies in its range, a group 0 to 15 (at first 0), a room 6 to 1,048,576 (at first the
+/// greatest). `NoMemory` where `clap` finds no memory.
+#[tactic(auto, unfolding(crate::specs::Rules::command_of))]
+pub fn command_line<'a>(alloc: Global, words: &'a [String]) -> Result<Command<'a>, WordsFault>
+    ensures ok { IfOk result (λ c. command_of (map string_bytes words.entry.now) ≡ Some (asked_of c)) }
+    ensures usage { result ≡ Err WordsFault.Usage → command_of (map string_bytes words.entry.now) ≡ None }
+    ensures range { IfOk result (λ c. IsInRange (asked_of c)) }
+{
+    let matches = matches_of(alloc, words)?;
+    match command_below(&matches) {
+        Some(command) => Ok(command),
+        None => Err(WordsFault::Usage),
+    }
+}

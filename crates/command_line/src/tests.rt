@@ -1,0 +1,243 @@
+// The table of words, and words that are no command.
+use super::{Command, WordsFault, command_line};
+use midi_edge::U4;
+use std::alloc::{AllocError, Global};
+use std::process::Abort;
+use std::test::Fail;
+
+const MOST: u32 = 1_048_576;
+
+// The words of a line, which blanks part.
+fn words_of(alloc: Global, line: &str) -> Result<Vec<String>, AllocError> {
+    let mut all = Vec::new(alloc);
+    for word in line.split(' ') {
+        all.push(String::from_str(alloc, word)?)?;
+    }
+    Ok(all)
+}
+
+fn asks_down(
+    rt: &impl Abort,
+    alloc: Global,
+    line: &str,
+    folder: &str,
+    little: bool,
+    room: u32,
+) -> Result<(), Fail> {
+    let words = words_of(alloc, line)?;
+    let command = Command::Down {
+        folder,
+        little,
+        room,
+    };
+    assert_eq!(rt; command_line(alloc, &words), Ok(command));
+    Ok(())
+}
+
+fn asks_up(
+    rt: &impl Abort,
+    alloc: Global,
+    line: &str,
+    group: u32,
+    little: bool,
+    room: u32,
+) -> Result<(), Fail> {
+    let words = words_of(alloc, line)?;
+    let group = U4::low_bits(group);
+    let command = Command::Up {
+        group,
+        little,
+        room,
+    };
+    assert_eq!(rt; command_line(alloc, &words), Ok(command));
+    Ok(())
+}
+
+fn asks_back(
+    rt: &impl Abort,
+    alloc: Global,
+    line: &str,
+    group: u32,
+    room: u32,
+) -> Result<(), Fail> {
+    let words = words_of(alloc, line)?;
+    let group = U4::low_bits(group);
+    assert_eq!(rt;
+        command_line(alloc, &words),
+        Ok(Command::Back { group, room })
+    );
+    Ok(())
+}
+
+#[test]
+fn words_of_translate_down(rt: HostRuntime) -> Result<(), Fail> {
+    let alloc = rt.alloc();
+    for (line, little, room) in [
+        ("translate down --folder F", false, MOST),
+        ("translate down --folder F --little", true, MOST),
+        ("translate down --folder F --room 6", false, 6),
+        ("translate down --folder F --little --room 100", true, 100),
+        ("translate down --room 100 --little --folder F", true, 100),
+    ] {
+        asks_down(&rt, alloc, line, "F", little, room)?;
+    }
+    Ok(())
+}
+
+#[test]
+fn words_of_translate_up(rt: HostRuntime) -> Result<(), Fail> {
+    let alloc = rt.alloc();
+    for (line, group, little, room) in [
+        ("translate up", 0, false, MOST),
+        ("translate up --group 3", 3, false, MOST),
+        ("translate up --little", 0, true, MOST),
+        ("translate up --room 7", 0, false, 7),
+        (
+            "translate up --group 15 --little --room 1048576",
+            15,
+            true,
+            MOST,
+        ),
+        ("translate up --room 9 --little --group 6", 6, true, 9),
+    ] {
+        asks_up(&rt, alloc, line, group, little, room)?;
+    }
+    Ok(())
+}
+
+#[test]
+fn words_of_translate_back(rt: HostRuntime) -> Result<(), Fail> {
+    let alloc = rt.alloc();
+    for (line, group, room) in [
+        ("translate back", 0, MOST),
+        ("translate back --group 12", 12, MOST),
+        ("translate back --room 6", 0, 6),
+        ("translate back --group 1 --room 10", 1, 10),
+        ("translate back --room 10 --group 1", 1, 10),
+    ] {
+        asks_back(&rt, alloc, line, group, room)?;
+    }
+    Ok(())
+}
+
+#[test]
+fn words_of_show(rt: HostRuntime) -> Result<(), Fail> {
+    let alloc = rt.alloc();
+    for (line, little, room) in [
+        ("show", false, MOST),
+        ("show --little", true, MOST),
+        ("show --room 6", false, 6),
+        ("show --little --room 8", true, 8),
+        ("show --room 8 --little", true, 8),
+    ] {
+        let words = words_of(alloc, line)?;
+        assert_eq!(rt;
+            command_line(alloc, &words),
+            Ok(Command::Show { little, room })
+        );
+    }
+    for (line, room) in [
+        ("show --bytes", MOST),
+        ("show --bytes --room 11", 11),
+        ("show --room 11 --bytes", 11),
+    ] {
+        let words = words_of(alloc, line)?;
+        assert_eq!(rt;
+            command_line(alloc, &words),
+            Ok(Command::ShowBytes { room })
+        );
+    }
+    Ok(())
+}
+
+// Words that aren't canonical, and yet are a command by what `clap` states and by the rules.
+#[test]
+fn other_words(rt: HostRuntime) -> Result<(), Fail> {
+    let alloc = rt.alloc();
+    for (line, folder) in [
+        ("translate --folder F down", "F"),
+        ("translate down --folder=F", "F"),
+        ("translate down --folder=", ""),
+        ("translate down --folder ", ""),
+        ("translate --folder=-x down", "-x"),
+    ] {
+        asks_down(&rt, alloc, line, folder, false, MOST)?;
+    }
+    asks_up(
+        &rt,
+        alloc,
+        "translate up --group 0000000003",
+        3,
+        false,
+        MOST,
+    )?;
+    asks_up(&rt, alloc, "translate up --room=0000000006", 0, false, 6)?;
+    asks_back(&rt, alloc, "translate -- back", 0, MOST)
+}
+
+const NO_COMMAND: [&str; 52] = [
+    "",
+    "--help",
+    "-h",
+    "help",
+    "help show",
+    "--version",
+    "-V",
+    "show --help",
+    "show -h",
+    "translate --help",
+    "translate up --version",
+    "translate",
+    "translate sideways",
+    "translate Down --folder F",
+    "translate up down",
+    "translate up up",
+    "translate up -- --little",
+    "-- show",
+    "show up",
+    "play",
+    "sho",
+    "show show",
+    "endpoint F",
+    "selftest 1",
+    "show --state",
+    "translate down --folder F --compact",
+    "translate up --paired",
+    "translate down",
+    "translate down --folder",
+    "translate down --folder --little",
+    "translate down --folder -x",
+    "translate down --fold F",
+    "translate down -f F",
+    "translate down --folder F --group 3",
+    "translate down --folder F --folder F",
+    "translate up --folder F",
+    "translate back --folder F",
+    "translate up --group 16",
+    "translate back --group 16",
+    "translate up --group",
+    "translate up --group +3",
+    "translate up --group -3",
+    "translate up --group=",
+    "translate up --group 00000000003",
+    "translate up --group three",
+    "translate up --little --little",
+    "translate up --little=true",
+    "translate back --little",
+    "show --bytes --little",
+    "show --room 5",
+    "show --room 1048577",
+    "show --room 6 --room 6",
+];
+
+#[test]
+fn words_that_are_no_command(rt: HostRuntime) -> Result<(), Fail> {
+    let alloc = rt.alloc();
+    for line in NO_COMMAND {
+        let words = words_of(alloc, line)?;
+        assert_eq!(rt; command_line(alloc, &words), Err(WordsFault::Usage));
+    }
+    let nothing: [String; 0] = [];
+    assert_eq!(rt; command_line(alloc, &nothing), Err(WordsFault::Usage));
+    Ok(())
+}

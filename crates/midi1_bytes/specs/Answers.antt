@@ -1,0 +1,46 @@
+-- What the parser answers.
+use Rattle.std.specs.Prelude.{◌≡◌, ◌-◌, List, [], ◌∷◌, ◌++◌, length, take, drop, ℕ}
+use Rattle.voice_messages.specs.declared.voice1.System.TheVariants as system
+use Rattle.midi1_bytes.specs.declared.step.Step.{Step}
+use Rattle.midi1_bytes.specs.declared.step.Step.TheVariants as step
+use Rattle.midi1_bytes.specs.declared.step.AfterCut.{AfterCut}
+use Rattle.midi1_bytes.specs.declared.step.AfterCut.TheVariants as after
+use Rattle.midi1_bytes.specs.Messages.{voice, common, exclusive, real_time}
+use Rattle.midi1_bytes.specs.Sorts.{Sort, tune_request, undefined_status}
+use Rattle.midi1_bytes.specs.Spoken.{voice_in, common_in, real_time_in}
+use Rattle.midi1_bytes.specs.Steps as steps
+
+-- the bytes between F0 and F7
+abbrev pub payload_of : List ℕ → List ℕ
+payload_of bytes = take (length bytes - 2) (drop 1 bytes)
+
+abbrev pub framed : List ℕ → List ℕ
+framed payload = 0xf0 ∷ payload ++ 0xf7 ∷ []
+
+abbrev pub step_view : Step → steps.Step
+step_view step.Held = steps.held
+step_view (step.Voice bytes) = steps.completes (voice (voice_in bytes))
+step_view (step.Common bytes) = steps.completes (common (common_in bytes))
+step_view (step.RealTime byte) = steps.completes (real_time (real_time_in byte))
+step_view (step.Exclusive bytes) = steps.completes (exclusive (payload_of bytes.now))
+step_view step.Stray = steps.stray
+step_view step.Undefined = steps.undefined
+step_view (step.Cut start what after) = steps.cut start what after
+step_view step.TooLong = steps.too_long
+
+-- an exclusive that is lent has its F0 and its F7
+abbrev pub LendsFramed : Step → Type 0
+LendsFramed (step.Exclusive bytes) = bytes.now ≡ framed (payload_of bytes.now)
+LendsFramed _ = Unit {0}
+
+-- ---- what a status byte that is neither F7 nor Real Time does: where it cuts something off, besides, and where it doesn't
+
+abbrev pub besides_of : Sort → AfterCut
+besides_of tune_request = after.Tune
+besides_of undefined_status = after.Undefined
+besides_of _ = after.Begins
+
+abbrev pub alone_of : Sort → steps.Step
+alone_of tune_request = steps.completes (common system.Tune)
+alone_of undefined_status = steps.undefined
+alone_of _ = steps.held

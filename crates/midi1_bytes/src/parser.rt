@@ -1,0 +1,282 @@
+// The parser of a MIDI 1.0 stream.
+ghost use Rattle.std.specs.Prelude.{◌≡◌, ◌<◌, ◌≤◌, [], ◌∷◌, ◌++◌, Some, None, IfOk, vec_len, vec_capacity};
+ghost use Rattle.std.specs.Option.{option_map, ForSome};
+ghost use Rattle.midi1_bytes.specs.Answers.{step_view, LendsFramed, besides_of, alone_of};
+ghost use Rattle.midi1_bytes.specs.Sorts.{data_byte, sort_of};
+
+use crate::begun::Begun;
+use crate::spoken::{CommonBytes, RealTimeByte, VoiceBytes};
+use crate::step::{AfterCut, CutKind, Step};
+use midi_edge::NoMemory;
+use std::alloc::Global;
+use std::marker::Model;
+
+const START_OF_EXCLUSIVE: u8 = 0xf0;
+
+const END_OF_EXCLUSIVE: u8 = 0xf7;
+
+// Adds a byte for which memory is reserved.
+fn append(bytes: &mut Vec<u8>, byte: u8)
+    requires { vec_len bytes.old < vec_capacity bytes.old }
+    ensures items { bytes.new.items ≡ bytes.old.items ++ byte ∷ [] }
+    ensures capacity { vec_capacity bytes.old ≤ vec_capacity bytes.new }
+{
+    match bytes.push(byte) {
+        Ok(()) => {}
+        Err(_) => unreachable!(),
+    }
+}
+
+// What a status byte that is neither F7 nor Real Time does where it cuts something off, besides.
+#[tactic(auto, unfolding(crate::specs::Sorts::sort_of))]
+fn besides(status: u8) -> AfterCut
+    requires least { 128 ≤ status }
+    requires most { status < 247 }
+    ensures { result ≡ besides_of (sort_of status) }
+{
+    match status {
+        0xf4 | 0xf5 => AfterCut::Undefined,
+        0xf6 => AfterCut::Tune,
+        _ => AfterCut::Begins,
+    }
+}
+
+// What it does where nothing is begun.
+#[tactic(auto, unfolding(crate::specs::Sorts::sort_of))]
+fn alone<'a>(status: u8) -> Step<'a>
+    requires least { 128 ≤ status }
+    requires most { status < 247 }
+    ensures step { step_view result ≡ alone_of (sort_of status) }
+    ensures framed { LendsFramed result }
+{
+    match status {
+        0xf4 | 0xf5 => Step::Undefined,
+        0xf6 => Step::Common(CommonBytes::tune()),
+        _ => Step::Held,
+    }
+}
+
+/// A parser of the bytes of a MIDI 1.0 stream. To a contract it is the running status, what is begun with its start and its
+/// bytes, and the room: the number of bytes that an exclusive may have between F0 and F7.
+#[derive(Drop)]
+pub struct Parser {
+    running: Option<u8>,
+    begun: Begun,
+    bytes: Vec<u8>,
+    room: u32,
+}
+
+impl Model for Parser {
+    ghost use Rattle.std.specs.Prelude.{◌≡◌, ◌≤◌, ◌+◌, [], ◌∷◌, length, take, vec_capacity};
+    ghost use Rattle.midi1_bytes.specs.Parsing.{Parsing};
+    ghost use Rattle.midi1_bytes.specs.Held.{begun_view, IsKept};
+
+    ghost Value = { Parsing };
+
+    ghost view = { λ p. record { room = p.room; running = p.running; begun = begun_view p.begun p.bytes.items } };
+
+    ghost invariant = { λ p. (p.room + 2 ≤ vec_capacity p.bytes) × (take 1 p.bytes.items ≡ 240 ∷ []) × IsKept p.room p.begun (length p.bytes.items) };
+}
+
+impl Parser {
+    ghost use Rattle.std.specs.Borrow.{sem};
+    ghost use Rattle.midi1_bytes.specs.Held.{bytes_begun};
+    ghost use Rattle.midi1_bytes.specs.Lend.{KeepsParser};
+    ghost use Rattle.midi1_bytes.specs.Parsing.{begun_message, begun_exclusive, idle, beginning, open_of, ended_by, message_step, data_step, begun_after, parse, parse_under};
+
+    /// A parser with nothing begun and no running status. Reserves memory for exclusives of `room` bytes between F0 and F7, 6 to
+    /// 1,048,576; no other call takes any. `NoMemory` where there isn't so much.
+    pub fn new(alloc: Global, room: u32) -> Result<Parser, NoMemory>
+        requires least { 6 ≤ room }
+        requires most { room ≤ 1048576 }
+        ensures { IfOk result (λ parser. parser ≡ idle room) }
+    {
+        let Ok(mut bytes) = Vec::with_capacity(alloc, room as usize + 2) else {
+            return Err(NoMemory);
+        };
+        append(&mut bytes, START_OF_EXCLUSIVE);
+        Ok(Parser {
+            running: None,
+            begun: Begun::Nothing,
+            bytes,
+            room,
+        })
+    }
+
+    /// What is begun, message or exclusive, and the offset at which it starts: that of its status byte, or under running status
+    /// that of its first data byte. `None` exactly where nothing is begun.
+    pub fn end(&self) -> Option<(u64, CutKind)>
+        ensures { result ≡ option_map (λ begun. (begun.start, begun.kind)) (open_of self.now) }
+    {
+        match self.begun {
+            Begun::Nothing => None,
+            Begun::Message { start, .. } => Some((start, CutKind::Message)),
+            Begun::Exclusive { start } => Some((start, CutKind::Exclusive)),
+        }
+    }
+
+    // Ends what is begun and running status.
+    fn leave(&mut self)
+        ensures { self.new ≡ idle self.old.room }
+    {
+        self.running = None;
+        self.begun = Begun::Nothing;
+    }
+
+    fn begin_message(&mut self, status: u8, running: Option<u8>, start: u64)
+        ensures { self.new ≡ beginning self.old.room running (begun_message start status None) }
+    {
+        self.running = running;
+        self.begun = Begun::Message {
+            start,
+            status,
+            first: None,
+        };
+    }
+
+    fn begin_exclusive(&mut self, start: u64)
+        ensures { self.new ≡ beginning self.old.room None (begun_exclusive start []) }
+    {
+        self.running = None;
+        self.begun = Begun::Exclusive { start };
+        self.bytes.truncate(1);
+    }
+
+    // A data byte of a message of this status.
+    #[tactic(auto, unfolding(crate::specs::Sorts::sort_of))]
+    fn message_data<'a>(&mut self, start: u64, status: u8, first: Option<u8>, byte: u8) -> Step<'a>
+        requires below { byte < 128 }
+        requires first_below { ForSome first (λ first. first < 128) }
+        ensures step { step_view result ≡ message_step (sort_of status) status first byte }
+        ensures framed { LendsFramed result }
+        ensures after { self.new ≡ record self.old {
+          begun = begun_after (message_step (sort_of status) status first byte) (begun_message start status (Some byte));
+        } }
+    {
+        self.begun = Begun::Nothing;
+        match (status, first) {
+            (0xc0..=0xdf, _) => Step::Voice(VoiceBytes::of_one(status, byte)),
+            (0x80..=0xef, Some(first)) => Step::Voice(VoiceBytes::of_two(status, first, byte)),
+            (0xf1 | 0xf3, _) => Step::Common(CommonBytes::of_one(status, byte)),
+            (0xf2, Some(first)) => Step::Common(CommonBytes::of_two(status, first, byte)),
+            (0x80..=0xef | 0xf2, None) => {
+                self.begun = Begun::Message {
+                    start,
+                    status,
+                    first: Some(byte),
+                };
+                Step::Held
+            }
+            _ => Step::Stray,
+        }
+    }
+
+    // A data byte of an exclusive.
+    fn exclusive_data<'a>(&mut self, start: u64, byte: u8) -> Step<'a>
+        requires { self.old.begun ≡ Some (begun_exclusive start (bytes_begun self.old)) }
+        ensures step { step_view result ≡ data_step self.old.room (begun_exclusive start (bytes_begun self.old)) byte }
+        ensures framed { LendsFramed result }
+        ensures after { self.new ≡ record self.old {
+          begun = begun_after (data_step self.old.room (begun_exclusive start (bytes_begun self.old)) byte) (begun_exclusive start (bytes_begun self.old ++ byte ∷ []));
+        } }
+    {
+        // F0 is held too.
+        if self.bytes.len() > self.room as usize {
+            self.begun = Begun::Nothing;
+            return Step::TooLong;
+        }
+        append(&mut self.bytes, byte);
+        Step::Held
+    }
+
+    // A data byte.
+    fn data<'a>(&mut self, byte: u8, offset: u64) -> Step<'a>
+        requires { byte < 128 }
+        ensures step { step_view result ≡ (parse_under data_byte self.old offset byte).step }
+        ensures framed { LendsFramed result }
+        ensures after { self.new ≡ (parse_under data_byte self.old offset byte).after }
+    {
+        match self.begun {
+            Begun::Exclusive { start } => self.exclusive_data(start, byte),
+            Begun::Message {
+                start,
+                status,
+                first,
+            } => self.message_data(start, status, first, byte),
+            Begun::Nothing => match self.running {
+                Some(status) => self.message_data(offset, status, None, byte),
+                None => Step::Stray,
+            },
+        }
+    }
+
+    // A status byte that is neither F7 nor Real Time.
+    #[tactic(auto, unfolding(crate::specs::Sorts::sort_of))]
+    fn status<'a>(&mut self, status: u8, offset: u64) -> Step<'a>
+        requires least { 128 ≤ status }
+        requires most { status < 247 }
+        ensures step { step_view result ≡ (parse self.old offset status).step }
+        ensures framed { LendsFramed result }
+        ensures after { self.new ≡ (parse self.old offset status).after }
+    {
+        let open = self.end();
+        match status {
+            0x80..=0xef => self.begin_message(status, Some(status), offset),
+            0xf1..=0xf3 => self.begin_message(status, None, offset),
+            0xf0 => self.begin_exclusive(offset),
+            _ => self.leave(),
+        }
+        match open {
+            Some((start, what)) => Step::Cut {
+                start,
+                what,
+                after: besides(status),
+            },
+            None => alone(status),
+        }
+    }
+
+    // F7.
+    fn end_exclusive(&mut self) -> Step<'_>
+        ensures step { step_view result ≡ ended_by self.old.begun }
+        ensures framed { LendsFramed result }
+        ensures* after { sem 𝓛 (KeepsParser self.entry (idle self.old.room)) }
+    {
+        let begun = self.begun;
+        self.running = None;
+        self.begun = Begun::Nothing;
+        match begun {
+            Begun::Nothing => Step::Stray,
+            Begun::Message { start, .. } => Step::Cut {
+                start,
+                what: CutKind::Message,
+                after: AfterCut::Stray,
+            },
+            Begun::Exclusive { .. } => {
+                append(&mut self.bytes, END_OF_EXCLUSIVE);
+                Step::Exclusive(self.bytes.as_slice())
+            }
+        }
+    }
+
+    /// Takes one more byte of the stream (MIDI 1.0 Detailed Specification: summary of status bytes, running status, system
+    /// messages). The offset is only kept, and told as the start of what the byte begins. It takes no memory.
+    ///
+    /// `Exclusive` lends the exclusive from F0 to F7. `TooLong` comes exactly at the data byte that would make the bytes between
+    /// F0 and F7 more than the room; the exclusive is then dropped, and there is no running status. What a status byte cuts off
+    /// is dropped and told, and a byte that belongs to nothing is `Stray` (own rules).
+    #[tactic(auto, unfolding(crate::specs::Sorts::sort_of))]
+    pub fn byte(&mut self, byte: u8, offset: u64) -> Step<'_>
+        ensures step { step_view result ≡ (parse self.old offset byte).step }
+        ensures framed { LendsFramed result }
+        ensures* after { sem 𝓛 (KeepsParser self.entry (parse self.old offset byte).after) }
+    {
+        match byte {
+            0..=0x7f => self.data(byte, offset),
+            0x80..=0xf6 => self.status(byte, offset),
+            0xf7 => self.end_exclusive(),
+            0xf9 | 0xfd => Step::Undefined,
+            _ => Step::RealTime(RealTimeByte::of(byte)),
+        }
+    }
+}

@@ -1,0 +1,5 @@
+use Rattle.midi_edge.proofs.ByteLaws.{nothing}
+use Rattle.midi_edge.proofs.byte_reader.nothing_given.Goals as goal
+
+pub returns : goal.returns
+returns c = nothing

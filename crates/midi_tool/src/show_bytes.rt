@@ -1,0 +1,151 @@
+// From a stream of MIDI 1.0 bytes to lines.
+ghost use Rattle.std.specs.Prelude.{◌≡◌, ◌<◌, ℕ, List, Option, Err, IfSome, OnOk, OnErr, length};
+ghost use Rattle.midi_edge.specs.Outside.{Gains, Rose};
+ghost use Rattle.midi1_bytes.specs.Answers.{step_view};
+ghost use Rattle.midi1_bytes.specs.Parsing.{idle};
+ghost use Rattle.midi1_bytes.specs.Steps.{cut};
+ghost use Rattle.midi_lines.specs.StepLines.{HasBothEnds, byte_listing_text};
+ghost use Rattle.voice_state.specs.StepListing.{cut_kind, open_kind};
+ghost use Rattle.midi_tool.specs.ByteWork.{showing_bytes, ByteSays, ByteEndsOf};
+ghost use Rattle.midi_tool.specs.ShowBytes.{ShowsEnd, ShowsOpen, ShowsStep};
+ghost use Rattle.midi_tool.specs.Told.{Counts, CountsOf};
+
+use crate::next::{LIMIT, refused};
+use crate::next_byte::{NextByte, next_byte};
+use crate::status::{Reason, RunEnd};
+use midi_edge::{ByteReader, Sink, Source};
+use midi_lines::{Line, byte_listing, step_line};
+use midi1_bytes::laws::parsed_bytes_are_the_definition;
+use midi1_bytes::{AfterCut, CutKind, Parser, Step};
+use voice_state::Kind;
+
+/// Puts a line for each message that the bytes of a stream complete, and for each byte that belongs to nothing or cuts something
+/// off, to the end of the stream or to the first byte that is refused; at the end a line for what is still open. The parser is a
+/// new one, and its room bounds the exclusives. Takes no memory. `ReadFault` and `OutputFault` come only where the count of that
+/// object rose; the lines before then stand.
+pub fn show_bytes<S: Source, W: Sink>(mut parser: Parser, input: &mut S, output: &mut W) -> RunEnd
+    requires { parser ≡ idle parser.room }
+    ensures content { (pieces : Option (List (ℕ × List ℕ))) (noted : Option (List ℕ)) → IfSome (S.left input.old) (λ bytes. ByteSays (showing_bytes parser.room) bytes (S.left input.new)
+        (record { pieces = pieces; held = W.held output.old; noted = noted }) (record { pieces = pieces; held = W.held output.new; noted = noted }) result) }
+    ensures counts { (lanes notes : ℕ) → ByteEndsOf (showing_bytes parser.room) result × CountsOf result
+        (record { reads = S.faults input.old; lanes = lanes; output = W.faults output.old; notes = notes })
+        (record { reads = S.faults input.new; lanes = lanes; output = W.faults output.new; notes = notes }) }
+{
+    parsed_bytes_are_the_definition();
+    let mut reader = ByteReader::new(LIMIT);
+    loop {
+        match next_byte(&mut reader, input) {
+            NextByte::Byte { byte, offset } => {
+                match put_step(&parser.byte(byte, offset), offset, output) {
+                    Ok(()) => {}
+                    Err(end) => return end,
+                }
+            }
+            NextByte::Stop(end) => return close(end, &parser, output),
+        }
+    }
+}
+
+fn put_line<W: Sink>(line: &Line, output: &mut W) -> Result<(), RunEnd>
+    requires { 0 < length line.now }
+    ensures ok { OnOk result (Gains (W.held output.old) (W.held output.new) line.now × (W.faults output.new ≡ W.faults output.old)) }
+    ensures err { OnErr result ((result ≡ Err RunEnd.OutputFault) × Rose (W.faults output.old) (W.faults output.new)) }
+{
+    match output.put(line.as_slice()) {
+        Ok(()) => Ok(()),
+        Err(_) => Err(RunEnd::OutputFault),
+    }
+}
+
+// Puts a line of the listing.
+fn put_kind<W: Sink>(kind: Kind, offset: u64, output: &mut W) -> Result<(), RunEnd>
+    ensures ok { OnOk result (Gains (W.held output.old) (W.held output.new) (byte_listing_text kind offset) × (W.faults output.new ≡ W.faults output.old)) }
+    ensures err { OnErr result ((result ≡ Err RunEnd.OutputFault) × Rose (W.faults output.old) (W.faults output.new)) }
+{
+    put_line(&byte_listing(kind, offset), output)
+}
+
+// Puts the lines of what a byte does.
+fn put_step<W: Sink>(step: &Step<'_>, offset: u64, output: &mut W) -> Result<(), RunEnd>
+    requires { HasBothEnds step.now }
+    ensures { ShowsStep (step_view step.now) offset result (W.held output.old) (W.held output.new) (W.faults output.old) (W.faults output.new) }
+{
+    match step {
+        Step::Held => Ok(()),
+        Step::TooLong => Err(refused(Reason::ExclusiveTooLong, offset)),
+        Step::Stray => put_kind(Kind::Stray, offset, output),
+        Step::Undefined => put_kind(Kind::Undefined, offset, output),
+        Step::Cut { start, what, after } => put_cut(*start, *what, *after, offset, output),
+        _ => match step_line(step, offset) {
+            Some(line) => put_line(&line, output),
+            None => Ok(()),
+        },
+    }
+}
+
+// Puts the line of what was cut off, and then that of the byte itself, if it has one.
+fn put_cut<W: Sink>(
+    start: u64,
+    what: CutKind,
+    after: AfterCut,
+    offset: u64,
+    output: &mut W,
+) -> Result<(), RunEnd>
+    ensures { ShowsStep (cut start what after) offset result (W.held output.old) (W.held output.new) (W.faults output.old) (W.faults output.new) }
+{
+    put_kind(kind_of_cut(what), start, output)?;
+    match after {
+        AfterCut::Begins => Ok(()),
+        AfterCut::Undefined => put_kind(Kind::Undefined, offset, output),
+        AfterCut::Stray => put_kind(Kind::Stray, offset, output),
+        AfterCut::Tune => match step_line(&Step::Cut { start, what, after }, offset) {
+            Some(line) => put_line(&line, output),
+            None => Ok(()),
+        },
+    }
+}
+
+fn kind_of_cut(what: CutKind) -> Kind
+    ensures { result ≡ cut_kind what }
+{
+    match what {
+        CutKind::Message => Kind::CutMessage,
+        CutKind::Exclusive => Kind::CutExclusive,
+    }
+}
+
+fn kind_of_open(what: CutKind) -> Kind
+    ensures { result ≡ open_kind what }
+{
+    match what {
+        CutKind::Message => Kind::OpenMessage,
+        CutKind::Exclusive => Kind::OpenExclusive,
+    }
+}
+
+// Puts the line of what is still open at the end, if anything is.
+fn put_open<W: Sink>(parser: &Parser, output: &mut W) -> RunEnd
+    ensures { ShowsOpen parser.now result (W.held output.old) (W.held output.new) (W.faults output.old) (W.faults output.new) }
+{
+    match parser.end() {
+        Some((start, what)) => match put_kind(kind_of_open(what), start, output) {
+            Ok(()) => RunEnd::Done,
+            Err(_) => RunEnd::OutputFault,
+        },
+        None => RunEnd::Done,
+    }
+}
+
+// Where the stream was read to its end, puts the line of what is still open.
+fn close<W: Sink>(end: RunEnd, parser: &Parser, output: &mut W) -> RunEnd
+    ensures { ShowsEnd parser.now end result (W.held output.old) (W.held output.new) (W.faults output.old) (W.faults output.new) }
+{
+    match end {
+        RunEnd::Done => put_open(parser, output),
+        RunEnd::Refused { reason, offset } => RunEnd::Refused { reason, offset },
+        RunEnd::ReadFault => RunEnd::ReadFault,
+        RunEnd::LaneFault => RunEnd::LaneFault,
+        RunEnd::OutputFault => RunEnd::OutputFault,
+        RunEnd::NoteFault => RunEnd::NoteFault,
+    }
+}

@@ -1,0 +1,11 @@
+use Rattle.std.proofs.Common.{arith, ◌≡◌, ◌∙◌, ap, replicate}
+use Rattle.voice_state.specs.Registers.{unset_registers}
+use Rattle.param_collector.proofs.Meaning.{start_kept}
+use Rattle.param_collector.proofs.collector.Collector.new.Goals as goal
+
+pub returns-in-Ok-new-clause-start : goal.returns-in-Ok-new-clause-start
+returns-in-Ok-new-clause-start c =
+    let past = c.loop-test.false in
+    let end = c.loop.auto.counter-end in
+    let all : c.loop.counter ≡ 16 = omega arith in
+    start_kept c.loop.registers.items c.in-Ok-new.msbs (c.loop.invariant ∙ ap (λ count. replicate count unset_registers) all) c.in-Ok-new.ensures.table

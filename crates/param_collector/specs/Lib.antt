@@ -1,0 +1,6 @@
+pub mod Control
+pub mod Holding
+pub mod Indexes
+pub mod Keeps
+pub mod Msbs
+pub mod Roles

@@ -1,0 +1,17 @@
+// What a control change gives.
+use voice_messages::{Param, U14};
+
+/// What a control change gives (MIDI 1.0 Detailed Specification, control change).
+#[derive(Clone, Copy, Debug, PartialEq, Eq)]
+pub enum Collected {
+    /// A data increment or decrement, 96 or 97, which changes nothing.
+    DataStep,
+    /// A bank half or a half of a parameter's number, 0, 32 or 98 to 101, is held until it is used.
+    Held,
+    /// A data entry, 6 or 38: the selected parameter and its new value of 14 bits.
+    Set(Param, U14),
+    /// A data entry, 6 or 38, where no parameter is selected.
+    Ignored,
+    /// Any other control change.
+    Plain,
+}

@@ -1,0 +1,15 @@
+//! What a MIDI 1.0 stream has set so far of banks and parameters, and what each control change gives.
+#![tactic(auto)]
+
+pub mod collected;
+pub mod collector;
+pub mod laws;
+mod msbs;
+mod registers;
+mod role;
+
+pub use crate::collected::Collected;
+pub use crate::collector::Collector;
+
+#[cfg(test)]
+mod tests;

@@ -1,0 +1,3 @@
+pub mod ControlLaws
+pub mod RecordingLaws
+pub mod StepLaws

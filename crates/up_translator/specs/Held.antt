@@ -1,0 +1,52 @@
+-- What the translator holds between two bytes, and what a byte leaves.
+use Rattle.std.specs.Prelude.{ℕ, Option, Some, None}
+use Rattle.midi1_bytes.specs.Messages.{Message, voice}
+use Rattle.midi1_bytes.specs.Parsing.{Parsing, parse}
+use Rattle.midi1_bytes.specs.Steps.{Step, completed_by}
+use Rattle.voice_state.specs.State.{GroupState}
+use Rattle.voice_state.specs.Messages.{step1}
+use Rattle.param_collector.specs.Holding.{Holding}
+use Rattle.param_collector.specs.Keeps.{Keeps}
+use Rattle.up_translator.specs.Outcome.{holding_with}
+
+-- the group of the packets, and what control changes have set
+pub record RaiserState : Type 0 where
+  pub group : ℕ
+  pub holding : Holding
+
+-- besides what is begun of a message or exclusive
+pub record UpState : Type 0 where
+  pub group : ℕ
+  pub parsing : Parsing
+  pub holding : Holding
+
+-- ---- behind a byte
+
+abbrev pub holding_behind_message : Holding → Option Message → Holding
+holding_behind_message holding (Some (voice message)) = holding_with holding message
+holding_behind_message holding _ = holding
+
+abbrev pub holding_behind_step : Holding → Step → Holding
+holding_behind_step holding step = holding_behind_message holding (completed_by step)
+
+-- what the byte does
+abbrev pub step_in : UpState → ℕ → ℕ → Step
+step_in up offset byte = (parse up.parsing offset byte).step
+
+-- only the byte that completes a control change changes what control changes have set
+abbrev pub up_behind : UpState → ℕ → ℕ → UpState
+up_behind up offset byte = record {
+  group = up.group;
+  parsing = (parse up.parsing offset byte).after;
+  holding = holding_behind_step up.holding (step_in up offset byte);
+}
+
+-- ---- by the meaning of MIDI 1.0
+
+abbrev pub state_behind : GroupState → Option Message → GroupState
+state_behind state None = state
+state_behind state (Some message) = step1 state message
+
+-- each state that is kept is kept behind a step, as it then is
+abbrev pub KeepsBehind : Holding → Step → Type 0
+KeepsBehind holding step = (state : GroupState) → Keeps holding state → Keeps (holding_behind_step holding step) (state_behind state (completed_by step))

@@ -1,0 +1,59 @@
+-- What comes of a voice message, by what a collector holds before it.
+use Rattle.std.specs.Prelude.{◌≡◌, ℕ, ◌==◌, if◌then◌else◌, Bool, true, false, List, [], ◌∷◌, Option, Some, None}
+use Rattle.voice_messages.specs.declared.voice1.Voice1.{Voice1}
+use Rattle.voice_messages.specs.declared.voice1.Voice1.TheVariants as voice1
+use Rattle.voice_messages.specs.declared.voice2.Voice2.{Voice2}
+use Rattle.voice_messages.specs.declared.voice2.Voice2.TheVariants as voice2
+use Rattle.bit_scaling.specs.Scaling.{up}
+use Rattle.voice_state.specs.declared.listed.BadStep.{BadStep}
+use Rattle.voice_state.specs.declared.listed.BadStep.TheVariants as bad
+use Rattle.voice_state.specs.Controllers.{role_of}
+use Rattle.voice_state.specs.State.{GroupState}
+use Rattle.voice_state.specs.Messages.{channel_of}
+use Rattle.voice_state.specs.Raising.{raised_voice}
+use Rattle.voice_state.specs.StepListing.{is_ignored_voice}
+use Rattle.param_collector.specs.declared.collected.Collected.{Collected}
+use Rattle.param_collector.specs.declared.collected.Collected.TheVariants as collected
+use Rattle.param_collector.specs.Control.{holding_behind}
+use Rattle.param_collector.specs.Holding.{Holding}
+use Rattle.up_translator.specs.declared.outcome.Outcome.{Outcome}
+use Rattle.up_translator.specs.declared.outcome.Outcome.TheVariants as outcome
+
+abbrev pub messages_in : Outcome → List Voice2
+messages_in outcome.Nothing = []
+messages_in (outcome.Message message) = message ∷ []
+messages_in outcome.Ignored = []
+messages_in (outcome.Refused bad) = []
+
+abbrev pub is_ignored_in : Outcome → Bool
+is_ignored_in outcome.Ignored = true
+is_ignored_in _ = false
+
+abbrev pub refusal_in : Outcome → Option BadStep
+refusal_in (outcome.Refused bad) = Some bad
+refusal_in _ = None
+
+-- from the state of the group before the message
+pub record IsRaisedVoice (state : GroupState) (message : Voice1) (result : Outcome) : Type 0 where
+  pub messages : messages_in result ≡ raised_voice (state.channels (channel_of message)) message
+  pub ignored : is_ignored_in result ≡ is_ignored_voice (state.channels (channel_of message)) message
+
+-- ---- a control change
+
+-- of 96 and 97
+abbrev pub bad_data_step : ℕ → BadStep
+bad_data_step index = if index == 96 then bad.DataIncrement else bad.DataDecrement
+
+-- by the collector's answer to it
+abbrev pub outcome_by : Collected → ℕ → ℕ → ℕ → Outcome
+outcome_by collected.DataStep channel index value = outcome.Refused (bad_data_step index)
+outcome_by collected.Held channel index value = outcome.Nothing
+outcome_by (collected.Set param entered) channel index value = outcome.Message (voice2.Set channel param (up entered 14 32))
+outcome_by collected.Ignored channel index value = outcome.Ignored
+outcome_by collected.Plain channel index value = outcome.Message (voice2.Control channel index (up value 7 32))
+
+-- ---- what is held behind a voice message: a control change is collected
+
+abbrev pub holding_with : Holding → Voice1 → Holding
+holding_with holding (voice1.Control channel index value) = holding_behind (role_of index) holding channel value
+holding_with holding _ = holding

@@ -1,0 +1,11 @@
+-- What the translator holds behind the bytes of a stream, which are listed the newest first.
+use Rattle.std.specs.Prelude.{◌≡◌, ℕ, List}
+use Rattle.midi1_bytes.specs.Parsing.{held_behind}
+use Rattle.voice_state.specs.Messages.{meaning1}
+use Rattle.param_collector.specs.Keeps.{Keeps}
+use Rattle.up_translator.specs.Held.{UpState}
+
+pub record HoldsUp (room group : ℕ) (past : List ℕ) (up : UpState) : Type 0 where
+  pub group_is : up.group ≡ group
+  pub parsing_is : up.parsing ≡ held_behind room past
+  pub keeps : Keeps up.holding (meaning1 past)

@@ -1,0 +1,63 @@
+// The lines of what a byte does, and of what is open at the end.
+ghost use Rattle.std.specs.Prelude.{◌≡◌};
+ghost use Rattle.voice_state.specs.declared.listed.Kind.TheVariants as kinds;
+ghost use Rattle.voice_state.specs.StepListing.{cut_kind, open_kind};
+ghost use Rattle.up_translator.specs.Raised.{told_of};
+
+use crate::raised::Line;
+use midi1_bytes::CutKind;
+use voice_state::Kind;
+
+/// A byte that belongs to nothing.
+pub fn stray(offset: u64) -> Line
+    ensures { told_of result ≡ (kinds.Stray, offset) }
+{
+    Line {
+        offset,
+        kind: Kind::Stray,
+    }
+}
+
+/// A status that no message has.
+pub fn undefined(offset: u64) -> Line
+    ensures { told_of result ≡ (kinds.Undefined, offset) }
+{
+    Line {
+        offset,
+        kind: Kind::Undefined,
+    }
+}
+
+/// A data entry without a selected parameter.
+pub fn ignored(offset: u64) -> Line
+    ensures { told_of result ≡ (kinds.IgnoredDataEntry, offset) }
+{
+    Line {
+        offset,
+        kind: Kind::IgnoredDataEntry,
+    }
+}
+
+/// What started at an offset and is cut off.
+pub fn cut_off(start: u64, what: CutKind) -> Line
+    ensures { told_of result ≡ (cut_kind what, start) }
+{
+    let kind = match what {
+        CutKind::Message => Kind::CutMessage,
+        CutKind::Exclusive => Kind::CutExclusive,
+    };
+    Line {
+        offset: start,
+        kind,
+    }
+}
+
+/// The kind of the line of what is open at the end.
+pub fn kind_of_open(what: CutKind) -> Kind
+    ensures { result ≡ open_kind what }
+{
+    match what {
+        CutKind::Message => Kind::OpenMessage,
+        CutKind::Exclusive => Kind::OpenExclusive,
+    }
+}

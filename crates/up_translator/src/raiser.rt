@@ -1,0 +1,132 @@
+// Messages of a stream as packets of its group.
+ghost use Rattle.std.specs.Prelude.{◌≡◌, [], ◌∷◌, map, Some, None, IfSome};
+ghost use Rattle.std.specs.Option.{option_to_list};
+ghost use Rattle.midi1_bytes.specs.Messages.{voice};
+ghost use Rattle.midi1_bytes.specs.Steps.{completes};
+ghost use Rattle.ump_grammar.specs.Ranges.{IsPacket};
+ghost use Rattle.ump_grammar.specs.declared.packet.Packet.TheVariants as packet;
+
+use crate::lines::ignored;
+use crate::outcome::{Outcome, fits, raise};
+use crate::raised::{Line, Raised};
+use param_collector::Collector;
+use std::marker::Model;
+use ump_grammar::Packet;
+use voice_messages::{System, U4, Voice1, Voice2};
+use voice_state::BadStep;
+
+// The fields of a system message and of its group fit their places.
+fn system_fits(group: U4, message: &System)
+    ensures { IsPacket (packet.System group message.now) }
+{
+    group.get();
+    match *message {
+        System::Quarter(value) | System::Song(value) => {
+            value.get();
+        }
+        System::Position(value) => {
+            value.get();
+        }
+        _ => {}
+    }
+}
+
+// The fields of a voice message and of its group fit their places.
+fn voice_fits(group: U4, message: &Voice2)
+    ensures { IsPacket (packet.Voice2 group message.now) }
+{
+    group.get();
+    fits(message);
+}
+
+/// What raises messages to packets of one group. It keeps the packet that it lends. To a contract it is the group and what
+/// control changes have set.
+#[derive(Drop)]
+pub(crate) struct Raiser {
+    group: U4,
+    collector: Collector,
+    packet: Packet,
+}
+
+impl Model for Raiser {
+    ghost use Rattle.up_translator.specs.Held.{RaiserState};
+
+    ghost Value = { RaiserState };
+
+    ghost view = { λ r. record { group = r.group; holding = r.collector } };
+}
+
+impl Raiser {
+    ghost use Rattle.std.specs.Borrow.{sem};
+    ghost use Rattle.voice_state.specs.StepListing.{line_up};
+    ghost use Rattle.up_translator.specs.Held.{KeepsBehind};
+    ghost use Rattle.up_translator.specs.LendRaiser.{KeepsRaiser};
+    ghost use Rattle.up_translator.specs.Outcome.{holding_with};
+    ghost use Rattle.up_translator.specs.Raised.{packet_in, payload_in, packets_in, lines_in, told_of, IsApart};
+    ghost use Rattle.up_translator.specs.Step.{RaisesStep};
+
+    /// A raiser into a group.
+    pub(crate) fn new(group: U4, collector: Collector) -> Raiser
+        ensures { result ≡ record { group = group; holding = collector } }
+    {
+        Raiser {
+            group,
+            collector,
+            packet: Packet::System {
+                group,
+                message: System::Tune,
+            },
+        }
+    }
+
+    pub(crate) fn group(&self) -> U4
+        ensures { result ≡ self.now.group }
+    {
+        self.group
+    }
+
+    // Lends a packet, with a line if there is one.
+    fn give(&mut self, packet: Packet, line: Option<Line>) -> Raised<'_>
+        ensures apart { IsApart result }
+        ensures packet { packet_in result ≡ Some packet }
+        ensures payload { payload_in result ≡ None }
+        ensures packets { packets_in result ≡ packet ∷ [] }
+        ensures lines { lines_in result ≡ map (line_up self.old.group) (map told_of (option_to_list line)) }
+        ensures* after { sem 𝓛 (KeepsRaiser self.entry self.old) }
+    {
+        self.packet = packet;
+        Raised::of_packet(self.group, &self.packet, line)
+    }
+
+    /// A system message, with a line of what its byte cuts off if it does.
+    pub(crate) fn system(&mut self, message: System, line: Option<Line>) -> Raised<'_>
+        ensures apart { IsApart result }
+        ensures spelled { IfSome (packet_in result) IsPacket }
+        ensures payload { payload_in result ≡ None }
+        ensures packets { packets_in result ≡ packet.System self.old.group message ∷ [] }
+        ensures lines { lines_in result ≡ map (line_up self.old.group) (map told_of (option_to_list line)) }
+        ensures* after { sem 𝓛 (KeepsRaiser self.entry self.old) }
+    {
+        let group = self.group;
+        system_fits(group, &message);
+        self.give(Packet::System { group, message }, line)
+    }
+
+    /// A voice message that the byte at this offset completes.
+    pub(crate) fn voice(&mut self, message: &Voice1, offset: u64) -> Result<Raised<'_>, BadStep>
+        ensures answer { RaisesStep self.old.holding self.old.group offset (completes (voice message.now)) result }
+        ensures kept { KeepsBehind self.old.holding (completes (voice message.now)) }
+        ensures* after { sem 𝓛 (KeepsRaiser self.entry (record self.old { holding = holding_with self.old.holding message.now })) }
+    {
+        match raise(&mut self.collector, message) {
+            Outcome::Nothing => Ok(Raised::only_listed(self.group, None, None)),
+            Outcome::Message(message) => {
+                let group = self.group;
+                voice_fits(group, &message);
+                Ok(self.give(Packet::Voice2 { group, message }, None))
+            }
+            Outcome::Ignored => { Ok(Raised::only_listed(self.group, Some(ignored(offset)), None)) }
+            Outcome::Refused(bad) => Err(bad),
+        }
+    }
+}

@@ -1,0 +1,161 @@
+// The translator up.
+ghost use Rattle.std.specs.Prelude.{◌≡◌, ◌≢◌, ◌≤◌, [], map, IfOk};
+ghost use Rattle.std.specs.Option.{option_map, option_to_list};
+ghost use Rattle.voice_state.specs.StepListing.{kinds_at_end, line_up};
+
+use crate::lines::{cut_off, kind_of_open, stray, undefined};
+use crate::raised::Raised;
+use crate::raiser::Raiser;
+use midi_edge::{NoMemory, U4};
+use midi1_bytes::{AfterCut, Parser, Step, System};
+use param_collector::Collector;
+use param_collector::laws::other_messages_change_nothing_kept;
+use std::alloc::Global;
+use std::marker::Model;
+use voice_state::{BadStep, Listed};
+
+const END_OF_EXCLUSIVE: u8 = 0xf7;
+
+/// The translator of the bytes of one MIDI 1.0 stream to packets of one group. To a contract it is the group, what is begun of a
+/// message or exclusive, and what control changes have set.
+#[derive(Drop)]
+pub struct Up {
+    parser: Parser,
+    raiser: Raiser,
+}
+
+impl Model for Up {
+    ghost use Rattle.up_translator.specs.Held.{UpState};
+
+    ghost Value = { UpState };
+
+    ghost view = { λ up. record { group = up.raiser.group; parsing = up.parser; holding = up.raiser.holding } };
+}
+
+impl Up {
+    ghost use Rattle.std.specs.Borrow.{sem};
+    ghost use Rattle.midi1_bytes.specs.Parsing.{idle, open_of};
+    ghost use Rattle.param_collector.specs.Holding.{fresh};
+    ghost use Rattle.up_translator.specs.Held.{KeepsBehind, step_in, up_behind};
+    ghost use Rattle.up_translator.specs.Lend.{KeepsUp};
+    ghost use Rattle.up_translator.specs.Recording.{HoldsUp};
+    ghost use Rattle.up_translator.specs.Step.{Raises};
+
+    /// A translator into a group, for a stream that has no byte yet. Takes all memory that it ever needs: for exclusives of
+    /// `room` bytes between F0 and F7, 6 to 1,048,576, and for what control changes set. `NoMemory` where there isn't so much.
+    pub fn new(alloc: Global, group: U4, room: u32) -> Result<Up, NoMemory>
+        requires least { 6 ≤ room }
+        requires most { room ≤ 1048576 }
+        ensures fresh { IfOk result (λ up. up ≡ record { group = group; parsing = idle room; holding = fresh }) }
+        ensures holds { IfOk result (HoldsUp room group []) }
+    {
+        let parser = match Parser::new(alloc, room) {
+            Ok(parser) => parser,
+            Err(NoMemory) => return Err(NoMemory),
+        };
+        match Collector::new(alloc) {
+            Ok(collector) => Ok(Up {
+                parser,
+                raiser: Raiser::new(group, collector),
+            }),
+            Err(NoMemory) => Err(NoMemory),
+        }
+    }
+
+    // Takes F7. It ends an exclusive, cuts a message off, or is stray.
+    fn end_exclusive(&mut self, offset: u64) -> Result<Raised<'_>, BadStep>
+        ensures answer { Raises self.old offset 247 result }
+        ensures kept { KeepsBehind self.old.holding (step_in self.old offset 247) }
+        ensures* after { sem 𝓛 (KeepsUp self.entry (up_behind self.old offset 247)) }
+    {
+        other_messages_change_nothing_kept();
+        let group = self.raiser.group();
+        match self.parser.byte(END_OF_EXCLUSIVE, offset) {
+            Step::Exclusive(bytes) => return Ok(Raised::of_exclusive(group, bytes)),
+            Step::Cut { start, what, .. } => {
+                let (first, second) = (cut_off(start, what), stray(offset));
+                return Ok(Raised::only_listed(group, Some(first), Some(second)));
+            }
+            Step::Stray => return Ok(Raised::only_listed(group, Some(stray(offset)), None)),
+            // never comes
+            _ => return Ok(Raised::only_listed(group, None, None)),
+        }
+    }
+
+    // Takes any other byte, which ends no exclusive.
+    fn take(&mut self, byte: u8, offset: u64) -> Result<Raised<'_>, BadStep>
+        requires { byte ≢ 247 }
+        ensures answer { Raises self.old offset byte result }
+        ensures kept { KeepsBehind self.old.holding (step_in self.old offset byte) }
+        ensures* after { sem 𝓛 (KeepsUp self.entry (up_behind self.old offset byte)) }
+    {
+        other_messages_change_nothing_kept();
+        let group = self.raiser.group();
+        match self.parser.byte(byte, offset) {
+            Step::Held => Ok(Raised::only_listed(group, None, None)),
+            Step::Voice(bytes) => self.raiser.voice(&bytes.message(), offset),
+            Step::Common(bytes) => Ok(self.raiser.system(bytes.message(), None)),
+            Step::RealTime(byte) => Ok(self.raiser.system(byte.message(), None)),
+            Step::Exclusive(_) => unreachable!(),
+            Step::Stray => Ok(Raised::only_listed(group, Some(stray(offset)), None)),
+            Step::Undefined => Ok(Raised::only_listed(group, Some(undefined(offset)), None)),
+            Step::Cut {
+                start,
+                what,
+                after: AfterCut::Begins,
+            } => Ok(Raised::only_listed(group, Some(cut_off(start, what)), None)),
+            Step::Cut {
+                start,
+                what,
+                after: AfterCut::Tune,
+            } => Ok(self.raiser.system(System::Tune, Some(cut_off(start, what)))),
+            Step::Cut {
+                start,
+                what,
+                after: AfterCut::Undefined,
+            } => Ok(Raised::only_listed(
+                group,
+                Some(cut_off(start, what)),
+                Some(undefined(offset)),
+            )),
+            Step::Cut {
+                start,
+                what,
+                after: AfterCut::Stray,
+            } => Ok(Raised::only_listed(group, Some(cut_off(start, what)), Some(stray(offset)))),
+            Step::TooLong => Err(BadStep::ExclusiveTooLong),
+        }
+    }
+
+    /// The packets of one more byte (M2-104-UM, translation from MIDI 1.0; M2-115-U), and its lines of the listing (own rules).
+    /// The offset is the number of bytes before it.
+    ///
+    /// `DataIncrement` and `DataDecrement` come exactly at the byte that completes a control change 96 or 97; what control
+    /// changes have set then stays as it was. `ExclusiveTooLong` comes exactly where the byte makes an exclusive longer than
+    /// the room; it is dropped (own rules).
+    pub fn byte(&mut self, byte: u8, offset: u64) -> Result<Raised<'_>, BadStep>
+        ensures answer { Raises self.old offset byte result }
+        ensures kept { KeepsBehind self.old.holding (step_in self.old offset byte) }
+        ensures* after { sem 𝓛 (KeepsUp self.entry (up_behind self.old offset byte)) }
+    {
+        match byte {
+            END_OF_EXCLUSIVE => self.end_exclusive(offset),
+            _ => self.take(byte, offset),
+        }
+    }
+
+    /// The line of what is begun at the end of the stream, with the offset at which it starts; `None` exactly where nothing is
+    /// begun.
+    pub fn end(&self) -> Option<Listed>
+        ensures { option_to_list result ≡ map (line_up self.now.group) (kinds_at_end (option_map (λ begun. (begun.start, begun.kind)) (open_of self.now.parsing))) }
+    {
+        match self.parser.end() {
+            None => None,
+            Some((start, what)) => Some(Listed {
+                offset: start,
+                group: Some(self.raiser.group()),
+                kind: kind_of_open(what),
+            }),
+        }
+    }
+}

@@ -1,0 +1,107 @@
+// Voice messages of MIDI 1.0 as those of MIDI 2.0, one by one (M2-104-UM, translation from MIDI 1.0; M2-115-U).
+ghost use Rattle.std.specs.Prelude.{◌≡◌};
+ghost use Rattle.bit_scaling.specs.Scaling.{up};
+ghost use Rattle.voice_messages.specs.declared.voice2.Voice2.TheVariants as voice2;
+ghost use Rattle.voice_state.specs.Raising.{raised_note_on};
+
+use bit_scaling::{up7, up14, velocity_up};
+use voice_messages::{Bank, Param, U4, U7, U14, Voice2};
+
+/// The velocity of the note off that a note on of velocity 0 is (own rule).
+const RELEASE: u16 = 0x8000;
+
+/// A note off without an attribute.
+fn note_off(channel: U4, note: U7, velocity: u16) -> Voice2
+    ensures { result ≡ voice2.NoteOff channel note velocity 0 0 }
+{
+    Voice2::NoteOff {
+        channel,
+        note,
+        velocity,
+        attribute_type: 0,
+        attribute: 0,
+    }
+}
+
+pub fn raise_note_off(channel: U4, note: U7, velocity: U7) -> Voice2
+    ensures { result ≡ voice2.NoteOff channel note (up velocity 7 16) 0 0 }
+{
+    note_off(channel, note, velocity_up(velocity))
+}
+
+/// A note on of velocity 0 is a note off.
+pub fn raise_note_on(channel: U4, note: U7, velocity: U7) -> Voice2
+    ensures { result ≡ raised_note_on channel note velocity }
+{
+    if velocity.get() == 0 {
+        return note_off(channel, note, RELEASE);
+    }
+    Voice2::NoteOn {
+        channel,
+        note,
+        velocity: velocity_up(velocity),
+        attribute_type: 0,
+        attribute: 0,
+    }
+}
+
+pub fn raise_poly_pressure(channel: U4, note: U7, value: U7) -> Voice2
+    ensures { result ≡ voice2.PolyPressure channel note (up value 7 32) }
+{
+    Voice2::PolyPressure {
+        channel,
+        note,
+        value: up7(value),
+    }
+}
+
+/// A control change that selects and enters nothing.
+pub fn raise_control(channel: U4, index: U7, value: U7) -> Voice2
+    ensures { result ≡ voice2.Control channel index (up value 7 32) }
+{
+    Voice2::Control {
+        channel,
+        index,
+        value: up7(value),
+    }
+}
+
+/// A data entry, by the parameter that it sets and the value that it gives it.
+pub fn raise_data_entry(channel: U4, param: Param, value: U14) -> Voice2
+    ensures { result ≡ voice2.Set channel param (up value 14 32) }
+{
+    Voice2::Set {
+        channel,
+        param,
+        value: up14(value),
+    }
+}
+
+/// A program change, with the bank that it takes.
+pub fn raise_program(channel: U4, program: U7, bank: Option<Bank>) -> Voice2
+    ensures { result ≡ voice2.Program channel program bank }
+{
+    Voice2::Program {
+        channel,
+        program,
+        bank,
+    }
+}
+
+pub fn raise_pressure(channel: U4, value: U7) -> Voice2
+    ensures { result ≡ voice2.Pressure channel (up value 7 32) }
+{
+    Voice2::Pressure {
+        channel,
+        value: up7(value),
+    }
+}
+
+pub fn raise_bend(channel: U4, value: U14) -> Voice2
+    ensures { result ≡ voice2.Bend channel (up value 14 32) }
+{
+    Voice2::Bend {
+        channel,
+        value: up14(value),
+    }
+}

@@ -1,0 +1,21 @@
+use Rattle.std.proofs.Common.{◌∙◌, ap, sym, [], ◌∷◌}
+use Rattle.std.specs.List.{fold}
+use Rattle.std.specs.Option.{option_to_list}
+use Rattle.std.proofs.lemmas.List.{reverse-append}
+use Rattle.midi1_bytes.specs.Steps.{completed_by}
+use Rattle.voice_state.specs.Messages.{meaning1, step1}
+use Rattle.voice_state.specs.Raising.{packets_up}
+use Rattle.voice_state.specs.StepListing.{lines_up}
+use Rattle.voice_state.specs.Back.{back}
+use Rattle.voice_state.proofs.ByteRooms.{step_in_room}
+use Rattle.voice_state.proofs.Up.{meaning1-more}
+use Rattle.voice_state.proofs.up_laws.one_more_byte_is_raised.Goals as goal
+
+pub returns : goal.returns
+returns c = record {
+  packets = λ room group bytes byte. ap (packets_up room group) (reverse-append bytes (byte ∷ []));
+  lines = λ room group bytes byte. ap (lines_up room group) (reverse-append bytes (byte ∷ []));
+  pieces = λ room group bytes byte. ap (back room group) (reverse-append bytes (byte ∷ []));
+  meaning = meaning1-more;
+  meaning_in_room = λ room past byte a. meaning1-more past byte ∙ ap (λ step. fold step1 (meaning1 past) (option_to_list (completed_by step))) (sym (step_in_room room past byte a));
+}

@@ -1,0 +1,15 @@
+use Rattle.voice_state.specs.Raising.{packets_at, packets_up}
+use Rattle.voice_state.proofs.RaisedRanges.{packets_at_fit, packets_up_fit, exclusive_fits, all_packets, all_in_range}
+use Rattle.voice_state.proofs.up_laws.raised_packets_are_in_range.Goals as goal
+
+pub returns : goal.returns
+returns c =
+    let at = packets_at_fit c.cut_payload_is_joined.ensures c.completed_messages_are_in_range.ensures in
+    let up = packets_up_fit c.cut_payload_is_joined.ensures c.completed_messages_are_in_range.ensures in
+    record {
+      packets = λ room group past byte l. all_packets (packets_at room group past byte) (at room group past byte l);
+      in_range = λ room group past byte l. all_in_range (packets_at room group past byte) (at room group past byte l);
+      all_packets = λ room group past l. all_packets (packets_up room group past) (up room group past l);
+      all_in_range = λ room group past l. all_in_range (packets_up room group past) (up room group past l);
+      exclusive = exclusive_fits;
+    }
