@@ -89,6 +89,7 @@ impl Down {
         }
     }
 
+    #[inline(always)]
     fn voice1(&mut self, group: U4, message: &Voice1, offset: u64) -> Result<Carried<'_>, BadStep>
         ensures answer { Translates self.old offset (packet.Voice1 group message.now) result }
         ensures* after { sem 𝓛 (KeepsDown self.entry self.old) }
@@ -103,6 +104,7 @@ impl Down {
         }
     }
 
+    #[inline(always)]
     fn voice2(&mut self, group: U4, message: &Voice2, offset: u64) -> Result<Carried<'_>, BadStep>
         ensures answer { Translates self.old offset (packet.Voice2 group message.now) result }
         ensures* after { sem 𝓛 (KeepsDown self.entry self.old) }
@@ -124,6 +126,7 @@ impl Down {
     /// `DataIncrement` and `DataDecrement` come exactly for a control change 96 and 97 of either protocol, and leave the
     /// translator as it was. `ExclusiveTooLong` comes exactly where the packet goes on with an exclusive that then has more
     /// bytes than the room; that group has nothing begun afterwards, and all else stays (own rules).
+    #[inline(always)]
     pub fn packet(&mut self, packet: &Packet, offset: u64) -> Result<Carried<'_>, BadStep>
         requires { IsPacket packet.now }
         ensures answer { Translates self.old offset packet.now result }

@@ -6,7 +6,7 @@ use Rattle.midi_edge.specs.ByteReader.{ByteReading, GivesByte}
 use Rattle.ump_grammar.specs.declared.packet.Packet.{Packet}
 use Rattle.sysex_groups.specs.Table.{Table}
 use Rattle.voice_state.specs.declared.listed.Listed.{Listed}
-use Rattle.voice_state.specs.Back.{SameState, back, back_at, back_of_bytes}
+use Rattle.voice_state.specs.Back.{SameState, back, back_of_bytes}
 use Rattle.voice_state.specs.Messages.{mean1}
 use Rattle.voice_state.specs.Raising.{packets_at}
 use Rattle.voice_state.specs.UpRefusal.{AreStepsWithinRoom}

@@ -1,10 +1,10 @@
 -- What a pass over a stream of bytes has done so far, and what its end says.
-use Rattle.std.proofs.Common.{◌≡◌, ◌+◌, ◌<◌, ◌≤◌, ℕ, List, [], ◌∷◌, ◌++◌, length, take, drop, Option, None, Some, refl, ap, sym, ◌∙◌, subst, arith}
+use Rattle.std.proofs.Common.{◌≡◌, ◌<◌, ◌≤◌, ℕ, List, [], ◌∷◌, ◌++◌, length, take, drop, Option, None, Some, refl, ap, sym, ◌∙◌, subst, arith}
 use Rattle.std.specs.Prelude.{Result, Ok, Err, IfSome, reverse}
 use Rattle.std.specs.Option.{option_map}
-use Rattle.std.proofs.lemmas.List.{append_assoc, append-nil, length-append, length-drop, length-reverse, reverse-append, take-append-drop}
+use Rattle.std.proofs.lemmas.List.{append_assoc, length-append, length-drop, length-reverse, reverse-append, take-append-drop}
 use Rattle.midi_edge.specs.Outside.{Gains, IsUsedUp, Loses, ahead}
-use Rattle.midi_edge.specs.ByteReader.{ByteReading, Ends, GivesByte, HasGiven, PassesLimit, Tells, answer_of, given_by, new_reading}
+use Rattle.midi_edge.specs.ByteReader.{ByteReading, Ends, GivesByte, HasGiven, PassesLimit, Tells, answer_of, new_reading}
 use Rattle.midi_edge.specs.declared.byte_reader.Last.{Last}
 use Rattle.midi_edge.specs.declared.outside.ReadStop.{ReadStop}
 use Rattle.midi_edge.specs.declared.outside.ReadStop.TheVariants.{TooLong as StopTooLong}
@@ -13,13 +13,14 @@ use Rattle.midi1_bytes.specs.Steps.{Step, held, completes, stray, undefined, cut
 use Rattle.voice_state.specs.declared.listed.BadStep.{BadStep}
 use Rattle.voice_state.specs.declared.listed.BadStep.TheVariants as bad
 use Rattle.voice_state.specs.UpRefusal.{refusal_up}
-use Rattle.midi_tool.specs.ByteWork.{BytePass, showing_bytes, raising, coming_back, reason_of_step, byte_refusal, IsPut, noted_for, put_at_end, noted_at_end, AreAcceptedBytes, ArePut, noted_behind, MeansBytes, ByteWork, WholeByteWork, IsByteDone, RefusesByte, IsFirstByteStop, ByteStops, ByteSays}
+use Rattle.midi_tool.specs.ByteWork.{BytePass, showing_bytes, raising, coming_back, reason_of_step, byte_refusal, IsPut, noted_for, AreAcceptedBytes, noted_behind, MeansBytes, ByteWork, WholeByteWork, IsByteDone, RefusesByte, IsFirstByteStop, ByteStops, ByteSays}
 use Rattle.midi_tool.specs.Next.{limit}
+use Rattle.midi_tool.specs.NextByte.{StopsBytes}
 use Rattle.midi_tool.specs.Step.{reason_of}
 use Rattle.midi_tool.specs.Told.{Told}
 use Rattle.midi_tool.specs.declared.status.Reason.{Reason}
 use Rattle.midi_tool.specs.declared.status.Reason.TheVariants.{Truncated, InputTooLong, BadCount, HighBit, DataIncrement, DataDecrement, ExclusiveTooLong}
-use Rattle.midi_tool.specs.declared.status.RunEnd.TheVariants.{Done}
+use Rattle.midi_tool.specs.declared.status.RunEnd.TheVariants.{Done, Refused}
 use Rattle.midi_tool.proofs.WorkLaws.{Gains-none, Gains-more, reverse-push}
 
 -- What is so far: the bytes that were given, none refused, and the work on them.
@@ -162,7 +163,7 @@ module _ (pass : BytePass) (reader : ByteReading) (before now : Option (List ℕ
           (subst D (sym all) (record { within = tells.0; accepted = so_far.accepted; work = work; meaning = meaning }), nothing_left reader'.pending now' (same ∙ ap Some used))
 
   -- there are more bytes than the limit
-  pub bytes_too_long : (reader' : ByteReading) (now' : Option (List ℕ)) (offset : ℕ) → PassesLimit reader reader' (ahead reader.pending now) (ahead reader'.pending now') → offset ≡ limit → MeansBytes pass so_far.given
+  bytes_too_long : (reader' : ByteReading) (now' : Option (List ℕ)) (offset : ℕ) → PassesLimit reader reader' (ahead reader.pending now) (ahead reader'.pending now') → offset ≡ limit → MeansBytes pass so_far.given
       → IfSome before (λ bytes. ByteStops pass bytes InputTooLong offset old new)
   bytes_too_long reader' now' offset passes place meaning = by_told before tells.1
     where
@@ -187,6 +188,17 @@ module _ (pass : BytePass) (reader : ByteReading) (before now : Option (List ℕ
             work = so_far.work;
             meaning = meaning;
           }
+
+  -- the reading stops before the end
+  pub bytes_stop : (reader' : ByteReading) (now' : Option (List ℕ)) (reason : Reason) (offset : ℕ) → StopsBytes reader reader' (ahead reader.pending now) (ahead reader'.pending now') (Refused reason offset)
+      → MeansBytes pass so_far.given → IfSome before (λ bytes. ByteStops pass bytes reason offset old new)
+  bytes_stop reader' now' InputTooLong offset stops meaning = bytes_too_long reader' now' offset stops.0 stops.1 meaning
+  bytes_stop reader' now' Truncated offset stops meaning = absurd stops
+  bytes_stop reader' now' BadCount offset stops meaning = absurd stops
+  bytes_stop reader' now' HighBit offset stops meaning = absurd stops
+  bytes_stop reader' now' DataIncrement offset stops meaning = absurd stops
+  bytes_stop reader' now' DataDecrement offset stops meaning = absurd stops
+  bytes_stop reader' now' ExclusiveTooLong offset stops meaning = absurd stops
 
 -- ---- a stream that is accepted has no refusal
 

@@ -6,6 +6,7 @@ use Rattle.std.specs.List.{AllByRecursion}
 use Rattle.std.proofs.lemmas.Bool.{cases_eq, ltb-true}
 use Rattle.std.proofs.lemmas.List.{append_assoc, append-nil}
 use Rattle.std.proofs.lemmas.Option.{same_Some}
+use Rattle.midi_edge.specs.Outside.{Gains}
 use Rattle.voice_messages.specs.declared.voice2.Form.{Form}
 use Rattle.ump_grammar.specs.declared.packet.Packet.{Packet}
 use Rattle.ump_grammar.specs.declared.packet.Packet.TheVariants as packet
@@ -16,20 +17,20 @@ use Rattle.voice_state.specs.Back.{pieces_of, back_at, AllComeBack}
 use Rattle.voice_state.specs.Packets.{IsInRange}
 use Rattle.voice_state.specs.Parts.{Placed, parts_of, whole_by, whole_of}
 use Rattle.voice_state.specs.Plain.{plain_piece}
-use Rattle.voice_state.specs.Raising.{exclusive_packet, first_exclusive_packets, packets_at, packets_up}
+use Rattle.voice_state.specs.Raising.{exclusive_packet, exclusive_packets, first_exclusive_packets, packets_at, packets_up}
 use Rattle.voice_state.specs.Refusal.{bad_step}
 use Rattle.down_translator.specs.Held.{whole_in, refusal_in, table_behind}
 use Rattle.down_translator.specs.Recording.{packets_of, AreInRange, table_of}
 use Rattle.midi_tool.specs.ComingDown.{piece_in, pieces_in, table_behind_all, AreAcceptedIn}
-use Rattle.midi_tool.proofs.WorkLaws.{reverse-push}
+use Rattle.midi_tool.proofs.WorkLaws.{Gains-more, reverse-push}
 
 -- ---- one packet more
 
-pub table-push : (offset : ℕ) (ps : List Packet) (p : Packet) (table : Table) → table_behind_all offset (ps ++ p ∷ []) table ≡ table_behind offset p (table_behind_all offset ps table)
+table-push : (offset : ℕ) (ps : List Packet) (p : Packet) (table : Table) → table_behind_all offset (ps ++ p ∷ []) table ≡ table_behind offset p (table_behind_all offset ps table)
 table-push offset [] p table = refl
 table-push offset (q ∷ ps) p table = table-push offset ps p (table_behind offset q table)
 
-pub pieces-push : (offset : ℕ) (ps : List Packet) (p : Packet) (table : Table) → pieces_in offset (ps ++ p ∷ []) table ≡ pieces_in offset ps table ++ piece_in (table_behind_all offset ps table) p
+pieces-push : (offset : ℕ) (ps : List Packet) (p : Packet) (table : Table) → pieces_in offset (ps ++ p ∷ []) table ≡ pieces_in offset ps table ++ piece_in (table_behind_all offset ps table) p
 pieces-push offset [] p table = append-nil (piece_in table p)
 pieces-push offset (q ∷ ps) p table =
     ap (λ xs. piece_in table q ++ xs) (pieces-push offset ps p (table_behind offset q table))
@@ -55,7 +56,7 @@ first-split group payload (suc count) k below = elim (cases_eq k count) [
 ]
 
 -- of accepted ones each is accepted behind those before it
-pub accepted_part : (offset group : ℕ) (payload : List ℕ) (count k : ℕ) (table : Table) → k < count → AreAcceptedIn offset (first_exclusive_packets group payload count) table
+accepted_part : (offset group : ℕ) (payload : List ℕ) (count k : ℕ) (table : Table) → k < count → AreAcceptedIn offset (first_exclusive_packets group payload count) table
     → IsPacket (exclusive_packet group payload k) × (refusal_in (table_behind_all offset (first_exclusive_packets group payload k) table) (exclusive_packet group payload k) ≡ None)
 accepted_part offset group payload count k table below accepted =
     let split = first-split group payload count k below in
@@ -79,6 +80,39 @@ packet_part group payload k form bytes e = go (nat_lt k (part_count payload)) re
         let same : (form, bytes) ≡ there = same_Some (form, bytes) there is in
         record { below = ltb-true k (part_count payload) below; packet = ap (λ part. packet.Exclusive group part.0 part.1) same }
     go false below is = cc
+
+-- behind the first k packets, which came down from a table: the next part is accepted
+module _ (offset group : ℕ) (payload : List ℕ) (k : ℕ) (form : Form) (bytes : List ℕ) (part : IsPacketPart group payload k form bytes) (table now : Table) (holds : now ≡ table_behind_all offset (first_exclusive_packets group payload k) table) where
+  abbrev taken : Packet
+  taken = packet.Exclusive group form bytes
+
+  abbrev first : List Packet
+  first = first_exclusive_packets group payload k
+
+  next : k + 1 ≡ suc k
+  next = omega arith
+
+  pub part_accepted : AreAcceptedIn offset (exclusive_packets group payload) table → IsPacket taken × (refusal_in now taken ≡ None)
+  part_accepted accepted =
+      let P : Packet → Type 0 = λ p. IsPacket p × (refusal_in now p ≡ None) in
+      let T : Table → Type 0 = λ t. IsPacket (exclusive_packet group payload k) × (refusal_in t (exclusive_packet group payload k) ≡ None) in
+      subst P (sym part.packet) (subst T (sym holds) (accepted_part offset group payload (part_count payload) k table part.below accepted))
+
+  -- and comes down
+  pub part_behind : (later : Table) → later ≡ table_behind offset taken now → later ≡ table_behind_all offset (first_exclusive_packets group payload (k + 1)) table
+  part_behind later is =
+      let B : Packet → Type 0 = λ p. later ≡ table_behind offset p now in
+      let F : ℕ → Type 0 = λ n. later ≡ table_behind_all offset (first_exclusive_packets group payload n) table in
+      subst F (sym next) (subst B part.packet is ∙ ap (table_behind offset (exclusive_packet group payload k)) holds ∙ sym (table-push offset first (exclusive_packet group payload k) table))
+
+  pub part_pieces : (old mid new : Option (List ℕ)) → Gains old mid (pieces_in offset first table) → Gains mid new (piece_in now taken) → Gains old new (pieces_in offset (first_exclusive_packets group payload (k + 1)) table)
+  part_pieces old mid new before gains =
+      let G : List ℕ → Type 0 = λ xs. Gains old new xs in
+      let P : Packet → Type 0 = λ p. Gains mid new (piece_in now p) in
+      let T : Table → Type 0 = λ t. Gains mid new (piece_in t (exclusive_packet group payload k)) in
+      let F : ℕ → Type 0 = λ n. Gains old new (pieces_in offset (first_exclusive_packets group payload n) table) in
+      let piece : List ℕ = piece_in (table_behind_all offset first table) (exclusive_packet group payload k) in
+      subst F (sym next) (subst G (sym (pieces-push offset first (exclusive_packet group payload k) table)) (Gains-more old mid new (pieces_in offset first table) piece before (subst T holds (subst P part.packet gains))))
 
 -- ---- the packets to which bytes are raised
 

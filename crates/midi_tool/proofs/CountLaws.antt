@@ -13,11 +13,15 @@ use Rattle.midi_tool.specs.Step.{EndsStep, EndCounts, ListsOpen, Closes}
 use Rattle.midi_tool.specs.declared.status.RunEnd.{RunEnd}
 use Rattle.midi_tool.specs.declared.status.RunEnd.TheVariants.{Done, Refused, ReadFault, LaneFault, OutputFault, NoteFault}
 
-abbrev counts : ℕ → ℕ → ℕ → ℕ → Counts
+abbrev pub counts : ℕ → ℕ → ℕ → ℕ → Counts
 counts reads lanes output notes = record { reads = reads; lanes = lanes; output = output; notes = notes }
 
 same : (r r' l l' o n n' : ℕ) → r' ≡ r → l' ≡ l → n' ≡ n → counts r' l' o n' ≡ counts r l o n
 same r r' l l' o n n' e f g = ap (λ x. counts x l' o n') e ∙ ap (λ x. counts r x o n') f ∙ ap (λ x. counts r l o x) g
+
+-- where nothing is done with the lanes
+pub same_lanes : (r r' l o o' n n' : ℕ) → r' ≡ r → o' ≡ o → n' ≡ n → counts r' l o' n' ≡ counts r l o n
+same_lanes r r' l o o' n n' e f g = ap (λ x. counts x l o' n') e ∙ ap (λ x. counts r l x n') f ∙ ap (λ x. counts r l o x) g
 
 -- behind a packet that is the last one
 pub step_counts : (room : ℕ) (table : Table) (offset : ℕ) (p : Packet) (end : RunEnd) (old new : Option (List (ℕ × List ℕ))) (noted noted' : Option (List ℕ)) (reads reads' lanes lanes' lanes'' output notes notes' notes'' : ℕ)

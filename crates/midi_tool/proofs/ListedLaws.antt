@@ -6,7 +6,6 @@ use Rattle.std.proofs.lemmas.List.{append-nil, reverse-append, take-append-drop}
 use Rattle.midi_edge.specs.Outside.{Gains, ahead}
 use Rattle.midi_edge.specs.ByteReader.{ByteReading, Ends, GivesByte}
 use Rattle.voice_state.specs.declared.listed.BadStep.{BadStep}
-use Rattle.voice_state.specs.declared.listed.Listed.{Listed}
 use Rattle.voice_state.specs.StepListing.{kinds_at_end, line_up, open_pair}
 use Rattle.voice_state.specs.UpRefusal.{AreAcceptedUp, AreStepsWithinRoom, refusal_of_step, refusal_up}
 use Rattle.up_translator.specs.declared.raised.Raised.{Raised}
@@ -20,11 +19,9 @@ use Rattle.midi_tool.specs.Recording.{texts}
 use Rattle.midi_tool.specs.Step.{reason_of}
 use Rattle.midi_tool.specs.Told.{Told}
 use Rattle.midi_tool.specs.UpStep.{ClosesUp, EndsByte, ListsEnd, open_listed}
-use Rattle.midi_tool.specs.declared.status.Reason.{Reason}
-use Rattle.midi_tool.specs.declared.status.Reason.TheVariants.{Truncated, InputTooLong, BadCount, HighBit, DataIncrement, DataDecrement, ExclusiveTooLong}
 use Rattle.midi_tool.specs.declared.status.RunEnd.{RunEnd}
 use Rattle.midi_tool.specs.declared.status.RunEnd.TheVariants.{Done, Refused, ReadFault, LaneFault, OutputFault, NoteFault}
-use Rattle.midi_tool.proofs.ByteLaws.{BytesSoFar, at_length, bytes_refused, bytes_done, bytes_too_long}
+use Rattle.midi_tool.proofs.ByteLaws.{BytesSoFar, at_length, bytes_refused, bytes_done, bytes_stop}
 use Rattle.midi_tool.proofs.WorkLaws.{Gains-more, reverse-push, untold}
 
 -- what holds of all streams, by the public laws of the crates below
@@ -155,28 +152,16 @@ module _ (laws : ListedLaws) (pass : BytePass) (room group : ℕ) (is_listed : I
   listed_end reader' now' listed lists lists' ReadFault ends shows pieces = absurd shows
   listed_end reader' now' listed lists lists' LaneFault ends shows pieces = absurd shows
 
-  -- where the reading stops before the end
-  listed_stop : (reader' : ByteReading) (now' : Option (List ℕ)) (reason : Reason) (at : ℕ) → StopsBytes reader reader' (ahead reader.pending now) (ahead reader'.pending now') (Refused reason at)
-      → (pieces : Option (List (ℕ × List ℕ))) → IfSome before (λ bytes. ByteStops pass bytes reason at (all_told pieces old noted) (all_told pieces new noted'))
-  unfolding whatever
-  listed_stop reader' now' InputTooLong at stops pieces =
-      bytes_too_long pass reader before now (all_told pieces old noted) (all_told pieces new noted') (whatever pieces) reader' now' at stops.0 stops.1 means
-  listed_stop reader' now' Truncated at stops pieces = absurd stops
-  listed_stop reader' now' BadCount at stops pieces = absurd stops
-  listed_stop reader' now' HighBit at stops pieces = absurd stops
-  listed_stop reader' now' DataIncrement at stops pieces = absurd stops
-  listed_stop reader' now' DataDecrement at stops pieces = absurd stops
-  listed_stop reader' now' ExclusiveTooLong at stops pieces = absurd stops
-
   -- where the reading ends
   pub listed_close : (reader' : ByteReading) (now' listed : Option (List ℕ)) (lists lists' : ℕ) (first end : RunEnd) → StopsBytes reader reader' (ahead reader.pending now) (ahead reader'.pending now') first
       → ClosesUp (open_listed up) first end noted' listed lists lists' → (pieces : Option (List (ℕ × List ℕ)))
       → IfSome before (λ bytes. ByteSays pass bytes now' (all_told pieces old noted) (all_told pieces new listed) end)
+  unfolding whatever
   listed_close reader' now' listed lists lists' Done end stops shows pieces = listed_end reader' now' listed lists lists' end stops shows pieces
   listed_close reader' now' listed lists lists' (Refused reason at) end stops shows pieces =
       let E : RunEnd → Type 0 = λ e. IfSome before (λ bytes. ByteSays pass bytes now' (all_told pieces old noted) (all_told pieces new listed) e) in
       let H : Option (List ℕ) → Type 0 = λ h. IfSome before (λ bytes. ByteStops pass bytes reason at (all_told pieces old noted) (all_told pieces new h)) in
-      subst E (sym shows.0) (subst H (sym shows.1) (listed_stop reader' now' reason at stops pieces))
+      subst E (sym shows.0) (subst H (sym shows.1) (bytes_stop pass reader before now (all_told pieces old noted) (all_told pieces new noted') (whatever pieces) reader' now' reason at stops means))
   listed_close reader' now' listed lists lists' ReadFault end stops shows pieces =
       let E : RunEnd → Type 0 = λ e. IfSome before (λ bytes. ByteSays pass bytes now' (all_told pieces old noted) (all_told pieces new listed) e) in
       subst E (sym shows.0) (untold before)

@@ -1,6 +1,5 @@
 -- The lines of the exclusives that are still begun, group by group.
-use Rattle.std.proofs.Common.{◌≡◌, ◌+◌, ◌<◌, ℕ, zero, suc, List, [], ◌∷◌, ◌++◌, take, refl, ap, ◌∙◌, arith, append-nil}
-use Rattle.std.specs.List.{flat_map}
+use Rattle.std.proofs.Common.{◌≡◌, ◌+◌, ◌<◌, ℕ, zero, suc, [], ◌∷◌, ◌++◌, take, refl, ap, ◌∙◌, arith, append-nil}
 use Rattle.std.specs.Option.{option_to_list}
 use Rattle.std.proofs.lemmas.List.Concat.{flat_map-append}
 use Rattle.sysex_groups.specs.Table.{Table}

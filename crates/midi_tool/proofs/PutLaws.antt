@@ -5,13 +5,12 @@ use Rattle.std.specs.List.{flat_map}
 use Rattle.std.specs.Option.{unwrap_or}
 use Rattle.std.proofs.lemmas.Bool.{ltb-true}
 use Rattle.std.proofs.lemmas.List.{append_assoc}
-use Rattle.midi_edge.specs.Outside.{Gains}
 use Rattle.voice_messages.specs.declared.voice2.Form.{Form}
 use Rattle.ump_words.specs.Cut.{word_bytes}
 use Rattle.ump_words.specs.declared.words.Order.{Order}
 use Rattle.ump_grammar.specs.declared.packet.Packet.{Packet}
 use Rattle.ump_grammar.specs.declared.packet.Packet.TheVariants as packet
-use Rattle.sysex_groups.specs.Cut.{form_at, part_at, part_count}
+use Rattle.sysex_groups.specs.Cut.{part_at, part_count}
 use Rattle.voice_state.specs.Raising.{exclusive_packet, first_exclusive_packets}
 use Rattle.midi_tool.specs.ByteWork.{AreWritten}
 use Rattle.midi_tool.specs.UpStep.{Writes}

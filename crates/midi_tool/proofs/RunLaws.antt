@@ -1,12 +1,12 @@
 -- From how a pass over a recording ends to the status of a run.
-use Rattle.std.proofs.Common.{◌≡◌, ◌⊎◌, ◌≤◌, ℕ, List, [], Option, None, Some, refl, ap, sym, ◌∙◌, subst, inl, inr, arith}
+use Rattle.std.proofs.Common.{◌≡◌, ◌≤◌, ℕ, List, Option, None, Some, refl, sym, ◌∙◌, inl, inr, arith}
 use Rattle.std.specs.Prelude.{IfSome}
 use Rattle.midi_edge.specs.Outside.{Rose}
 use Rattle.command_line.specs.Asked.{Asked}
 use Rattle.midi_tool.specs.LastLine.{GainsLine}
 use Rattle.midi_tool.specs.Ready.{ReadyLines, of_packets, of_bytes}
 use Rattle.midi_tool.specs.Run.{Task, over_packets, over_bytes, lines_task, TaskSays, TaskEnds, TaskCounts, HasNoStop, StatusSays, StatusCounts, IsDoneUnless, status_after}
-use Rattle.midi_tool.specs.Told.{Told, Counts, CountsOf}
+use Rattle.midi_tool.specs.Told.{Told, Counts}
 use Rattle.midi_tool.specs.declared.status.RunEnd.{RunEnd}
 use Rattle.midi_tool.specs.declared.status.RunEnd.TheVariants.{Done, Refused, ReadFault, LaneFault, OutputFault, NoteFault}
 use Rattle.midi_tool.specs.declared.status.Status.{Status}

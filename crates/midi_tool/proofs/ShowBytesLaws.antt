@@ -1,25 +1,23 @@
 -- A stream of bytes that is shown: what each answer of the reader adds, and what the end says.
-use Rattle.std.proofs.Common.{◌≡◌, ◌<◌, ◌≤◌, ℕ, List, [], ◌∷◌, ◌++◌, length, Option, None, Some, refl, ap, sym, ◌∙◌, subst}
+use Rattle.std.proofs.Common.{◌≡◌, ℕ, List, [], ◌∷◌, ◌++◌, length, Option, None, Some, refl, ap, sym, ◌∙◌, subst}
 use Rattle.std.specs.Prelude.{IfSome, reverse}
 use Rattle.std.specs.Option.{option_map}
-use Rattle.std.proofs.lemmas.List.{append-nil}
 use Rattle.midi_edge.specs.Outside.{Gains, Rose, ahead}
 use Rattle.midi_edge.specs.ByteReader.{ByteReading, Ends, GivesByte}
 use Rattle.midi1_bytes.specs.Parsing.{Parsing, held_behind, open_of, parse}
 use Rattle.midi1_bytes.specs.Steps.{Step, step_of}
 use Rattle.midi1_bytes.specs.Stream.{open_at_end}
 use Rattle.voice_state.specs.StepListing.{kinds_at_end}
-use Rattle.midi_tool.specs.ByteWork.{showing_bytes, reason_of_step, shown_step, listing_texts, noted_behind, put_at_end, ArePut, ByteWork, WholeByteWork, ByteSays, ByteStops}
+use Rattle.midi_tool.specs.ByteWork.{showing_bytes, reason_of_step, shown_step, listing_texts, noted_behind, put_at_end, ByteSays, ByteStops}
 use Rattle.midi_tool.specs.Next.{StopCause}
 use Rattle.midi_tool.specs.NextByte.{StopsBytes}
 use Rattle.midi_tool.specs.ShowBytes.{ShowsEnd, ShowsOpen, StepEnds}
 use Rattle.midi_tool.specs.ByteWork.{ByteEndsOf}
-use Rattle.midi_tool.specs.Told.{Told, Counts, CountsOf}
-use Rattle.midi_tool.specs.declared.status.Reason.{Reason}
-use Rattle.midi_tool.specs.declared.status.Reason.TheVariants.{Truncated, InputTooLong, BadCount, HighBit, DataIncrement, DataDecrement, ExclusiveTooLong}
+use Rattle.midi_tool.specs.Told.{Told, CountsOf}
 use Rattle.midi_tool.specs.declared.status.RunEnd.{RunEnd}
 use Rattle.midi_tool.specs.declared.status.RunEnd.TheVariants.{Done, Refused, ReadFault, LaneFault, OutputFault, NoteFault}
-use Rattle.midi_tool.proofs.ByteLaws.{BytesSoFar, at_length, bytes_more, bytes_refused, bytes_done, bytes_too_long}
+use Rattle.midi_tool.proofs.ByteLaws.{BytesSoFar, at_length, bytes_more, bytes_refused, bytes_done, bytes_stop}
+use Rattle.midi_tool.proofs.CountLaws.{counts, same_lanes}
 use Rattle.midi_tool.proofs.WorkLaws.{Gains-none, Gains-more, untold}
 
 -- what is shown tells nothing in the notes
@@ -116,28 +114,16 @@ module _ (laws : ParserLaws) (room : ℕ) (reader : ByteReading) (before now : O
   shown_end reader' now' new' faults faults' LaneFault ends shows pieces noted = absurd shows
   shown_end reader' now' new' faults faults' NoteFault ends shows pieces noted = absurd shows
 
-  -- where the reading stops before the end
-  shown_stop : (reader' : ByteReading) (now' : Option (List ℕ)) (reason : Reason) (at : ℕ) → StopsBytes reader reader' (ahead reader.pending now) (ahead reader'.pending now') (Refused reason at)
-      → (pieces : Option (List (ℕ × List ℕ))) (noted : Option (List ℕ)) → IfSome before (λ bytes. ByteStops (showing_bytes room) bytes reason at (all_told pieces noted old) (all_told pieces noted new))
-  unfolding whatever
-  shown_stop reader' now' InputTooLong at stops pieces noted =
-      bytes_too_long (showing_bytes room) reader before now (all_told pieces noted old) (all_told pieces noted new) (whatever pieces noted) reader' now' at stops.0 stops.1 tt
-  shown_stop reader' now' Truncated at stops pieces noted = absurd stops
-  shown_stop reader' now' BadCount at stops pieces noted = absurd stops
-  shown_stop reader' now' HighBit at stops pieces noted = absurd stops
-  shown_stop reader' now' DataIncrement at stops pieces noted = absurd stops
-  shown_stop reader' now' DataDecrement at stops pieces noted = absurd stops
-  shown_stop reader' now' ExclusiveTooLong at stops pieces noted = absurd stops
-
   -- where the reading ends
   pub shown_close : (reader' : ByteReading) (now' new' : Option (List ℕ)) (faults faults' : ℕ) (first end : RunEnd) → StopsBytes reader reader' (ahead reader.pending now) (ahead reader'.pending now') first
       → ShowsEnd parsing first end new new' faults faults' → (pieces : Option (List (ℕ × List ℕ))) (noted : Option (List ℕ))
       → IfSome before (λ bytes. ByteSays (showing_bytes room) bytes now' (all_told pieces noted old) (all_told pieces noted new') end)
+  unfolding whatever
   shown_close reader' now' new' faults faults' Done end stops shows pieces noted = shown_end reader' now' new' faults faults' end stops shows pieces noted
   shown_close reader' now' new' faults faults' (Refused reason at) end stops shows pieces noted =
       let E : RunEnd → Type 0 = λ e. IfSome before (λ bytes. ByteSays (showing_bytes room) bytes now' (all_told pieces noted old) (all_told pieces noted new') e) in
       let H : Option (List ℕ) → Type 0 = λ h. IfSome before (λ bytes. ByteStops (showing_bytes room) bytes reason at (all_told pieces noted old) (all_told pieces noted h)) in
-      subst E (sym shows.0) (subst H (sym shows.1) (shown_stop reader' now' reason at stops pieces noted))
+      subst E (sym shows.0) (subst H (sym shows.1) (bytes_stop (showing_bytes room) reader before now (all_told pieces noted old) (all_told pieces noted new) (whatever pieces noted) reader' now' reason at stops tt))
   shown_close reader' now' new' faults faults' ReadFault end stops shows pieces noted =
       let E : RunEnd → Type 0 = λ e. IfSome before (λ bytes. ByteSays (showing_bytes room) bytes now' (all_told pieces noted old) (all_told pieces noted new') e) in
       subst E (sym shows.0) (untold before)
@@ -147,11 +133,8 @@ module _ (laws : ParserLaws) (room : ℕ) (reader : ByteReading) (before now : O
 
 -- ---- counts
 
-abbrev counts : ℕ → ℕ → ℕ → ℕ → Counts
-counts reads lanes output notes = record { reads = reads; lanes = lanes; output = output; notes = notes }
-
 same : (r r' l o o' n : ℕ) → r' ≡ r → o' ≡ o → counts r' l o' n ≡ counts r l o n
-same r r' l o o' n e f = ap (λ x. counts x l o' n) e ∙ ap (λ x. counts r l x n) f
+same r r' l o o' n e f = same_lanes r r' l o o' n n e f refl
 
 pub step_counts : (room : ℕ) (step : Step) (offset : ℕ) (end : RunEnd) (new new' : Option (List ℕ)) (r r' l o o' o'' n : ℕ) → StepEnds step offset end new new' o' o'' → r' ≡ r → o' ≡ o
     → ByteEndsOf (showing_bytes room) end × CountsOf end (counts r l o n) (counts r' l o'' n)

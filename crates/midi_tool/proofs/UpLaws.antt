@@ -1,22 +1,19 @@
 -- A stream of bytes that is raised: what each answer of the reader adds, and what the end says.
-use Rattle.std.proofs.Common.{◌≡◌, ◌<◌, ◌≤◌, ℕ, List, [], ◌∷◌, ◌++◌, length, map, take, drop, Option, None, Some, refl, ap, sym, ◌∙◌, subst}
+use Rattle.std.proofs.Common.{◌≡◌, ℕ, List, [], ◌∷◌, ◌++◌, length, map, take, drop, Option, None, Some, refl, ap, sym, ◌∙◌, subst}
 use Rattle.std.specs.Prelude.{IfSome, Result, Ok, Err, reverse}
 use Rattle.std.specs.Option.{option_map}
 use Rattle.std.proofs.lemmas.List.{append-nil, reverse-append, take-append-drop}
 use Rattle.midi_edge.specs.Outside.{Gains, Rose, ahead}
 use Rattle.midi_edge.specs.ByteReader.{ByteReading, Ends, GivesByte}
-use Rattle.midi1_bytes.specs.Parsing.{open_of}
-use Rattle.midi1_bytes.specs.Steps.{step_of}
 use Rattle.ump_words.specs.declared.words.Order.{Order}
 use Rattle.ump_grammar.specs.declared.packet.Packet.{Packet}
 use Rattle.voice_state.specs.declared.listed.BadStep.{BadStep}
-use Rattle.voice_state.specs.declared.listed.BadStep.TheVariants as bad
 use Rattle.voice_state.specs.declared.listed.Listed.{Listed}
 use Rattle.voice_state.specs.Agreement.{Agrees}
 use Rattle.voice_state.specs.Messages.{mean1}
 use Rattle.voice_state.specs.Packets.{mean2}
-use Rattle.voice_state.specs.Raising.{packets_at, packets_of_bytes, packets_up}
-use Rattle.voice_state.specs.StepListing.{kinds_at_end, line_up, lines_at, open_pair}
+use Rattle.voice_state.specs.Raising.{packets_of_bytes, packets_up}
+use Rattle.voice_state.specs.StepListing.{kinds_at_end, line_up, open_pair}
 use Rattle.voice_state.specs.UpRefusal.{AreAcceptedUp, AreStepsWithinRoom, refusal_of_step, refusal_up}
 use Rattle.up_translator.specs.declared.raised.Raised.{Raised}
 use Rattle.up_translator.specs.Answers.{IsAnswerAt, IsRaisedAt}
@@ -30,11 +27,10 @@ use Rattle.midi_tool.specs.Recording.{texts}
 use Rattle.midi_tool.specs.Step.{reason_of}
 use Rattle.midi_tool.specs.Told.{Told, Counts, CountsOf}
 use Rattle.midi_tool.specs.UpStep.{ClosesUp, EndsByte, ListsEnd, PutsByte, open_listed}
-use Rattle.midi_tool.specs.declared.status.Reason.{Reason}
-use Rattle.midi_tool.specs.declared.status.Reason.TheVariants.{Truncated, InputTooLong, BadCount, HighBit, DataIncrement, DataDecrement, ExclusiveTooLong}
 use Rattle.midi_tool.specs.declared.status.RunEnd.{RunEnd}
 use Rattle.midi_tool.specs.declared.status.RunEnd.TheVariants.{Done, Refused, ReadFault, LaneFault, OutputFault, NoteFault}
-use Rattle.midi_tool.proofs.ByteLaws.{BytesSoFar, at_length, bytes_more, bytes_refused, bytes_done, bytes_too_long}
+use Rattle.midi_tool.proofs.ByteLaws.{BytesSoFar, at_length, bytes_more, bytes_refused, bytes_done, bytes_stop}
+use Rattle.midi_tool.proofs.CountLaws.{counts, same_lanes}
 use Rattle.midi_tool.proofs.WorkLaws.{Gains-more, reverse-push, untold}
 
 -- what holds of all streams, by the public laws of the crates below
@@ -191,28 +187,16 @@ module _ (laws : UpLaws) (room group : ℕ) (order : Order) (reader : ByteReadin
   raised_end reader' now' listed lists lists' ReadFault ends shows pieces = absurd shows
   raised_end reader' now' listed lists lists' LaneFault ends shows pieces = absurd shows
 
-  -- where the reading stops before the end
-  raised_stop : (reader' : ByteReading) (now' : Option (List ℕ)) (reason : Reason) (at : ℕ) → StopsBytes reader reader' (ahead reader.pending now) (ahead reader'.pending now') (Refused reason at)
-      → (pieces : Option (List (ℕ × List ℕ))) → IfSome before (λ bytes. ByteStops pass bytes reason at (all_told pieces old noted) (all_told pieces new noted'))
-  unfolding whatever
-  raised_stop reader' now' InputTooLong at stops pieces =
-      bytes_too_long pass reader before now (all_told pieces old noted) (all_told pieces new noted') (whatever pieces) reader' now' at stops.0 stops.1 means
-  raised_stop reader' now' Truncated at stops pieces = absurd stops
-  raised_stop reader' now' BadCount at stops pieces = absurd stops
-  raised_stop reader' now' HighBit at stops pieces = absurd stops
-  raised_stop reader' now' DataIncrement at stops pieces = absurd stops
-  raised_stop reader' now' DataDecrement at stops pieces = absurd stops
-  raised_stop reader' now' ExclusiveTooLong at stops pieces = absurd stops
-
   -- where the reading ends
   pub raised_close : (reader' : ByteReading) (now' listed : Option (List ℕ)) (lists lists' : ℕ) (first end : RunEnd) → StopsBytes reader reader' (ahead reader.pending now) (ahead reader'.pending now') first
       → ClosesUp (open_listed up) first end noted' listed lists lists' → (pieces : Option (List (ℕ × List ℕ)))
       → IfSome before (λ bytes. ByteSays pass bytes now' (all_told pieces old noted) (all_told pieces new listed) end)
+  unfolding whatever
   raised_close reader' now' listed lists lists' Done end stops shows pieces = raised_end reader' now' listed lists lists' end stops shows pieces
   raised_close reader' now' listed lists lists' (Refused reason at) end stops shows pieces =
       let E : RunEnd → Type 0 = λ e. IfSome before (λ bytes. ByteSays pass bytes now' (all_told pieces old noted) (all_told pieces new listed) e) in
       let H : Option (List ℕ) → Type 0 = λ h. IfSome before (λ bytes. ByteStops pass bytes reason at (all_told pieces old noted) (all_told pieces new h)) in
-      subst E (sym shows.0) (subst H (sym shows.1) (raised_stop reader' now' reason at stops pieces))
+      subst E (sym shows.0) (subst H (sym shows.1) (bytes_stop pass reader before now (all_told pieces old noted) (all_told pieces new noted') (whatever pieces) reader' now' reason at stops means))
   raised_close reader' now' listed lists lists' ReadFault end stops shows pieces =
       let E : RunEnd → Type 0 = λ e. IfSome before (λ bytes. ByteSays pass bytes now' (all_told pieces old noted) (all_told pieces new listed) e) in
       subst E (sym shows.0) (untold before)
@@ -222,32 +206,26 @@ module _ (laws : UpLaws) (room group : ℕ) (order : Order) (reader : ByteReadin
 
 -- ---- counts
 
-abbrev counts : ℕ → ℕ → ℕ → ℕ → Counts
-counts reads lanes output notes = record { reads = reads; lanes = lanes; output = output; notes = notes }
-
-same : (r r' l o o' n n' : ℕ) → r' ≡ r → o' ≡ o → n' ≡ n → counts r' l o' n' ≡ counts r l o n
-same r r' l o o' n n' e f h = ap (λ x. counts x l o' n') e ∙ ap (λ x. counts r l x n') f ∙ ap (λ x. counts r l o x) h
-
 module _ (room group : ℕ) (order : Order) where
   abbrev Told_by : RunEnd → Counts → Counts → Type 0
   Told_by end old new = ByteEndsOf (raising room group order) end × CountsOf end old new
 
   pub byte_counts : (up : UpState) (offset byte : ℕ) (end : RunEnd) (new new' noted noted' : Option (List ℕ)) (r r' l o o' o'' n n' n'' : ℕ) → EndsByte up offset byte end new new' noted noted' o' o'' n' n''
       → r' ≡ r → o' ≡ o → n' ≡ n → Told_by end (counts r l o n) (counts r' l o'' n'')
-  byte_counts up offset byte (Refused reason at) new new' noted noted' r r' l o o' o'' n n' n'' ends e f h = (tt, same r r' l o o'' n n'' e (ends.6 ∙ f) (ends.7 ∙ h))
+  byte_counts up offset byte (Refused reason at) new new' noted noted' r r' l o o' o'' n n' n'' ends e f h = (tt, same_lanes r r' l o o'' n n'' e (ends.6 ∙ f) (ends.7 ∙ h))
   byte_counts up offset byte OutputFault new new' noted noted' r r' l o o' o'' n n' n'' ends e f h =
-      let P : ℕ → Type 0 = λ x. Rose x o'' in (tt, (subst P f ends.0, same r r' l o'' o'' n n'' e refl (ends.1 ∙ h)))
+      let P : ℕ → Type 0 = λ x. Rose x o'' in (tt, (subst P f ends.0, same_lanes r r' l o'' o'' n n'' e refl (ends.1 ∙ h)))
   byte_counts up offset byte NoteFault new new' noted noted' r r' l o o' o'' n n' n'' ends e f h =
-      let P : ℕ → Type 0 = λ x. Rose x n'' in (tt, (subst P h ends.1, same r r' l o o'' n'' n'' e (ends.0 ∙ f) refl))
+      let P : ℕ → Type 0 = λ x. Rose x n'' in (tt, (subst P h ends.1, same_lanes r r' l o o'' n'' n'' e (ends.0 ∙ f) refl))
   byte_counts up offset byte Done new new' noted noted' r r' l o o' o'' n n' n'' ends e f h = absurd ends
   byte_counts up offset byte ReadFault new new' noted noted' r r' l o o' o'' n n' n'' ends e f h = absurd ends
   byte_counts up offset byte LaneFault new new' noted noted' r r' l o o' o'' n n' n'' ends e f h = absurd ends
 
   end_counts : (lines : List Listed) (end : RunEnd) (noted noted' : Option (List ℕ)) (r r' l o o' n n' n'' : ℕ) → ListsEnd lines end noted noted' n' n'' → r' ≡ r → o' ≡ o → n' ≡ n
       → Told_by end (counts r l o n) (counts r' l o' n'')
-  end_counts lines Done noted noted' r r' l o o' n n' n'' lists e f h = (tt, same r r' l o o' n n'' e f (lists.1 ∙ h))
+  end_counts lines Done noted noted' r r' l o o' n n' n'' lists e f h = (tt, same_lanes r r' l o o' n n'' e f (lists.1 ∙ h))
   end_counts lines NoteFault noted noted' r r' l o o' n n' n'' lists e f h =
-      let P : ℕ → Type 0 = λ x. Rose x n'' in (tt, (subst P h lists, same r r' l o o' n'' n'' e f refl))
+      let P : ℕ → Type 0 = λ x. Rose x n'' in (tt, (subst P h lists, same_lanes r r' l o o' n'' n'' e f refl))
   end_counts lines OutputFault noted noted' r r' l o o' n n' n'' lists e f h = absurd lists
   end_counts lines (Refused reason at) noted noted' r r' l o o' n n' n'' lists e f h = absurd lists
   end_counts lines ReadFault noted noted' r r' l o o' n n' n'' lists e f h = absurd lists
@@ -258,10 +236,10 @@ module _ (room group : ℕ) (order : Order) where
   close_counts lines reader reader' before after Done end noted noted' r r' r'' l o o' n n' n'' stops cause closes e f h = end_counts lines end noted noted' r r'' l o o' n n' n'' closes (cause ∙ e) f h
   close_counts lines reader reader' before after (Refused reason at) end noted noted' r r' r'' l o o' n n' n'' stops cause closes e f h =
       let E : RunEnd → Type 0 = λ x. Told_by x (counts r l o n) (counts r'' l o' n'') in
-      subst E (sym closes.0) (tt, same r r'' l o o' n n'' (cause ∙ e) f (closes.2 ∙ h))
+      subst E (sym closes.0) (tt, same_lanes r r'' l o o' n n'' (cause ∙ e) f (closes.2 ∙ h))
   close_counts lines reader reader' before after ReadFault end noted noted' r r' r'' l o o' n n' n'' stops cause closes e f h =
       let E : RunEnd → Type 0 = λ x. Told_by x (counts r l o n) (counts r'' l o' n'') in
-      let P : ℕ → Type 0 = λ x. Rose x r'' in subst E (sym closes.0) (tt, (subst P e cause, same r'' r'' l o o' n n'' refl f (closes.2 ∙ h)))
+      let P : ℕ → Type 0 = λ x. Rose x r'' in subst E (sym closes.0) (tt, (subst P e cause, same_lanes r'' r'' l o o' n n'' refl f (closes.2 ∙ h)))
   close_counts lines reader reader' before after LaneFault end noted noted' r r' r'' l o o' n n' n'' stops cause closes e f h = absurd stops
   close_counts lines reader reader' before after OutputFault end noted noted' r r' r'' l o o' n n' n'' stops cause closes e f h = absurd stops
   close_counts lines reader reader' before after NoteFault end noted noted' r r' r'' l o o' n n' n'' stops cause closes e f h = absurd stops

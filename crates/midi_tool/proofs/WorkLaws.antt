@@ -1,11 +1,10 @@
 -- What a pass over a recording has done so far, and what its end says.
-use Rattle.std.proofs.Common.{◌≡◌, ◌<◌, ◌≤◌, ℕ, List, [], ◌∷◌, ◌++◌, map, Option, None, Some, refl, ap, sym, ◌∙◌, subst, lit<, lit≤}
+use Rattle.std.proofs.Common.{◌≡◌, ◌≤◌, ℕ, List, [], ◌∷◌, ◌++◌, Option, None, Some, refl, ap, sym, ◌∙◌, subst}
 use Rattle.std.specs.Prelude.{IfSome, reverse}
 use Rattle.std.specs.List.{AllByRecursion, flat_map}
 use Rattle.std.specs.Option.{option_map, option_to_list}
 use Rattle.std.proofs.lemmas.List.{append_assoc, append-nil, map_push, reverse-append}
 use Rattle.std.proofs.lemmas.List.Concat.{flat_map-append}
-use Rattle.std.proofs.lemmas.List.Elements.{recursion_from_All}
 use Rattle.midi_edge.specs.Outside.{Gains, ahead}
 use Rattle.ump_words.specs.Cut.{IsCutInto}
 use Rattle.ump_words.specs.Reader.{Reading, GivesPacket, Finishes}
@@ -17,7 +16,6 @@ use Rattle.ump_words.proofs.SoFar.{ReadSoFar, StandsBehind, start, step, one_cut
 use Rattle.ump_grammar.specs.declared.packet.Bad.TheVariants as bad
 use Rattle.ump_grammar.specs.declared.packet.Packet.{Packet}
 use Rattle.ump_grammar.specs.declared.packet.Packet.TheVariants as packet
-use Rattle.ump_grammar.specs.Ranges.{IsPacket}
 use Rattle.ump_grammar.specs.Spelling.{Spells}
 use Rattle.ump_grammar.specs.Reason.{reason as reason_of}
 use Rattle.ump_grammar.proofs.Fitting.{IsPacket-spelled}
@@ -41,12 +39,12 @@ use Rattle.down_translator.specs.Recording.{packets_of, AreInRange, table_of, Ar
 use Rattle.down_translator.specs.Step.{IsPlainStep}
 use Rattle.down_translator.proofs.HeldLaws.{packet_in_range}
 use mathlib.Core.List.{reverse-cons}
-use Rattle.midi_tool.specs.Next.{limit, Gives, Stops as StopsReading}
-use Rattle.midi_tool.specs.Outcome.{Pass, carrying, showing, bad_in, AreWithin, HasNoBad, AreTaken, IsBadStep, IsRefused, RefusesBehind, IsFirstStop, AreCarried, AreShown, IsWork, Stops, IsDone, Says}
-use Rattle.midi_tool.specs.Recording.{IsRead, AreRead, to_a_refusal, to_the_end, lines_of, shown, texts}
+use Rattle.midi_tool.specs.Next.{limit, Stops as StopsReading}
+use Rattle.midi_tool.specs.Outcome.{Pass, carrying, showing, bad_in, AreWithin, HasNoBad, AreTaken, IsBadStep, IsRefused, RefusesBehind, IsFirstStop, IsWork, Stops, Says}
+use Rattle.midi_tool.specs.Recording.{IsRead, AreRead, to_a_refusal, to_the_end, shown, texts}
 use Rattle.midi_tool.specs.ShowPacket.{bad_join, ShowEnds}
 use Rattle.midi_tool.specs.Told.{Told}
-use Rattle.midi_tool.specs.Step.{Puts, reason_of as reason_for, RefusesStep, EndsStep, ListsOpen, Closes, open_line, open_lines}
+use Rattle.midi_tool.specs.Step.{Puts, reason_of as reason_for, RefusesStep, EndsStep, ListsOpen, Closes, open_lines}
 use Rattle.midi_tool.specs.declared.status.Reason.{Reason}
 use Rattle.midi_tool.specs.declared.status.Reason.TheVariants.{Truncated, InputTooLong, BadCount, HighBit, DataIncrement, DataDecrement, ExclusiveTooLong}
 use Rattle.midi_tool.specs.declared.status.RunEnd.{RunEnd}

@@ -22,9 +22,9 @@ use Rattle.midi_tool.specs.Recording.{texts}
 use Rattle.midi_tool.specs.Step.{reason_of}
 use Rattle.midi_tool.specs.Told.{Told}
 use Rattle.midi_tool.specs.declared.status.Reason.{Reason}
-use Rattle.midi_tool.specs.declared.status.Reason.TheVariants.{Truncated, InputTooLong, BadCount, HighBit, DataIncrement, DataDecrement, ExclusiveTooLong}
+use Rattle.midi_tool.specs.declared.status.Reason.TheVariants.{InputTooLong, ExclusiveTooLong}
 use Rattle.midi_tool.specs.declared.status.RunEnd.{RunEnd}
-use Rattle.midi_tool.specs.declared.status.RunEnd.TheVariants.{Done, Refused, ReadFault, LaneFault, OutputFault, NoteFault}
+use Rattle.midi_tool.specs.declared.status.RunEnd.TheVariants.{Done, Refused, LaneFault, NoteFault}
 
 -- What is done with a stream: it is shown, with a room for exclusives, or with a room raised to packets of a group, whose words
 -- are written in an order, or these packets come down again.

@@ -1,5 +1,5 @@
 -- What a reader of packets gives next: a packet that the words spell, or how the pass over the recording ends.
-use Rattle.std.specs.Prelude.{◌≡◌, ℕ, ◌≤◌, List, Option, None, Some}
+use Rattle.std.specs.Prelude.{◌≡◌, ℕ, List, Option, None, Some}
 use Rattle.midi_edge.specs.Outside.{Rose}
 use Rattle.ump_words.specs.Reader.{Reading, GivesPacket, Finishes}
 use Rattle.ump_words.specs.declared.words.Framed.{Framed}

@@ -1,5 +1,5 @@
 -- What a run says: the pass that its command asks for, and its status.
-use Rattle.std.specs.Prelude.{◌≡◌, ◌⊎◌, ℕ, ◌≤◌, List, [], Option, None, Some, length, reverse}
+use Rattle.std.specs.Prelude.{◌≡◌, ◌⊎◌, ℕ, ◌≤◌, List, Option, None, Some, length, reverse}
 use Rattle.midi_edge.specs.Outside.{Rose}
 use Rattle.ump_words.specs.Cut.{IsCutInto}
 use Rattle.ump_words.specs.declared.words.Framed.{Framed}

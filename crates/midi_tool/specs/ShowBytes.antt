@@ -7,7 +7,7 @@ use Rattle.midi1_bytes.specs.Steps.{Step}
 use Rattle.voice_state.specs.StepListing.{kinds_at_end}
 use Rattle.midi_tool.specs.ByteWork.{reason_of_step, shown_step, listing_texts}
 use Rattle.midi_tool.specs.declared.status.RunEnd.{RunEnd}
-use Rattle.midi_tool.specs.declared.status.RunEnd.TheVariants.{Done, Refused, ReadFault, LaneFault, OutputFault, NoteFault}
+use Rattle.midi_tool.specs.declared.status.RunEnd.TheVariants.{Done, Refused, OutputFault}
 
 -- the lines of the byte are put, or it is refused and nothing is put, or a put failed
 abbrev pub StepEnds : Step → ℕ → RunEnd → Option (List ℕ) → Option (List ℕ) → ℕ → ℕ → Type 0

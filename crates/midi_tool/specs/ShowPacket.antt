@@ -10,7 +10,7 @@ use Rattle.voice_state.specs.Parts.{part_of}
 use Rattle.down_translator.specs.Held.{bad_answer}
 use Rattle.midi_tool.specs.Step.{reason_of}
 use Rattle.midi_tool.specs.declared.status.RunEnd.{RunEnd}
-use Rattle.midi_tool.specs.declared.status.RunEnd.TheVariants.{Done, Refused, ReadFault, LaneFault, OutputFault, NoteFault}
+use Rattle.midi_tool.specs.declared.status.RunEnd.TheVariants.{Refused, OutputFault}
 
 -- why the packet is refused, if it is refused: it passes the room for its exclusive
 abbrev pub bad_join : Table → Packet → Option BadStep

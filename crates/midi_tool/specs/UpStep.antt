@@ -18,7 +18,7 @@ use Rattle.midi_tool.specs.ByteWork.{AreWritten}
 use Rattle.midi_tool.specs.Recording.{texts}
 use Rattle.midi_tool.specs.Step.{reason_of}
 use Rattle.midi_tool.specs.declared.status.RunEnd.{RunEnd}
-use Rattle.midi_tool.specs.declared.status.RunEnd.TheVariants.{Done, Refused, ReadFault, LaneFault, OutputFault, NoteFault}
+use Rattle.midi_tool.specs.declared.status.RunEnd.TheVariants.{Done, Refused, OutputFault, NoteFault}
 
 -- the translator holds what some bytes leave, as many as the offset counts
 pub record HoldsSome (up : UpState) (offset : ℕ) : Type 0 where

@@ -99,6 +99,7 @@ impl Raiser {
     }
 
     /// A system message, with a line of what its byte cuts off if it does.
+    #[inline(always)]
     pub(crate) fn system(&mut self, message: System, line: Option<Line>) -> Raised<'_>
         ensures apart { IsApart result }
         ensures spelled { IfSome (packet_in result) IsPacket }
@@ -113,6 +114,7 @@ impl Raiser {
     }
 
     /// A voice message that the byte at this offset completes.
+    #[inline(always)]
     pub(crate) fn voice(&mut self, message: &Voice1, offset: u64) -> Result<Raised<'_>, BadStep>
         ensures answer { RaisesStep self.old.holding self.old.group offset (completes (voice message.now)) result }
         ensures kept { KeepsBehind self.old.holding (completes (voice message.now)) }

@@ -83,6 +83,7 @@ impl Up {
     }
 
     // Takes any other byte, which ends no exclusive.
+    #[inline(always)]
     fn take(&mut self, byte: u8, offset: u64) -> Result<Raised<'_>, BadStep>
         requires { byte ≢ 247 }
         ensures answer { Raises self.old offset byte result }
@@ -133,6 +134,7 @@ impl Up {
     /// `DataIncrement` and `DataDecrement` come exactly at the byte that completes a control change 96 or 97; what control
     /// changes have set then stays as it was. `ExclusiveTooLong` comes exactly where the byte makes an exclusive longer than
     /// the room; it is dropped (own rules).
+    #[inline(always)]
     pub fn byte(&mut self, byte: u8, offset: u64) -> Result<Raised<'_>, BadStep>
         ensures answer { Raises self.old offset byte result }
         ensures kept { KeepsBehind self.old.holding (step_in self.old offset byte) }

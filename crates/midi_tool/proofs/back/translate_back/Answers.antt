@@ -1,7 +1,7 @@
-use Rattle.std.proofs.Common.{◌≡◌, ◌+◌, ◌<◌, ℕ, length, Option, List, [], ◌∷◌, ◌++◌, None, Some, refl, ap, sym, ◌∙◌, arith, subst}
+use Rattle.std.proofs.Common.{◌≡◌, ◌+◌, ℕ, [], ◌∷◌, ◌++◌, Some, refl, ap, sym, ◌∙◌, arith, subst}
 use Rattle.std.specs.Prelude.{reverse, Ok, Err}
 use Rattle.midi_edge.specs.ByteReader.{ByteReading}
-use Rattle.sysex_groups.specs.Table.{Table, empty_table}
+use Rattle.sysex_groups.specs.Table.{Table}
 use Rattle.up_translator.specs.Held.{UpState}
 use Rattle.up_translator.specs.Recording.{HoldsUp}
 use Rattle.midi_tool.specs.ByteWork.{coming_back}

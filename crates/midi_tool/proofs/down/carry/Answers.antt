@@ -1,4 +1,4 @@
-use Rattle.std.proofs.Common.{List, ℕ, Option, Err, Ok}
+use Rattle.std.proofs.Common.{Err, Ok}
 use Rattle.std.specs.Prelude.{Result, OnOk}
 use Rattle.midi_tool.specs.declared.status.RunEnd.{RunEnd}
 use Rattle.midi_tool.proofs.down.carry.Goals as goal

@@ -1,4 +1,4 @@
-use Rattle.std.proofs.Common.{◌≡◌, ◌+◌, ◌<◌, ◌++◌, List, ℕ, take, sym, ◌∙◌, ap, arith, subst}
+use Rattle.std.proofs.Common.{◌≡◌, ◌<◌, ◌++◌, List, ℕ, take, sym, ◌∙◌, ap, arith, subst}
 use Rattle.std.specs.Option.{option_to_list}
 use Rattle.midi_edge.specs.Outside.{Gains}
 use Rattle.voice_state.specs.Listing.{groups}

@@ -1,4 +1,4 @@
-use Rattle.std.proofs.Common.{◌≡◌, ℕ, List, Option, None, subst}
+use Rattle.std.proofs.Common.{ℕ, List, Option, None, subst}
 use Rattle.std.specs.Prelude.{IfSome}
 use Rattle.midi_tool.specs.Outcome.{carrying, Says, CountsAfter}
 use Rattle.midi_tool.specs.Ready.{Ready}

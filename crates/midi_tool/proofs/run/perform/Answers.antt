@@ -1,8 +1,8 @@
-use Rattle.std.proofs.Common.{◌≡◌, ℕ, List, Option, Some, ap, sym, ◌∙◌, subst}
+use Rattle.std.proofs.Common.{◌≡◌, Option, Some, ap, sym, subst}
 use Rattle.std.specs.Prelude.{IfSome, false}
 use Rattle.ump_words.specs.declared.words.Order.{Order}
 use Rattle.command_line.specs.Asked.{Asked, down, up, back, show, show_bytes, asked_of}
-use Rattle.midi_tool.specs.ByteWork.{raising, coming_back}
+use Rattle.midi_tool.specs.ByteWork.{raising}
 use Rattle.midi_tool.specs.Outcome.{carrying}
 use Rattle.midi_tool.specs.Ready.{ready_lines}
 use Rattle.midi_tool.specs.Run.{over_packets, over_bytes, task_of, lines_task, StatusSays, StatusCounts, RunSays, RunCounts, IsDoneUnless}

@@ -1,4 +1,4 @@
-use Rattle.std.proofs.Common.{◌≡◌, ℕ, List, Option, None, sym, ◌∙◌, subst}
+use Rattle.std.proofs.Common.{None, sym, ◌∙◌, subst}
 use Rattle.std.specs.Prelude.{IfSome}
 use Rattle.midi_tool.specs.Ready.{ReadyLines, ready_lines}
 use Rattle.midi_tool.specs.Run.{lines_task, TaskSays, TaskCounts}

@@ -1,6 +1,6 @@
-use Rattle.std.proofs.Common.{◌≡◌, ℕ, List, Option, None, sym, ◌∙◌, subst}
+use Rattle.std.proofs.Common.{None, sym, ◌∙◌, subst}
 use Rattle.std.specs.Prelude.{IfSome}
-use Rattle.midi_tool.specs.ByteWork.{raising, ByteSays, ByteEndsOf}
+use Rattle.midi_tool.specs.ByteWork.{raising}
 use Rattle.midi_tool.specs.Ready.{ReadyUp}
 use Rattle.midi_tool.specs.Run.{over_bytes, TaskSays, TaskCounts}
 use Rattle.midi_tool.proofs.RunLaws.{status_says, status_counts, done_unless, no_lane}

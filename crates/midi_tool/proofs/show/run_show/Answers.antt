@@ -1,4 +1,4 @@
-use Rattle.std.proofs.Common.{◌≡◌, ℕ, List, Option, ap, sym, ◌∙◌, subst}
+use Rattle.std.proofs.Common.{◌≡◌, ap, sym, ◌∙◌, subst}
 use Rattle.std.specs.Prelude.{IfSome}
 use Rattle.midi_tool.specs.Ready.{ReadyLines, of_packets, of_bytes}
 use Rattle.midi_tool.specs.Run.{lines_task, TaskSays, TaskCounts}

@@ -1,4 +1,4 @@
-use Rattle.std.proofs.Common.{◌≡◌, ◌+◌, ◌<◌, ◌≤◌, arith, sym, ◌∙◌}
+use Rattle.std.proofs.Common.{◌<◌, arith, sym, ◌∙◌}
 use Rattle.sysex_groups.specs.Cut.{part_count}
 use Rattle.midi_tool.proofs.PutLaws.{exclusive_more, part_below}
 use Rattle.midi_tool.proofs.up.put_payload.Goals as goal

@@ -1,4 +1,4 @@
-use Rattle.std.proofs.Common.{◌≡◌, ℕ, List, Option, Err, Ok, ap, subst}
+use Rattle.std.proofs.Common.{◌≡◌, ℕ, List, Option, Err, Ok, subst}
 use Rattle.std.specs.Prelude.{Result, IfErr, OnOk}
 use Rattle.ump_words.specs.declared.words.Order.{Order}
 use Rattle.up_translator.specs.declared.raised.Raised.{Raised}
