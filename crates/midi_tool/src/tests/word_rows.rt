@@ -144,6 +144,18 @@ fn the_room_of_the_words(rt: HostRuntime) -> Result<(), Fail> {
         whole,
     )?;
     let down = ["translate", "down", "--folder", "F", "--room", "6"];
+    let six = Left {
+        status: Status::Done,
+        pieces: &[(0, &[0xF0, 1, 2, 3, 4, 5, 6, 0xF7])],
+        output: "",
+        notes: "",
+    };
+    leaves(
+        &rt,
+        alloc,
+        case_of(alloc, &down, &[0x30060102, 0x03040506])?,
+        six,
+    )?;
     let nothing = Left {
         output: "",
         ..refusal
