@@ -140,6 +140,7 @@ impl Down {
             }
             Packet::Voice1 { group, message } => self.voice1(*group, message, offset),
             Packet::Exclusive { group, form, bytes } => {
+                let bytes = bytes.copied();
                 self.exclusive(*group, *form, bytes.as_slice(), offset)
             }
             Packet::Voice2 { group, message } => self.voice2(*group, message, offset),

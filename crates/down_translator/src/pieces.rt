@@ -18,6 +18,7 @@ use voice_messages::{Bank, Param, ParamKind, System, U7, U14, Voice1, Voice2};
 pub type Piece = ShortList<u8, 12>;
 
 /// Adds the bytes of a message.
+#[inline(always)]
 fn add(piece: &mut Piece, message: &Voice1)
     requires { length piece.old ≤ 9 }
     ensures bytes { piece.new ≡ piece.old ++ spelled_voice message.now }
@@ -27,6 +28,7 @@ fn add(piece: &mut Piece, message: &Voice1)
     piece.extend(bytes.as_slice());
 }
 
+#[inline(always)]
 fn control(channel: U4, index: u32, value: U7) -> Voice1
     requires { index < 128 }
     ensures { result ≡ voice1.Control channel index value }
@@ -39,6 +41,7 @@ fn control(channel: U4, index: u32, value: U7) -> Voice1
 }
 
 /// Makes the piece that of one message.
+#[inline(always)]
 pub fn fill_voice1(piece: &mut Piece, message: &Voice1)
     ensures { piece.new ≡ flat_map spelled (voice message.now ∷ []) }
 {
@@ -65,6 +68,7 @@ pub fn is_null_param(param: &Param) -> bool
 
 /// Whether MIDI 2.0 sends the controller as a control change.
 #[tactic(auto, unfolding(voice_state::specs::Controllers::role_of))]
+#[inline(always)]
 fn is_carried_index(index: U7) -> bool
     ensures { result ≡ is_carried_role (role_of index) }
 {
@@ -72,6 +76,7 @@ fn is_carried_index(index: U7) -> bool
     !(index == 0 || index == 6 || index == 32 || index == 38 || (96 <= index && index <= 101))
 }
 
+#[inline(always)]
 fn add_control(piece: &mut Piece, channel: U4, index: U7, value: u32)
     requires { piece.old ≡ [] }
     ensures { piece.new ≡ flat_map spelled (voice_messages (voice2.Control channel index value)) }
@@ -118,6 +123,7 @@ fn add_program(piece: &mut Piece, channel: U4, program: U7, bank: &Option<Bank>)
 }
 
 /// Makes the piece the plain one of a MIDI 2.0 voice message, empty where that isn't carried (M2-104-UM, default translation).
+#[inline(always)]
 pub fn fill_voice2(piece: &mut Piece, message: &Voice2)
     ensures { piece.new ≡ flat_map spelled (voice_messages message.now) }
 {

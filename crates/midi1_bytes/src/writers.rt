@@ -5,6 +5,7 @@ ghost use Rattle.midi1_bytes.specs.Messages.{spelled_voice, spelled_system};
 use midi_edge::ShortList;
 use voice_messages::{System, U4, U7, U14, Voice1};
 
+#[inline(always)]
 fn one_byte(status: u8) -> ShortList<u8, 3>
     ensures { result ≡ status ∷ [] }
 {
@@ -13,6 +14,7 @@ fn one_byte(status: u8) -> ShortList<u8, 3>
     bytes
 }
 
+#[inline(always)]
 fn two_bytes(status: u8, only: U7) -> ShortList<u8, 3>
     ensures { result ≡ status ∷ only ∷ [] }
 {
@@ -21,6 +23,7 @@ fn two_bytes(status: u8, only: U7) -> ShortList<u8, 3>
     bytes
 }
 
+#[inline(always)]
 fn three_bytes(status: u8, first: U7, second: U7) -> ShortList<u8, 3>
     ensures { result ≡ status ∷ first ∷ second ∷ [] }
 {
@@ -30,6 +33,7 @@ fn three_bytes(status: u8, first: U7, second: U7) -> ShortList<u8, 3>
 }
 
 // A number of fourteen bits has its low seven bits first.
+#[inline(always)]
 fn fourteen_bits(status: u8, value: U14) -> ShortList<u8, 3>
     ensures { result ≡ status ∷ (value % 128) ∷ (value / 128) ∷ [] }
 {
@@ -39,6 +43,7 @@ fn fourteen_bits(status: u8, value: U14) -> ShortList<u8, 3>
     bytes
 }
 
+#[inline(always)]
 fn voice_status(first: u8, channel: U4) -> u8
     requires { first ≤ 0xf0 }
     ensures { result ≡ first + channel }
@@ -47,6 +52,7 @@ fn voice_status(first: u8, channel: U4) -> u8
 }
 
 /// The bytes of a voice message, its status byte first (MIDI 1.0 Detailed Specification, channel voice messages).
+#[inline(always)]
 pub fn write_voice(message: &Voice1) -> ShortList<u8, 3>
     ensures { result ≡ spelled_voice message.now }
 {

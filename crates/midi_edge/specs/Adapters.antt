@@ -1,6 +1,5 @@
 -- What a clause reads of the adapters.
 use Rattle.std.specs.Prelude.{◌≡◌, ℕ, List, [], All, take, Option, Result, MatchResult}
-use Rattle.std.specs.Io.Buffered.{writer_buffer}
 use Rattle.std.specs.Io.KnownBytes.{Appends, append_known}
 use Rattle.midi_edge.specs.declared.adapters.write_sink.WriteSink.{WriteSink}
 use Rattle.midi_edge.specs.declared.adapters.folder_lanes.FolderLanes.{FolderLanes}
@@ -20,4 +19,4 @@ Accepts old new result piece =
 
 -- no lane holds bytes that are not yet written out
 abbrev pub IsWrittenOut : {R F A : Type 0} → FolderLanes R F A → Type 0
-IsWrittenOut l = All (λ w. writer_buffer w ≡ []) l.lanes.items
+IsWrittenOut l = All (λ s. unwritten s ≡ []) l.lanes.items

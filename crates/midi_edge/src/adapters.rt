@@ -12,13 +12,12 @@ pub use crate::adapters::folder_lanes::FolderLanes;
 pub use crate::adapters::read_source::ReadSource;
 pub use crate::adapters::write_sink::WriteSink;
 use crate::outside::Failed;
-use std::io;
 
 // How many bytes are gathered in a buffer.
 const CAPACITY: usize = 8192;
 
-// The answer of a call of the system, whose fault is counted.
-fn counted<T>(answer: io::Result<T>, faults: &mut u64) -> Result<T, Failed>
+// The answer of a call, whose fault is counted.
+fn counted<T, E: Drop>(answer: Result<T, E>, faults: &mut u64) -> Result<T, Failed>
     ensures value { MatchResult result (λ x. answer ≡ Ok x) (λ _. IsErr answer) }
     ensures cause { HasCause faults.old faults.new result }
 {

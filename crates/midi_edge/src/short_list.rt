@@ -21,6 +21,7 @@ impl<T, const N: usize> Model for ShortList<T, N> {
 
 impl<T: Copy + Default, const N: usize> ShortList<T, N> {
     /// The empty list.
+    #[inline(always)]
     pub fn new() -> Self
         ensures { result ≡ [] }
     {
@@ -30,6 +31,7 @@ impl<T: Copy + Default, const N: usize> ShortList<T, N> {
     }
 
     /// How many items there are, at most `N`.
+    #[inline(always)]
     pub fn len(&self) -> usize
         ensures value { result ≡ length self.now }
         ensures fits { length self.now ≤ N }
@@ -38,6 +40,7 @@ impl<T: Copy + Default, const N: usize> ShortList<T, N> {
     }
 
     /// Whether there is no item.
+    #[inline(always)]
     pub fn is_empty(&self) -> bool
         ensures { result ≡ (length self.now == 0) }
     {
@@ -52,6 +55,7 @@ impl<T: Copy + Default, const N: usize> ShortList<T, N> {
     }
 
     /// The items.
+    #[inline(always)]
     pub fn as_slice(&self) -> &[T]
         ensures value { result.now ≡ self.now }
         ensures fits { length self.now ≤ N }
@@ -60,6 +64,7 @@ impl<T: Copy + Default, const N: usize> ShortList<T, N> {
     }
 
     /// Adds an item at the end.
+    #[inline(always)]
     pub fn push(&mut self, item: T)
         requires { length self.old < N }
         ensures { self.new ≡ self.old ++ item ∷ [] }
@@ -68,7 +73,28 @@ impl<T: Copy + Default, const N: usize> ShortList<T, N> {
     }
 
     /// Adds items at the end.
+    #[inline(always)]
     pub fn extend(&mut self, items: &[T])
+        requires { length self.old + length items.now ≤ N }
+        ensures { self.new ≡ self.old ++ items.now }
+    {
+        match *items {
+            [first, second, third] => {
+                self.cells.push(first);
+                self.cells.push(second);
+                self.cells.push(third);
+            }
+            [first, second] => {
+                self.cells.push(first);
+                self.cells.push(second);
+            }
+            [first] => self.cells.push(first),
+            _ => self.extend_by_copy(items),
+        }
+    }
+
+    // Adds items at the end by one copy, which for a few items takes longer than adding each.
+    fn extend_by_copy(&mut self, items: &[T])
         requires { length self.old + length items.now ≤ N }
         ensures { self.new ≡ self.old ++ items.now }
     {
@@ -85,12 +111,18 @@ impl<T: Copy + Default, const N: usize> ShortList<T, N> {
         self.cells.clear();
     }
 
-    /// The same list again. Unlike `clone` it cannot fail.
+    /// The same list again. Unlike `clone` it cannot fail. It reads item by item, so that a short list may stay in registers.
+    #[inline(always)]
     pub fn copied(&self) -> Self
         ensures { result ≡ self.now }
     {
+        let items = self.as_slice();
         let mut list = Self::new();
-        list.extend(self.as_slice());
+        for index in 0..N {
+            if index < items.len() {
+                list.push(items[index]);
+            }
+        }
         list
     }
 }

@@ -1,16 +1,16 @@
 // Lanes over a folder.
 ghost use Rattle.std.specs.Prelude.{◌≡◌, ◌==◌, None, Err, false, [], All, length, vec_len, IfOk, OnOk};
-ghost use Rattle.std.specs.Io.Buffered.{writer_buffer};
-ghost use Rattle.midi_edge.specs.Adapters.{IsWrittenOut};
+ghost use Rattle.midi_edge.specs.Adapters.{IsWrittenOut, unwritten};
 ghost use Rattle.midi_edge.specs.Outside.{HasCause};
 
-use super::{CAPACITY, counted};
+use super::counted;
+use super::write_sink::WriteSink;
 use crate::few_bits::U4;
 use crate::kept_text::KeptText;
-use crate::outside::{Failed, Lanes, OpenFault};
-use std::io::{BufWriter, Write};
+use crate::outside::{Failed, Lanes, OpenFault, Sink};
+use std::fs;
+use std::io::Write;
 use std::rt::Files;
-use std::{fs, io};
 
 /// Sixteen files in a folder, one for each lane, each with a buffer of 8,192 bytes that `begin` takes. An empty path is no folder,
 /// so opening it fails. A small piece is gathered in the buffer, and written out when a later one has no room. So an `Ok` of `put`
@@ -20,7 +20,7 @@ use std::{fs, io};
 #[derive(Drop)]
 pub struct FolderLanes<R: Files + AllocGlobal> {
     rt: R,
-    lanes: Vec<BufWriter<R::File>>,
+    lanes: Vec<WriteSink<R::File>>,
     pub(super) faults: u64,
     path: KeptText,
 }
@@ -53,14 +53,14 @@ impl<R: Files + AllocGlobal> FolderLanes<R> {
     }
 }
 
-// Flushes every writer, and answers the first fault.
-fn flush_each<W: Write + Drop>(writers: &mut [BufWriter<W>]) -> io::Result<()>
-    ensures count { length writers.new ≡ length writers.old }
-    ensures written { OnOk result (All (λ w. writer_buffer w ≡ []) writers.new) }
+// Flushes every sink, and answers the first fault.
+fn flush_each<W: Write>(sinks: &mut [WriteSink<W>]) -> Result<(), Failed>
+    ensures count { length sinks.new ≡ length sinks.old }
+    ensures written { OnOk result (All (λ s. unwritten s ≡ []) sinks.new) }
 {
     let mut outcome = Ok(());
-    for writer in writers {
-        let answer = writer.flush();
+    for sink in sinks {
+        let answer = sink.flush();
         outcome = outcome.and(answer);
     }
     outcome
@@ -70,39 +70,35 @@ fn flush_each<W: Write + Drop>(writers: &mut [BufWriter<W>]) -> io::Result<()>
 fn open_lanes<R: Files + AllocGlobal>(
     rt: &R,
     folder: &str,
-) -> Result<Vec<BufWriter<R::File>>, OpenFault>
+) -> Result<Vec<WriteSink<R::File>>, OpenFault>
     ensures lanes { IfOk result (λ lanes. vec_len lanes ≡ 16) }
     ensures empty { folder.now ≡ [] → result ≡ Err OpenFault.Failed }
 {
     if folder.is_empty() {
         return Err(OpenFault::Failed);
     }
-    let mut lanes = Vec::new(rt.alloc());
+    let Ok(mut lanes) = Vec::with_capacity(rt.alloc(), 16) else {
+        return Err(OpenFault::NoMemory);
+    };
     for lane in 0..16u8 {
-        let writer = open_lane(rt, folder, lane)?;
-        if lanes.push(writer).is_err() {
+        let file = open_lane(rt, folder, lane)?;
+        if lanes.push(WriteSink::new(file)).is_err() {
             return Err(OpenFault::NoMemory);
         }
     }
     Ok(lanes)
 }
 
-// Creates or empties the file of a lane, and takes its buffer.
+// Creates or empties the file of a lane.
 fn open_lane<R: Files + AllocGlobal>(
     rt: &R,
     folder: &str,
     lane: u8,
-) -> Result<BufWriter<R::File>, OpenFault> {
+) -> Result<R::File, OpenFault> {
     let Ok(name) = format!(in rt.alloc(); "{folder}/group-{lane:02}.midi1") else {
         return Err(OpenFault::NoMemory);
     };
-    let Ok(file) = fs::create(rt, name.as_str()) else {
-        return Err(OpenFault::Failed);
-    };
-    let Ok(writer) = BufWriter::with_capacity(rt.alloc(), CAPACITY, file) else {
-        return Err(OpenFault::NoMemory);
-    };
-    Ok(writer)
+    fs::create(rt, name.as_str()).map_err(|_| OpenFault::Failed)
 }
 
 impl<R: Files + AllocGlobal> Lanes for FolderLanes<R> {
@@ -129,8 +125,9 @@ impl<R: Files + AllocGlobal> Lanes for FolderLanes<R> {
         }
     }
 
+    #[inline(always)]
     fn put(&mut self, lane: U4, piece: &[u8]) -> Result<(), Failed> {
-        let answer = self.lanes[usize::from(lane.get())].write_all(piece);
+        let answer = self.lanes[usize::from(lane.get())].put(piece);
         counted(answer, &mut self.faults)
     }
 }

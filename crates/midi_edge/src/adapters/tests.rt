@@ -5,7 +5,7 @@ use super::*;
 use crate::few_bits::U4;
 use crate::outside::{Lanes, OpenFault, Sink, Source};
 use std::alloc::Global;
-use std::io::{ErrorKind, Read, Write};
+use std::io::{self, ErrorKind, Read, Write};
 use std::os::unix::fs::symlink;
 use std::test::Fail;
 use std::{fs, process};

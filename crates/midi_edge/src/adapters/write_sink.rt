@@ -52,15 +52,21 @@ impl<W: Write> WriteSink<W> {
         self.writer.flush()
     }
 
-    // Gathers the piece, or writes it where it is larger than the room for gathered bytes.
-    fn gather(&mut self, piece: &[u8]) -> io::Result<()>
+    // Accepts a piece for which there is no room, and counts a fault.
+    #[inline(never)]
+    fn put_behind(&mut self, piece: &[u8]) -> Result<(), Failed>
+        ensures accepts { Accepts (accepted W.contents self.old) (accepted W.contents self.new) result piece.now }
+        ensures cause { HasCause self.old.faults self.new.faults result }
+    {
+        let answer = self.gather_behind(piece);
+        counted(answer, &mut self.faults)
+    }
+
+    // Makes room for a piece and gathers it, or writes it where it is larger than the room for gathered bytes.
+    fn gather_behind(&mut self, piece: &[u8]) -> io::Result<()>
         ensures accepts { Accepts (accepted W.contents self.old) (accepted W.contents self.new) result piece.now }
         ensures faults { self.new.faults ≡ self.old.faults }
     {
-        if piece.len() <= CAPACITY - self.gathered.len() {
-            self.gathered.extend(piece);
-            return Ok(());
-        }
         self.write_gathered()?;
         if piece.len() > CAPACITY {
             return self.write_past(piece);
@@ -105,14 +111,18 @@ impl<W: Write> Sink for WriteSink<W> {
 
     ghost faults = { λ s. s.faults };
 
+    #[inline(always)]
     fn put(&mut self, piece: &[u8]) -> Result<(), Failed>
         requires { 0 < length piece.now }
         ensures bytes { Puts None None result piece.now }
         ensures cause { HasCause self.old.faults self.new.faults result }
         ensures accepts { Accepts (accepted W.contents self.old) (accepted W.contents self.new) result piece.now }
     {
-        let answer = self.gather(piece);
-        counted(answer, &mut self.faults)
+        if piece.len() > CAPACITY - self.gathered.len() {
+            return self.put_behind(piece);
+        }
+        self.gathered.extend(piece);
+        Ok(())
     }
 }
 
