@@ -5,6 +5,7 @@ ghost use Rattle.midi1_bytes.specs.Sorts.{one, two};
 
 use voice_messages::{System, U4, U7, U14, Voice1};
 
+#[inline(always)]
 pub(crate) fn seven_bits(byte: u8) -> U7
     requires { byte < 128 }
     ensures { result ≡ byte }
@@ -12,6 +13,7 @@ pub(crate) fn seven_bits(byte: u8) -> U7
     U7::low_bits(u32::from(byte))
 }
 
+#[inline(always)]
 pub(crate) fn fourteen_bits(first: u8, second: u8) -> U14
     requires first_below { first < 128 }
     requires second_below { second < 128 }
@@ -20,6 +22,7 @@ pub(crate) fn fourteen_bits(first: u8, second: u8) -> U14
     U14::low_bits(u32::from(second) * 128 + u32::from(first))
 }
 
+#[inline(always)]
 pub(crate) fn voice_of_two(status: u8, first: u8, second: u8) -> Voice1
     requires first_below { first < 128 }
     requires second_below { second < 128 }
@@ -55,6 +58,7 @@ pub(crate) fn voice_of_two(status: u8, first: u8, second: u8) -> Voice1
     }
 }
 
+#[inline(always)]
 pub(crate) fn voice_of_one(status: u8, only: u8) -> Voice1
     requires { only < 128 }
     ensures { result ≡ voice_of one status only [] }
@@ -71,6 +75,7 @@ pub(crate) fn voice_of_one(status: u8, only: u8) -> Voice1
     }
 }
 
+#[inline(always)]
 pub(crate) fn real_time(byte: u8) -> System
     ensures { result ≡ real_time_of byte }
 {

@@ -144,6 +144,7 @@ impl Parser {
 
     // A data byte of a message of this status.
     #[tactic(auto, unfolding(crate::specs::Sorts::sort_of))]
+    #[inline(always)]
     fn message_data<'a>(&mut self, start: u64, status: u8, first: Option<u8>, byte: u8) -> Step<'a>
         requires below { byte < 128 }
         requires first_below { ForSome first (λ first. first < 128) }
@@ -153,25 +154,26 @@ impl Parser {
           begun = begun_after (message_step (sort_of status) status first byte) (begun_message start status (Some byte));
         } }
     {
+        if matches!((status, first), (0x80..=0xbf | 0xe0..=0xef | 0xf2, None)) {
+            self.begun = Begun::Message {
+                start,
+                status,
+                first: Some(byte),
+            };
+            return Step::Held;
+        }
         self.begun = Begun::Nothing;
         match (status, first) {
             (0xc0..=0xdf, _) => Step::Voice(VoiceBytes::of_one(status, byte)),
             (0x80..=0xef, Some(first)) => Step::Voice(VoiceBytes::of_two(status, first, byte)),
             (0xf1 | 0xf3, _) => Step::Common(CommonBytes::of_one(status, byte)),
             (0xf2, Some(first)) => Step::Common(CommonBytes::of_two(status, first, byte)),
-            (0x80..=0xef | 0xf2, None) => {
-                self.begun = Begun::Message {
-                    start,
-                    status,
-                    first: Some(byte),
-                };
-                Step::Held
-            }
             _ => Step::Stray,
         }
     }
 
     // A data byte of an exclusive.
+    #[inline(always)]
     fn exclusive_data<'a>(&mut self, start: u64, byte: u8) -> Step<'a>
         requires { self.old.begun ≡ Some (begun_exclusive start (bytes_begun self.old)) }
         ensures step { step_view result ≡ data_step self.old.room (begun_exclusive start (bytes_begun self.old)) byte }
@@ -190,6 +192,7 @@ impl Parser {
     }
 
     // A data byte.
+    #[inline(always)]
     fn data<'a>(&mut self, byte: u8, offset: u64) -> Step<'a>
         requires { byte < 128 }
         ensures step { step_view result ≡ (parse_under data_byte self.old offset byte).step }
@@ -266,13 +269,16 @@ impl Parser {
     /// F0 and F7 more than the room; the exclusive is then dropped, and there is no running status. What a status byte cuts off
     /// is dropped and told, and a byte that belongs to nothing is `Stray` (own rules).
     #[tactic(auto, unfolding(crate::specs::Sorts::sort_of))]
+    #[inline(always)]
     pub fn byte(&mut self, byte: u8, offset: u64) -> Step<'_>
         ensures step { step_view result ≡ (parse self.old offset byte).step }
         ensures framed { LendsFramed result }
         ensures* after { sem 𝓛 (KeepsParser self.entry (parse self.old offset byte).after) }
     {
+        if byte < 0x80 {
+            return self.data(byte, offset);
+        }
         match byte {
-            0..=0x7f => self.data(byte, offset),
             0x80..=0xf6 => self.status(byte, offset),
             0xf7 => self.end_exclusive(),
             0xf9 | 0xfd => Step::Undefined,

@@ -38,6 +38,7 @@ impl VoiceBytes {
     ghost use Rattle.midi1_bytes.specs.Spoken.{voice_in};
 
     /// A message of one data byte, Cn or Dn.
+    #[inline(always)]
     pub(crate) fn of_one(status: u8, only: u8) -> VoiceBytes
         requires sort { sort_of status ≡ voice_status one }
         requires below { only < 128 }
@@ -51,6 +52,7 @@ impl VoiceBytes {
     }
 
     /// A message of two data bytes, 8n to Bn or En.
+    #[inline(always)]
     pub(crate) fn of_two(status: u8, first: u8, second: u8) -> VoiceBytes
         requires sort { sort_of status ≡ voice_status two }
         requires first_below { first < 128 }
@@ -66,6 +68,7 @@ impl VoiceBytes {
 
     /// The message (MIDI 1.0 Detailed Specification, channel voice messages).
     #[tactic(auto, unfolding(crate::specs::Sorts::sort_of))]
+    #[inline(always)]
     pub fn message(&self) -> Voice1
         ensures { result ≡ voice_in self.now }
     {
@@ -124,6 +127,7 @@ impl CommonBytes {
 
     /// The message (MIDI 1.0 Detailed Specification, system common messages).
     #[tactic(auto, unfolding(crate::specs::Sorts::sort_of))]
+    #[inline(always)]
     pub fn message(&self) -> System
         ensures { result ≡ common_in self.now }
     {
@@ -141,6 +145,7 @@ impl RealTimeByte {
     ghost use Rattle.midi1_bytes.specs.Messages.{real_time_of};
     ghost use Rattle.midi1_bytes.specs.Spoken.{real_time_in};
 
+    #[inline(always)]
     pub(crate) fn of(status: u8) -> RealTimeByte
         ensures { real_time_in result ≡ real_time_of status }
     {
@@ -148,6 +153,7 @@ impl RealTimeByte {
     }
 
     /// The message (MIDI 1.0 Detailed Specification, system Real Time messages).
+    #[inline(always)]
     pub fn message(&self) -> System
         ensures { result ≡ real_time_in self.now }
     {

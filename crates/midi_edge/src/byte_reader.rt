@@ -86,7 +86,7 @@ impl ByteReader {
     }
 
     // The next answer where there is no byte to give out, so that the source is asked.
-    #[inline(never)]
+    #[inline(always)]
     fn next_taken<S: Source>(&mut self, src: &mut S) -> Result<Option<(u8, u64)>, ReadStop>
         requires { (self.old.pending ≡ []) ⊎ (self.old.offset ≡ self.old.limit) }
         ensures answer { self.old.last ≡ None → Answers self.old self.new

@@ -22,7 +22,7 @@ use std::alloc::Global;
 use std::marker::Model;
 use sysex_groups::part;
 use ump_grammar::{Packet, encode};
-use ump_words::{Order, write_words};
+use ump_words::{Order, put_words};
 use up_translator::laws::raised_bytes_are_the_definition;
 use up_translator::{Listed, Raised, Up};
 use voice_state::up_laws::{
@@ -66,14 +66,14 @@ impl UpRun {
 }
 
 // Puts the words of a packet.
+#[inline(always)]
 fn put_packet<W: Sink>(packet: &Packet, order: Order, output: &mut W) -> Result<(), RunEnd>
     requires { IsPacket packet.now }
     ensures ok { OnOk result (Writes order (packet.now ∷ []) (W.held output.old) (W.held output.new) × (W.faults output.new ≡ W.faults output.old)) }
     ensures err { OnErr result ((result ≡ Err RunEnd.OutputFault) × Rose (W.faults output.old) (W.faults output.new)) }
 {
     let words = encode(packet);
-    let bytes = write_words(words.as_slice(), order);
-    match output.put(bytes.as_slice()) {
+    match put_words(words.as_slice(), order, output) {
         Ok(()) => Ok(()),
         Err(_) => Err(RunEnd::OutputFault),
     }
@@ -143,6 +143,7 @@ pub(crate) fn put_lines<N: Sink>(raised: &Raised<'_>, notes: &mut N) -> Result<(
 }
 
 // Puts the packets of a byte, and then its lines.
+#[inline(always)]
 fn put_raised<W: Sink, N: Sink>(
     raised: &Raised<'_>,
     order: Order,
@@ -161,6 +162,7 @@ fn put_raised<W: Sink, N: Sink>(
 }
 
 // Takes one byte up: puts its packets in the output, and its lines in the notes.
+#[inline(always)]
 fn raise<W: Sink, N: Sink>(
     up: &mut Up,
     order: Order,

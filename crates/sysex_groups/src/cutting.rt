@@ -29,10 +29,10 @@ fn form_of(count: usize, k: usize) -> Form
 fn bytes_of(payload: &[u8], k: usize) -> ShortList<u8, 6>
     ensures { result ≡ slice_chunk payload.now 6 k }
 {
+    let start = k.saturating_mul(PACKET_BYTES).min(payload.len());
+    let count = (payload.len() - start).min(PACKET_BYTES);
     let mut bytes = ShortList::new();
-    if let Some(chunk) = payload.chunks(PACKET_BYTES).nth(k) {
-        bytes.extend(chunk);
-    }
+    bytes.extend(&payload[start..start + count]);
     bytes
 }
 

@@ -11,6 +11,7 @@ use ump_words::Words;
 use voice_messages::{Form, ParamKind, System, U4, U14, Voice1, Voice2};
 
 /// The words that spell the packet (M2-104-UM), with zeros in the places that its row doesn't name.
+#[inline(always)]
 #[tactic(auto, using(crate::proofs::OnePacket::one_packet))]
 pub fn encode(packet: &Packet) -> Words
     requires { IsPacket packet.now }

@@ -1,9 +1,10 @@
 // The words of a packet.
-ghost use Rattle.std.specs.Prelude.{◌≡◌, ◌≤◌, ◌+◌, ◌*◌, ◌<◌, length, flat_map};
+ghost use Rattle.std.specs.Prelude.{◌≡◌, ◌≤◌, ◌+◌, ◌*◌, ◌<◌, [], ◌∷◌, length, flat_map};
+ghost use Rattle.midi_edge.specs.Outside.{HasCause, Puts};
 ghost use Rattle.ump_words.specs.Cut.{words_asked, word_at, words_of, word_bytes, IsPacket};
 
 use byteorder::{BigEndian, ByteOrder, LittleEndian};
-use midi_edge::ShortList;
+use midi_edge::{Failed, ShortList, Sink};
 use std::fmt;
 use std::marker::Model;
 
@@ -167,6 +168,7 @@ pub fn words_in(order: Order, bytes: &[u8]) -> Words
 }
 
 // The bytes of a word.
+#[inline(always)]
 fn word_bytes(word: u32, order: Order) -> [u8; 4]
     ensures { result ≡ word_bytes order word }
 {
@@ -179,6 +181,7 @@ fn word_bytes(word: u32, order: Order) -> [u8; 4]
 }
 
 /// The bytes of these words, at most four, one word after the other.
+#[inline(always)]
 pub fn write_words(words: &[u32], order: Order) -> ShortList<u8, 16>
     requires { length words.now ≤ 4 }
     ensures { result ≡ flat_map (word_bytes order) words.now }
@@ -188,4 +191,36 @@ pub fn write_words(words: &[u32], order: Order) -> ShortList<u8, 16>
         bytes.extend(&word_bytes(*word, order));
     }
     bytes
+}
+
+// The bytes of two words, one word after the other.
+#[inline(always)]
+fn pair_bytes(first: u32, second: u32, order: Order) -> [u8; 8]
+    ensures { result ≡ flat_map (word_bytes order) (first ∷ second ∷ []) }
+{
+    let mut bytes = [0; 8];
+    match order {
+        Order::Big => {
+            BigEndian::write_u32(&mut bytes[..4], first);
+            BigEndian::write_u32(&mut bytes[4..], second);
+        }
+        Order::Little => {
+            LittleEndian::write_u32(&mut bytes[..4], first);
+            LittleEndian::write_u32(&mut bytes[4..], second);
+        }
+    }
+    bytes
+}
+
+/// Puts the bytes of these words, one to four, one word after the other, by one put.
+#[inline(always)]
+pub fn put_words<W: Sink>(words: &[u32], order: Order, output: &mut W) -> Result<(), Failed>
+    requires { (0 < length words.now) × (length words.now ≤ 4) }
+    ensures bytes { Puts (W.held output.old) (W.held output.new) result (flat_map (word_bytes order) words.now) }
+    ensures cause { HasCause (W.faults output.old) (W.faults output.new) result }
+{
+    match *words {
+        [first, second] => output.put(&pair_bytes(first, second, order)),
+        _ => output.put(write_words(words, order).as_slice()),
+    }
 }

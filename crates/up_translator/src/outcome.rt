@@ -163,6 +163,7 @@ fn bad_step(index: U7) -> BadStep
 }
 
 // What comes of a control change that the collector has answered.
+#[inline(always)]
 fn outcome_of(collected: Collected, channel: U4, index: U7, value: U7) -> Outcome
     ensures { result ≡ outcome_by collected channel index value }
 {
@@ -178,6 +179,7 @@ fn outcome_of(collected: Collected, channel: U4, index: U7, value: U7) -> Outcom
 }
 
 // What comes of a control change.
+#[inline(always)]
 fn raise_control_change(collector: &mut Collector, channel: U4, index: U7, value: U7) -> Outcome
     ensures refused { refusal_in result ≡ bad_control index }
     ensures raised { (state : GroupState) → Keeps collector.old state → IsRaisedVoice state (voice1.Control channel index value) result }
@@ -190,6 +192,7 @@ fn raise_control_change(collector: &mut Collector, channel: U4, index: U7, value
 
 /// What comes of a voice message (M2-104-UM, translation from MIDI 1.0). A control change is collected; a program change takes
 /// the bank that is selected.
+#[inline(always)]
 pub fn raise(collector: &mut Collector, message: &Voice1) -> Outcome
     ensures refused { refusal_in result ≡ bad_voice1 message.now }
     ensures raised { (state : GroupState) → Keeps collector.old state → IsRaisedVoice state message.now result }

@@ -86,6 +86,7 @@ impl Raiser {
     }
 
     // Lends a packet, with a line if there is one.
+    #[inline(always)]
     fn give(&mut self, packet: Packet, line: Option<Line>) -> Raised<'_>
         ensures apart { IsApart result }
         ensures packet { packet_in result ≡ Some packet }

@@ -63,6 +63,7 @@ impl Up {
     }
 
     // Takes F7. It ends an exclusive, cuts a message off, or is stray.
+    #[inline(always)]
     fn end_exclusive(&mut self, offset: u64) -> Result<Raised<'_>, BadStep>
         ensures answer { Raises self.old offset 247 result }
         ensures kept { KeepsBehind self.old.holding (step_in self.old offset 247) }
@@ -140,6 +141,9 @@ impl Up {
         ensures kept { KeepsBehind self.old.holding (step_in self.old offset byte) }
         ensures* after { sem 𝓛 (KeepsUp self.entry (up_behind self.old offset byte)) }
     {
+        if byte < 0x80 {
+            return self.take(byte, offset);
+        }
         match byte {
             END_OF_EXCLUSIVE => self.end_exclusive(offset),
             _ => self.take(byte, offset),

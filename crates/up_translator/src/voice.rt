@@ -11,6 +11,7 @@ use voice_messages::{Bank, Param, U4, U7, U14, Voice2};
 const RELEASE: u16 = 0x8000;
 
 /// A note off without an attribute.
+#[inline(always)]
 fn note_off(channel: U4, note: U7, velocity: u16) -> Voice2
     ensures { result ≡ voice2.NoteOff channel note velocity 0 0 }
 {
@@ -23,6 +24,7 @@ fn note_off(channel: U4, note: U7, velocity: u16) -> Voice2
     }
 }
 
+#[inline(always)]
 pub fn raise_note_off(channel: U4, note: U7, velocity: U7) -> Voice2
     ensures { result ≡ voice2.NoteOff channel note (up velocity 7 16) 0 0 }
 {
@@ -30,6 +32,7 @@ pub fn raise_note_off(channel: U4, note: U7, velocity: U7) -> Voice2
 }
 
 /// A note on of velocity 0 is a note off.
+#[inline(always)]
 pub fn raise_note_on(channel: U4, note: U7, velocity: U7) -> Voice2
     ensures { result ≡ raised_note_on channel note velocity }
 {
@@ -45,6 +48,7 @@ pub fn raise_note_on(channel: U4, note: U7, velocity: U7) -> Voice2
     }
 }
 
+#[inline(always)]
 pub fn raise_poly_pressure(channel: U4, note: U7, value: U7) -> Voice2
     ensures { result ≡ voice2.PolyPressure channel note (up value 7 32) }
 {
@@ -56,6 +60,7 @@ pub fn raise_poly_pressure(channel: U4, note: U7, value: U7) -> Voice2
 }
 
 /// A control change that selects and enters nothing.
+#[inline(always)]
 pub fn raise_control(channel: U4, index: U7, value: U7) -> Voice2
     ensures { result ≡ voice2.Control channel index (up value 7 32) }
 {
@@ -67,6 +72,7 @@ pub fn raise_control(channel: U4, index: U7, value: U7) -> Voice2
 }
 
 /// A data entry, by the parameter that it sets and the value that it gives it.
+#[inline(always)]
 pub fn raise_data_entry(channel: U4, param: Param, value: U14) -> Voice2
     ensures { result ≡ voice2.Set channel param (up value 14 32) }
 {
@@ -78,6 +84,7 @@ pub fn raise_data_entry(channel: U4, param: Param, value: U14) -> Voice2
 }
 
 /// A program change, with the bank that it takes.
+#[inline(always)]
 pub fn raise_program(channel: U4, program: U7, bank: Option<Bank>) -> Voice2
     ensures { result ≡ voice2.Program channel program bank }
 {
@@ -88,6 +95,7 @@ pub fn raise_program(channel: U4, program: U7, bank: Option<Bank>) -> Voice2
     }
 }
 
+#[inline(always)]
 pub fn raise_pressure(channel: U4, value: U7) -> Voice2
     ensures { result ≡ voice2.Pressure channel (up value 7 32) }
 {
@@ -97,6 +105,7 @@ pub fn raise_pressure(channel: U4, value: U7) -> Voice2
     }
 }
 
+#[inline(always)]
 pub fn raise_bend(channel: U4, value: U14) -> Voice2
     ensures { result ≡ voice2.Bend channel (up value 14 32) }
 {
