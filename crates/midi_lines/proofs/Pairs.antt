@@ -1,7 +1,7 @@
 -- The table of the two digits of each byte.
-use Rattle.std.proofs.Common.{◌≡◌, ℕ, zero, suc, ◌+◌, ◌-◌, ◌*◌, ◌/◌, ◌%◌, ◌<◌, Bool, true, ◌&&◌, T, eqb, [], ◌∷◌, get_or, refl, ap, sym, ◌∙◌, inl, inr, arith, eq-zero-or-pos, eqb→eq}
+use Rattle.std.proofs.Common.{◌≡◌, ℕ, zero, suc, ◌+◌, ◌-◌, ◌*◌, ◌/◌, ◌%◌, ◌<◌, Bool, true, ◌&&◌, T, eqb, get_or, ap, ◌∙◌, inl, inr, arith, eq-zero-or-pos, eqb→eq}
 use lib.Ieee.Fits.{and_l, and_r}
-use Rattle.midi_lines.specs.Fields.{hex, hex_digit}
+use Rattle.midi_lines.specs.Fields.{hex_digit}
 use Rattle.midi_lines.specs.declared.put.TheConstants.{PAIRS}
 
 abbrev are_pairs : ℕ → Bool

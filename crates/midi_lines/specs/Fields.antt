@@ -19,15 +19,15 @@ abbrev pub hex_words : List ℕ → List ℕ
 hex_words words = flat_map (λ word. codes " " ++ hex 8 word) words
 
 -- ` name=value`, the value in decimal digits
-unfoldable pub field : List ℕ → ℕ → List ℕ
+abbrev pub field : List ℕ → ℕ → List ℕ
 field name value = codes " " ++ name ++ codes "=" ++ decimal value
 
 -- ` name=word`
-unfoldable pub word_field : List ℕ → List ℕ → List ℕ
+abbrev pub word_field : List ℕ → List ℕ → List ℕ
 word_field name word = codes " " ++ name ++ codes "=" ++ word
 
 -- ` name=value`, the value in hexadecimal digits
-unfoldable pub hex_field : List ℕ → ℕ → ℕ → List ℕ
+abbrev pub hex_field : List ℕ → ℕ → ℕ → List ℕ
 hex_field name width value = codes " " ++ name ++ codes "=" ++ hex width value
 
 -- ` group=GROUP`, or nothing where there is no group

@@ -1,6 +1,7 @@
 //! The lines of text that the program writes.
 #![tactic(auto)]
 
+mod line;
 mod listing;
 mod packets;
 mod put;
@@ -9,10 +10,11 @@ mod voice;
 mod voice1;
 mod voice2;
 
-pub use crate::listing::{byte_listing, fill_listing_line, listing_line};
+pub use crate::line::Line;
+pub use crate::listing::{byte_listing, fill_byte_listing, fill_listing_line, listing_line};
 pub use crate::packets::{fill_packet_line, packet_line};
-pub use crate::put::{Line, put_decimal, put_text};
-pub use crate::steps::step_line;
+pub use crate::put::{put_decimal, put_text};
+pub use crate::steps::{fill_step_line, step_line};
 
 #[cfg(test)]
 mod tests;

@@ -3,7 +3,8 @@ ghost use Rattle.std.specs.Prelude.{◌≡◌, ◌<◌, ◌≤◌, ◌+◌, ◌+
 ghost use Rattle.midi_lines.specs.ListingLines.{group_text, listed_word, listing_text};
 ghost use Rattle.midi_lines.specs.StepLines.{byte_listing_text};
 
-use crate::put::{Line, put_decimal, put_text};
+use crate::line::Line;
+use crate::put::{put_decimal, put_text};
 use voice_messages::U4;
 use voice_state::{Kind, Listed};
 
@@ -36,9 +37,18 @@ pub fn byte_listing(kind: Kind, offset: u64) -> Line
     ensures some { 0 < length result }
 {
     let mut line = Line::new();
-    put_decimal(&mut line, offset);
-    put_kind(&mut line, kind);
+    fill_byte_listing(&mut line, kind, offset);
     line
+}
+
+/// Makes the line that of what is listed of a stream, as `byte_listing` does, in the place of another one.
+pub fn fill_byte_listing(line: &mut Line, kind: Kind, offset: u64)
+    ensures text { line.new ≡ byte_listing_text kind offset }
+    ensures some { 0 < length line.new }
+{
+    line.clear();
+    put_decimal(line, offset);
+    put_kind(line, kind);
 }
 
 // A group, or a hyphen for none.

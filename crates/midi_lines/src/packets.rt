@@ -3,8 +3,9 @@ ghost use Rattle.std.specs.Prelude.{◌≡◌, ◌<◌, ◌≤◌, ◌+◌, ◌*
 ghost use Rattle.midi_lines.specs.Fields.{hex_words, field};
 ghost use Rattle.midi_lines.specs.PacketLines.{packet_fields, packet_text, form_word, utility, exclusive, stream};
 
+use crate::line::Line;
 use crate::put::{
-    Line, put_decimal, put_field, put_hex_bytes, put_hex_field, put_text, put_word, put_word_field,
+    put_decimal, put_field, put_hex_bytes, put_hex_field, put_text, put_word, put_word_field,
 };
 use crate::voice1::{put_system, put_voice1};
 use crate::voice2::put_voice2;
@@ -75,9 +76,8 @@ fn put_utility(line: &mut Line, status: u8, value: u32)
     ensures text { line.new ≡ line.old ++ utility status value }
     ensures room { length line.new ≤ 240 }
 {
-    put_text(line, "utility");
-    put_field(line, "status", status as u32);
-    put_field(line, "value", value);
+    put_field(line, "utility status=", status as u32);
+    put_field(line, " value=", value);
 }
 
 // A kind whose only field is the group.
@@ -87,7 +87,7 @@ fn put_group(line: &mut Line, kind: &str, group: U4)
     ensures room { length line.new ≤ 240 }
 {
     put_text(line, kind);
-    put_field(line, "group", group.get() as u32);
+    put_field(line, " group=", group.get() as u32);
 }
 
 // The word of a form.
@@ -108,9 +108,8 @@ fn put_exclusive(line: &mut Line, group: U4, form: Form, bytes: &ShortList<u8, 6
     ensures text { line.new ≡ line.old ++ exclusive group form bytes.now }
     ensures room { length line.new ≤ 240 }
 {
-    put_text(line, "exclusive");
-    put_field(line, "group", group.get() as u32);
-    put_word_field(line, "form", form_name(form));
+    put_field(line, "exclusive group=", group.get() as u32);
+    put_word_field(line, " form=", form_name(form));
     put_text(line, " bytes=");
     put_hex_bytes(line, bytes.as_slice());
 }
@@ -120,7 +119,6 @@ fn put_stream(line: &mut Line, format: u8, status: u16)
     ensures text { line.new ≡ line.old ++ stream format status }
     ensures room { length line.new ≤ 240 }
 {
-    put_text(line, "stream");
-    put_field(line, "format", format as u32);
-    put_hex_field(line, "status", 3, status as u32);
+    put_field(line, "stream format=", format as u32);
+    put_hex_field(line, " status=", 3, status as u32);
 }

@@ -1,12 +1,9 @@
 // The parts that lines are put together from, each with its room.
-ghost use Rattle.std.specs.Prelude.{◌≡◌, ◌<◌, ◌≤◌, ◌+◌, ◌*◌, ◌/◌, ◌++◌, length, decimal, flat_map};
-ghost use Rattle.midi_lines.specs.Fields.{hex_digit, hex, field, word_field, hex_field, hex_bytes};
+ghost use Rattle.std.specs.Prelude.{◌≡◌, ◌<◌, ◌≤◌, ◌+◌, ◌*◌, ◌/◌, ◌%◌, [], ◌∷◌, ◌++◌, length, decimal, flat_map};
+ghost use Rattle.midi_lines.specs.Fields.{hex_digit, hex, hex_bytes};
 
+use crate::line::Line;
 use itoa::Buffer;
-use midi_edge::{ShortList, U4};
-
-/// A line of at most 256 bytes, with the line feed at its end.
-pub type Line = ShortList<u8, 256>;
 
 /// Adds a text.
 #[inline(always)]
@@ -17,24 +14,123 @@ pub fn put_text(line: &mut Line, text: &str)
     line.extend(text.as_bytes());
 }
 
+// The decimal digits of each number below 256, with blanks behind them up to four bytes.
+static SMALL_NUMBERS: [u8; 1024] =
+    *b"0   1   2   3   4   5   6   7   8   9   10  11  12  13  14  15  16  17  18  19  20  21  22  23  24  25  26  27  28  29  30  31  32  33  34  35  36  37  38  39  40  41  42  43  44  45  46  47  48  49  50  51  52  53  54  55  56  57  58  59  60  61  62  63  64  65  66  67  68  69  70  71  72  73  74  75  76  77  78  79  80  81  82  83  84  85  86  87  88  89  90  91  92  93  94  95  96  97  98  99  100 101 102 103 104 105 106 107 108 109 110 111 112 113 114 115 116 117 118 119 120 121 122 123 124 125 126 127 128 129 130 131 132 133 134 135 136 137 138 139 140 141 142 143 144 145 146 147 148 149 150 151 152 153 154 155 156 157 158 159 160 161 162 163 164 165 166 167 168 169 170 171 172 173 174 175 176 177 178 179 180 181 182 183 184 185 186 187 188 189 190 191 192 193 194 195 196 197 198 199 200 201 202 203 204 205 206 207 208 209 210 211 212 213 214 215 216 217 218 219 220 221 222 223 224 225 226 227 228 229 230 231 232 233 234 235 236 237 238 239 240 241 242 243 244 245 246 247 248 249 250 251 252 253 254 255 ";
+
+// How many digits a number has.
+#[tactic(auto, using(crate::proofs::Decimal::decimal_one, crate::proofs::Decimal::decimal_two, crate::proofs::Decimal::decimal_three))]
+fn digit_count(number: u8) -> usize
+    ensures count { result ≡ length (decimal number) }
+    ensures few { result ≤ 3 }
+{
+    if number < 10 {
+        1
+    } else if number < 100 {
+        2
+    } else {
+        3
+    }
+}
+
+// Adds a number of at most three digits. Four bytes are copied, whatever the number of digits is.
+#[inline(always)]
+fn put_small(line: &mut Line, number: u8)
+    requires { length line.old + 4 ≤ 256 }
+    ensures text { line.new ≡ line.old ++ decimal number }
+    ensures room { length line.new ≤ length line.old + 3 }
+{
+    let at = number as usize * 4;
+    let digits = [
+        SMALL_NUMBERS[at],
+        SMALL_NUMBERS[at + 1],
+        SMALL_NUMBERS[at + 2],
+        SMALL_NUMBERS[at + 3],
+    ];
+    line.extend_by(&digits, digit_count(number));
+}
+
+// The two decimal digits of each number below 100.
+static TENS: [u8; 200] =
+    *b"00010203040506070809101112131415161718192021222324252627282930313233343536373839404142434445464748495051525354555657585960616263646566676869707172737475767778798081828384858687888990919293949596979899";
+
+// Adds two decimal digits.
+#[inline(always)]
+fn put_two(line: &mut Line, number: u64)
+    requires two { number < 100 }
+    requires room { length line.old + 2 ≤ 256 }
+    ensures text { line.new ≡ line.old ++ (48 + number / 10) ∷ (48 + number % 10) ∷ [] }
+    ensures room { length line.new ≡ length line.old + 2 }
+{
+    let at = number as usize * 2;
+    line.extend(&[TENS[at], TENS[at + 1]]);
+}
+
+// Adds four decimal digits.
+#[inline(always)]
+fn put_four(line: &mut Line, number: u64)
+    requires four { number < 10000 }
+    requires room { length line.old + 4 ≤ 256 }
+    ensures text { line.new
+        ≡ line.old ++ (48 + number / 100 / 10) ∷ (48 + number / 100 % 10) ∷ (48 + number % 100 / 10) ∷ (48 + number % 100 % 10) ∷ [] }
+    ensures room { length line.new ≡ length line.old + 4 }
+{
+    put_two(line, number / 100);
+    put_two(line, number % 100);
+}
+
+// Adds a number of at most four digits.
+#[inline(always)]
+fn put_up_to_four(line: &mut Line, number: u64)
+    requires four { number < 10000 }
+    requires room { length line.old + 5 ≤ 256 }
+    ensures text { line.new ≡ line.old ++ decimal number }
+    ensures room { length line.new ≤ length line.old + 5 }
+{
+    if number < 256 {
+        put_small(line, number as u8);
+    } else {
+        put_small(line, (number / 100) as u8);
+        put_two(line, number % 100);
+    }
+}
+
 /// Adds a number in decimal digits.
-#[tactic(auto, using(crate::proofs::Decimal::decimal_one, crate::proofs::Decimal::decimal_two))]
-#[inline]
+#[inline(always)]
 pub fn put_decimal(line: &mut Line, number: u64)
     requires { length line.old + 20 ≤ 256 }
     ensures text { line.new ≡ line.old ++ decimal number }
     ensures room { length line.new ≤ length line.old + 20 }
 {
-    if number < 10 {
-        line.push(b'0' + number as u8);
-    } else if number < 100 {
-        line.extend(&[b'0' + (number / 10) as u8, b'0' + (number % 10) as u8]);
+    if number < 256 {
+        put_small(line, number as u8);
+    } else {
+        put_large(line, number);
+    }
+}
+
+// Adds a number of several digits.
+#[inline(never)]
+fn put_large(line: &mut Line, number: u64)
+    requires { length line.old + 20 ≤ 256 }
+    ensures text { line.new ≡ line.old ++ decimal number }
+    ensures room { length line.new ≤ length line.old + 20 }
+{
+    if number < 10_000 {
+        put_up_to_four(line, number);
+    } else if number < 100_000_000 {
+        put_up_to_four(line, number / 10_000);
+        put_four(line, number % 10_000);
+    } else if number < 1_000_000_000_000 {
+        put_up_to_four(line, number / 10_000 / 10_000);
+        put_four(line, number / 10_000 % 10_000);
+        put_four(line, number % 10_000);
     } else {
         put_long(line, number);
     }
 }
 
-// Adds a number of several digits.
+// Adds a number of many digits.
 #[inline(never)]
 fn put_long(line: &mut Line, number: u64)
     requires { length line.old + 20 ≤ 256 }
@@ -68,7 +164,7 @@ pub fn put_hex(line: &mut Line, width: usize, number: u32)
         return;
     }
     put_hex(line, width - 1, number / 16);
-    line.push(digit_byte((number % 16) as u8));
+    line.extend(&[digit_byte((number % 16) as u8)]);
 }
 
 // The two digits of each byte.
@@ -119,44 +215,35 @@ pub fn put_hex_bytes(line: &mut Line, bytes: &[u8])
     }
 }
 
-/// Adds ` name=number`.
-#[tactic(auto, unfolding(crate::specs::Fields::field))]
+/// Adds a label, as ` note=`, and a number in decimal digits.
 #[inline(always)]
-pub fn put_field(line: &mut Line, name: &str, number: u32)
-    requires { (length line.old + length name.now) + 22 ≤ 256 }
-    ensures text { line.new ≡ line.old ++ field name.now number }
-    ensures room { length line.new ≤ (length line.old + length name.now) + 22 }
+pub fn put_field(line: &mut Line, label: &str, number: u32)
+    requires { (length line.old + length label.now) + 20 ≤ 256 }
+    ensures text { line.new ≡ line.old ++ label.now ++ decimal number }
+    ensures room { length line.new ≤ (length line.old + length label.now) + 20 }
 {
-    put_text(line, " ");
-    put_text(line, name);
-    put_text(line, "=");
+    put_text(line, label);
     put_decimal(line, number as u64);
 }
 
-/// Adds ` name=word`.
-#[tactic(auto, unfolding(crate::specs::Fields::word_field))]
+/// Adds a label, as ` form=`, and a word.
 #[inline(always)]
-pub fn put_word_field(line: &mut Line, name: &str, word: &str)
-    requires { (length line.old + length name.now) + (length word.now + 2) ≤ 256 }
-    ensures text { line.new ≡ line.old ++ word_field name.now word.now }
-    ensures room { length line.new ≤ (length line.old + length name.now) + (length word.now + 2) }
+pub fn put_word_field(line: &mut Line, label: &str, word: &str)
+    requires { (length line.old + length label.now) + length word.now ≤ 256 }
+    ensures text { line.new ≡ line.old ++ label.now ++ word.now }
+    ensures room { length line.new ≤ (length line.old + length label.now) + length word.now }
 {
-    put_text(line, " ");
-    put_text(line, name);
-    put_text(line, "=");
+    put_text(line, label);
     put_text(line, word);
 }
 
-/// Adds ` name=` and the last `width` hexadecimal digits of a number.
-#[tactic(auto, unfolding(crate::specs::Fields::hex_field))]
+/// Adds a label, as ` status=`, and the last `width` hexadecimal digits of a number.
 #[inline(always)]
-pub fn put_hex_field(line: &mut Line, name: &str, width: usize, number: u32)
-    requires { (length line.old + length name.now) + (width + 2) ≤ 256 }
-    ensures text { line.new ≡ line.old ++ hex_field name.now width number }
-    ensures room { length line.new ≤ (length line.old + length name.now) + (width + 2) }
+pub fn put_hex_field(line: &mut Line, label: &str, width: usize, number: u32)
+    requires { (length line.old + length label.now) + width ≤ 256 }
+    ensures text { line.new ≡ line.old ++ label.now ++ hex width number }
+    ensures room { length line.new ≤ (length line.old + length label.now) + width }
 {
-    put_text(line, " ");
-    put_text(line, name);
-    put_text(line, "=");
+    put_text(line, label);
     put_hex(line, width, number);
 }

@@ -1,11 +1,12 @@
 // The lines of the messages of a stream of MIDI 1.0 bytes.
-ghost use Rattle.std.specs.Prelude.{◌≡◌, ◌<◌, ◌≤◌, ◌+◌, ◌++◌, length, codes, decimal, IfSome, None};
+ghost use Rattle.std.specs.Prelude.{◌≡◌, ◌<◌, ◌≤◌, ◌+◌, ◌++◌, length, codes, decimal, IfSome, Some, None, true, if◌then◌else◌};
 ghost use Rattle.midi1_bytes.specs.Answers.{step_view};
 ghost use Rattle.midi_lines.specs.Fields.{field};
 ghost use Rattle.midi_lines.specs.StepLines.{HasBothEnds, step_text};
 ghost use Rattle.midi_lines.specs.Voice1Lines.{voice1_fields, system_fields};
 
-use crate::put::{Line, put_decimal, put_text};
+use crate::line::Line;
+use crate::put::{put_decimal, put_text};
 use crate::voice1::{put_system, put_voice1};
 use midi1_bytes::{AfterCut, Step, System, Voice1};
 
@@ -17,58 +18,69 @@ pub fn step_line(step: &Step<'_>, offset: u64) -> Option<Line>
     ensures text { result ≡ step_text (step_view step.now) offset }
     ensures some { IfSome result (λ line. 0 < length line) }
 {
-    match step {
-        Step::Voice(bytes) => Some(voice_line(&bytes.message(), offset)),
-        Step::Common(bytes) => Some(system_line(&bytes.message(), offset)),
-        Step::RealTime(byte) => Some(system_line(&byte.message(), offset)),
-        Step::Exclusive(bytes) => Some(exclusive_line(bytes.len() - 2, offset)),
-        Step::Cut {
-            after: AfterCut::Tune,
-            ..
-        } => Some(system_line(&System::Tune, offset)),
-        _ => None,
+    let mut line = Line::new();
+    if fill_step_line(&mut line, step, offset) {
+        Some(line)
+    } else {
+        None
     }
 }
 
-fn voice_line(message: &Voice1, offset: u64) -> Line
-    ensures text { result ≡ decimal offset ++ codes " " ++ voice1_fields None message.now ++ codes "\n" }
-    ensures some { 0 < length result }
+/// Makes the line that of what a byte does, as `step_line` does, in the place of another one, and tells whether it completes a
+/// message. Where it completes none the line is of no use.
+pub fn fill_step_line(line: &mut Line, step: &Step<'_>, offset: u64) -> bool
+    requires { HasBothEnds step.now }
+    ensures text { step_text (step_view step.now) offset ≡ (if result then Some line.new else None) }
+    ensures some { result ≡ true → 0 < length line.new }
 {
-    let mut line = begun(offset);
-    put_voice1(&mut line, None, message);
-    put_text(&mut line, "\n");
-    line
+    match step {
+        Step::Voice(bytes) => fill_voice_line(line, &bytes.message(), offset),
+        Step::Common(bytes) => fill_system_line(line, &bytes.message(), offset),
+        Step::RealTime(byte) => fill_system_line(line, &byte.message(), offset),
+        Step::Exclusive(bytes) => fill_exclusive_line(line, bytes.len() - 2, offset),
+        Step::Cut {
+            after: AfterCut::Tune,
+            ..
+        } => fill_system_line(line, &System::Tune, offset),
+        _ => return false,
+    }
+    true
 }
 
-fn system_line(message: &System, offset: u64) -> Line
-    ensures text { result ≡ decimal offset ++ codes " " ++ system_fields None message.now ++ codes "\n" }
-    ensures some { 0 < length result }
+fn fill_voice_line(line: &mut Line, message: &Voice1, offset: u64)
+    ensures text { line.new ≡ decimal offset ++ codes " " ++ voice1_fields None message.now ++ codes "\n" }
+    ensures some { 0 < length line.new }
 {
-    let mut line = begun(offset);
-    put_system(&mut line, None, message);
-    put_text(&mut line, "\n");
-    line
+    begin(line, offset);
+    put_voice1(line, None, message);
+    put_text(line, "\n");
 }
 
-#[tactic(auto, unfolding(crate::specs::Fields::field))]
-fn exclusive_line(size: usize, offset: u64) -> Line
-    ensures text { result ≡ decimal offset ++ codes " " ++ codes "exclusive" ++ field (codes "length") size ++ codes "\n" }
-    ensures some { 0 < length result }
+fn fill_system_line(line: &mut Line, message: &System, offset: u64)
+    ensures text { line.new ≡ decimal offset ++ codes " " ++ system_fields None message.now ++ codes "\n" }
+    ensures some { 0 < length line.new }
 {
-    let mut line = begun(offset);
-    put_text(&mut line, "exclusive length=");
-    put_decimal(&mut line, size as u64);
-    put_text(&mut line, "\n");
-    line
+    begin(line, offset);
+    put_system(line, None, message);
+    put_text(line, "\n");
 }
 
-// A line that begins with its offset.
-fn begun(offset: u64) -> Line
-    ensures text { result ≡ decimal offset ++ codes " " }
-    ensures room { length result ≤ 21 }
+fn fill_exclusive_line(line: &mut Line, size: usize, offset: u64)
+    ensures text { line.new ≡ decimal offset ++ codes " " ++ codes "exclusive" ++ field (codes "length") size ++ codes "\n" }
+    ensures some { 0 < length line.new }
 {
-    let mut line = Line::new();
-    put_decimal(&mut line, offset);
-    put_text(&mut line, " ");
-    line
+    begin(line, offset);
+    put_text(line, "exclusive length=");
+    put_decimal(line, size as u64);
+    put_text(line, "\n");
+}
+
+// Makes the line its offset, in the place of another one.
+fn begin(line: &mut Line, offset: u64)
+    ensures text { line.new ≡ decimal offset ++ codes " " }
+    ensures room { length line.new ≤ 21 }
+{
+    line.clear();
+    put_decimal(line, offset);
+    put_text(line, " ");
 }

@@ -2,7 +2,8 @@
 ghost use Rattle.std.specs.Prelude.{◌≡◌, ◌≤◌, ◌+◌, ◌++◌, length, codes};
 ghost use Rattle.midi_lines.specs.Fields.{field, group_field, group_and_channel};
 
-use crate::put::{Line, put_field, put_text};
+use crate::line::Line;
+use crate::put::{put_field, put_text};
 use voice_messages::{U4, U7};
 
 /// Adds the group of a message, if it has one.
@@ -14,7 +15,7 @@ pub fn put_group_field(line: &mut Line, group: Option<U4>)
     ensures room { length line.new ≤ length line.old + 27 }
 {
     if let Some(group) = group {
-        put_field(line, "group", group.get() as u32);
+        put_field(line, " group=", group.get() as u32);
     }
 }
 
@@ -28,7 +29,7 @@ pub fn put_voice(line: &mut Line, kind: &str, group: Option<U4>, channel: U4)
 {
     put_text(line, kind);
     put_group_field(line, group);
-    put_field(line, "channel", channel.get() as u32);
+    put_field(line, " channel=", channel.get() as u32);
 }
 
 /// Adds a message with a value of its channel.
@@ -39,7 +40,7 @@ pub fn put_value(line: &mut Line, kind: &str, group: Option<U4>, channel: U4, va
     ensures room { length line.new ≤ 240 }
 {
     put_voice(line, kind, group, channel);
-    put_field(line, "value", value);
+    put_field(line, " value=", value);
 }
 
 /// Adds a message with a value of one note.
@@ -58,8 +59,8 @@ pub fn put_note_value(
     ensures room { length line.new ≤ 240 }
 {
     put_voice(line, kind, group, channel);
-    put_field(line, "note", note.get() as u32);
-    put_field(line, "value", value);
+    put_field(line, " note=", note.get() as u32);
+    put_field(line, " value=", value);
 }
 
 /// Adds a message with a value of one controller.
@@ -78,6 +79,6 @@ pub fn put_control(
     ensures room { length line.new ≤ 240 }
 {
     put_voice(line, kind, group, channel);
-    put_field(line, "index", index.get() as u32);
-    put_field(line, "value", value);
+    put_field(line, " index=", index.get() as u32);
+    put_field(line, " value=", value);
 }

@@ -3,7 +3,8 @@ ghost use Rattle.std.specs.Prelude.{◌≡◌, ◌≤◌, ◌+◌, ◌++◌, len
 ghost use Rattle.midi_lines.specs.Fields.{field, group_and_channel};
 ghost use Rattle.midi_lines.specs.Voice1Lines.{voice1_fields, system_fields, system_status, m1_program};
 
-use crate::put::{Line, put_field, put_hex_field, put_text};
+use crate::line::Line;
+use crate::put::{put_field, put_hex_field, put_text};
 use crate::voice::{put_control, put_group_field, put_note_value, put_value, put_voice};
 use voice_messages::{System, U4, U7, Voice1};
 
@@ -66,8 +67,8 @@ fn put_note(line: &mut Line, kind: &str, group: Option<U4>, channel: U4, note: U
     ensures room { length line.new ≤ 240 }
 {
     put_voice(line, kind, group, channel);
-    put_field(line, "note", note.get() as u32);
-    put_field(line, "velocity", velocity.get() as u32);
+    put_field(line, " note=", note.get() as u32);
+    put_field(line, " velocity=", velocity.get() as u32);
 }
 
 fn put_program(line: &mut Line, group: Option<U4>, channel: U4, program: U7)
@@ -76,7 +77,7 @@ fn put_program(line: &mut Line, group: Option<U4>, channel: U4, program: U7)
     ensures room { length line.new ≤ 240 }
 {
     put_voice(line, "m1-program", group, channel);
-    put_field(line, "program", program.get() as u32);
+    put_field(line, " program=", program.get() as u32);
 }
 
 /// Adds the kind and the fields of a system message.
@@ -106,7 +107,7 @@ fn put_common(line: &mut Line, group: Option<U4>, status: u8, value: u32)
     ensures room { length line.new ≤ 240 }
 {
     put_status(line, group, status);
-    put_field(line, "value", value);
+    put_field(line, " value=", value);
 }
 
 // A system message by its status byte.
@@ -117,5 +118,5 @@ fn put_status(line: &mut Line, group: Option<U4>, status: u8)
 {
     put_text(line, "system");
     put_group_field(line, group);
-    put_hex_field(line, "status", 2, status as u32);
+    put_hex_field(line, " status=", 2, status as u32);
 }

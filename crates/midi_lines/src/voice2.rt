@@ -3,7 +3,8 @@ ghost use Rattle.std.specs.Prelude.{◌≡◌, ◌≤◌, ◌+◌, ◌++◌, len
 ghost use Rattle.midi_lines.specs.Fields.{field, word_field, group_and_channel};
 ghost use Rattle.midi_lines.specs.Voice2Lines.{voice2_fields, kind_word, bank_field, param_fields, controller_fields, program, note_management};
 
-use crate::put::{Line, put_decimal, put_field, put_text, put_word_field};
+use crate::line::Line;
+use crate::put::{put_decimal, put_field, put_text, put_word_field};
 use crate::voice::{put_control, put_note_value, put_value, put_voice};
 use voice_messages::{Bank, Param, ParamKind, U4, U7, Voice2};
 
@@ -70,7 +71,7 @@ pub fn put_voice2(line: &mut Line, group: Option<U4>, message: &Voice2)
         } => {
             put_voice(line, "note-controller", group, *channel);
             put_controller_fields(line, *kind, *note, *index);
-            put_field(line, "value", *value);
+            put_field(line, " value=", *value);
         }
         Voice2::NoteBend {
             channel,
@@ -92,10 +93,10 @@ fn put_note(line: &mut Line, note: U7, velocity: u16, attribute_type: u8, attrib
         ≡ line.old ++ field (codes "note") note ++ field (codes "velocity") velocity ++ field (codes "type") attribute_type ++ field (codes "attribute") attribute }
     ensures room { length line.new ≤ 240 }
 {
-    put_field(line, "note", note.get() as u32);
-    put_field(line, "velocity", velocity as u32);
-    put_field(line, "type", attribute_type as u32);
-    put_field(line, "attribute", attribute as u32);
+    put_field(line, " note=", note.get() as u32);
+    put_field(line, " velocity=", velocity as u32);
+    put_field(line, " type=", attribute_type as u32);
+    put_field(line, " attribute=", attribute as u32);
 }
 
 // The word of a kind of parameter.
@@ -116,9 +117,9 @@ fn put_param_fields(line: &mut Line, param: Param)
     ensures text { line.new ≡ line.old ++ param_fields param }
     ensures room { length line.new ≤ length line.old + 70 }
 {
-    put_word_field(line, "kind", kind_name(param.kind));
-    put_field(line, "bank", param.bank.get() as u32);
-    put_field(line, "index", param.index.get() as u32);
+    put_word_field(line, " kind=", kind_name(param.kind));
+    put_field(line, " bank=", param.bank.get() as u32);
+    put_field(line, " index=", param.index.get() as u32);
 }
 
 // A value of a parameter, or a change of its value.
@@ -130,7 +131,7 @@ fn put_param(line: &mut Line, kind: &str, group: Option<U4>, channel: U4, param:
 {
     put_voice(line, kind, group, channel);
     put_param_fields(line, param);
-    put_field(line, "value", value);
+    put_field(line, " value=", value);
 }
 
 fn put_program(line: &mut Line, group: Option<U4>, channel: U4, number: U7, bank: &Option<Bank>)
@@ -139,7 +140,7 @@ fn put_program(line: &mut Line, group: Option<U4>, channel: U4, number: U7, bank
     ensures room { length line.new ≤ 240 }
 {
     put_voice(line, "program", group, channel);
-    put_field(line, "program", number.get() as u32);
+    put_field(line, " program=", number.get() as u32);
     put_bank(line, bank);
 }
 
@@ -168,9 +169,9 @@ fn put_controller_fields(line: &mut Line, kind: ParamKind, note: U7, index: u8)
     ensures text { line.new ≡ line.old ++ controller_fields kind note index }
     ensures room { length line.new ≤ length line.old + 70 }
 {
-    put_word_field(line, "kind", kind_name(kind));
-    put_field(line, "note", note.get() as u32);
-    put_field(line, "index", index as u32);
+    put_word_field(line, " kind=", kind_name(kind));
+    put_field(line, " note=", note.get() as u32);
+    put_field(line, " index=", index as u32);
 }
 
 fn put_note_management(line: &mut Line, group: Option<U4>, channel: U4, note: U7, flags: u8)
@@ -179,6 +180,6 @@ fn put_note_management(line: &mut Line, group: Option<U4>, channel: U4, note: U7
     ensures room { length line.new ≤ 240 }
 {
     put_voice(line, "note-management", group, channel);
-    put_field(line, "note", note.get() as u32);
-    put_field(line, "flags", flags as u32);
+    put_field(line, " note=", note.get() as u32);
+    put_field(line, " flags=", flags as u32);
 }

@@ -14,7 +14,7 @@ use crate::next::{LIMIT, refused};
 use crate::next_byte::{NextByte, next_byte};
 use crate::status::{Reason, RunEnd};
 use midi_edge::{ByteReader, Sink, Source};
-use midi_lines::{Line, byte_listing, step_line};
+use midi_lines::{Line, fill_byte_listing, fill_step_line};
 use midi1_bytes::laws::parsed_bytes_are_the_definition;
 use midi1_bytes::{AfterCut, CutKind, Parser, Step};
 use voice_state::Kind;
@@ -33,10 +33,12 @@ pub fn show_bytes<S: Source, W: Sink>(mut parser: Parser, input: &mut S, output:
 {
     parsed_bytes_are_the_definition();
     let mut reader = ByteReader::new(LIMIT);
+    let mut line = Line::new();
     loop {
         match next_byte(&mut reader, input) {
             NextByte::Byte { byte, offset } => {
-                match put_step(&parser.byte(byte, offset), offset, output) {
+                let step = parser.byte(byte, offset);
+                match put_step(&mut line, &step, offset, output) {
                     Ok(()) => {}
                     Err(end) => return end,
                 }
@@ -57,34 +59,44 @@ fn put_line<W: Sink>(line: &Line, output: &mut W) -> Result<(), RunEnd>
     }
 }
 
-// Puts a line of the listing.
-fn put_kind<W: Sink>(kind: Kind, offset: u64, output: &mut W) -> Result<(), RunEnd>
+// Puts a line of the listing, which is made in the place of another one.
+fn put_kind<W: Sink>(line: &mut Line, kind: Kind, offset: u64, output: &mut W) -> Result<(), RunEnd>
     ensures ok { OnOk result (Gains (W.held output.old) (W.held output.new) (byte_listing_text kind offset) × (W.faults output.new ≡ W.faults output.old)) }
     ensures err { OnErr result ((result ≡ Err RunEnd.OutputFault) × Rose (W.faults output.old) (W.faults output.new)) }
 {
-    put_line(&byte_listing(kind, offset), output)
+    fill_byte_listing(line, kind, offset);
+    put_line(line, output)
 }
 
-// Puts the lines of what a byte does.
-fn put_step<W: Sink>(step: &Step<'_>, offset: u64, output: &mut W) -> Result<(), RunEnd>
+// Puts the lines of what a byte does, which are made in the place of another one.
+fn put_step<W: Sink>(
+    line: &mut Line,
+    step: &Step<'_>,
+    offset: u64,
+    output: &mut W,
+) -> Result<(), RunEnd>
     requires { HasBothEnds step.now }
     ensures { ShowsStep (step_view step.now) offset result (W.held output.old) (W.held output.new) (W.faults output.old) (W.faults output.new) }
 {
     match step {
         Step::Held => Ok(()),
         Step::TooLong => Err(refused(Reason::ExclusiveTooLong, offset)),
-        Step::Stray => put_kind(Kind::Stray, offset, output),
-        Step::Undefined => put_kind(Kind::Undefined, offset, output),
-        Step::Cut { start, what, after } => put_cut(*start, *what, *after, offset, output),
-        _ => match step_line(step, offset) {
-            Some(line) => put_line(&line, output),
-            None => Ok(()),
-        },
+        Step::Stray => put_kind(line, Kind::Stray, offset, output),
+        Step::Undefined => put_kind(line, Kind::Undefined, offset, output),
+        Step::Cut { start, what, after } => put_cut(line, *start, *what, *after, offset, output),
+        _ => {
+            if fill_step_line(line, step, offset) {
+                put_line(line, output)
+            } else {
+                Ok(())
+            }
+        }
     }
 }
 
 // Puts the line of what was cut off, and then that of the byte itself, if it has one.
 fn put_cut<W: Sink>(
+    line: &mut Line,
     start: u64,
     what: CutKind,
     after: AfterCut,
@@ -93,15 +105,18 @@ fn put_cut<W: Sink>(
 ) -> Result<(), RunEnd>
     ensures { ShowsStep (cut start what after) offset result (W.held output.old) (W.held output.new) (W.faults output.old) (W.faults output.new) }
 {
-    put_kind(kind_of_cut(what), start, output)?;
+    put_kind(line, kind_of_cut(what), start, output)?;
     match after {
         AfterCut::Begins => Ok(()),
-        AfterCut::Undefined => put_kind(Kind::Undefined, offset, output),
-        AfterCut::Stray => put_kind(Kind::Stray, offset, output),
-        AfterCut::Tune => match step_line(&Step::Cut { start, what, after }, offset) {
-            Some(line) => put_line(&line, output),
-            None => Ok(()),
-        },
+        AfterCut::Undefined => put_kind(line, Kind::Undefined, offset, output),
+        AfterCut::Stray => put_kind(line, Kind::Stray, offset, output),
+        AfterCut::Tune => {
+            if fill_step_line(line, &Step::Cut { start, what, after }, offset) {
+                put_line(line, output)
+            } else {
+                Ok(())
+            }
+        }
     }
 }
 
@@ -128,10 +143,13 @@ fn put_open<W: Sink>(parser: &Parser, output: &mut W) -> RunEnd
     ensures { ShowsOpen parser.now result (W.held output.old) (W.held output.new) (W.faults output.old) (W.faults output.new) }
 {
     match parser.end() {
-        Some((start, what)) => match put_kind(kind_of_open(what), start, output) {
-            Ok(()) => RunEnd::Done,
-            Err(_) => RunEnd::OutputFault,
-        },
+        Some((start, what)) => {
+            let mut line = Line::new();
+            match put_kind(&mut line, kind_of_open(what), start, output) {
+                Ok(()) => RunEnd::Done,
+                Err(_) => RunEnd::OutputFault,
+            }
+        }
         None => RunEnd::Done,
     }
 }

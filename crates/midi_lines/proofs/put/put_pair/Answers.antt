@@ -1,5 +1,5 @@
-use Rattle.std.proofs.Common.{◌≡◌, ℕ, ◌+◌, ◌*◌, ◌/◌, ◌%◌, List, [], ◌∷◌, ◌++◌, get_or, refl, ap, ◌∙◌}
-use Rattle.midi_lines.specs.Fields.{hex, hex_digit}
+use Rattle.std.proofs.Common.{◌≡◌, ℕ, ◌+◌, ◌*◌, ◌%◌, [], ◌∷◌, ◌++◌, get_or, refl, ap, ◌∙◌}
+use Rattle.midi_lines.specs.Fields.{hex}
 use Rattle.midi_lines.specs.declared.put.TheConstants.{PAIRS}
 use Rattle.midi_lines.proofs.Pairs.{first_digit, second_digit}
 use Rattle.midi_lines.proofs.put.put_pair.Goals as goal
