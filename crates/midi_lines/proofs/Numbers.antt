@@ -1,9 +1,9 @@
--- The tables of the texts of small numbers and of two digits.
+-- The table of the texts of small numbers.
 use Rattle.std.proofs.Common.{◌≡◌, ℕ, zero, suc, ◌+◌, ◌-◌, ◌*◌, ◌/◌, ◌%◌, ◌<◌, ◌≤◌, Bool, true, ◌&&◌, T, eqb, List, [], ◌∷◌, length, take, get_or, refl, subst, inl, inr, arith, eq-zero-or-pos, eqb→eq}
 use lib.Ieee.Fits.{and_l, and_r}
 use Rattle.std.specs.Fmt.{decimal}
 use Rattle.midi_lines.proofs.Decimal.{decimal_one, decimal_two, decimal_three}
-use Rattle.midi_lines.specs.declared.put.TheConstants.{SMALL_NUMBERS, TENS}
+use Rattle.midi_lines.specs.declared.put.TheConstants.{SMALL_NUMBERS}
 
 -- whether a test holds of each number below another one
 abbrev all_below : (ℕ → Bool) → ℕ → Bool
@@ -24,17 +24,8 @@ each_from test least count n t a b =
     let P : ℕ → Type 0 = λ m. T (test m) in
     subst P e (each_below (λ m. test (least + m)) count (n - least) t (omega arith))
 
-abbrev has_two : ℕ → Bool
-has_two n = eqb (get_or TENS (n * 2) 0) (48 + n / 10) && eqb (get_or TENS (n * 2 + 1) 0) (48 + n % 10)
-
 both : (a b c d : ℕ) → T (eqb a b && eqb c d) → (a ≡ b) × (c ≡ d)
 both a b c d t = (eqb→eq a b (and_l (eqb a b) (eqb c d) t), eqb→eq c d (and_r (eqb a b) (eqb c d) t))
-
--- the two digits of a number below 100
-pub two_digits : (n : ℕ) → n < 100 → get_or TENS (n * 2) 0 ∷ get_or TENS (n * 2 + 1) 0 ∷ [] ≡ (48 + n / 10) ∷ (48 + n % 10) ∷ []
-two_digits n h =
-    let t = both (get_or TENS (n * 2) 0) (48 + n / 10) (get_or TENS (n * 2 + 1) 0) (48 + n % 10) (each_below has_two 100 n tt h) in
-    rw (t.0, t.1) refl
 
 -- the bytes of a number below 256 in the table
 abbrev byte_at : ℕ → ℕ → ℕ

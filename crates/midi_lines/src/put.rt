@@ -1,5 +1,5 @@
 // The parts that lines are put together from, each with its room.
-ghost use Rattle.std.specs.Prelude.{◌≡◌, ◌<◌, ◌≤◌, ◌+◌, ◌*◌, ◌/◌, ◌%◌, [], ◌∷◌, ◌++◌, length, decimal, flat_map};
+ghost use Rattle.std.specs.Prelude.{◌≡◌, ◌<◌, ◌≤◌, ◌+◌, ◌*◌, ◌/◌, ◌++◌, length, decimal, flat_map};
 ghost use Rattle.midi_lines.specs.Fields.{hex_digit, hex, hex_bytes};
 
 use crate::line::Line;
@@ -50,51 +50,6 @@ fn put_small(line: &mut Line, number: u8)
     line.extend_by(&digits, digit_count(number));
 }
 
-// The two decimal digits of each number below 100.
-static TENS: [u8; 200] =
-    *b"00010203040506070809101112131415161718192021222324252627282930313233343536373839404142434445464748495051525354555657585960616263646566676869707172737475767778798081828384858687888990919293949596979899";
-
-// Adds two decimal digits.
-#[inline(always)]
-fn put_two(line: &mut Line, number: u64)
-    requires two { number < 100 }
-    requires room { length line.old + 2 ≤ 256 }
-    ensures text { line.new ≡ line.old ++ (48 + number / 10) ∷ (48 + number % 10) ∷ [] }
-    ensures room { length line.new ≡ length line.old + 2 }
-{
-    let at = number as usize * 2;
-    line.extend(&[TENS[at], TENS[at + 1]]);
-}
-
-// Adds four decimal digits.
-#[inline(always)]
-fn put_four(line: &mut Line, number: u64)
-    requires four { number < 10000 }
-    requires room { length line.old + 4 ≤ 256 }
-    ensures text { line.new
-        ≡ line.old ++ (48 + number / 100 / 10) ∷ (48 + number / 100 % 10) ∷ (48 + number % 100 / 10) ∷ (48 + number % 100 % 10) ∷ [] }
-    ensures room { length line.new ≡ length line.old + 4 }
-{
-    put_two(line, number / 100);
-    put_two(line, number % 100);
-}
-
-// Adds a number of at most four digits.
-#[inline(always)]
-fn put_up_to_four(line: &mut Line, number: u64)
-    requires four { number < 10000 }
-    requires room { length line.old + 5 ≤ 256 }
-    ensures text { line.new ≡ line.old ++ decimal number }
-    ensures room { length line.new ≤ length line.old + 5 }
-{
-    if number < 256 {
-        put_small(line, number as u8);
-    } else {
-        put_small(line, (number / 100) as u8);
-        put_two(line, number % 100);
-    }
-}
-
 /// Adds a number in decimal digits.
 #[inline(always)]
 pub fn put_decimal(line: &mut Line, number: u64)
@@ -105,32 +60,11 @@ pub fn put_decimal(line: &mut Line, number: u64)
     if number < 256 {
         put_small(line, number as u8);
     } else {
-        put_large(line, number);
-    }
-}
-
-// Adds a number of several digits.
-#[inline(never)]
-fn put_large(line: &mut Line, number: u64)
-    requires { length line.old + 20 ≤ 256 }
-    ensures text { line.new ≡ line.old ++ decimal number }
-    ensures room { length line.new ≤ length line.old + 20 }
-{
-    if number < 10_000 {
-        put_up_to_four(line, number);
-    } else if number < 100_000_000 {
-        put_up_to_four(line, number / 10_000);
-        put_four(line, number % 10_000);
-    } else if number < 1_000_000_000_000 {
-        put_up_to_four(line, number / 10_000 / 10_000);
-        put_four(line, number / 10_000 % 10_000);
-        put_four(line, number % 10_000);
-    } else {
         put_long(line, number);
     }
 }
 
-// Adds a number of many digits.
+// Adds a number of several digits.
 #[inline(never)]
 fn put_long(line: &mut Line, number: u64)
     requires { length line.old + 20 ≤ 256 }
