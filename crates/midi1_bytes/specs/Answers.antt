@@ -1,12 +1,10 @@
 -- What the parser answers.
-use Rattle.std.specs.Prelude.{◌≡◌, ◌-◌, List, [], ◌∷◌, ◌++◌, length, take, drop, ℕ}
-use Rattle.voice_messages.specs.declared.voice1.System.TheVariants as system
+use Rattle.std.specs.Prelude.{◌≡◌, ◌-◌, List, [], ◌∷◌, ◌++◌, length, take, drop, ℕ, Option, Some, None}
 use Rattle.midi1_bytes.specs.declared.step.Step.{Step}
 use Rattle.midi1_bytes.specs.declared.step.Step.TheVariants as step
 use Rattle.midi1_bytes.specs.declared.step.AfterCut.{AfterCut}
-use Rattle.midi1_bytes.specs.declared.step.AfterCut.TheVariants as after
+use Rattle.midi1_bytes.specs.declared.step.CutKind.{CutKind}
 use Rattle.midi1_bytes.specs.Messages.{voice, common, exclusive, real_time}
-use Rattle.midi1_bytes.specs.Sorts.{Sort, tune_request, undefined_status}
 use Rattle.midi1_bytes.specs.Spoken.{voice_in, common_in, real_time_in}
 use Rattle.midi1_bytes.specs.Steps as steps
 
@@ -33,14 +31,7 @@ abbrev pub LendsFramed : Step → Type 0
 LendsFramed (step.Exclusive bytes) = bytes.now ≡ framed (payload_of bytes.now)
 LendsFramed _ = Unit {0}
 
--- ---- what a status byte that is neither F7 nor Real Time does: where it cuts something off, besides, and where it doesn't
-
-abbrev pub besides_of : Sort → AfterCut
-besides_of tune_request = after.Tune
-besides_of undefined_status = after.Undefined
-besides_of _ = after.Begins
-
-abbrev pub alone_of : Sort → steps.Step
-alone_of tune_request = steps.completes (common system.Tune)
-alone_of undefined_status = steps.undefined
-alone_of _ = steps.held
+-- what a status byte does that does this besides where it cuts off what is open, and that where it stands alone
+abbrev pub cut_off_by : Option (ℕ × CutKind) → AfterCut → steps.Step → steps.Step
+cut_off_by None besides alone = alone
+cut_off_by (Some open_one) besides alone = steps.cut open_one.0 open_one.1 besides

@@ -1,7 +1,7 @@
 // The parser of a MIDI 1.0 stream.
 ghost use Rattle.std.specs.Prelude.{◌≡◌, ◌<◌, ◌≤◌, [], ◌∷◌, ◌++◌, Some, None, IfOk, vec_len, vec_capacity};
 ghost use Rattle.std.specs.Option.{option_map, ForSome};
-ghost use Rattle.midi1_bytes.specs.Answers.{step_view, LendsFramed, besides_of, alone_of};
+ghost use Rattle.midi1_bytes.specs.Answers.{step_view, LendsFramed, cut_off_by};
 ghost use Rattle.midi1_bytes.specs.Sorts.{data_byte, sort_of};
 
 use crate::begun::Begun;
@@ -27,32 +27,20 @@ fn append(bytes: &mut Vec<u8>, byte: u8)
     }
 }
 
-// What a status byte that is neither F7 nor Real Time does where it cuts something off, besides.
-#[tactic(auto, unfolding(crate::specs::Sorts::sort_of))]
-fn besides(status: u8) -> AfterCut
-    requires least { 128 ≤ status }
-    requires most { status < 247 }
-    ensures { result ≡ besides_of (sort_of status) }
-{
-    match status {
-        0xf4 | 0xf5 => AfterCut::Undefined,
-        0xf6 => AfterCut::Tune,
-        _ => AfterCut::Begins,
-    }
-}
-
-// What it does where nothing is begun.
-#[tactic(auto, unfolding(crate::specs::Sorts::sort_of))]
-fn alone<'a>(status: u8) -> Step<'a>
-    requires least { 128 ≤ status }
-    requires most { status < 247 }
-    ensures step { step_view result ≡ alone_of (sort_of status) }
+// What a status byte does that does this besides where it cuts off what is begun, and that where it stands alone.
+#[inline(always)]
+fn cut_off<'a>(begun: Option<(u64, CutKind)>, besides: AfterCut, alone: Step<'a>) -> Step<'a>
+    requires { LendsFramed alone }
+    ensures step { step_view result ≡ cut_off_by begun besides (step_view alone.entry) }
     ensures framed { LendsFramed result }
 {
-    match status {
-        0xf4 | 0xf5 => Step::Undefined,
-        0xf6 => Step::Common(CommonBytes::tune()),
-        _ => Step::Held,
+    match begun {
+        Some((start, what)) => Step::Cut {
+            start,
+            what,
+            after: besides,
+        },
+        None => alone,
     }
 }
 
@@ -105,6 +93,7 @@ impl Parser {
 
     /// What is begun, message or exclusive, and the offset at which it starts: that of its status byte, or under running status
     /// that of its first data byte. `None` exactly where nothing is begun.
+    #[inline(always)]
     pub fn end(&self) -> Option<(u64, CutKind)>
         ensures { result ≡ option_map (λ begun. (begun.start, begun.kind)) (open_of self.now) }
     {
@@ -116,6 +105,7 @@ impl Parser {
     }
 
     // Ends what is begun and running status.
+    #[inline(always)]
     fn leave(&mut self)
         ensures { self.new ≡ idle self.old.room }
     {
@@ -123,6 +113,7 @@ impl Parser {
         self.begun = Begun::Nothing;
     }
 
+    #[inline(always)]
     fn begin_message(&mut self, status: u8, running: Option<u8>, start: u64)
         ensures { self.new ≡ beginning self.old.room running (begun_message start status None) }
     {
@@ -134,6 +125,7 @@ impl Parser {
         };
     }
 
+    #[inline(always)]
     fn begin_exclusive(&mut self, start: u64)
         ensures { self.new ≡ beginning self.old.room None (begun_exclusive start []) }
     {
@@ -154,6 +146,7 @@ impl Parser {
           begun = begun_after (message_step (sort_of status) status first byte) (begun_message start status (Some byte));
         } }
     {
+        // of a message of two data bytes, the first
         if matches!((status, first), (0x80..=0xbf | 0xe0..=0xef | 0xf2, None)) {
             self.begun = Begun::Message {
                 start,
@@ -214,7 +207,8 @@ impl Parser {
     }
 
     // A status byte that is neither F7 nor Real Time.
-    #[tactic(auto, unfolding(crate::specs::Sorts::sort_of))]
+    #[tactic(auto, using(crate::proofs::OpenLaws::cut_off_open), unfolding(crate::specs::Sorts::sort_of))]
+    #[inline(always)]
     fn status<'a>(&mut self, status: u8, offset: u64) -> Step<'a>
         requires least { 128 ≤ status }
         requires most { status < 247 }
@@ -222,24 +216,33 @@ impl Parser {
         ensures framed { LendsFramed result }
         ensures after { self.new ≡ (parse self.old offset status).after }
     {
-        let open = self.end();
+        let begun = self.end();
         match status {
-            0x80..=0xef => self.begin_message(status, Some(status), offset),
-            0xf1..=0xf3 => self.begin_message(status, None, offset),
-            0xf0 => self.begin_exclusive(offset),
-            _ => self.leave(),
-        }
-        match open {
-            Some((start, what)) => Step::Cut {
-                start,
-                what,
-                after: besides(status),
-            },
-            None => alone(status),
+            0x80..=0xef => {
+                self.begin_message(status, Some(status), offset);
+                cut_off(begun, AfterCut::Begins, Step::Held)
+            }
+            0xf1..=0xf3 => {
+                self.begin_message(status, None, offset);
+                cut_off(begun, AfterCut::Begins, Step::Held)
+            }
+            0xf0 => {
+                self.begin_exclusive(offset);
+                cut_off(begun, AfterCut::Begins, Step::Held)
+            }
+            0xf6 => {
+                self.leave();
+                cut_off(begun, AfterCut::Tune, Step::Common(CommonBytes::tune()))
+            }
+            _ => {
+                self.leave();
+                cut_off(begun, AfterCut::Undefined, Step::Undefined)
+            }
         }
     }
 
     // F7.
+    #[inline(always)]
     fn end_exclusive(&mut self) -> Step<'_>
         ensures step { step_view result ≡ ended_by self.old.begun }
         ensures framed { LendsFramed result }
@@ -275,6 +278,7 @@ impl Parser {
         ensures framed { LendsFramed result }
         ensures* after { sem 𝓛 (KeepsParser self.entry (parse self.old offset byte).after) }
     {
+        // Most bytes are data bytes, so they come first.
         if byte < 0x80 {
             return self.data(byte, offset);
         }

@@ -213,7 +213,9 @@ pub fn run_back<S: Source, W: Sink, N: Sink>(
     translate_back(up, down, input, output, notes)
 }
 
-// Translates a stream by translators of which one has had no byte and the other nothing begun.
+// Translates a stream by translators of which one has had no byte and the other nothing begun. It stays a function of its
+// own, so that the loops of the other passes keep their registers.
+#[inline(never)]
 fn translate_back<S: Source, W: Sink, N: Sink>(
     mut up: Up,
     mut down: Down,

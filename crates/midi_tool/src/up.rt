@@ -228,7 +228,9 @@ pub fn run_up<S: Source, W: Sink, N: Sink>(
     translate(up, order, input, output, notes)
 }
 
-// Translates a stream by a translator that has had no byte.
+// Translates a stream by a translator that has had no byte. It stays a function of its own, so that the loops of the other
+// passes keep their registers.
+#[inline(never)]
 fn translate<S: Source, W: Sink, N: Sink>(
     mut up: Up,
     order: Order,

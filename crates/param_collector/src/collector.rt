@@ -76,6 +76,7 @@ impl Collector {
 
     /// Takes one control change (MIDI 1.0 Detailed Specification, control change, bank select, registered and non-registered
     /// parameter numbers; RP-015).
+    #[inline(always)]
     pub fn control(&mut self, channel: U4, index: U7, value: U7) -> Collected
         ensures answer { result ≡ answer_of (role_of index) self.old channel value }
         ensures behind { self.new ≡ holding_behind (role_of index) self.old channel value }
@@ -89,6 +90,7 @@ impl Collector {
     }
 
     // Takes a control change of a role.
+    #[inline(always)]
     fn act(&mut self, channel: U4, role: ControlRole, value: U7) -> Collected
         ensures answer { result ≡ answer_of (role_in role) self.old channel value }
         ensures behind { self.new ≡ holding_behind (role_in role) self.old channel value }
@@ -119,6 +121,7 @@ impl Collector {
     }
 
     // The channel's registers take a control change that is no data entry.
+    #[inline(always)]
     fn take(&mut self, channel: U4, role: ControlRole, value: U7)
         ensures behind { self.new ≡ at_registers channel (registers_behind (role_in role) value) self.old }
     {

@@ -95,6 +95,7 @@ impl Registers {
     }
 
     /// Takes one control change.
+    #[inline(always)]
     pub(crate) fn take(&mut self, role: ControlRole, value: U7)
         ensures { self.new ≡ registers_behind (role_in role) value self.old }
     {

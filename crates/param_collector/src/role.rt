@@ -23,6 +23,7 @@ pub(crate) enum ControlRole {
 
 impl ControlRole {
     #[tactic(auto, unfolding(voice_state::specs::Controllers::role_of))]
+    #[inline(always)]
     pub(crate) fn of(index: U7) -> ControlRole
         ensures role { role_in result ≡ role_of index }
         ensures index { HasIndex (role_in result) index }
