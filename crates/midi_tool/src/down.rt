@@ -204,7 +204,9 @@ pub fn run_down<S: Source, L: Lanes, N: Sink>(
     translate(down, order, input, lanes, notes)
 }
 
-// Translates a recording by a translator in which nothing is begun.
+// Translates a recording by a translator in which nothing is begun. Within `run_down` the translator's parts are locals, which the
+// loop keeps in registers.
+#[inline(always)]
 fn translate<S: Source, L: Lanes, N: Sink>(
     mut down: Down,
     order: Order,

@@ -90,11 +90,7 @@ fn open_lanes<R: Files + AllocGlobal>(
 }
 
 // Creates or empties the file of a lane.
-fn open_lane<R: Files + AllocGlobal>(
-    rt: &R,
-    folder: &str,
-    lane: u8,
-) -> Result<R::File, OpenFault> {
+fn open_lane<R: Files + AllocGlobal>(rt: &R, folder: &str, lane: u8) -> Result<R::File, OpenFault> {
     let Ok(name) = format!(in rt.alloc(); "{folder}/group-{lane:02}.midi1") else {
         return Err(OpenFault::NoMemory);
     };
