@@ -1,5 +1,5 @@
 -- What a clause reads of the adapters.
-use Rattle.std.specs.Prelude.{◌≡◌, ℕ, List, [], All, take, Option, Result, MatchResult}
+use Rattle.std.specs.Prelude.{◌≡◌, ℕ, List, [], All, take, Option, Result, MatchResult, Some, slice_get, slice_set}
 use Rattle.std.specs.Io.KnownBytes.{Appends, append_known}
 use Rattle.midi_edge.specs.declared.adapters.write_sink.WriteSink.{WriteSink}
 use Rattle.midi_edge.specs.declared.adapters.folder_lanes.FolderLanes.{FolderLanes}
@@ -20,3 +20,9 @@ Accepts old new result piece =
 -- no lane holds bytes that are not yet written out
 abbrev pub IsWrittenOut : {R F A : Type 0} → FolderLanes R F A → Type 0
 IsWrittenOut l = All (λ s. unwritten s ≡ []) l.lanes.items
+
+-- one lane accepts the piece, or at `Err` a front of it, and the others stay as they are
+abbrev pub AcceptsInLane : {R F A T E : Type 0} → (F → Option (List ℕ)) → FolderLanes R F A → FolderLanes R F A → ℕ → Result T E → List ℕ → Type 0
+AcceptsInLane {F = F} contents old new lane result piece =
+    (before after : WriteSink F) × (slice_get old.lanes.items lane ≡ Some before) × (new.lanes.items ≡ slice_set old.lanes.items lane after)
+    × Accepts (accepted contents before) (accepted contents after) result piece

@@ -1,7 +1,7 @@
 // Lanes over a folder.
-ghost use Rattle.std.specs.Prelude.{◌≡◌, ◌==◌, None, Err, false, [], All, length, vec_len, IfOk, OnOk};
-ghost use Rattle.midi_edge.specs.Adapters.{IsWrittenOut, unwritten};
-ghost use Rattle.midi_edge.specs.Outside.{HasCause};
+ghost use Rattle.std.specs.Prelude.{◌≡◌, ◌<◌, ◌==◌, None, Err, true, false, [], All, length, vec_len, IfOk, OnOk};
+ghost use Rattle.midi_edge.specs.Adapters.{IsWrittenOut, AcceptsInLane, unwritten};
+ghost use Rattle.midi_edge.specs.Outside.{HasCause, PutsPair};
 
 use super::counted;
 use super::write_sink::WriteSink;
@@ -122,7 +122,15 @@ impl<R: Files + AllocGlobal> Lanes for FolderLanes<R> {
     }
 
     #[inline(always)]
-    fn put(&mut self, lane: U4, piece: &[u8]) -> Result<(), Failed> {
+    fn put(&mut self, lane: U4, piece: &[u8]) -> Result<(), Failed>
+        requires begun { vec_len self.old.lanes == 16 ≡ true }
+        requires piece { 0 < length piece.now }
+        ensures begun { (vec_len self.new.lanes == 16) ≡ (vec_len self.old.lanes == 16) }
+        ensures folder { self.new.path ≡ self.old.path }
+        ensures pieces { PutsPair None None result lane piece.now }
+        ensures cause { HasCause self.old.faults self.new.faults result }
+        ensures accepts { AcceptsInLane ⟦<R::File as Write>⟧.contents self.old self.new lane result piece.now }
+    {
         let answer = self.lanes[usize::from(lane.get())].put(piece);
         counted(answer, &mut self.faults)
     }
