@@ -55,7 +55,9 @@ impl Line {
         requires { length self.old + length bytes.now ≤ 256 }
         ensures { self.new ≡ self.old ++ bytes.now }
     {
-        self.extend_by(bytes, bytes.len());
+        let size = self.size;
+        write_at(&mut self.bytes, size, bytes);
+        self.size = size + bytes.len();
     }
 
     /// Adds the first `count` of these bytes at the end. There is room for all of them, and all are written, so that they can be
@@ -69,5 +71,18 @@ impl Line {
         let size = self.size;
         self.bytes[size..size + bytes.len()].copy_from_slice(bytes);
         self.size = size + count;
+    }
+}
+
+// Writes bytes over those from a place on. Written one by one they need no test whether both places overlap, as a copy of all
+// makes, and the compiler joins them where it knows the text.
+#[inline(always)]
+fn write_at(cells: &mut [u8; 256], start: usize, bytes: &[u8])
+    requires { start + length bytes.now ≤ 256 }
+    ensures front { take (start + length bytes.now) cells.new ≡ take start cells.old ++ bytes.now }
+    ensures size { length cells.new ≡ 256 }
+{
+    for (index, byte) in bytes.iter().enumerate() {
+        cells[start + index] = *byte;
     }
 }

@@ -2,7 +2,7 @@
 ghost use Rattle.std.specs.Prelude.{◌≡◌, ◌<◌, ℕ, List, Option, Err, IfSome, OnOk, OnErr, length};
 ghost use Rattle.midi_edge.specs.Outside.{Gains, Rose};
 ghost use Rattle.midi1_bytes.specs.Answers.{step_view};
-ghost use Rattle.midi1_bytes.specs.Parsing.{idle};
+ghost use Rattle.midi1_bytes.specs.Parsing.{idle, parse};
 ghost use Rattle.midi1_bytes.specs.Steps.{cut};
 ghost use Rattle.midi_lines.specs.StepLines.{HasBothEnds, byte_listing_text};
 ghost use Rattle.voice_state.specs.StepListing.{cut_kind, open_kind};
@@ -37,8 +37,7 @@ pub fn show_bytes<S: Source, W: Sink>(mut parser: Parser, input: &mut S, output:
     loop {
         match next_byte(&mut reader, input) {
             NextByte::Byte { byte, offset } => {
-                let step = parser.byte(byte, offset);
-                match put_step(&mut line, &step, offset, output) {
+                match put_byte(&mut line, &mut parser, byte, offset, output) {
                     Ok(()) => {}
                     Err(end) => return end,
                 }
@@ -68,7 +67,26 @@ fn put_kind<W: Sink>(line: &mut Line, kind: Kind, offset: u64, output: &mut W) -
     put_line(line, output)
 }
 
-// Puts the lines of what a byte does, which are made in the place of another one.
+// Feeds one more byte to the parser, and puts the lines of what it does, which are made in the place of another one. Most bytes
+// are held, and of those the step is not copied.
+#[inline(always)]
+fn put_byte<W: Sink>(
+    line: &mut Line,
+    parser: &mut Parser,
+    byte: u8,
+    offset: u64,
+    output: &mut W,
+) -> Result<(), RunEnd>
+    ensures shows { ShowsStep (parse parser.old offset byte).step offset result (W.held output.old) (W.held output.new) (W.faults output.old) (W.faults output.new) }
+    ensures after { parser.new ≡ (parse parser.old offset byte).after }
+{
+    match parser.byte(byte, offset) {
+        Step::Held => Ok(()),
+        step => put_step(line, &step, offset, output),
+    }
+}
+
+// Puts the lines of what a byte does.
 fn put_step<W: Sink>(
     line: &mut Line,
     step: &Step<'_>,

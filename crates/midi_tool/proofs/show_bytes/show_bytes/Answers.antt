@@ -1,13 +1,9 @@
-use Rattle.std.proofs.Common.{◌≡◌, ◌+◌, ℕ, Option, List, [], ◌∷◌, ◌++◌, None, refl, ap, sym, ◌∙◌, arith, subst}
+use Rattle.std.proofs.Common.{◌≡◌, ◌+◌, ℕ, Option, List, [], ◌∷◌, ◌++◌, refl, ap, sym, ◌∙◌, arith, subst}
 use Rattle.std.specs.Prelude.{reverse}
 use Rattle.midi_edge.specs.ByteReader.{ByteReading}
-use Rattle.midi1_bytes.specs.Answers.{step_view}
-use Rattle.midi1_bytes.specs.Parsing.{held_behind}
-use Rattle.midi1_bytes.specs.Steps.{Step}
-use Rattle.midi_edge.specs.Outside.{Gains}
-use Rattle.midi_tool.specs.ByteWork.{showing_bytes, reason_of_step, shown_step}
+use Rattle.midi1_bytes.specs.Parsing.{held_behind, parse}
+use Rattle.midi_tool.specs.ByteWork.{showing_bytes}
 use Rattle.midi_tool.specs.Next.{limit}
-use Rattle.midi_tool.specs.ShowBytes.{StepEnds}
 use Rattle.midi_tool.proofs.ByteLaws.{BytesSoFar, bytes_none}
 use Rattle.midi_tool.proofs.ShowBytesLaws.{ParserLaws, told, holds_more, shown_more, shown_err, shown_close, step_counts, close_counts}
 use Rattle.midi_tool.proofs.WorkLaws.{reverse-push}
@@ -39,20 +35,18 @@ loop-byte-preserved g c =
     let i = c.loop-byte.invariant in
     let laws : ParserLaws = record { step = c.parsed_bytes_are_the_definition.ensures.step; after = c.parsed_bytes_are_the_definition.ensures.after; end = c.parsed_bytes_are_the_definition.ensures.end } in
     let gives = c.in-Byte.ensures.answer in
-    let E : Step → Type 0 = λ s. reason_of_step s ≡ None in
-    let G : Step → Type 0 = λ s. Gains (g.W.Sink.held c.loop-byte.output) (g.W.Sink.held c.put_step.new.output) (shown_step s c.in-Byte.offset) in
     let past : List ℕ = reverse i.so_far.given in
     record {
       so_far = shown_more laws c.args.parser.room c.loop-byte.reader (g.S.Source.left c.args.input.now) (g.S.Source.left c.loop-byte.input) (g.W.Sink.held c.args.output.now) (g.W.Sink.held c.loop-byte.output) i.so_far c.loop-byte.parser i.holds
-          c.next_byte.new.reader (g.S.Source.left c.next_byte.new.input) c.in-Byte.byte c.in-Byte.offset gives (g.W.Sink.held c.put_step.new.output) (subst E c.byte.ensures.step c.in-Ok.ensures.0) (subst G c.byte.ensures.step c.in-Ok.ensures.1);
+          c.next_byte.new.reader (g.S.Source.left c.next_byte.new.input) c.in-Byte.byte c.in-Byte.offset gives (g.W.Sink.held c.put_byte.new.output) c.in-Ok.ensures.shows.0 c.in-Ok.ensures.shows.1;
       holds =
           let turned : reverse (i.so_far.given ++ c.in-Byte.byte ∷ []) ≡ c.in-Byte.byte ∷ past = reverse-push i.so_far.given c.in-Byte.byte in
-          c.byte.follows.holds-at-none
+          c.put_byte.ensures.after
           ∙ holds_more laws c.args.parser.room c.loop-byte.reader (g.S.Source.left c.args.input.now) (g.S.Source.left c.loop-byte.input) (g.W.Sink.held c.args.output.now) (g.W.Sink.held c.loop-byte.output) i.so_far c.loop-byte.parser i.holds
           c.next_byte.new.reader (g.S.Source.left c.next_byte.new.input) c.in-Byte.byte c.in-Byte.offset gives
           ∙ ap (λ xs. held_behind c.args.parser.room xs) (sym turned);
       reads = c.in-Byte.ensures.cause ∙ i.reads;
-      puts = c.in-Ok.ensures.2 ∙ i.puts;
+      puts = c.in-Ok.ensures.shows.2 ∙ i.puts;
     }
 
 pub returns-in-Err-clause-content : goal.returns-in-Err-clause-content
@@ -60,16 +54,15 @@ returns-in-Err-clause-content g c = λ pieces noted.
     let i = c.loop-byte.invariant in
     let laws : ParserLaws = record { step = c.parsed_bytes_are_the_definition.ensures.step; after = c.parsed_bytes_are_the_definition.ensures.after; end = c.parsed_bytes_are_the_definition.ensures.end } in
     let gives = c.in-Byte.ensures.answer in
-    let E : Step → Type 0 = λ s. StepEnds s c.in-Byte.offset c.in-Err.end (g.W.Sink.held c.loop-byte.output) (g.W.Sink.held c.put_step.new.output) (g.W.Sink.faults c.loop-byte.output) (g.W.Sink.faults c.put_step.new.output) in
     shown_err laws c.args.parser.room c.loop-byte.reader (g.S.Source.left c.args.input.now) (g.S.Source.left c.loop-byte.input) (g.W.Sink.held c.args.output.now) (g.W.Sink.held c.loop-byte.output) i.so_far c.loop-byte.parser i.holds
-    c.next_byte.new.reader (g.S.Source.left c.next_byte.new.input) c.in-Byte.byte c.in-Byte.offset gives (g.W.Sink.held c.put_step.new.output) (g.W.Sink.faults c.loop-byte.output) (g.W.Sink.faults c.put_step.new.output) c.in-Err.end
-    (subst E c.byte.ensures.step c.in-Err.ensures) pieces noted _
+    c.next_byte.new.reader (g.S.Source.left c.next_byte.new.input) c.in-Byte.byte c.in-Byte.offset gives (g.W.Sink.held c.put_byte.new.output) (g.W.Sink.faults c.loop-byte.output) (g.W.Sink.faults c.put_byte.new.output) c.in-Err.end
+    c.in-Err.ensures.shows pieces noted _
 
 pub returns-in-Err-clause-counts : goal.returns-in-Err-clause-counts
 returns-in-Err-clause-counts g c = λ lanes notes.
     let i = c.loop-byte.invariant in
-    step_counts c.args.parser.room (step_view c.byte.result) c.in-Byte.offset c.in-Err.end (g.W.Sink.held c.loop-byte.output) (g.W.Sink.held c.put_step.new.output)
-    _ _ lanes _ _ _ notes c.in-Err.ensures (c.in-Byte.ensures.cause ∙ i.reads) i.puts
+    step_counts c.args.parser.room (parse c.loop-byte.parser c.in-Byte.offset c.in-Byte.byte).step c.in-Byte.offset c.in-Err.end (g.W.Sink.held c.loop-byte.output) (g.W.Sink.held c.put_byte.new.output)
+    _ _ lanes _ _ _ notes c.in-Err.ensures.shows (c.in-Byte.ensures.cause ∙ i.reads) i.puts
 
 pub returns-in-Stop-clause-content : goal.returns-in-Stop-clause-content
 returns-in-Stop-clause-content g c = λ pieces noted.
