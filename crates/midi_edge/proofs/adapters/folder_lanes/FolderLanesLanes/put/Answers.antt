@@ -1,6 +1,5 @@
-use Rattle.std.proofs.Common.{rules, arith}
+use Rattle.std.proofs.Common.{rules}
 use Rattle.std.proofs.lemmas.Option.{slice_get_read}
-use Rattle.midi_edge.specs.Adapters.{accepted}
 use Rattle.midi_edge.proofs.Accepting.{accepts_counted}
 use Rattle.midi_edge.proofs.adapters.folder_lanes.FolderLanesLanes.put.Goals as goal
 
