@@ -1,4 +1,4 @@
-use Rattle.std.proofs.Common.{arith, ap, length, subst, sym, ◌<◌, ◌∙◌, ℕ, List}
+use Rattle.std.proofs.Common.{length, subst, sym, ◌<◌, ◌∙◌, ℕ, List}
 use Rattle.ump_words.proofs.Written.{some_written}
 use Rattle.ump_words.proofs.words.put_words.Goals as goal
 
