@@ -1,4 +1,5 @@
-// Raising: a value up to the centre is shifted; above it, the bits below its highest are repeated behind it.
+// Raising: a value up to the centre is shifted; above it, the bits below its highest are repeated behind it. What a value is above
+// the centre is 0 up to it, so both are one sum without a branch, which random values would mispredict.
 ghost use Rattle.std.specs.Prelude.{◌≡◌, ◌<◌, ◌^◌};
 ghost use Rattle.bit_scaling.specs.Scaling.{up, IsScaling};
 
@@ -24,12 +25,8 @@ pub fn velocity_up(velocity: U7) -> u16
     ensures { result ≡ up velocity 7 16 }
 {
     let velocity = velocity.get() as u16;
-    if velocity <= 64 {
-        velocity << 9
-    } else {
-        let above = velocity - 64;
-        (velocity << 9) + (above << 3) + (above >> 3)
-    }
+    let above = velocity.saturating_sub(64);
+    (velocity << 9) + (above << 3) + (above >> 3)
 }
 
 /// A value of 7 bits as one of 32 (M2-115-U).
@@ -38,12 +35,8 @@ pub fn up7(value: U7) -> u32
     ensures { result ≡ up value 7 32 }
 {
     let value = value.get() as u32;
-    if value <= 64 {
-        value << 25
-    } else {
-        let above = value - 64;
-        (value << 25) + (above << 19) + (above << 13) + (above << 7) + (above << 1) + (above >> 5)
-    }
+    let above = value.saturating_sub(64);
+    (value << 25) + (above << 19) + (above << 13) + (above << 7) + (above << 1) + (above >> 5)
 }
 
 /// A value of 14 bits as one of 32 (M2-115-U).
@@ -52,10 +45,6 @@ pub fn up14(value: U14) -> u32
     ensures { result ≡ up value 14 32 }
 {
     let value = value.get() as u32;
-    if value <= 8192 {
-        value << 18
-    } else {
-        let above = value - 8192;
-        (value << 18) + (above << 5) + (above >> 8)
-    }
+    let above = value.saturating_sub(8192);
+    (value << 18) + (above << 5) + (above >> 8)
 }
