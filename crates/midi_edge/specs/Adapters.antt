@@ -3,6 +3,11 @@ use Rattle.std.specs.Prelude.{◌≡◌, ℕ, List, [], All, take, Option, Resul
 use Rattle.std.specs.Io.KnownBytes.{Appends, append_known}
 use Rattle.midi_edge.specs.declared.adapters.write_sink.WriteSink.{WriteSink}
 use Rattle.midi_edge.specs.declared.adapters.folder_lanes.FolderLanes.{FolderLanes}
+use Rattle.midi_edge.specs.declared.adapters.read_source.ReadSource.{ReadSource}
+
+-- the bytes that the reader of a source will give, where it tells them
+abbrev pub to_come : {R : Type 0} → (R → Option (List ℕ)) → ReadSource R → Option (List ℕ)
+to_come remaining s = remaining s.reader
 
 -- the bytes that a sink has accepted and not yet written out
 abbrev pub unwritten : {W : Type 0} → WriteSink W → List ℕ

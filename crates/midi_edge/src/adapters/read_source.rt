@@ -1,6 +1,9 @@
 // A source over a reader.
-ghost use Rattle.std.specs.Prelude.{None};
+ghost use Rattle.std.specs.Prelude.{◌≤◌, ◌<◌, None, IfOk, length};
 ghost use Rattle.std.specs.Io.{ReadsAtMost};
+ghost use Rattle.std.specs.Io.KnownBytes.{ReadConsumes};
+ghost use Rattle.midi_edge.specs.Adapters.{to_come};
+ghost use Rattle.midi_edge.specs.Outside.{HasCause, Takes};
 
 use super::counted;
 use crate::outside::{Failed, Source};
@@ -26,7 +29,13 @@ impl<R: Read> Source for ReadSource<R> {
 
     ghost faults = { λ s. s.faults };
 
-    fn take(&mut self, buf: &mut [u8]) -> Result<usize, Failed> {
+    fn take(&mut self, buf: &mut [u8]) -> Result<usize, Failed>
+        requires { 0 < length buf.old }
+        ensures bound { IfOk result (λ n. n ≤ length buf.new) }
+        ensures bytes { Takes None None result buf.new }
+        ensures cause { HasCause self.old.faults self.new.faults result }
+        ensures gives { ReadConsumes (to_come R.remaining self.old) (to_come R.remaining self.new) result buf.new }
+    {
         let answer = read_once(&mut self.reader, buf);
         counted(answer, &mut self.faults)
     }
@@ -34,7 +43,8 @@ impl<R: Read> Source for ReadSource<R> {
 
 // One read, tried again where a signal interrupts it.
 fn read_once<R: Read>(reader: &mut R, buf: &mut [u8]) -> io::Result<usize>
-    ensures { ReadsAtMost result buf.new }
+    ensures bound { ReadsAtMost result buf.new }
+    ensures bytes { ReadConsumes (R.remaining reader.old) (R.remaining reader.new) result buf.new }
 {
     for _ in 0..u64::MAX {
         match reader.read(buf) {
