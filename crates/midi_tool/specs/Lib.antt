@@ -16,4 +16,3 @@ pub mod ShowReady
 pub mod Step
 pub mod Told
 pub mod UpStep
-pub mod Writing

@@ -1,5 +1,5 @@
 // How a run ends.
-ghost use Rattle.std.specs.Prelude.{◌≡◌};
+ghost use Rattle.std.specs.Prelude.{◌≡◌, ◌≢◌, OnOk, OnErr};
 
 use midi_edge::Failed;
 
@@ -62,7 +62,6 @@ pub enum Status {
 
 impl Status {
     ghost use Rattle.midi_tool.specs.ExitCode.{exit_code_of};
-    ghost use Rattle.midi_tool.specs.Writing.{after_writing as status_behind};
 
     /// The exit code: 0 for `Done`, 1 for `Refused`, 2 to 5 for faults of reading, of the lanes, of the output
     /// and of the notes, 7 for
@@ -85,7 +84,9 @@ impl Status {
     /// The status once an object has written out what it gathered: `Done` becomes this fault where that failed. Every other
     /// status has its cause already, and stays.
     pub fn after_writing(self, answer: Result<(), Failed>, fault: Status) -> Status
-        ensures { result ≡ status_behind self answer fault }
+        ensures written { OnOk answer (result ≡ self) }
+        ensures fault { self ≡ Status.Done → OnErr answer (result ≡ fault) }
+        ensures cause { self ≢ Status.Done → result ≡ self }
     {
         match (self, answer) {
             (Status::Done, Err(_)) => fault,
