@@ -76,24 +76,6 @@ fn is_carried_index(index: U7) -> bool
     !(index == 0 || index == 6 || index == 32 || index == 38 || (96 <= index && index <= 101))
 }
 
-#[inline(always)]
-fn add_control(piece: &mut Piece, channel: U4, index: U7, value: u32)
-    requires { piece.old ≡ [] }
-    ensures { piece.new ≡ flat_map spelled (voice_messages (voice2.Control channel index value)) }
-{
-    if is_carried_index(index) {
-        let value = down7(value);
-        add(
-            piece,
-            &Voice1::Control {
-                channel,
-                index,
-                value,
-            },
-        );
-    }
-}
-
 /// The four control changes that set a parameter.
 fn add_set(piece: &mut Piece, channel: U4, param: &Param, value: U14)
     requires { piece.old ≡ [] }
@@ -128,75 +110,65 @@ pub fn fill_voice2(piece: &mut Piece, message: &Voice2)
     ensures { piece.new ≡ flat_map spelled (voice_messages message.now) }
 {
     *piece = Piece::new();
-    match *message {
+    let single = match *message {
         Voice2::NoteOff {
             channel,
             note,
             velocity,
             ..
-        } => add(
-            piece,
-            &Voice1::NoteOff {
-                channel,
-                note,
-                velocity: release_down(velocity),
-            },
-        ),
+        } => Voice1::NoteOff {
+            channel,
+            note,
+            velocity: release_down(velocity),
+        },
         Voice2::NoteOn {
             channel,
             note,
             velocity,
             ..
-        } => add(
-            piece,
-            &Voice1::NoteOn {
-                channel,
-                note,
-                velocity: velocity_down(velocity),
-            },
-        ),
+        } => Voice1::NoteOn {
+            channel,
+            note,
+            velocity: velocity_down(velocity),
+        },
         Voice2::PolyPressure {
             channel,
             note,
             value,
-        } => add(
-            piece,
-            &Voice1::PolyPressure {
-                channel,
-                note,
-                value: down7(value),
-            },
-        ),
+        } => Voice1::PolyPressure {
+            channel,
+            note,
+            value: down7(value),
+        },
         Voice2::Control {
             channel,
             index,
             value,
-        } => add_control(piece, channel, index, value),
-        Voice2::Set { param, .. } if is_null_param(&param) => {}
+        } if is_carried_index(index) => Voice1::Control {
+            channel,
+            index,
+            value: down7(value),
+        },
+        Voice2::Pressure { channel, value } => Voice1::Pressure {
+            channel,
+            value: down7(value),
+        },
+        Voice2::Bend { channel, value } => Voice1::Bend {
+            channel,
+            value: down14(value),
+        },
+        Voice2::Set { param, .. } if is_null_param(&param) => return,
         Voice2::Set {
             channel,
             param,
             value,
-        } => add_set(piece, channel, &param, down14(value)),
+        } => return add_set(piece, channel, &param, down14(value)),
         Voice2::Program {
             channel,
             program,
             bank,
-        } => add_program(piece, channel, program, &bank),
-        Voice2::Pressure { channel, value } => add(
-            piece,
-            &Voice1::Pressure {
-                channel,
-                value: down7(value),
-            },
-        ),
-        Voice2::Bend { channel, value } => add(
-            piece,
-            &Voice1::Bend {
-                channel,
-                value: down14(value),
-            },
-        ),
-        _ => {}
-    }
+        } => return add_program(piece, channel, program, &bank),
+        _ => return,
+    };
+    add(piece, &single);
 }

@@ -141,10 +141,6 @@ impl Up {
         ensures kept { KeepsBehind self.old.holding (step_in self.old offset byte) }
         ensures* after { sem 𝓛 (KeepsUp self.entry (up_behind self.old offset byte)) }
     {
-        // Most bytes are data bytes, so they come first.
-        if byte < 0x80 {
-            return self.take(byte, offset);
-        }
         match byte {
             END_OF_EXCLUSIVE => self.end_exclusive(offset),
             _ => self.take(byte, offset),
