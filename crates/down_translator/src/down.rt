@@ -140,6 +140,7 @@ impl Down {
             }
             Packet::Voice1 { group, message } => self.voice1(*group, message, offset),
             Packet::Exclusive { group, form, bytes } => {
+                // A copy, since a packet of which a call sees a part would not stay in registers.
                 let bytes = bytes.copied();
                 self.exclusive(*group, *form, bytes.as_slice(), offset)
             }

@@ -3,7 +3,6 @@ ghost use Rattle.std.specs.Prelude.{◌≡◌, ◌<◌, ◌≤◌, ◌+◌, ◌+
 ghost use Rattle.std.specs.List.{flat_map};
 ghost use Rattle.midi1_bytes.specs.Messages.{message_of, spelled, spelled_voice, voice};
 ghost use Rattle.voice_messages.specs.declared.voice1.Voice1.TheVariants as voice1;
-ghost use Rattle.voice_messages.specs.declared.voice2.Voice2.TheVariants as voice2;
 ghost use Rattle.voice_state.specs.Registers.{is_null};
 ghost use Rattle.voice_state.specs.Controllers.{role_of};
 ghost use Rattle.voice_state.specs.Listing.{is_carried_role};
