@@ -32,6 +32,7 @@ impl Model for WordReader {
 }
 
 impl WordReader {
+    /// A reader that has given nothing. It gives at most `limit` bytes, at most 2^62 (own rule); offsets count bytes from 0.
     pub fn new(order: Order, limit: u64) -> Self
         requires { limit ≤ 2 ^ 62 }
         ensures { result ≡ record { order = order; pending = []; offset = 0; limit = limit; end = None } }
@@ -45,8 +46,14 @@ impl WordReader {
         }
     }
 
-    /// The next packet, or `None` at the end. After an `Err(Read(..))` a later call goes on from there. Each other
-    /// answer that is no packet is given again from then on.
+    /// The next packet (M2-104-UM, message types) and its offset, the number of bytes before it; `None` where the source ends
+    /// with the last packet.
+    ///
+    /// `Truncated` comes where the source ends within the limit, and within a packet: behind some of the bytes that the message
+    /// type asks, or of the first word. It tells the offset of that packet. `TooLong` comes where the source gave more bytes than
+    /// the limit, and what is left within it is no whole packet (own rule). `Read` comes only where the source's count of faults
+    /// rose; no byte is lost, and a later call goes on from there. Each other answer that is no packet is given again from then
+    /// on, and the source isn't asked.
     #[inline(always)]
     pub fn next<S: Source>(&mut self, src: &mut S) -> Result<Option<Framed>, ReadStop>
         ensures answer { self.old.end ≡ None → Answers self.old self.new
