@@ -134,7 +134,7 @@ pub fn words_in_packet(first: u32) -> usize
 
 /// The word at index `i`.
 #[inline]
-pub fn word_in(order: Order, bytes: &[u8], i: usize) -> u32
+pub(crate) fn word_in(order: Order, bytes: &[u8], i: usize) -> u32
     requires { 4 * i + 4 ≤ length bytes.now }
     ensures { result ≡ word_at order bytes.now i }
 {
@@ -147,7 +147,7 @@ pub fn word_in(order: Order, bytes: &[u8], i: usize) -> u32
 
 /// The words of the bytes of one packet.
 #[inline]
-pub fn words_in(order: Order, bytes: &[u8]) -> Words
+pub(crate) fn words_in(order: Order, bytes: &[u8]) -> Words
     requires { IsPacket order bytes.now }
     ensures { result ≡ words_of order bytes.now }
 {
