@@ -4,11 +4,12 @@ ghost use Rattle.ump_words.specs.Cut.{IsWhole};
 ghost use Rattle.ump_grammar.specs.Places.{field, word, byte, type_of, group_of, opcode_of, channel_of, count_of};
 ghost use Rattle.ump_grammar.specs.Ranges.{IsPacket};
 ghost use Rattle.ump_grammar.specs.Reading.{Encodes};
+ghost use Rattle.ump_grammar.specs.Rows.{IsNote, IsOfOneNote, IsOfParam};
 ghost use Rattle.ump_grammar.specs.Spelling.{Spells, form_number, kind_number, exclusive_places};
 
 use crate::packet::Packet;
 use ump_words::Words;
-use voice_messages::{Form, ParamKind, System, U4, U14, Voice1, Voice2};
+use voice_messages::{Bank, Form, ParamKind, System, U4, U7, U14, Voice1, Voice2};
 
 /// The words that spell the packet (M2-104-UM), with zeros in the places that its row doesn't name.
 #[inline(always)]
@@ -216,6 +217,35 @@ fn voice2(group: U4, message: &Voice2) -> Words
     ensures { Encodes (Packet.Voice2 group message.now) result }
 {
     match message {
+        Voice2::NoteOff { .. } | Voice2::NoteOn { .. } => note(group, message),
+        Voice2::PolyPressure { .. }
+        | Voice2::NoteController { .. }
+        | Voice2::NoteBend { .. }
+        | Voice2::NoteManagement { .. } => of_one_note(group, message),
+        Voice2::Set { .. } | Voice2::Shift { .. } => parameter(group, message),
+        Voice2::Program {
+            channel,
+            program,
+            bank,
+        } => program_change(group, *channel, *program, bank),
+        Voice2::Control {
+            channel,
+            index,
+            value,
+        } => voice2_words(group, 0xB, *channel, index.get(), 0, *value),
+        Voice2::Pressure { channel, value } => voice2_words(group, 0xD, *channel, 0, 0, *value),
+        Voice2::Bend { channel, value } => voice2_words(group, 0xE, *channel, 0, 0, *value),
+    }
+}
+
+// The rows of notes.
+#[inline(always)]
+fn note(group: U4, message: &Voice2) -> Words
+    requires row { IsNote message.now }
+    requires fits { IsPacket (Packet.Voice2 group message.now) }
+    ensures { Encodes (Packet.Voice2 group message.now) result }
+{
+    match message {
         Voice2::NoteOff {
             channel,
             note,
@@ -244,16 +274,52 @@ fn voice2(group: U4, message: &Voice2) -> Words
             *attribute_type,
             halves(*velocity, *attribute),
         ),
+        _ => unreachable!(),
+    }
+}
+
+// The rows of the pressure, the controllers, the bend and the management of one note.
+#[inline(always)]
+fn of_one_note(group: U4, message: &Voice2) -> Words
+    requires row { IsOfOneNote message.now }
+    requires fits { IsPacket (Packet.Voice2 group message.now) }
+    ensures { Encodes (Packet.Voice2 group message.now) result }
+{
+    match message {
         Voice2::PolyPressure {
             channel,
             note,
             value,
         } => voice2_words(group, 0xA, *channel, note.get(), 0, *value),
-        Voice2::Control {
+        Voice2::NoteController {
             channel,
+            kind,
+            note,
             index,
             value,
-        } => voice2_words(group, 0xB, *channel, index.get(), 0, *value),
+        } => voice2_words(group, kind_bit(*kind), *channel, note.get(), *index, *value),
+        Voice2::NoteBend {
+            channel,
+            note,
+            value,
+        } => voice2_words(group, 0x6, *channel, note.get(), 0, *value),
+        Voice2::NoteManagement {
+            channel,
+            note,
+            flags,
+        } => voice2_words(group, 0xF, *channel, note.get(), *flags, 0),
+        _ => unreachable!(),
+    }
+}
+
+// The rows of parameters.
+#[inline(always)]
+fn parameter(group: U4, message: &Voice2) -> Words
+    requires row { IsOfParam message.now }
+    requires fits { IsPacket (Packet.Voice2 group message.now) }
+    ensures { Encodes (Packet.Voice2 group message.now) result }
+{
+    match message {
         Voice2::Set {
             channel,
             param,
@@ -278,42 +344,26 @@ fn voice2(group: U4, message: &Voice2) -> Words
             param.index.get(),
             *value,
         ),
-        Voice2::Program {
-            channel,
-            program,
-            bank: None,
-        } => voice2_words(group, 0xC, *channel, 0, 0, word_of(program.get(), 0, 0, 0)),
-        Voice2::Program {
-            channel,
-            program,
-            bank: Some(bank),
-        } => voice2_words(
+        _ => unreachable!(),
+    }
+}
+
+// The row of programs.
+#[inline(always)]
+fn program_change(group: U4, channel: U4, program: U7, bank: &Option<Bank>) -> Words
+    requires { IsPacket (Packet.Voice2 group (Voice2.Program channel program bank.now)) }
+    ensures { Encodes (Packet.Voice2 group (Voice2.Program channel program bank.now)) result }
+{
+    match bank {
+        None => voice2_words(group, 0xC, channel, 0, 0, word_of(program.get(), 0, 0, 0)),
+        Some(bank) => voice2_words(
             group,
             0xC,
-            *channel,
+            channel,
             0,
             1,
             word_of(program.get(), 0, bank.msb.get(), bank.lsb.get()),
         ),
-        Voice2::Pressure { channel, value } => voice2_words(group, 0xD, *channel, 0, 0, *value),
-        Voice2::Bend { channel, value } => voice2_words(group, 0xE, *channel, 0, 0, *value),
-        Voice2::NoteController {
-            channel,
-            kind,
-            note,
-            index,
-            value,
-        } => voice2_words(group, kind_bit(*kind), *channel, note.get(), *index, *value),
-        Voice2::NoteBend {
-            channel,
-            note,
-            value,
-        } => voice2_words(group, 0x6, *channel, note.get(), 0, *value),
-        Voice2::NoteManagement {
-            channel,
-            note,
-            flags,
-        } => voice2_words(group, 0xF, *channel, note.get(), *flags, 0),
     }
 }
 

@@ -1,5 +1,5 @@
 // The rows of system messages and of the MIDI 1.0 protocol's channel voice messages.
-ghost use Rattle.std.specs.Prelude.{◌≡◌, ◌≤◌, ◌+◌, ◌*◌, length, true};
+ghost use Rattle.std.specs.Prelude.{◌≡◌, ◌≤◌, ◌⊎◌, ◌+◌, ◌*◌, length, true};
 ghost use Rattle.ump_grammar.specs.Places.{byte as byte_of, opcode_of};
 ghost use Rattle.ump_grammar.specs.Reading.{ReadsSystem, ReadsVoice1};
 ghost use Rattle.ump_grammar.specs.Spelling.{is_system_status};
@@ -43,24 +43,46 @@ pub fn voice1_message(words: &[u32]) -> Option<Voice1>
     requires row { (0x8 ≤ opcode_of words.now) × (opcode_of words.now ≤ 0xE) }
     ensures { ReadsVoice1 words.now result }
 {
-    let word = words[0];
-    let channel = nibble(word, 16);
-    let opcode = bits(word, 20, 4);
-    let third = data_byte(word, 8)?;
-    if opcode == 0xC {
-        return Some(Voice1::Program {
+    match bits(words[0], 20, 4) {
+        0xC | 0xD => one_byte_message(words),
+        _ => two_byte_message(words),
+    }
+}
+
+// The rows with one data byte.
+#[inline(always)]
+fn one_byte_message(words: &[u32]) -> Option<Voice1>
+    requires size { length words.now ≡ 1 }
+    requires row { (opcode_of words.now ≡ 0xC) ⊎ (opcode_of words.now ≡ 0xD) }
+    ensures { ReadsVoice1 words.now result }
+{
+    let channel = nibble(words[0], 16);
+    let third = data_byte(words[0], 8)?;
+    Some(if bits(words[0], 20, 4) == 0xC {
+        Voice1::Program {
             channel,
             program: third,
-        });
-    }
-    if opcode == 0xD {
-        return Some(Voice1::Pressure {
+        }
+    } else {
+        Voice1::Pressure {
             channel,
             value: third,
-        });
-    }
+        }
+    })
+}
+
+// The rows with two data bytes.
+#[inline(always)]
+fn two_byte_message(words: &[u32]) -> Option<Voice1>
+    requires size { length words.now ≡ 1 }
+    requires row { ((0x8 ≤ opcode_of words.now) × (opcode_of words.now ≤ 0xB)) ⊎ (opcode_of words.now ≡ 0xE) }
+    ensures { ReadsVoice1 words.now result }
+{
+    let word = words[0];
+    let channel = nibble(word, 16);
+    let third = data_byte(word, 8)?;
     let fourth = data_byte(word, 0)?;
-    Some(match opcode {
+    Some(match bits(word, 20, 4) {
         0x8 => Voice1::NoteOff {
             channel,
             note: third,
