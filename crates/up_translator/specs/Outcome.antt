@@ -4,6 +4,7 @@ use Rattle.voice_messages.specs.declared.voice1.Voice1.{Voice1}
 use Rattle.voice_messages.specs.declared.voice1.Voice1.TheVariants as voice1
 use Rattle.voice_messages.specs.declared.voice2.Voice2.{Voice2}
 use Rattle.voice_messages.specs.declared.voice2.Voice2.TheVariants as voice2
+use Rattle.voice_messages.specs.Ranges.{IsVoice2}
 use Rattle.bit_scaling.specs.Scaling.{up}
 use Rattle.voice_state.specs.declared.listed.BadStep.{BadStep}
 use Rattle.voice_state.specs.declared.listed.BadStep.TheVariants as bad
@@ -32,6 +33,11 @@ is_ignored_in _ = false
 abbrev pub refusal_in : Outcome → Option BadStep
 refusal_in (outcome.Refused bad) = Some bad
 refusal_in _ = None
+
+-- the fields of a message fit their places
+abbrev pub FitsVoice2 : Outcome → Type 0
+FitsVoice2 (outcome.Message message) = IsVoice2 message
+FitsVoice2 _ = Unit {0}
 
 -- from the state of the group before the message
 pub record IsRaisedVoice (state : GroupState) (message : Voice1) (result : Outcome) : Type 0 where

@@ -1,7 +1,6 @@
 // What comes of a voice message, by the banks and parameters that control changes have set before it.
-ghost use Rattle.std.specs.Prelude.{◌≡◌, ◌<◌, ◌^◌};
+ghost use Rattle.std.specs.Prelude.{◌≡◌};
 ghost use Rattle.midi1_bytes.specs.Messages.{voice};
-ghost use Rattle.voice_messages.specs.Ranges.{IsVoice2};
 ghost use Rattle.voice_messages.specs.declared.voice1.Voice1.TheVariants as voice1;
 ghost use Rattle.voice_state.specs.Controllers.{role_of};
 ghost use Rattle.voice_state.specs.Messages.{step1};
@@ -9,7 +8,7 @@ ghost use Rattle.voice_state.specs.Refusal.{bad_control, bad_voice1};
 ghost use Rattle.voice_state.specs.State.{GroupState};
 ghost use Rattle.param_collector.specs.Control.{holding_behind};
 ghost use Rattle.param_collector.specs.Keeps.{Keeps};
-ghost use Rattle.up_translator.specs.Outcome.{messages_in, refusal_in, outcome_by, bad_data_step, holding_with, IsRaisedVoice};
+ghost use Rattle.up_translator.specs.Outcome.{messages_in, refusal_in, outcome_by, bad_data_step, holding_with, FitsVoice2, IsRaisedVoice};
 
 use crate::voice::{
     raise_bend, raise_control, raise_data_entry, raise_note_off, raise_note_on,
@@ -35,122 +34,6 @@ pub enum Outcome {
     Refused(BadStep),
 }
 
-// Numbers of 8, 16 and 32 bits fit them.
-fn fits_8(value: u8)
-    ensures { value < 256 }
-{}
-
-fn fits_16(value: u16)
-    ensures { value < 2 ^ 16 }
-{}
-
-fn fits_32(value: u32)
-    ensures { value < 2 ^ 32 }
-{}
-
-/// The fields of a message fit their places.
-pub fn fits(message: &Voice2)
-    ensures { IsVoice2 message.now }
-{
-    match *message {
-        Voice2::NoteOff {
-            channel,
-            note,
-            velocity,
-            attribute_type,
-            attribute,
-        }
-        | Voice2::NoteOn {
-            channel,
-            note,
-            velocity,
-            attribute_type,
-            attribute,
-        } => {
-            channel.get();
-            note.get();
-            fits_16(velocity);
-            fits_8(attribute_type);
-            fits_16(attribute);
-        }
-        Voice2::PolyPressure {
-            channel,
-            note,
-            value,
-        }
-        | Voice2::NoteBend {
-            channel,
-            note,
-            value,
-        } => {
-            channel.get();
-            note.get();
-            fits_32(value);
-        }
-        Voice2::NoteController {
-            channel,
-            note,
-            index,
-            value,
-            ..
-        } => {
-            channel.get();
-            note.get();
-            fits_8(index);
-            fits_32(value);
-        }
-        Voice2::NoteManagement {
-            channel,
-            note,
-            flags,
-        } => {
-            channel.get();
-            note.get();
-            fits_8(flags);
-        }
-        Voice2::Control {
-            channel,
-            index,
-            value,
-        } => {
-            channel.get();
-            index.get();
-            fits_32(value);
-        }
-        Voice2::Set {
-            channel,
-            param,
-            value,
-        }
-        | Voice2::Shift {
-            channel,
-            param,
-            value,
-        } => {
-            channel.get();
-            param.bank.get();
-            param.index.get();
-            fits_32(value);
-        }
-        Voice2::Program {
-            channel,
-            program,
-            bank,
-        } => {
-            channel.get();
-            program.get();
-            if let Some(bank) = bank {
-                bank.msb.get();
-                bank.lsb.get();
-            }
-        }
-        Voice2::Pressure { channel, value } | Voice2::Bend { channel, value } => {
-            channel.get();
-            fits_32(value);
-        }
-    }
-}
-
 // Why a data increment or decrement is refused.
 fn bad_step(index: U7) -> BadStep
     ensures { result ≡ bad_data_step index }
@@ -165,7 +48,8 @@ fn bad_step(index: U7) -> BadStep
 // What comes of a control change that the collector has answered.
 #[inline(always)]
 fn outcome_of(collected: Collected, channel: U4, index: U7, value: U7) -> Outcome
-    ensures { result ≡ outcome_by collected channel index value }
+    ensures outcome { result ≡ outcome_by collected channel index value }
+    ensures fits { FitsVoice2 result }
 {
     match collected {
         Collected::DataStep => Outcome::Refused(bad_step(index)),
@@ -183,6 +67,7 @@ fn outcome_of(collected: Collected, channel: U4, index: U7, value: U7) -> Outcom
 fn raise_control_change(collector: &mut Collector, channel: U4, index: U7, value: U7) -> Outcome
     ensures refused { refusal_in result ≡ bad_control index }
     ensures raised { (state : GroupState) → Keeps collector.old state → IsRaisedVoice state (voice1.Control channel index value) result }
+    ensures fits { FitsVoice2 result }
     ensures behind { collector.new ≡ holding_behind (role_of index) collector.old channel value }
     ensures kept { (state : GroupState) → Keeps collector.old state → Keeps collector.new (step1 state (voice (voice1.Control channel index value))) }
 {
@@ -196,6 +81,7 @@ fn raise_control_change(collector: &mut Collector, channel: U4, index: U7, value
 pub fn raise(collector: &mut Collector, message: &Voice1) -> Outcome
     ensures refused { refusal_in result ≡ bad_voice1 message.now }
     ensures raised { (state : GroupState) → Keeps collector.old state → IsRaisedVoice state message.now result }
+    ensures fits { FitsVoice2 result }
     ensures behind { collector.new ≡ holding_with collector.old message.now }
     ensures kept { (state : GroupState) → Keeps collector.old state → Keeps collector.new (step1 state (voice message.now)) }
 {

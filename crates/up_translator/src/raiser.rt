@@ -7,12 +7,12 @@ ghost use Rattle.ump_grammar.specs.Ranges.{IsPacket};
 ghost use Rattle.ump_grammar.specs.declared.packet.Packet.TheVariants as packet;
 
 use crate::lines::ignored;
-use crate::outcome::{Outcome, fits, raise};
+use crate::outcome::{Outcome, raise};
 use crate::raised::{Line, Raised};
 use param_collector::Collector;
 use std::marker::Model;
 use ump_grammar::Packet;
-use voice_messages::{System, U4, Voice1, Voice2};
+use voice_messages::{System, U4, Voice1};
 use voice_state::BadStep;
 
 // The fields of a system message and of its group fit their places.
@@ -29,14 +29,6 @@ fn system_fits(group: U4, message: &System)
         }
         _ => {}
     }
-}
-
-// The fields of a voice message and of its group fit their places.
-fn voice_fits(group: U4, message: &Voice2)
-    ensures { IsPacket (packet.Voice2 group message.now) }
-{
-    group.get();
-    fits(message);
 }
 
 /// What raises messages to packets of one group. It keeps the packet that it lends. To a contract it is the group and what
@@ -125,7 +117,8 @@ impl Raiser {
             Outcome::Nothing => Ok(Raised::only_listed(self.group, None, None)),
             Outcome::Message(message) => {
                 let group = self.group;
-                voice_fits(group, &message);
+                // tells that the group is below 16
+                group.get();
                 Ok(self.give(Packet::Voice2 { group, message }, None))
             }
             Outcome::Ignored => { Ok(Raised::only_listed(self.group, Some(ignored(offset)), None)) }

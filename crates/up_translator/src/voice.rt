@@ -1,6 +1,7 @@
 // Voice messages of MIDI 1.0 as those of MIDI 2.0, one by one (M2-104-UM, translation from MIDI 1.0; M2-115-U).
 ghost use Rattle.std.specs.Prelude.{◌≡◌};
 ghost use Rattle.bit_scaling.specs.Scaling.{up};
+ghost use Rattle.voice_messages.specs.Ranges.{IsVoice2};
 ghost use Rattle.voice_messages.specs.declared.voice2.Voice2.TheVariants as voice2;
 ghost use Rattle.voice_state.specs.Raising.{raised_note_on};
 
@@ -13,7 +14,8 @@ const RELEASE: u16 = 0x8000;
 /// A note off without an attribute.
 #[inline(always)]
 fn note_off(channel: U4, note: U7, velocity: u16) -> Voice2
-    ensures { result ≡ voice2.NoteOff channel note velocity 0 0 }
+    ensures message { result ≡ voice2.NoteOff channel note velocity 0 0 }
+    ensures fits { IsVoice2 result }
 {
     Voice2::NoteOff {
         channel,
@@ -26,7 +28,8 @@ fn note_off(channel: U4, note: U7, velocity: u16) -> Voice2
 
 #[inline(always)]
 pub fn raise_note_off(channel: U4, note: U7, velocity: U7) -> Voice2
-    ensures { result ≡ voice2.NoteOff channel note (up velocity 7 16) 0 0 }
+    ensures message { result ≡ voice2.NoteOff channel note (up velocity 7 16) 0 0 }
+    ensures fits { IsVoice2 result }
 {
     note_off(channel, note, velocity_up(velocity))
 }
@@ -34,7 +37,8 @@ pub fn raise_note_off(channel: U4, note: U7, velocity: U7) -> Voice2
 /// A note on of velocity 0 is a note off.
 #[inline(always)]
 pub fn raise_note_on(channel: U4, note: U7, velocity: U7) -> Voice2
-    ensures { result ≡ raised_note_on channel note velocity }
+    ensures message { result ≡ raised_note_on channel note velocity }
+    ensures fits { IsVoice2 result }
 {
     if velocity.get() == 0 {
         return note_off(channel, note, RELEASE);
@@ -50,7 +54,8 @@ pub fn raise_note_on(channel: U4, note: U7, velocity: U7) -> Voice2
 
 #[inline(always)]
 pub fn raise_poly_pressure(channel: U4, note: U7, value: U7) -> Voice2
-    ensures { result ≡ voice2.PolyPressure channel note (up value 7 32) }
+    ensures message { result ≡ voice2.PolyPressure channel note (up value 7 32) }
+    ensures fits { IsVoice2 result }
 {
     Voice2::PolyPressure {
         channel,
@@ -62,7 +67,8 @@ pub fn raise_poly_pressure(channel: U4, note: U7, value: U7) -> Voice2
 /// A control change that selects and enters nothing.
 #[inline(always)]
 pub fn raise_control(channel: U4, index: U7, value: U7) -> Voice2
-    ensures { result ≡ voice2.Control channel index (up value 7 32) }
+    ensures message { result ≡ voice2.Control channel index (up value 7 32) }
+    ensures fits { IsVoice2 result }
 {
     Voice2::Control {
         channel,
@@ -74,7 +80,8 @@ pub fn raise_control(channel: U4, index: U7, value: U7) -> Voice2
 /// A data entry, by the parameter that it sets and the value that it gives it.
 #[inline(always)]
 pub fn raise_data_entry(channel: U4, param: Param, value: U14) -> Voice2
-    ensures { result ≡ voice2.Set channel param (up value 14 32) }
+    ensures message { result ≡ voice2.Set channel param (up value 14 32) }
+    ensures fits { IsVoice2 result }
 {
     Voice2::Set {
         channel,
@@ -86,7 +93,8 @@ pub fn raise_data_entry(channel: U4, param: Param, value: U14) -> Voice2
 /// A program change, with the bank that it takes.
 #[inline(always)]
 pub fn raise_program(channel: U4, program: U7, bank: Option<Bank>) -> Voice2
-    ensures { result ≡ voice2.Program channel program bank }
+    ensures message { result ≡ voice2.Program channel program bank }
+    ensures fits { IsVoice2 result }
 {
     Voice2::Program {
         channel,
@@ -97,7 +105,8 @@ pub fn raise_program(channel: U4, program: U7, bank: Option<Bank>) -> Voice2
 
 #[inline(always)]
 pub fn raise_pressure(channel: U4, value: U7) -> Voice2
-    ensures { result ≡ voice2.Pressure channel (up value 7 32) }
+    ensures message { result ≡ voice2.Pressure channel (up value 7 32) }
+    ensures fits { IsVoice2 result }
 {
     Voice2::Pressure {
         channel,
@@ -107,7 +116,8 @@ pub fn raise_pressure(channel: U4, value: U7) -> Voice2
 
 #[inline(always)]
 pub fn raise_bend(channel: U4, value: U14) -> Voice2
-    ensures { result ≡ voice2.Bend channel (up value 14 32) }
+    ensures message { result ≡ voice2.Bend channel (up value 14 32) }
+    ensures fits { IsVoice2 result }
 {
     Voice2::Bend {
         channel,
