@@ -8,6 +8,7 @@ mod listing;
 mod pieces;
 mod refusals;
 pub mod style;
+mod voice;
 
 pub use crate::carried::Carried;
 pub use crate::down::Down;

@@ -1,5 +1,5 @@
 // The plain pieces of voice and system messages.
-ghost use Rattle.std.specs.Prelude.{◌≡◌, ◌<◌, ◌≤◌, ◌+◌, ◌++◌, [], ◌∷◌, length};
+ghost use Rattle.std.specs.Prelude.{◌≡◌, ◌≢◌, ◌<◌, ◌≤◌, ◌+◌, ◌++◌, [], ◌∷◌, length, Some, MatchOption};
 ghost use Rattle.std.specs.List.{flat_map};
 ghost use Rattle.midi1_bytes.specs.Messages.{message_of, spelled, spelled_voice, voice};
 ghost use Rattle.voice_messages.specs.declared.voice1.Voice1.TheVariants as voice1;
@@ -8,7 +8,10 @@ ghost use Rattle.voice_state.specs.Controllers.{role_of};
 ghost use Rattle.voice_state.specs.Listing.{is_carried_role};
 ghost use Rattle.voice_state.specs.Plain.{set_messages, program_messages, voice_messages};
 
-use bit_scaling::{down7, down14, release_down, velocity_down};
+use crate::voice::{
+    lower_bend, lower_control, lower_note_off, lower_note_on, lower_poly_pressure, lower_pressure,
+};
+use bit_scaling::down14;
 use midi_edge::{ShortList, U4};
 use midi1_bytes::{write_system, write_voice};
 use voice_messages::{Bank, Param, ParamKind, System, U7, U14, Voice1, Voice2};
@@ -91,83 +94,78 @@ fn add_set(piece: &mut Piece, channel: U4, param: &Param, value: U14)
     add(piece, &control(channel, 38, U7::low_bits(value)));
 }
 
-/// A program change, behind its bank where it has one.
-fn add_program(piece: &mut Piece, channel: U4, program: U7, bank: &Option<Bank>)
+/// A program change, behind its bank.
+fn add_program(piece: &mut Piece, channel: U4, program: U7, bank: Bank)
     requires { piece.old ≡ [] }
-    ensures { piece.new ≡ flat_map spelled (program_messages channel program bank.now) }
+    ensures { piece.new ≡ flat_map spelled (program_messages channel program (Some bank)) }
 {
-    if let Some(bank) = bank {
-        add(piece, &control(channel, 0, bank.msb));
-        add(piece, &control(channel, 32, bank.lsb));
-    }
+    add(piece, &control(channel, 0, bank.msb));
+    add(piece, &control(channel, 32, bank.lsb));
     add(piece, &Voice1::Program { channel, program });
 }
 
-/// Makes the piece the plain one of a MIDI 2.0 voice message, empty where that isn't carried (M2-104-UM, default translation).
+/// The message of a MIDI 2.0 voice message whose plain piece is just one; `None` exactly where it has none or several.
 #[inline(always)]
-pub fn fill_voice2(piece: &mut Piece, message: &Voice2)
-    ensures { piece.new ≡ flat_map spelled (voice_messages message.now) }
+fn single_message(message: &Voice2) -> Option<Voice1>
+    ensures { MatchOption result (length (voice_messages message.now) ≢ 1)
+        (λ single. voice_messages message.now ≡ voice single ∷ []) }
 {
-    *piece = Piece::new();
-    let single = match *message {
+    Some(match *message {
         Voice2::NoteOff {
             channel,
             note,
             velocity,
             ..
-        } => Voice1::NoteOff {
-            channel,
-            note,
-            velocity: release_down(velocity),
-        },
+        } => lower_note_off(channel, note, velocity),
         Voice2::NoteOn {
             channel,
             note,
             velocity,
             ..
-        } => Voice1::NoteOn {
-            channel,
-            note,
-            velocity: velocity_down(velocity),
-        },
+        } => lower_note_on(channel, note, velocity),
         Voice2::PolyPressure {
             channel,
             note,
             value,
-        } => Voice1::PolyPressure {
-            channel,
-            note,
-            value: down7(value),
-        },
+        } => lower_poly_pressure(channel, note, value),
         Voice2::Control {
             channel,
             index,
             value,
-        } if is_carried_index(index) => Voice1::Control {
-            channel,
-            index,
-            value: down7(value),
-        },
-        Voice2::Pressure { channel, value } => Voice1::Pressure {
-            channel,
-            value: down7(value),
-        },
-        Voice2::Bend { channel, value } => Voice1::Bend {
-            channel,
-            value: down14(value),
-        },
-        Voice2::Set { param, .. } if is_null_param(&param) => return,
-        Voice2::Set {
-            channel,
-            param,
-            value,
-        } => return add_set(piece, channel, &param, down14(value)),
+        } if is_carried_index(index) => lower_control(channel, index, value),
         Voice2::Program {
             channel,
             program,
-            bank,
-        } => return add_program(piece, channel, program, &bank),
-        _ => return,
-    };
-    add(piece, &single);
+            bank: None,
+        } => Voice1::Program { channel, program },
+        Voice2::Pressure { channel, value } => lower_pressure(channel, value),
+        Voice2::Bend { channel, value } => lower_bend(channel, value),
+        _ => return None,
+    })
+}
+
+/// Makes the piece the plain one of a MIDI 2.0 voice message, empty where that isn't carried (M2-104-UM, default translation).
+/// A message that stands alone is chosen first and written in one place, so that the calls of the loops are inlined.
+#[inline(always)]
+pub fn fill_voice2(piece: &mut Piece, message: &Voice2)
+    ensures { piece.new ≡ flat_map spelled (voice_messages message.now) }
+{
+    *piece = Piece::new();
+    match single_message(message) {
+        Some(single) => add(piece, &single),
+        None => match *message {
+            Voice2::Set { param, .. } if is_null_param(&param) => {}
+            Voice2::Set {
+                channel,
+                param,
+                value,
+            } => add_set(piece, channel, &param, down14(value)),
+            Voice2::Program {
+                channel,
+                program,
+                bank: Some(bank),
+            } => add_program(piece, channel, program, bank),
+            _ => {}
+        },
+    }
 }
