@@ -1,40 +1,15 @@
 // What is carried of a packet.
-ghost use Rattle.std.specs.Prelude.{◌<◌, ◌==◌, if◌then◌else◌, length};
+ghost use Rattle.std.specs.Prelude.{◌==◌, if◌then◌else◌, length};
 
 use crate::pieces::Piece;
-use midi_edge::U4;
+use midi_edge::{LentU4, U4};
 use voice_state::{Kind, Listed};
 
-// A group, 0 to 15. What is lent holds no type that contracts see as another value, so this stands there for `U4`.
-#[derive(Clone, Copy, Debug)]
-struct Group {
-    number: u8,
-    ghost below: { number < 16 },
-}
-
-impl Group {
-    ghost use Rattle.std.specs.Prelude.{◌≡◌};
-
-    fn of(group: U4) -> Group
-        ensures { result.number ≡ group }
-    {
-        Group {
-            number: group.get(),
-        }
-    }
-
-    fn get(self) -> U4
-        ensures { result ≡ self.number }
-    {
-        U4::low_bits(self.number as u32)
-    }
-}
-
-// A line of the listing, in the same way.
+// A line of the listing. What is lent holds no type that contracts see as another value, as `Listed` holds one.
 #[derive(Clone, Copy, Debug)]
 struct Line {
     offset: u64,
-    group: Option<Group>,
+    group: Option<LentU4>,
     kind: Kind,
 }
 
@@ -52,7 +27,7 @@ impl Line {
         } = listed;
         let group = match group {
             None => None,
-            Some(group) => Some(Group::of(group)),
+            Some(group) => Some(LentU4::of(group)),
         };
         Line {
             offset,
@@ -81,7 +56,7 @@ impl Line {
 pub struct Carried<'a> {
     /// The MIDI 1.0 bytes of the packet, empty exactly where it isn't carried.
     pub piece: &'a [u8],
-    lane: Group,
+    lane: LentU4,
     line: Option<Line>,
 }
 
@@ -101,7 +76,7 @@ impl<'a> Carried<'a> {
         };
         Carried {
             piece,
-            lane: Group::of(lane),
+            lane: LentU4::of(lane),
             line,
         }
     }

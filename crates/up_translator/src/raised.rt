@@ -1,34 +1,7 @@
 // What comes of a byte.
-ghost use Rattle.std.specs.Prelude.{◌<◌};
-
-use midi_edge::U4;
+use midi_edge::{LentU4, U4};
 use ump_grammar::Packet;
 use voice_state::{Kind, Listed};
-
-// A group, 0 to 15. What is lent holds no type of its own that contracts see as another value, so this stands there for `U4`.
-#[derive(Clone, Copy, Debug)]
-struct Group {
-    number: u8,
-    ghost below: { number < 16 },
-}
-
-impl Group {
-    ghost use Rattle.std.specs.Prelude.{◌≡◌};
-
-    fn of(group: U4) -> Group
-        ensures { result.number ≡ group }
-    {
-        Group {
-            number: group.get(),
-        }
-    }
-
-    fn get(self) -> U4
-        ensures { result ≡ self.number }
-    {
-        U4::low_bits(self.number as u32)
-    }
-}
 
 /// A line of the listing, whose group is that of all lines.
 #[derive(Clone, Copy, Debug)]
@@ -45,7 +18,7 @@ pub struct Raised<'a> {
     /// The bytes between F0 and F7 of the exclusive that the byte ends. Its packets are those of `sysex_groups::part`. Where it
     /// is there, no packet is.
     pub payload: Option<&'a [u8]>,
-    group: Group,
+    group: LentU4,
     first: Option<Line>,
     second: Option<Line>,
 }
@@ -73,7 +46,7 @@ impl<'a> Raised<'a> {
         Raised {
             packet,
             payload,
-            group: Group::of(group),
+            group: LentU4::of(group),
             first,
             second,
         }
