@@ -32,7 +32,7 @@ impl Line {
         }
     }
 
-    /// The bytes.
+    /// The bytes, at most 256.
     #[inline(always)]
     pub fn as_slice(&self) -> &[u8]
         ensures value { result.now ≡ self.now }
@@ -43,15 +43,15 @@ impl Line {
 
     /// Takes all bytes away.
     #[inline(always)]
-    pub fn clear(&mut self)
+    pub(crate) fn clear(&mut self)
         ensures { self.new ≡ [] }
     {
         self.size = 0;
     }
 
-    /// Adds bytes at the end.
+    /// Adds bytes at the end, which has room for them.
     #[inline(always)]
-    pub fn extend(&mut self, bytes: &[u8])
+    pub(crate) fn extend(&mut self, bytes: &[u8])
         requires { length self.old + length bytes.now ≤ 256 }
         ensures { self.new ≡ self.old ++ bytes.now }
     {
@@ -63,7 +63,7 @@ impl Line {
     /// Adds the first `count` of these bytes at the end. There is room for all of them, and all are written, so that they can be
     /// copied without asking how many are wanted.
     #[inline(always)]
-    pub fn extend_by(&mut self, bytes: &[u8], count: usize)
+    pub(crate) fn extend_by(&mut self, bytes: &[u8], count: usize)
         requires room { length self.old + length bytes.now ≤ 256 }
         requires within { count ≤ length bytes.now }
         ensures { self.new ≡ self.old ++ take count bytes.now }

@@ -18,7 +18,7 @@ pub fn listing_line(listed: &Listed) -> Line
     line
 }
 
-/// Makes the line that of what is listed, as `listing_line` does, in the place of another one.
+/// Makes the line that of what is listed, as `listing_line` does, in the place of another one (own rule).
 pub fn fill_listing_line(line: &mut Line, listed: &Listed)
     ensures text { line.new ≡ listing_text listed.now }
     ensures some { 0 < length line.new }
@@ -41,7 +41,7 @@ pub fn byte_listing(kind: Kind, offset: u64) -> Line
     line
 }
 
-/// Makes the line that of what is listed of a stream, as `byte_listing` does, in the place of another one.
+/// Makes the line that of what is listed of a stream, as `byte_listing` does, in the place of another one (own rule).
 pub fn fill_byte_listing(line: &mut Line, kind: Kind, offset: u64)
     ensures text { line.new ≡ byte_listing_text kind offset }
     ensures some { 0 < length line.new }

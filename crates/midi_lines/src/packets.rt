@@ -14,7 +14,7 @@ use ump_grammar::Packet;
 use voice_messages::{Form, U4};
 
 /// The line of a packet that stands at this offset, with its one to four words: the offset in decimal digits, each word in
-/// eight hexadecimal digits, the kind of the packet and its fields.
+/// eight hexadecimal digits, the kind of the packet and its fields (own rule).
 pub fn packet_line(packet: &Packet, words: &[u32], offset: u64) -> Line
     requires { length words.now ≤ 4 }
     ensures text { result ≡ packet_text packet.now words.now offset }
@@ -25,7 +25,7 @@ pub fn packet_line(packet: &Packet, words: &[u32], offset: u64) -> Line
     line
 }
 
-/// Makes the line that of a packet, as `packet_line` does, in the place of another one.
+/// Makes the line that of a packet, as `packet_line` does, in the place of another one (own rule).
 pub fn fill_packet_line(line: &mut Line, packet: &Packet, words: &[u32], offset: u64)
     requires { length words.now ≤ 4 }
     ensures text { line.new ≡ packet_text packet.now words.now offset }

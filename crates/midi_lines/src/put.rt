@@ -5,7 +5,7 @@ ghost use Rattle.midi_lines.specs.Fields.{hex_digit, hex, hex_bytes};
 use crate::line::Line;
 use itoa::Buffer;
 
-/// Adds a text.
+/// Adds a text at the end. A line has 256 bytes, and asks room for all of the text.
 #[inline(always)]
 pub fn put_text(line: &mut Line, text: &str)
     requires { length line.old + length text.now ≤ 256 }
@@ -50,7 +50,8 @@ fn put_small(line: &mut Line, number: u8)
     line.extend_by(&digits, digit_count(number));
 }
 
-/// Adds a number in decimal digits.
+/// Adds a number in decimal digits, without leading zeros. A line has 256 bytes, and asks room for 20 digits, as the largest
+/// number has, whatever the number is.
 #[inline(always)]
 pub fn put_decimal(line: &mut Line, number: u64)
     requires { length line.old + 20 ≤ 256 }
@@ -87,7 +88,7 @@ fn digit_byte(digit: u8) -> u8
     }
 }
 
-/// Adds the last `width` hexadecimal digits of a number.
+/// Adds the last `width` hexadecimal digits of a number. The line of 256 bytes asks room for `width`.
 #[tactic(auto, unfolding(crate::specs::Fields::hex))]
 pub fn put_hex(line: &mut Line, width: usize, number: u32)
     requires { length line.old + width ≤ 256 }
@@ -123,7 +124,7 @@ fn put_pair(line: &mut Line, number: u32)
     line.extend(&[PAIRS[at], PAIRS[at + 1]]);
 }
 
-/// Adds a word in eight hexadecimal digits.
+/// Adds a word in eight hexadecimal digits. The line of 256 bytes asks room for them.
 #[tactic(auto, unfolding(crate::specs::Fields::hex))]
 pub fn put_word(line: &mut Line, word: u32)
     requires { length line.old + 8 ≤ 256 }
@@ -138,7 +139,7 @@ pub fn put_word(line: &mut Line, word: u32)
     put_pair(line, word);
 }
 
-/// Adds each byte in two hexadecimal digits, with nothing between them.
+/// Adds each byte in two hexadecimal digits, with nothing between them. The line of 256 bytes asks room for them.
 pub fn put_hex_bytes(line: &mut Line, bytes: &[u8])
     requires { length line.old + 2 * length bytes.now ≤ 256 }
     ensures text { line.new ≡ line.old ++ hex_bytes bytes.now }
@@ -149,7 +150,7 @@ pub fn put_hex_bytes(line: &mut Line, bytes: &[u8])
     }
 }
 
-/// Adds a label, as ` note=`, and a number in decimal digits.
+/// Adds a label, as ` note=`, and a number in decimal digits. The line of 256 bytes asks room for the label and 20 digits.
 #[inline(always)]
 pub fn put_field(line: &mut Line, label: &str, number: u32)
     requires { (length line.old + length label.now) + 20 ≤ 256 }
@@ -160,7 +161,7 @@ pub fn put_field(line: &mut Line, label: &str, number: u32)
     put_decimal(line, number as u64);
 }
 
-/// Adds a label, as ` form=`, and a word.
+/// Adds a label, as ` form=`, and a word. The line of 256 bytes asks room for both.
 #[inline(always)]
 pub fn put_word_field(line: &mut Line, label: &str, word: &str)
     requires { (length line.old + length label.now) + length word.now ≤ 256 }
@@ -171,7 +172,8 @@ pub fn put_word_field(line: &mut Line, label: &str, word: &str)
     put_text(line, word);
 }
 
-/// Adds a label, as ` status=`, and the last `width` hexadecimal digits of a number.
+/// Adds a label, as ` status=`, and the last `width` hexadecimal digits of a number. The line of 256 bytes asks room for the label
+/// and `width` digits.
 #[inline(always)]
 pub fn put_hex_field(line: &mut Line, label: &str, width: usize, number: u32)
     requires { (length line.old + length label.now) + width ≤ 256 }

@@ -27,7 +27,7 @@ pub fn step_line(step: &Step<'_>, offset: u64) -> Option<Line>
 }
 
 /// Makes the line that of what a byte does, as `step_line` does, in the place of another one, and tells whether it completes a
-/// message. Where it completes none the line is of no use.
+/// message (own rule). Where it completes none the line is of no use.
 pub fn fill_step_line(line: &mut Line, step: &Step<'_>, offset: u64) -> bool
     requires { HasBothEnds step.now }
     ensures text { step_text (step_view step.now) offset ≡ (if result then Some line.new else None) }
