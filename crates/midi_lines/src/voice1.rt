@@ -1,12 +1,12 @@
 // The lines of messages of the MIDI 1.0 protocol, from their kind on.
 ghost use Rattle.std.specs.Prelude.{◌≡◌, ◌≤◌, ◌+◌, ◌++◌, length, codes};
 ghost use Rattle.midi_lines.specs.Fields.{field, group_and_channel};
-ghost use Rattle.midi_lines.specs.Voice1Lines.{voice1_fields, system_fields, system_status, m1_program};
+ghost use Rattle.midi_lines.specs.Voice1Lines.{voice1_fields, system_fields, system_status, m1_poly, m1_control, m1_program, m1_pressure, m1_bend};
 
 use crate::line::Line;
 use crate::put::{put_field, put_hex_field, put_text};
 use crate::voice::{put_control, put_group_field, put_note_value, put_value, put_voice};
-use voice_messages::{System, U4, U7, Voice1};
+use voice_messages::{System, U4, U7, U14, Voice1};
 
 /// Adds the kind and the fields of a channel voice message.
 pub fn put_voice1(line: &mut Line, group: Option<U4>, message: &Voice1)
@@ -29,34 +29,15 @@ pub fn put_voice1(line: &mut Line, group: Option<U4>, message: &Voice1)
             channel,
             note,
             value,
-        } => put_note_value(line, "m1-poly", group, *channel, *note, value.get() as u32),
+        } => put_poly_pressure(line, group, *channel, *note, *value),
         Voice1::Control {
             channel,
             index,
             value,
-        } => put_control(
-            line,
-            "m1-control",
-            group,
-            *channel,
-            *index,
-            value.get() as u32,
-        ),
+        } => put_control_change(line, group, *channel, *index, *value),
         Voice1::Program { channel, program } => put_program(line, group, *channel, *program),
-        Voice1::Pressure { channel, value } => put_value(
-            line,
-            "m1-pressure",
-            group,
-            *channel,
-            value.get() as u32,
-        ),
-        Voice1::Bend { channel, value } => put_value(
-            line,
-            "m1-bend",
-            group,
-            *channel,
-            value.get() as u32,
-        ),
+        Voice1::Pressure { channel, value } => put_pressure(line, group, *channel, *value),
+        Voice1::Bend { channel, value } => put_bend(line, group, *channel, *value),
     }
 }
 
@@ -71,6 +52,31 @@ fn put_note(line: &mut Line, kind: &str, group: Option<U4>, channel: U4, note: U
     put_field(line, " velocity=", velocity.get() as u32);
 }
 
+#[inline(always)]
+fn put_poly_pressure(line: &mut Line, group: Option<U4>, channel: U4, note: U7, value: U7)
+    requires { length line.old ≤ 60 }
+    ensures text { line.new ≡ line.old ++ m1_poly group channel note value }
+    ensures room { length line.new ≤ 240 }
+{
+    put_note_value(line, "m1-poly", group, channel, note, value.get() as u32);
+}
+
+#[inline(always)]
+fn put_control_change(line: &mut Line, group: Option<U4>, channel: U4, index: U7, value: U7)
+    requires { length line.old ≤ 60 }
+    ensures text { line.new ≡ line.old ++ m1_control group channel index value }
+    ensures room { length line.new ≤ 240 }
+{
+    put_control(
+        line,
+        "m1-control",
+        group,
+        channel,
+        index,
+        value.get() as u32,
+    );
+}
+
 fn put_program(line: &mut Line, group: Option<U4>, channel: U4, program: U7)
     requires { length line.old ≤ 60 }
     ensures text { line.new ≡ line.old ++ m1_program group channel program }
@@ -78,6 +84,24 @@ fn put_program(line: &mut Line, group: Option<U4>, channel: U4, program: U7)
 {
     put_voice(line, "m1-program", group, channel);
     put_field(line, " program=", program.get() as u32);
+}
+
+#[inline(always)]
+fn put_pressure(line: &mut Line, group: Option<U4>, channel: U4, value: U7)
+    requires { length line.old ≤ 60 }
+    ensures text { line.new ≡ line.old ++ m1_pressure group channel value }
+    ensures room { length line.new ≤ 240 }
+{
+    put_value(line, "m1-pressure", group, channel, value.get() as u32);
+}
+
+#[inline(always)]
+fn put_bend(line: &mut Line, group: Option<U4>, channel: U4, value: U14)
+    requires { length line.old ≤ 60 }
+    ensures text { line.new ≡ line.old ++ m1_bend group channel value }
+    ensures room { length line.new ≤ 240 }
+{
+    put_value(line, "m1-bend", group, channel, value.get() as u32);
 }
 
 /// Adds the kind and the fields of a system message.
