@@ -1,7 +1,7 @@
 // The lines of messages of the MIDI 2.0 protocol, from their kind on.
 ghost use Rattle.std.specs.Prelude.{◌≡◌, ◌≤◌, ◌+◌, ◌++◌, length, codes};
 ghost use Rattle.midi_lines.specs.Fields.{field, word_field, group_and_channel};
-ghost use Rattle.midi_lines.specs.Voice2Lines.{voice2_fields, kind_word, bank_field, param_fields, controller_fields, program, note_management};
+ghost use Rattle.midi_lines.specs.Voice2Lines.{voice2_fields, IsNote, IsPerNote, IsOfChannel, kind_word, bank_field, param_fields, controller_fields, program, note_management};
 
 use crate::line::Line;
 use crate::put::{put_decimal, put_field, put_text, put_word_field};
@@ -11,6 +11,24 @@ use voice_messages::{Bank, Param, ParamKind, U4, U7, Voice2};
 /// Adds the kind and the fields of a channel voice message.
 pub fn put_voice2(line: &mut Line, group: Option<U4>, message: &Voice2)
     requires { length line.old ≤ 60 }
+    ensures text { line.new ≡ line.old ++ voice2_fields group message.now }
+    ensures room { length line.new ≤ 240 }
+{
+    match message {
+        Voice2::NoteOff { .. } | Voice2::NoteOn { .. } => put_note_message(line, group, message),
+        Voice2::PolyPressure { .. }
+        | Voice2::NoteController { .. }
+        | Voice2::NoteBend { .. }
+        | Voice2::NoteManagement { .. } => put_per_note_message(line, group, message),
+        _ => put_channel_message(line, group, message),
+    }
+}
+
+// A note off or a note on.
+#[inline(always)]
+fn put_note_message(line: &mut Line, group: Option<U4>, message: &Voice2)
+    requires room { length line.old ≤ 60 }
+    requires kind { IsNote message.now }
     ensures text { line.new ≡ line.old ++ voice2_fields group message.now }
     ensures room { length line.new ≤ 240 }
 {
@@ -35,11 +53,58 @@ pub fn put_voice2(line: &mut Line, group: Option<U4>, message: &Voice2)
             put_voice(line, "note-on", group, *channel);
             put_note(line, *note, *velocity, *attribute_type, *attribute);
         }
+        _ => unreachable!(),
+    }
+}
+
+// Any other message of one note.
+#[inline(always)]
+fn put_per_note_message(line: &mut Line, group: Option<U4>, message: &Voice2)
+    requires room { length line.old ≤ 60 }
+    requires kind { IsPerNote message.now }
+    ensures text { line.new ≡ line.old ++ voice2_fields group message.now }
+    ensures room { length line.new ≤ 240 }
+{
+    match message {
         Voice2::PolyPressure {
             channel,
             note,
             value,
         } => put_note_value(line, "poly", group, *channel, *note, *value),
+        Voice2::NoteController {
+            channel,
+            kind,
+            note,
+            index,
+            value,
+        } => {
+            put_voice(line, "note-controller", group, *channel);
+            put_controller_fields(line, *kind, *note, *index);
+            put_field(line, " value=", *value);
+        }
+        Voice2::NoteBend {
+            channel,
+            note,
+            value,
+        } => put_note_value(line, "note-bend", group, *channel, *note, *value),
+        Voice2::NoteManagement {
+            channel,
+            note,
+            flags,
+        } => put_note_management(line, group, *channel, *note, *flags),
+        _ => unreachable!(),
+    }
+}
+
+// A message of the whole channel.
+#[inline(always)]
+fn put_channel_message(line: &mut Line, group: Option<U4>, message: &Voice2)
+    requires room { length line.old ≤ 60 }
+    requires kind { IsOfChannel message.now }
+    ensures text { line.new ≡ line.old ++ voice2_fields group message.now }
+    ensures room { length line.new ≤ 240 }
+{
+    match message {
         Voice2::Control {
             channel,
             index,
@@ -62,27 +127,7 @@ pub fn put_voice2(line: &mut Line, group: Option<U4>, message: &Voice2)
         } => put_program(line, group, *channel, *program, bank),
         Voice2::Pressure { channel, value } => put_value(line, "pressure", group, *channel, *value),
         Voice2::Bend { channel, value } => put_value(line, "bend", group, *channel, *value),
-        Voice2::NoteController {
-            channel,
-            kind,
-            note,
-            index,
-            value,
-        } => {
-            put_voice(line, "note-controller", group, *channel);
-            put_controller_fields(line, *kind, *note, *index);
-            put_field(line, " value=", *value);
-        }
-        Voice2::NoteBend {
-            channel,
-            note,
-            value,
-        } => put_note_value(line, "note-bend", group, *channel, *note, *value),
-        Voice2::NoteManagement {
-            channel,
-            note,
-            flags,
-        } => put_note_management(line, group, *channel, *note, *flags),
+        _ => unreachable!(),
     }
 }
 
