@@ -44,8 +44,9 @@ fn cut_off<'a>(begun: Option<(u64, CutKind)>, besides: AfterCut, alone: Step<'a>
     }
 }
 
-/// A parser of the bytes of a MIDI 1.0 stream. To a contract it is the running status, what is begun with its start and its
-/// bytes, and the room: the number of bytes that an exclusive may have between F0 and F7.
+/// A parser of the bytes of a MIDI 1.0 stream (MIDI 1.0 Detailed Specification: running status, system exclusive messages). To a
+/// contract it is the running status, 80 to EF where there is one, what is begun with its start and its bytes, and the room: the
+/// number of bytes that an exclusive may have between F0 and F7, 6 to 1,048,576 (own rule).
 #[derive(Drop)]
 pub struct Parser {
     running: Option<u8>,
@@ -73,7 +74,7 @@ impl Parser {
     ghost use Rattle.midi1_bytes.specs.Parsing.{begun_message, begun_exclusive, idle, beginning, open_of, ended_by, message_step, data_step, begun_after, parse, parse_under};
 
     /// A parser with nothing begun and no running status. Reserves memory for exclusives of `room` bytes between F0 and F7, 6 to
-    /// 1,048,576; no other call takes any. `NoMemory` where there isn't so much.
+    /// 1,048,576 (own rule); no other call takes any. `NoMemory` where there isn't so much.
     pub fn new(alloc: Global, room: u32) -> Result<Parser, NoMemory>
         requires least { 6 ≤ room }
         requires most { room ≤ 1048576 }
@@ -91,8 +92,8 @@ impl Parser {
         })
     }
 
-    /// What is begun, message or exclusive, and the offset at which it starts: that of its status byte, or under running status
-    /// that of its first data byte. `None` exactly where nothing is begun.
+    /// What is begun, message or exclusive, and the offset at which it starts, as `byte` was given it: that of its status byte, or
+    /// under running status that of its first data byte. `None` exactly where nothing is begun (own rule).
     #[inline(always)]
     pub fn end(&self) -> Option<(u64, CutKind)>
         ensures { result ≡ option_map (λ begun. (begun.start, begun.kind)) (open_of self.now) }
@@ -265,8 +266,9 @@ impl Parser {
         }
     }
 
-    /// Takes one more byte of the stream (MIDI 1.0 Detailed Specification: summary of status bytes, running status, system
-    /// messages). The offset is only kept, and told as the start of what the byte begins. It takes no memory.
+    /// Takes one more byte of the stream, 0 to FF (MIDI 1.0 Detailed Specification: summary of status bytes, running status,
+    /// system messages). The offset, in bytes from the start of the stream, is only kept, and told as the start of what the byte
+    /// begins; any number is taken. It takes no memory, and no byte is an error.
     ///
     /// `Exclusive` lends the exclusive from F0 to F7. `TooLong` comes exactly at the data byte that would make the bytes between
     /// F0 and F7 more than the room; the exclusive is then dropped, and there is no running status. What a status byte cuts off

@@ -5,7 +5,8 @@ ghost use Rattle.std.specs.Prelude.{◌<◌};
 use crate::messages::{fourteen_bits, real_time, seven_bits, voice_of_one, voice_of_two};
 use voice_messages::{System, Voice1};
 
-/// The bytes of a voice message.
+/// The bytes of a channel voice message: a status byte 80 to EF and one or two data bytes, 0 to 7F (MIDI 1.0 Detailed
+/// Specification, channel voice messages).
 #[derive(Clone, Copy, Debug)]
 pub struct VoiceBytes {
     status: u8,
@@ -15,7 +16,8 @@ pub struct VoiceBytes {
     ghost second_below: { second < 128 },
 }
 
-/// The bytes of a system common message.
+/// The bytes of a system common message: a status byte F1, F2, F3 or F6 and no, one or two data bytes, 0 to 7F (MIDI 1.0 Detailed
+/// Specification, system common messages).
 #[derive(Clone, Copy, Debug)]
 pub struct CommonBytes {
     status: u8,
@@ -25,7 +27,8 @@ pub struct CommonBytes {
     ghost second_below: { second < 128 },
 }
 
-/// The status byte of a Real Time message.
+/// The status byte of a system Real Time message: F8, FA, FB, FC, FE or FF (MIDI 1.0 Detailed Specification, system Real Time
+/// messages).
 #[derive(Clone, Copy, Debug)]
 pub struct RealTimeByte {
     status: u8,
@@ -66,7 +69,8 @@ impl VoiceBytes {
         }
     }
 
-    /// The message (MIDI 1.0 Detailed Specification, channel voice messages).
+    /// The message, its channel 0 to 15 and its values 0 to 127, of a bend 0 to 16,383 with the low seven bits first (MIDI 1.0
+    /// Detailed Specification, channel voice messages).
     #[tactic(auto, unfolding(crate::specs::Sorts::sort_of))]
     #[inline(always)]
     pub fn message(&self) -> Voice1
@@ -125,7 +129,8 @@ impl CommonBytes {
         }
     }
 
-    /// The message (MIDI 1.0 Detailed Specification, system common messages).
+    /// The message, its value, where it has one, 0 to 127, of a song position 0 to 16,383 with the low seven bits first (MIDI 1.0
+    /// Detailed Specification, system common messages).
     #[tactic(auto, unfolding(crate::specs::Sorts::sort_of))]
     #[inline(always)]
     pub fn message(&self) -> System
