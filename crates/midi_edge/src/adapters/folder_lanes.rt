@@ -123,12 +123,12 @@ impl<R: Files + AllocGlobal> Lanes for FolderLanes<R> {
 
     #[inline(always)]
     fn put(&mut self, lane: U4, piece: &[u8]) -> Result<(), Failed>
-        requires begun { vec_len self.old.lanes == 16 ≡ true }
+        requires begun { ⟦<Self as Lanes>⟧.begun self.old ≡ true }
         requires piece { 0 < length piece.now }
-        ensures begun { (vec_len self.new.lanes == 16) ≡ (vec_len self.old.lanes == 16) }
-        ensures folder { self.new.path ≡ self.old.path }
+        ensures begun { ⟦<Self as Lanes>⟧.begun self.new ≡ ⟦<Self as Lanes>⟧.begun self.old }
+        ensures folder { ⟦<Self as Lanes>⟧.folder self.new ≡ ⟦<Self as Lanes>⟧.folder self.old }
         ensures pieces { PutsPair None None result lane piece.now }
-        ensures cause { HasCause self.old.faults self.new.faults result }
+        ensures cause { HasCause (⟦<Self as Lanes>⟧.faults self.old) (⟦<Self as Lanes>⟧.faults self.new) result }
         ensures accepts { AcceptsInLane ⟦<R::File as Write>⟧.contents self.old self.new lane result piece.now }
     {
         let answer = self.lanes[usize::from(lane.get())].put(piece);

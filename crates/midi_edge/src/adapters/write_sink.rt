@@ -115,7 +115,7 @@ impl<W: Write> Sink for WriteSink<W> {
     fn put(&mut self, piece: &[u8]) -> Result<(), Failed>
         requires { 0 < length piece.now }
         ensures bytes { Puts None None result piece.now }
-        ensures cause { HasCause self.old.faults self.new.faults result }
+        ensures cause { HasCause (⟦<Self as Sink>⟧.faults self.old) (⟦<Self as Sink>⟧.faults self.new) result }
         ensures accepts { Accepts (accepted W.contents self.old) (accepted W.contents self.new) result piece.now }
     {
         if piece.len() > CAPACITY - self.gathered.len() {
