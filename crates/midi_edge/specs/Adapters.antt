@@ -1,6 +1,7 @@
 -- What a clause reads of the adapters.
 use Rattle.std.specs.Prelude.{◌≡◌, ℕ, List, [], All, take, Option, Result, MatchResult, Some, slice_get, slice_set}
-use Rattle.std.specs.Io.KnownBytes.{Appends, append_known}
+use Rattle.std.specs.List.{AllZip}
+use Rattle.std.specs.Io.KnownBytes.{Appends, Keeps, append_known}
 use Rattle.midi_edge.specs.declared.adapters.write_sink.WriteSink.{WriteSink}
 use Rattle.midi_edge.specs.declared.adapters.folder_lanes.FolderLanes.{FolderLanes}
 use Rattle.midi_edge.specs.declared.adapters.read_source.ReadSource.{ReadSource}
@@ -21,6 +22,14 @@ accepted contents s = append_known (contents s.writer) (unwritten s)
 abbrev pub Accepts : {T E : Type 0} → Option (List ℕ) → Option (List ℕ) → Result T E → List ℕ → Type 0
 Accepts old new result piece =
     MatchResult result (λ _. Appends old new piece) (λ _. (n : ℕ) × Appends old new (take n piece))
+
+-- there are as many sinks as before, and each keeps what it has accepted
+abbrev pub KeepsEach : {W : Type 0} → (W → Option (List ℕ)) → List (WriteSink W) → List (WriteSink W) → Type 0
+KeepsEach contents old new = AllZip (λ before after. Keeps (accepted contents before) (accepted contents after)) old new
+
+-- there are as many lanes as before, and each keeps what it has accepted
+abbrev pub KeepsLanes : {R F A : Type 0} → (F → Option (List ℕ)) → FolderLanes R F A → FolderLanes R F A → Type 0
+KeepsLanes contents old new = KeepsEach contents old.lanes.items new.lanes.items
 
 -- no lane holds bytes that are not yet written out
 abbrev pub IsWrittenOut : {R F A : Type 0} → FolderLanes R F A → Type 0

@@ -1,6 +1,6 @@
 // Lanes over a folder.
 ghost use Rattle.std.specs.Prelude.{◌≡◌, ◌<◌, ◌==◌, None, Err, true, false, [], All, length, vec_len, IfOk, OnOk};
-ghost use Rattle.midi_edge.specs.Adapters.{IsWrittenOut, AcceptsInLane, unwritten};
+ghost use Rattle.midi_edge.specs.Adapters.{IsWrittenOut, AcceptsInLane, KeepsEach, KeepsLanes, unwritten};
 ghost use Rattle.midi_edge.specs.Outside.{HasCause, PutsPair};
 
 use super::counted;
@@ -46,6 +46,7 @@ impl<R: Files + AllocGlobal> FolderLanes<R> {
         ensures begun { ⟦<FolderLanes<R> as Lanes>⟧.begun self.new ≡ ⟦<FolderLanes<R> as Lanes>⟧.begun self.old }
         ensures folder { ⟦<FolderLanes<R> as Lanes>⟧.folder self.new ≡ ⟦<FolderLanes<R> as Lanes>⟧.folder self.old }
         ensures cause { HasCause (⟦<FolderLanes<R> as Lanes>⟧.faults self.old) (⟦<FolderLanes<R> as Lanes>⟧.faults self.new) result }
+        ensures keeps { KeepsLanes ⟦<R::File as Write>⟧.contents self.old self.new }
         ensures written { OnOk result (IsWrittenOut self.new) }
     {
         let answer = flush_each(&mut self.lanes);
@@ -56,6 +57,7 @@ impl<R: Files + AllocGlobal> FolderLanes<R> {
 // Flushes every sink, and answers the first fault.
 fn flush_each<W: Write>(sinks: &mut [WriteSink<W>]) -> Result<(), Failed>
     ensures count { length sinks.new ≡ length sinks.old }
+    ensures keeps { KeepsEach W.contents sinks.old sinks.new }
     ensures written { OnOk result (All (λ s. unwritten s ≡ []) sinks.new) }
 {
     let mut outcome = Ok(());

@@ -1,0 +1,20 @@
+use Rattle.std.proofs.Common.{◌≡◌, ◌≤◌, [], All, OnOk, length, arith, rules, subst}
+use Rattle.std.proofs.lemmas.Grind.{common_steps}
+use Rattle.std.proofs.lemmas.List.{take_all}
+use Rattle.midi_edge.specs.Adapters.{unwritten}
+use Rattle.midi_edge.proofs.Accepting.{KeepsEach-refl, KeepsEach-set}
+use Rattle.midi_edge.proofs.adapters.folder_lanes.flush_each.Goals as goal
+
+pub loop-sink-init : goal.loop-sink-init
+loop-sink-init g c = (KeepsEach-refl g.W.Write.contents c.args.sinks.now, search rules)
+
+pub loop-sink-preserved : goal.loop-sink-preserved
+loop-sink-preserved g c = (
+  KeepsEach-set g.W.Write.contents _ _ _ _ _ c.loop-sink.invariant.0 c.flush-answer.ensures.bytes,
+  grind (arith, common_steps),
+)
+
+pub returns-clause-written : goal.returns-clause-written
+returns-clause-written g c =
+    let passed : length c.loop-sink.sink-items ≤ c.loop-sink.sink-index = omega (arith, c.loop-sink.auto.sink-items, c.loop-sink-test.false) in
+    subst (λ xs. OnOk c.loop-sink.outcome (All (λ s. unwritten s ≡ []) xs)) (take_all c.loop-sink.sink-index c.loop-sink.sink-items passed) c.loop-sink.invariant.1
