@@ -99,10 +99,22 @@ impl<W: Write> WriteSink<W> {
                 Ok(())
             }
             Err(error) => {
-                self.gathered = behind(&self.gathered, written);
+                self.keep_behind(written);
                 Err(error)
             }
         }
+    }
+
+    // Keeps what is gathered behind the first `written` bytes. It is a function of its own, so that its list, of the size of
+    // the buffer, is made only after a fault.
+    #[inline(never)]
+    fn keep_behind(&mut self, written: usize)
+        requires { written ≤ length (unwritten self.old) }
+        ensures { self.new ≡ record self.old { gathered = drop written (unwritten self.old) } }
+    {
+        let mut rest = ShortList::new();
+        rest.extend(&self.gathered.as_slice()[written..]);
+        self.gathered = rest;
     }
 }
 
@@ -156,14 +168,4 @@ fn write_out<W: Write>(writer: &mut W, bytes: &[u8]) -> (usize, io::Result<()>)
         }
     }
     (written, Ok(()))
-}
-
-// The bytes behind the first `count`.
-fn behind(bytes: &ShortList<u8, 8192>, count: usize) -> ShortList<u8, 8192>
-    requires { count ≤ length bytes.now }
-    ensures { result ≡ drop count bytes.now }
-{
-    let mut rest = ShortList::new();
-    rest.extend(&bytes.as_slice()[count..]);
-    rest
 }
