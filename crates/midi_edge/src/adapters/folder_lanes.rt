@@ -26,10 +26,12 @@ pub struct FolderLanes<R: Files + AllocGlobal> {
 }
 
 impl<R: Files + AllocGlobal> FolderLanes<R> {
-    /// Lanes that are not yet opened, and take no memory.
+    /// Lanes that are not yet opened, and take no memory. Nothing is gathered yet, and no fault counted.
     pub fn new(rt: R) -> Self
         ensures folder { ⟦<FolderLanes<R> as Lanes>⟧.folder result ≡ None }
         ensures begun { ⟦<FolderLanes<R> as Lanes>⟧.begun result ≡ false }
+        ensures faults { ⟦<FolderLanes<R> as Lanes>⟧.faults result ≡ 0 }
+        ensures empty { IsWrittenOut result }
     {
         let lanes = Vec::new(rt.alloc());
         FolderLanes {

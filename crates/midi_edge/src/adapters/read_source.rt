@@ -1,5 +1,5 @@
 // A source over a reader.
-ghost use Rattle.std.specs.Prelude.{◌≤◌, ◌<◌, None, IfOk, length};
+ghost use Rattle.std.specs.Prelude.{◌≡◌, ◌≤◌, ◌<◌, None, IfOk, length};
 ghost use Rattle.std.specs.Io.{ReadsAtMost};
 ghost use Rattle.std.specs.Io.KnownBytes.{ReadConsumes};
 ghost use Rattle.midi_edge.specs.Adapters.{to_come};
@@ -18,8 +18,11 @@ pub struct ReadSource<R: Read> {
 }
 
 impl<R: Read> ReadSource<R> {
-    /// A source that gives what the reader gives.
-    pub fn new(reader: R) -> Self {
+    /// A source that gives what the reader gives. No fault is counted yet.
+    pub fn new(reader: R) -> Self
+        ensures gives { to_come R.remaining result ≡ R.remaining reader }
+        ensures faults { ⟦<ReadSource<R> as Source>⟧.faults result ≡ 0 }
+    {
         ReadSource { reader, faults: 0 }
     }
 }

@@ -23,8 +23,12 @@ pub struct WriteSink<W: Write> {
 }
 
 impl<W: Write> WriteSink<W> {
-    /// A sink that puts into the writer.
-    pub fn new(writer: W) -> Self {
+    /// A sink that puts into the writer. Nothing is gathered yet, and no fault counted.
+    pub fn new(writer: W) -> Self
+        ensures empty { unwritten result ≡ [] }
+        ensures holds { accepted W.contents result ≡ W.contents writer }
+        ensures faults { ⟦<WriteSink<W> as Sink>⟧.faults result ≡ 0 }
+    {
         WriteSink {
             writer,
             gathered: ShortList::new(),
