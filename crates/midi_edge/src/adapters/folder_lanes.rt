@@ -1,7 +1,7 @@
 // Lanes over a folder.
-ghost use Rattle.std.specs.Prelude.{◌≡◌, ◌<◌, ◌==◌, None, Err, true, false, [], All, length, vec_len, IfOk, OnOk};
+ghost use Rattle.std.specs.Prelude.{◌≡◌, ◌<◌, ◌==◌, None, Err, true, false, [], All, length, vec_len, IfOk, OnOk, OnErr, Some};
 ghost use Rattle.midi_edge.specs.Adapters.{IsWrittenOut, AcceptsInLane, KeepsEach, KeepsLanes, unwritten};
-ghost use Rattle.midi_edge.specs.Outside.{HasCause, PutsPair};
+ghost use Rattle.midi_edge.specs.Outside.{HasCause, HasOpenCause, PutsPair, kept_bytes};
 
 use super::counted;
 use super::write_sink::WriteSink;
@@ -12,8 +12,8 @@ use std::fs;
 use std::io::Write;
 use std::rt::Files;
 
-/// Sixteen files in a folder, one for each lane, each with a buffer of 8,192 bytes that `begin` takes. An empty path is no folder,
-/// so opening it fails. A small piece is gathered in the buffer, and written out when a later one has no room. So an `Ok` of `put`
+/// Sixteen files in a folder, one for each lane, each with an empty buffer of 8,192 bytes that `begin` takes. An empty path is no
+/// folder, so opening it fails. A small piece is gathered in the buffer, and written out when a later one has no room. So an `Ok` of `put`
 /// says that the piece was accepted, and a fault shows at the `put` that makes room, or at `flush`. A fault takes nothing from what
 /// was accepted before: what it left unwritten is written out by the next call that writes to this lane. Call `flush` when all is
 /// put, since the drop of the lanes tells no fault.
@@ -76,6 +76,7 @@ fn open_lanes<R: Files + AllocGlobal>(
     folder: &str,
 ) -> Result<Vec<WriteSink<R::File>>, OpenFault>
     ensures lanes { IfOk result (λ lanes. vec_len lanes ≡ 16) }
+    ensures written { IfOk result (λ lanes. All (λ s. unwritten s ≡ []) lanes.items) }
     ensures empty { folder.now ≡ [] → result ≡ Err OpenFault.Failed }
 {
     if folder.is_empty() {
@@ -110,7 +111,15 @@ impl<R: Files + AllocGlobal> Lanes for FolderLanes<R> {
 
     ghost faults = { λ l. l.faults };
 
-    fn begin(&mut self, path: &str) -> Result<(), OpenFault> {
+    fn begin(&mut self, path: &str) -> Result<(), OpenFault>
+        requires { ⟦<Self as Lanes>⟧.folder self.old ≡ None }
+        ensures folder { ⟦<Self as Lanes>⟧.folder self.new ≡ Some (kept_bytes path.now) }
+        ensures pieces { ⟦<Self as Lanes>⟧.pieces self.new ≡ ⟦<Self as Lanes>⟧.pieces self.old }
+        ensures begun { OnOk result (⟦<Self as Lanes>⟧.begun self.new ≡ true) }
+        ensures err { OnErr result (⟦<Self as Lanes>⟧.begun self.new ≡ ⟦<Self as Lanes>⟧.begun self.old) }
+        ensures cause { HasOpenCause (⟦<Self as Lanes>⟧.faults self.old) (⟦<Self as Lanes>⟧.faults self.new) result }
+        ensures written { OnOk result (IsWrittenOut self.new) }
+    {
         self.path.keep(path);
         match open_lanes(&self.rt, path) {
             Ok(lanes) => {
