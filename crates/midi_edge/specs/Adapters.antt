@@ -1,5 +1,5 @@
 -- What a clause reads of the adapters.
-use Rattle.std.specs.Prelude.{◌≡◌, ℕ, List, [], All, take, Option, Result, MatchResult, Some, slice_get, slice_set}
+use Rattle.std.specs.Prelude.{◌≡◌, ◌<◌, ℕ, List, [], All, length, take, Option, Result, MatchResult, Some, slice_get, slice_set}
 use Rattle.std.specs.List.{AllZip}
 use Rattle.std.specs.Io.KnownBytes.{Appends, Keeps, append_known}
 use Rattle.midi_edge.specs.declared.adapters.write_sink.WriteSink.{WriteSink}
@@ -18,10 +18,10 @@ unwritten s = s.gathered
 abbrev pub accepted : {W : Type 0} → (W → Option (List ℕ)) → WriteSink W → Option (List ℕ)
 accepted contents s = append_known (contents s.writer) (unwritten s)
 
--- the piece is accepted behind what was, or at `Err` a front of it
+-- the piece is accepted behind what was, or at `Err` a front of it that isn't all of it
 abbrev pub Accepts : {T E : Type 0} → Option (List ℕ) → Option (List ℕ) → Result T E → List ℕ → Type 0
 Accepts old new result piece =
-    MatchResult result (λ _. Appends old new piece) (λ _. (n : ℕ) × Appends old new (take n piece))
+    MatchResult result (λ _. Appends old new piece) (λ _. (n : ℕ) × (n < length piece) × Appends old new (take n piece))
 
 -- there are as many sinks as before, and each keeps what it has accepted
 abbrev pub KeepsEach : {W : Type 0} → (W → Option (List ℕ)) → List (WriteSink W) → List (WriteSink W) → Type 0
@@ -35,7 +35,7 @@ KeepsLanes contents old new = KeepsEach contents old.lanes.items new.lanes.items
 abbrev pub IsWrittenOut : {R F A : Type 0} → FolderLanes R F A → Type 0
 IsWrittenOut l = All (λ s. unwritten s ≡ []) l.lanes.items
 
--- one lane accepts the piece, or at `Err` a front of it, and the others stay as they are
+-- one lane accepts the piece, or at `Err` a front of it that isn't all of it, and the others stay as they are
 abbrev pub AcceptsInLane : {R F A T E : Type 0} → (F → Option (List ℕ)) → FolderLanes R F A → FolderLanes R F A → ℕ → Result T E → List ℕ → Type 0
 AcceptsInLane {F = F} contents old new lane result piece =
     (before after : WriteSink F) × (slice_get old.lanes.items lane ≡ Some before) × (new.lanes.items ≡ slice_set old.lanes.items lane after)

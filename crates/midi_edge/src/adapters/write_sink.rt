@@ -1,5 +1,5 @@
 // A sink over a writer.
-ghost use Rattle.std.specs.Prelude.{◌≡◌, ◌<◌, ◌≤◌, [], length, take, drop, None, OnOk};
+ghost use Rattle.std.specs.Prelude.{◌≡◌, ◌<◌, ◌≤◌, [], length, take, drop, None, OnOk, OnErr};
 ghost use Rattle.std.specs.Io.{WritesAtMost};
 ghost use Rattle.std.specs.Io.KnownBytes.{Keeps, Appends, WriteAppends};
 ghost use Rattle.midi_edge.specs.Adapters.{unwritten, accepted, Accepts};
@@ -59,6 +59,7 @@ impl<W: Write> WriteSink<W> {
     // Accepts a piece for which there is no room, and counts a fault.
     #[inline(never)]
     fn put_behind(&mut self, piece: &[u8]) -> Result<(), Failed>
+        requires { 0 < length piece.now }
         ensures accepts { Accepts (accepted W.contents self.old) (accepted W.contents self.new) result piece.now }
         ensures cause { HasCause self.old.faults self.new.faults result }
     {
@@ -68,6 +69,7 @@ impl<W: Write> WriteSink<W> {
 
     // Makes room for a piece and gathers it, or writes it where it is larger than the room for gathered bytes.
     fn gather_behind(&mut self, piece: &[u8]) -> io::Result<()>
+        requires { 0 < length piece.now }
         ensures accepts { Accepts (accepted W.contents self.old) (accepted W.contents self.new) result piece.now }
         ensures faults { self.new.faults ≡ self.old.faults }
     {
@@ -156,11 +158,12 @@ fn write_once<W: Write>(writer: &mut W, bytes: &[u8]) -> io::Result<usize>
     Err(io::Error::from(ErrorKind::Interrupted))
 }
 
-// Writes until all is written or a write fails, and says how many bytes were written. A write that takes nothing is a
-// fault.
+// Writes until all is written or a write fails, and says how many bytes were written: at a fault not all. A write that
+// takes nothing is a fault.
 fn write_out<W: Write>(writer: &mut W, bytes: &[u8]) -> (usize, io::Result<()>)
     ensures bound { result.0 ≤ length bytes.now }
     ensures all { OnOk result.1 (result.0 ≡ length bytes.now) }
+    ensures part { OnErr result.1 (result.0 < length bytes.now) }
     ensures bytes { Appends (W.contents writer.old) (W.contents writer.new) (take result.0 bytes.now) }
 {
     let mut written = 0;
