@@ -5,7 +5,6 @@ ghost use Rattle.midi1_bytes.specs.Answers.{step_view};
 ghost use Rattle.midi1_bytes.specs.Parsing.{idle, parse};
 ghost use Rattle.midi1_bytes.specs.Steps.{cut};
 ghost use Rattle.midi_lines.specs.StepLines.{HasBothEnds, byte_listing_text};
-ghost use Rattle.voice_state.specs.StepListing.{cut_kind, open_kind};
 ghost use Rattle.midi_tool.specs.ByteWork.{showing_bytes, ByteSays, ByteEndsOf};
 ghost use Rattle.midi_tool.specs.ShowBytes.{ShowsEnd, ShowsOpen, ShowsStep};
 ghost use Rattle.midi_tool.specs.Told.{Counts, CountsOf};
@@ -17,6 +16,7 @@ use midi_edge::{ByteReader, Sink, Source};
 use midi_lines::{Line, fill_byte_listing, fill_step_line};
 use midi1_bytes::laws::parsed_bytes_are_the_definition;
 use midi1_bytes::{AfterCut, CutKind, Parser, Step};
+use up_translator::{kind_of_cut, kind_of_open};
 use voice_state::Kind;
 
 /// Puts a line for each message that the bytes of a stream complete, and for each byte that belongs to nothing or cuts something
@@ -135,24 +135,6 @@ fn put_cut<W: Sink>(
                 Ok(())
             }
         }
-    }
-}
-
-fn kind_of_cut(what: CutKind) -> Kind
-    ensures { result ≡ cut_kind what }
-{
-    match what {
-        CutKind::Message => Kind::CutMessage,
-        CutKind::Exclusive => Kind::CutExclusive,
-    }
-}
-
-fn kind_of_open(what: CutKind) -> Kind
-    ensures { result ≡ open_kind what }
-{
-    match what {
-        CutKind::Message => Kind::OpenMessage,
-        CutKind::Exclusive => Kind::OpenExclusive,
     }
 }
 

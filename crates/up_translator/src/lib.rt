@@ -9,6 +9,7 @@ mod raiser;
 pub mod up;
 mod voice;
 
+pub use crate::lines::{kind_of_cut, kind_of_open};
 pub use crate::raised::Raised;
 pub use crate::up::Up;
 pub use voice_state::{BadStep, Kind, Listed};

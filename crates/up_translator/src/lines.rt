@@ -42,17 +42,23 @@ pub fn ignored(offset: u64) -> Line
 pub fn cut_off(start: u64, what: CutKind) -> Line
     ensures { told_of result ≡ (cut_kind what, start) }
 {
-    let kind = match what {
-        CutKind::Message => Kind::CutMessage,
-        CutKind::Exclusive => Kind::CutExclusive,
-    };
     Line {
         offset: start,
-        kind,
+        kind: kind_of_cut(what),
     }
 }
 
-/// The kind of the line of what is open at the end.
+/// The kind of the line of what is cut off (own rule).
+pub fn kind_of_cut(what: CutKind) -> Kind
+    ensures { result ≡ cut_kind what }
+{
+    match what {
+        CutKind::Message => Kind::CutMessage,
+        CutKind::Exclusive => Kind::CutExclusive,
+    }
+}
+
+/// The kind of the line of what is open at the end (own rule).
 pub fn kind_of_open(what: CutKind) -> Kind
     ensures { result ≡ open_kind what }
 {
