@@ -23,10 +23,12 @@ pub fn back_is_taken()
     ensures most { command_of (codes "translate" ∷ codes "back" ∷ codes "--group" ∷ codes "15" ∷ codes "--room" ∷ codes "6" ∷ []) ≡ Some (back 15 6) }
 {}
 
-/// `show`, of words and of bytes.
+/// `show`, of words and of bytes, alone and with all that may be left out.
 pub fn show_is_taken()
     ensures words { command_of (codes "show" ∷ []) ≡ Some (show false 1048576) }
+    ensures most_words { command_of (codes "show" ∷ codes "--little" ∷ codes "--room" ∷ codes "6" ∷ []) ≡ Some (show true 6) }
     ensures bytes { command_of (codes "show" ∷ codes "--bytes" ∷ []) ≡ Some (show_bytes 1048576) }
+    ensures most_bytes { command_of (codes "show" ∷ codes "--bytes" ∷ codes "--room" ∷ codes "6" ∷ []) ≡ Some (show_bytes 6) }
 {}
 
 /// Requests for help, and no words at all, aren't commands.

@@ -1,8 +1,9 @@
 -- From how a pass over a recording ends to the status of a run.
-use Rattle.std.proofs.Common.{◌≡◌, ◌≤◌, ℕ, List, Option, None, Some, refl, sym, ◌∙◌, inl, inr, arith}
+use Rattle.std.proofs.Common.{◌≡◌, ◌≤◌, ℕ, List, Option, None, Some, refl, ap, sym, ◌∙◌, inl, inr, arith}
 use Rattle.std.specs.Prelude.{IfSome}
 use Rattle.midi_edge.specs.Outside.{Rose}
-use Rattle.command_line.specs.Asked.{Asked}
+use Rattle.command_line.specs.Asked.{Asked, down, up, back, show, show_bytes}
+use Rattle.midi_tool.specs.Command.{SparesNotes}
 use Rattle.midi_tool.specs.LastLine.{GainsLine}
 use Rattle.midi_tool.specs.Ready.{ReadyLines, of_packets, of_bytes}
 use Rattle.midi_tool.specs.Run.{Task, over_packets, over_bytes, lines_task, TaskSays, TaskEnds, TaskCounts, HasNoStop, StatusSays, StatusCounts, IsDoneUnless, status_after}
@@ -89,3 +90,12 @@ pub unless_later : (task : Task) (told : Option (List ℕ)) (reads reads' lanes 
     → IfSome told (λ bytes. IsDoneUnless task bytes (record { reads = reads; lanes = lanes; output = output; notes = notes }) (record { reads = reads'; lanes = lanes'; output = output'; notes = now }) answer)
 unless_later task told reads reads' lanes lanes' output output' notes before now answer old new text gains =
     map_told told _ _ (λ bytes h none r l o n. h none r l o (λ rose. n (still_rose notes before now (later old new before now text gains) rose)))
+
+-- what is told of notes that stay stays
+pub spares_told : {N A : Type 0} (tell : N → A) (o : Option Asked) (old new : N) → SparesNotes o old new → SparesNotes o (tell old) (tell new)
+spares_told tell None old new same = ap tell same
+spares_told tell (Some (show little room)) old new same = ap tell same
+spares_told tell (Some (show_bytes room)) old new same = ap tell same
+spares_told tell (Some (down folder little room)) old new same = tt
+spares_told tell (Some (up group little room)) old new same = tt
+spares_told tell (Some (back group room)) old new same = tt

@@ -139,7 +139,7 @@ module _ (order : Order) (pass : Pass) (reader : Reading) (before now : Option (
       by_told : (b : Option (List ℕ)) → IfSome b (λ bytes. StandsBehind order limit bytes framed f) → IfSome b (λ bytes. Stops order pass bytes reason offset old new)
       by_told None stands = tt
       by_told (Some bytes) stands =
-          record { before = framed; framed = framed ++ f ∷ stands.after; tail = stands.tail; cut = stands.cut; first = first reason cause stands.after stands.tail; work = work }
+          record { before = framed; framed = framed ++ f ∷ stands.after; tail = stands.tail; cut = stands.cut; first = first reason cause stands.after stands.tail; taken = taken; work = work }
 
   -- where the reading stops before the end
   pub says_refused : (reader' : Reading) (now' : Option (List ℕ)) (reason : Reason) (offset : ℕ)
@@ -148,12 +148,12 @@ module _ (order : Order) (pass : Pass) (reader : Reading) (before now : Option (
     where
       by_told : (b : Option (List ℕ)) → IfSome b (λ bytes. IsCutInto order limit bytes framed (TailTruncated offset)) → IfSome b (λ bytes. Stops order pass bytes Truncated offset old new)
       by_told None cut = tt
-      by_told (Some bytes) cut = record { before = framed; framed = framed; tail = TailTruncated offset; cut = cut; first = (refl, refl); work = work }
+      by_told (Some bytes) cut = record { before = framed; framed = framed; tail = TailTruncated offset; cut = cut; first = (refl, refl); taken = taken; work = work }
   says_refused reader' now' InputTooLong offset ends = by_told before (finishes order limit reader before now framed read reader' now' TooLong ends.0)
     where
       by_told : (b : Option (List ℕ)) → IfSome b (λ bytes. IsCutInto order limit bytes framed TooLong) → IfSome b (λ bytes. Stops order pass bytes InputTooLong offset old new)
       by_told None cut = tt
-      by_told (Some bytes) cut = record { before = framed; framed = framed; tail = TooLong; cut = cut; first = (refl, refl, ends.1); work = work }
+      by_told (Some bytes) cut = record { before = framed; framed = framed; tail = TooLong; cut = cut; first = (refl, refl, ends.1); taken = taken; work = work }
   says_refused reader' now' BadCount offset ends = refuses reader' now' ends.0 BadCount offset ends.1 ends.2 ends.3
   says_refused reader' now' HighBit offset ends = refuses reader' now' ends.0 HighBit offset ends.1 ends.2 ends.3
   says_refused reader' now' DataIncrement offset ends = absurd ends

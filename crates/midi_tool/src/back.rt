@@ -193,9 +193,12 @@ fn send_back<W: Sink, N: Sink>(
     }
 }
 
-/// Translates a stream up, and each packet down again in plain style, to its end or to the first byte that is refused: puts the
-/// piece of each packet that has one in the output, and behind those of a byte its lines in the notes, at the end the line of
-/// what is still open. Takes no memory. `ReadFault`, `OutputFault` and `NoteFault` come only where the count of that object rose.
+/// Translates a stream up, and each packet down again in plain style, to its end or to the first byte that is refused (M2-104-UM,
+/// translation from MIDI 1.0 and default translation): puts the piece of each packet that has one in the output, and behind
+/// those of a byte its lines in the notes, at the end the line of what is still open. Takes no memory.
+///
+/// `Refused` comes for `InputTooLong`, `DataIncrement`, `DataDecrement` and `ExclusiveTooLong`, with the number of bytes before the
+/// refused one. `ReadFault`, `OutputFault` and `NoteFault` come only where the count of that object rose. There is no `LaneFault`.
 pub fn run_back<S: Source, W: Sink, N: Sink>(
     engine: BackRun,
     input: &mut S,

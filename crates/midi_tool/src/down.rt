@@ -172,18 +172,16 @@ fn close<N: Sink>(end: RunEnd, down: &Down, notes: &mut N) -> RunEnd
 {
     match end {
         RunEnd::Done => list_open(down, notes),
-        RunEnd::Refused { reason, offset } => RunEnd::Refused { reason, offset },
-        RunEnd::ReadFault => RunEnd::ReadFault,
-        RunEnd::LaneFault => RunEnd::LaneFault,
-        RunEnd::OutputFault => RunEnd::OutputFault,
-        RunEnd::NoteFault => RunEnd::NoteFault,
+        stop => stop,
     }
 }
 
-/// Translates a recording down, to its end or to the first packet that is refused: puts the plain piece of each packet that
-/// is carried into the lane of its group, and in the notes the line of each packet that is listed, at the end those of the
-/// exclusives that are still begun. Takes no memory. `ReadFault`, `LaneFault` and `NoteFault` come only where the count of
-/// that object rose.
+/// Translates a recording down, to its end or to the first packet that is refused (M2-104-UM, default translation; what that
+/// leaves out is listed by own rule): puts the plain piece of each packet that is carried into the lane of its group, and in
+/// the notes the line of each packet that is listed, at the end those of the exclusives that are still begun. Takes no memory.
+///
+/// `Refused` comes for each reason, with the number of input bytes before the packet. `ReadFault`, `LaneFault` and `NoteFault` come
+/// only where the count of that object rose. There is no `OutputFault`.
 pub fn run_down<S: Source, L: Lanes, N: Sink>(
     engine: DownRun,
     input: &mut S,

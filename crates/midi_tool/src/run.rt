@@ -4,7 +4,7 @@ ghost use Rattle.midi_edge.specs.Outside.{kept_bytes};
 ghost use Rattle.command_line.specs.Asked.{Asked, asked_of, IsInRange, IsRoom};
 ghost use Rattle.command_line.specs.Rules.{command_of};
 ghost use Rattle.midi_tool.specs.ByteWork.{raising, coming_back};
-ghost use Rattle.midi_tool.specs.Command.{order_of as order_in, Opens, Spares};
+ghost use Rattle.midi_tool.specs.Command.{order_of as order_in, Opens, Spares, SparesNotes};
 ghost use Rattle.midi_tool.specs.LastLine.{GainsLine, last_text};
 ghost use Rattle.midi_tool.specs.Outcome.{carrying};
 ghost use Rattle.midi_tool.specs.Ready.{ready_lines};
@@ -32,8 +32,12 @@ use ump_words::Order;
 /// `--group` is 0 to 15, at first 0; `--room`, the most bytes of an exclusive between F0 and F7, is 6 to 1,048,576, at first
 /// 1,048,576; with `--little` the bytes of words come the least significant first.
 ///
-/// Whatever the status but `Done` and `NoteFault`, a last line in `notes` tells it. All objects are new ones. `NoMemory` is free in
-/// its cause, and comes before the first read.
+/// `Done` says that the input was read to its end. `Refused` comes at the first packet or byte that is refused, with its reason and
+/// its offset, the number of input bytes before it: packets are refused for each reason, a stream only for `InputTooLong`,
+/// `DataIncrement`, `DataDecrement` and `ExclusiveTooLong`; lines are never refused for a data increment or decrement. `ReadFault`,
+/// `LaneFault`, `OutputFault` and `NoteFault` come only for an object that the command names and whose count of faults rose in
+/// this call. `Usage` comes where the words are no command. `NoMemory` is free in its cause, and comes before the first read.
+/// Whatever the status but `Done` and `NoteFault`, a last line in `notes` tells it. All objects are new ones; no command names `shelf`.
 pub fn run<S: Source, L: Lanes, W: Sink, N: Sink, K: Shelf>(
     alloc: Global,
     words: &[String],
@@ -51,7 +55,8 @@ pub fn run<S: Source, L: Lanes, W: Sink, N: Sink, K: Shelf>(
     // each packet the bytes of each lane mean what the packets of its group mean; the notes gained exactly the listing. Or it
     // is shown: one line for each packet. A stream is raised: after each byte the packets so far mean what the bytes so far
     // mean; brought back, it means the same; or it is shown. Where a packet or byte is refused it is the first, and exactly the
-    // work on what is before it stands. Behind that comes the last line, if there is one.
+    // work on what is before it stands. Behind that comes the last line, if there is one; where the command lists nothing it is
+    // all that the notes gain.
     ensures content { (noted : Option (List ℕ)) × (count : ℕ)
         × GainsLine noted (N.held notes.new) count (N.faults notes.new) (last_text result)
         × IfSome (S.left input.old) (λ bytes. RunSays (command_of (map string_bytes words.now)) bytes (S.left input.new)
@@ -60,6 +65,7 @@ pub fn run<S: Source, L: Lanes, W: Sink, N: Sink, K: Shelf>(
         × RunCounts (command_of (map string_bytes words.now))
         (record { reads = S.faults input.old; lanes = L.faults lanes.old; output = W.faults output.old; notes = N.faults notes.old })
         (record { reads = S.faults input.new; lanes = L.faults lanes.new; output = W.faults output.new; notes = count }) result
+        × SparesNotes (command_of (map string_bytes words.now)) (N.held notes.old) noted
         × ((result ≡ Status.Usage) ⊎ (result ≡ Status.NoMemory) ⊎ ((L.begun lanes.new ≡ false) × IsSome (L.folder lanes.new)) → noted ≡ N.held notes.old) }
 
     // `Done` comes where nothing is refused and nothing fails, unless there is no memory.
@@ -111,6 +117,7 @@ fn answer<S: Source, L: Lanes, W: Sink, N: Sink>(
     ensures not_begun { L.begun lanes.new ≡ false → IsSome (L.folder lanes.new) → (input.new ≡ input.old) × (notes.new ≡ notes.old) }
     ensures folder { (result ≡ Status.NoMemory) × (lanes.new ≡ lanes.old) ⊎ Opens (command_of (map string_bytes words.now)) lanes.old lanes.new (L.folder lanes.new) }
     ensures output { Spares (command_of (map string_bytes words.now)) output.old output.new }
+    ensures notes { SparesNotes (command_of (map string_bytes words.now)) notes.old notes.new }
 {
     match command_line(alloc, words) {
         Ok(command) => perform(alloc, &command, input, lanes, output, notes),
@@ -146,6 +153,7 @@ fn perform<S: Source, L: Lanes, W: Sink, N: Sink>(
     ensures not_begun { L.begun lanes.new ≡ false → IsSome (L.folder lanes.new) → (input.new ≡ input.old) × (notes.new ≡ notes.old) }
     ensures folder { (result ≡ Status.NoMemory) × (lanes.new ≡ lanes.old) ⊎ Opens (Some (asked_of command.now)) lanes.old lanes.new (L.folder lanes.new) }
     ensures output { Spares (Some (asked_of command.now)) output.old output.new }
+    ensures notes { SparesNotes (Some (asked_of command.now)) notes.old notes.new }
 {
     match command {
         Command::Down {

@@ -86,8 +86,11 @@ impl ShowRun {
 /// Puts the lines of the input, to its end or to the first packet or byte that is refused. Of a recording (M2-104-UM) each packet
 /// has a line; one that passes the room for its group's exclusive is refused and has none, and data increments and decrements
 /// are shown (own rules). Of a stream of bytes (MIDI 1.0 Detailed Specification) each message that is completed has a line, and
-/// so has each byte that belongs to nothing, and what is cut off or, at the end, still open. `ReadFault` and `OutputFault` come
-/// only where the count of that object rose; the lines before then stand. Takes no memory, so `NoMemory` doesn't come.
+/// so has each byte that belongs to nothing, and what is cut off or, at the end, still open.
+///
+/// `Refused` comes for `InputTooLong` and `ExclusiveTooLong`, of a recording also for `Truncated`, `BadCount` and `HighBit`, with the
+/// number of bytes before what is refused. `ReadFault` and `OutputFault` come only where the count of that object rose; the lines
+/// before then stand. Takes no memory, so `NoMemory` doesn't come.
 pub fn run_show<S: Source, W: Sink>(
     _alloc: Global,
     engine: ShowRun,

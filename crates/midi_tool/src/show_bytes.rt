@@ -160,10 +160,6 @@ fn close<W: Sink>(end: RunEnd, parser: &Parser, output: &mut W) -> RunEnd
 {
     match end {
         RunEnd::Done => put_open(parser, output),
-        RunEnd::Refused { reason, offset } => RunEnd::Refused { reason, offset },
-        RunEnd::ReadFault => RunEnd::ReadFault,
-        RunEnd::LaneFault => RunEnd::LaneFault,
-        RunEnd::OutputFault => RunEnd::OutputFault,
-        RunEnd::NoteFault => RunEnd::NoteFault,
+        stop => stop,
     }
 }

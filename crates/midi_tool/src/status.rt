@@ -3,31 +3,32 @@ ghost use Rattle.std.specs.Prelude.{◌≡◌, ◌≢◌, OnOk, OnErr};
 
 use midi_edge::Failed;
 
-/// Why a recording is refused.
+/// Why a recording or a stream is refused.
 #[derive(Clone, Copy, Debug, PartialEq, Eq)]
 pub enum Reason {
-    /// It ends within a packet.
+    /// It ends within a packet (M2-104-UM, message types).
     Truncated,
-    /// It has more than 4,294,967,296 bytes.
+    /// It has more than 4,294,967,296 bytes (own rule).
     InputTooLong,
-    /// A 7-bit exclusive packet counts more than six bytes.
+    /// A 7-bit exclusive packet counts more than six bytes (M2-104-UM, 7-bit exclusives).
     BadCount,
-    /// A byte that carries seven bits is 128 or more.
+    /// A byte of a packet that carries seven bits is 128 or more (M2-104-UM).
     HighBit,
-    /// A data increment, control change 96 of either protocol.
+    /// A data increment, control change 96 of either protocol, is translated (own rule).
     DataIncrement,
-    /// A data decrement, control change 97 of either protocol.
+    /// A data decrement, control change 97 of either protocol, is translated (own rule).
     DataDecrement,
-    /// An exclusive has more bytes between F0 and F7 than the room.
+    /// An exclusive has more bytes between F0 and F7 than the room (own rule).
     ExclusiveTooLong,
 }
 
-/// How a pass over a recording ends.
+/// How a pass over a recording or a stream ends.
 #[derive(Clone, Copy, Debug, PartialEq, Eq)]
 pub enum RunEnd {
-    /// The recording was read to its end.
+    /// The input was read to its end.
     Done,
-    /// The packet at this offset, in bytes, is refused.
+    /// What stands at this offset is refused: a packet, a byte, or the input where it ends too early or passes its limit. The
+    /// offset is the number of input bytes before it.
     Refused { reason: Reason, offset: u64 },
     /// A read failed.
     ReadFault,
@@ -42,9 +43,10 @@ pub enum RunEnd {
 /// How a run ends.
 #[derive(Clone, Copy, Debug, PartialEq, Eq)]
 pub enum Status {
-    /// The recording was read to its end.
+    /// The input was read to its end.
     Done,
-    /// The packet at this offset, in bytes, is refused.
+    /// What stands at this offset is refused: a packet, a byte, or the input where it ends too early or passes its limit. The
+    /// offset is the number of input bytes before it.
     Refused { reason: Reason, offset: u64 },
     /// A read failed.
     ReadFault,
@@ -63,9 +65,8 @@ pub enum Status {
 impl Status {
     ghost use Rattle.midi_tool.specs.ExitCode.{exit_code_of};
 
-    /// The exit code: 0 for `Done`, 1 for `Refused`, 2 to 5 for faults of reading, of the lanes, of the output
-    /// and of the notes, 7 for
-    /// `Usage`, 10 for `NoMemory`.
+    /// The exit code: 0 for `Done`, 1 for `Refused`, 2 to 5 for faults of reading, of the lanes, of the output and of the notes, 7
+    /// for `Usage`, 10 for `NoMemory` (own rule).
     pub fn exit_code(self) -> u8
         ensures { result ≡ exit_code_of self }
     {

@@ -200,17 +200,16 @@ pub(crate) fn close<N: Sink>(end: RunEnd, up: &Up, notes: &mut N) -> RunEnd
 {
     match end {
         RunEnd::Done => list_end(up, notes),
-        RunEnd::Refused { reason, offset } => RunEnd::Refused { reason, offset },
-        RunEnd::ReadFault => RunEnd::ReadFault,
-        RunEnd::LaneFault => RunEnd::LaneFault,
-        RunEnd::OutputFault => RunEnd::OutputFault,
-        RunEnd::NoteFault => RunEnd::NoteFault,
+        stop => stop,
     }
 }
 
-/// Translates a stream up, to its end or to the first byte that is refused: puts the words of each packet in the output, each
-/// packet by one put, and behind those of a byte its lines in the notes, at the end the line of what is still open. Takes no
-/// memory. `ReadFault`, `OutputFault` and `NoteFault` come only where the count of that object rose.
+/// Translates a stream up, to its end or to the first byte that is refused (M2-104-UM, translation from MIDI 1.0; what comes to
+/// nothing is listed by own rule): puts the words of each packet in the output, each packet by one put, and behind those of a
+/// byte its lines in the notes, at the end the line of what is still open. Takes no memory.
+///
+/// `Refused` comes for `InputTooLong`, `DataIncrement`, `DataDecrement` and `ExclusiveTooLong`, with the number of bytes before the
+/// refused one. `ReadFault`, `OutputFault` and `NoteFault` come only where the count of that object rose. There is no `LaneFault`.
 pub fn run_up<S: Source, W: Sink, N: Sink>(
     engine: UpRun,
     input: &mut S,

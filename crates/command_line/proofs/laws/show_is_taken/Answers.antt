@@ -11,3 +11,11 @@ returns-clause-words c = refl
 pub returns-clause-bytes : goal.returns-clause-bytes
 unfolding cli command_of clap_on_literals
 returns-clause-bytes c = refl
+
+pub returns-clause-most_words : goal.returns-clause-most_words
+unfolding cli command_of clap_on_literals
+returns-clause-most_words c = refl
+
+pub returns-clause-most_bytes : goal.returns-clause-most_bytes
+unfolding cli command_of clap_on_literals
+returns-clause-most_bytes c = refl
