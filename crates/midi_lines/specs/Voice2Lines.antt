@@ -73,30 +73,6 @@ abbrev pub note_management : Option ℕ → ℕ → ℕ → ℕ → List ℕ
 note_management group channel note flags =
     codes "note-management" ++ group_and_channel group channel ++ field (codes "note") note ++ field (codes "flags") flags
 
--- a note off or a note on
-abbrev pub IsNote : Voice2 → Type 0
-IsNote (voice2.NoteOff channel note velocity attribute_type attribute) = Unit {0}
-IsNote (voice2.NoteOn channel note velocity attribute_type attribute) = Unit {0}
-IsNote _ = ⊥
-
--- any other message of one note
-abbrev pub IsPerNote : Voice2 → Type 0
-IsPerNote (voice2.PolyPressure channel note value) = Unit {0}
-IsPerNote (voice2.NoteController channel kind note index value) = Unit {0}
-IsPerNote (voice2.NoteBend channel note value) = Unit {0}
-IsPerNote (voice2.NoteManagement channel note flags) = Unit {0}
-IsPerNote _ = ⊥
-
--- a message of the whole channel
-abbrev pub IsOfChannel : Voice2 → Type 0
-IsOfChannel (voice2.Control channel index value) = Unit {0}
-IsOfChannel (voice2.Set channel param value) = Unit {0}
-IsOfChannel (voice2.Shift channel param value) = Unit {0}
-IsOfChannel (voice2.Program channel number bank) = Unit {0}
-IsOfChannel (voice2.Pressure channel value) = Unit {0}
-IsOfChannel (voice2.Bend channel value) = Unit {0}
-IsOfChannel _ = ⊥
-
 abbrev pub voice2_fields : Option ℕ → Voice2 → List ℕ
 voice2_fields group (voice2.NoteOff channel note velocity attribute_type attribute) = note_off group channel note velocity attribute_type attribute
 voice2_fields group (voice2.NoteOn channel note velocity attribute_type attribute) = note_on group channel note velocity attribute_type attribute

@@ -1,7 +1,8 @@
 // The lines of messages of the MIDI 2.0 protocol, from their kind on.
 ghost use Rattle.std.specs.Prelude.{◌≡◌, ◌≤◌, ◌+◌, ◌++◌, length, codes};
+ghost use Rattle.voice_messages.specs.Kinds.{IsNote, IsOfOneNote, IsOfChannel};
 ghost use Rattle.midi_lines.specs.Fields.{field, word_field, group_and_channel};
-ghost use Rattle.midi_lines.specs.Voice2Lines.{voice2_fields, IsNote, IsPerNote, IsOfChannel, kind_word, bank_field, param_fields, controller_fields, program, note_management};
+ghost use Rattle.midi_lines.specs.Voice2Lines.{voice2_fields, kind_word, bank_field, param_fields, controller_fields, program, note_management};
 
 use crate::line::Line;
 use crate::put::{put_decimal, put_field, put_text, put_word_field};
@@ -61,7 +62,7 @@ fn put_note_message(line: &mut Line, group: Option<U4>, message: &Voice2)
 #[inline(always)]
 fn put_per_note_message(line: &mut Line, group: Option<U4>, message: &Voice2)
     requires room { length line.old ≤ 60 }
-    requires kind { IsPerNote message.now }
+    requires kind { IsOfOneNote message.now }
     ensures text { line.new ≡ line.old ++ voice2_fields group message.now }
     ensures room { length line.new ≤ 240 }
 {

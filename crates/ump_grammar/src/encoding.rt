@@ -4,7 +4,7 @@ ghost use Rattle.ump_words.specs.Cut.{IsWhole};
 ghost use Rattle.ump_grammar.specs.Places.{field, word, byte, type_of, group_of, opcode_of, channel_of, count_of};
 ghost use Rattle.ump_grammar.specs.Ranges.{IsPacket};
 ghost use Rattle.ump_grammar.specs.Reading.{Encodes};
-ghost use Rattle.ump_grammar.specs.Rows.{IsNote, IsOfOneNote, IsOfParam};
+ghost use Rattle.voice_messages.specs.Kinds.{IsNote, IsOfOneNote, IsOfParam};
 ghost use Rattle.ump_grammar.specs.Spelling.{Spells, form_number, kind_number, exclusive_places};
 
 use crate::packet::Packet;

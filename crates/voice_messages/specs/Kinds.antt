@@ -1,4 +1,4 @@
--- The rows of the MIDI 2.0 protocol's channel voice messages, by what they are about.
+-- The channel voice messages of the MIDI 2.0 protocol by what they are about (M2-104-UM).
 use Rattle.voice_messages.specs.declared.voice2.Voice2.{Voice2}
 use Rattle.voice_messages.specs.declared.voice2.Voice2.TheVariants as voice2
 
@@ -7,7 +7,7 @@ IsNote (voice2.NoteOff channel note velocity attribute_type attribute) = Unit {0
 IsNote (voice2.NoteOn channel note velocity attribute_type attribute) = Unit {0}
 IsNote _ = ⊥
 
--- its pressure, a controller, its bend or its management
+-- the pressure, a controller, the bend or the management of one note
 abbrev pub IsOfOneNote : Voice2 → Type 0
 IsOfOneNote (voice2.PolyPressure channel note value) = Unit {0}
 IsOfOneNote (voice2.NoteController channel kind note index value) = Unit {0}
@@ -20,3 +20,13 @@ abbrev pub IsOfParam : Voice2 → Type 0
 IsOfParam (voice2.Set channel param value) = Unit {0}
 IsOfParam (voice2.Shift channel param value) = Unit {0}
 IsOfParam _ = ⊥
+
+-- what is about the whole channel
+abbrev pub IsOfChannel : Voice2 → Type 0
+IsOfChannel (voice2.Control channel index value) = Unit {0}
+IsOfChannel (voice2.Set channel param value) = Unit {0}
+IsOfChannel (voice2.Shift channel param value) = Unit {0}
+IsOfChannel (voice2.Program channel number bank) = Unit {0}
+IsOfChannel (voice2.Pressure channel value) = Unit {0}
+IsOfChannel (voice2.Bend channel value) = Unit {0}
+IsOfChannel _ = ⊥
