@@ -3,6 +3,9 @@ ghost use Rattle.std.specs.Prelude.{◌≡◌, ◌≢◌, ℕ, List, ◌++◌, N
 ghost use Rattle.midi_edge.specs.Outside.{HasOpenCause, Fetches, kept_bytes};
 ghost use Rattle.midi_edge.specs.MemShelf.{text_named as first_named, is_failing, after_fetch};
 
+#[cfg(test)]
+mod tests;
+
 use crate::kept_text::KeptText;
 use crate::outside::{OpenFault, Shelf};
 use std::marker::Model;
