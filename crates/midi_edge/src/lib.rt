@@ -5,7 +5,7 @@
 pub mod adapters;
 pub mod byte_reader;
 pub mod few_bits;
-pub mod kept_text;
+mod kept_text;
 pub mod lent;
 pub mod mem_lanes;
 pub mod mem_shelf;

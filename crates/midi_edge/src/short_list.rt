@@ -47,13 +47,6 @@ impl<T: Copy + Default, const N: usize> ShortList<T, N> {
         self.cells.len() == 0
     }
 
-    /// Whether there is no room for one more item.
-    pub fn is_full(&self) -> bool
-        ensures { result ≡ (length self.now == N) }
-    {
-        self.cells.is_full()
-    }
-
     /// The items.
     #[inline(always)]
     pub fn as_slice(&self) -> &[T]
