@@ -89,8 +89,8 @@ impl ShowRun {
 /// so has each byte that belongs to nothing, and what is cut off or, at the end, still open.
 ///
 /// `Refused` comes for `InputTooLong` and `ExclusiveTooLong`, of a recording also for `Truncated`, `BadCount` and `HighBit`, with the
-/// number of bytes before what is refused. `ReadFault` and `OutputFault` come only where the count of that object rose; the lines
-/// before then stand. Takes no memory, so `NoMemory` doesn't come.
+/// number of bytes before what is refused. `ReadFault` and `OutputFault` come only where the count of that object rose. Takes no
+/// memory, so `NoMemory` doesn't come.
 pub fn run_show<S: Source, W: Sink>(
     _alloc: Global,
     engine: ShowRun,

@@ -22,7 +22,7 @@ use voice_state::Kind;
 /// Puts a line for each message that the bytes of a stream complete, and for each byte that belongs to nothing or cuts something
 /// off, to the end of the stream or to the first byte that is refused; at the end a line for what is still open. The parser is a
 /// new one, and its room bounds the exclusives. Takes no memory. `ReadFault` and `OutputFault` come only where the count of that
-/// object rose; the lines before then stand.
+/// object rose.
 pub fn show_bytes<S: Source, W: Sink>(mut parser: Parser, input: &mut S, output: &mut W) -> RunEnd
     requires { parser ≡ idle parser.room }
     ensures content { (pieces : Option (List (ℕ × List ℕ))) (noted : Option (List ℕ)) → IfSome (S.left input.old) (λ bytes. ByteSays (showing_bytes parser.room) bytes (S.left input.new)
