@@ -127,7 +127,7 @@ fn look_ahead<S: Source>(
     ensures ahead { ahead window.new (S.left src.new) ≡ ahead window.old (S.left src.old) }
     ensures seen { IfOk result (λ front. Sees order window.new room front) }
     ensures end { IfOk result (λ front. front ≡ Front.Partial → IsUsedUp (S.left src.new)) }
-    ensures err { OnErr result (IsRest order window.new) }
+    ensures err { OnErr result (IsRest order window.new × (length window.new ≤ room)) }
     ensures cause { HasCause (S.faults src.old) (S.faults src.new) result }
 {
     loop {

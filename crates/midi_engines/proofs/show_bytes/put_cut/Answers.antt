@@ -1,0 +1,25 @@
+use Rattle.std.proofs.Common.{◌≡◌, ◌∷◌, [], subst}
+use Rattle.voice_state.specs.declared.listed.Kind.{Kind}
+use Rattle.voice_state.specs.StepListing.{cut_kind}
+use Rattle.midi_lines.specs.StepLines.{byte_listing_text}
+use Rattle.midi_pass.specs.Places.{FailsAt, after_puts, places}
+use Rattle.midi_pass.specs.Put.{in_output}
+use Rattle.midi_pass.proofs.PutLaws.{then_puts, stops_more}
+use Rattle.midi_engines.specs.ShowBytes.{puts_after}
+use Rattle.midi_engines.proofs.show_bytes.put_cut.Goals as goal
+
+pub returns-in-Ok : goal.returns-in-Ok
+returns-in-Ok g c =
+    let old = places g.L.Lanes g.W.Sink g.N.Sink c.args.lanes.now c.args.output.now c.args.notes.now in
+    let mid = places g.L.Lanes g.W.Sink g.N.Sink c.put_kind.new.lanes c.put_kind.new.output c.put_kind.new.notes in
+    let K : Kind → Type 0 = λ kind. mid ≡ after_puts (in_output (byte_listing_text kind c.args.start) ∷ []) old in
+    then_puts (in_output (byte_listing_text (cut_kind c.args.what) c.args.start) ∷ []) (puts_after c.args.start c.args.what c.args.after c.args.offset) old mid _ _
+    (subst K c.kind_of_cut.ensures c.in-Ok.ensures) c.put_after.ensures
+
+pub returns-in-Err : goal.returns-in-Err
+returns-in-Err g c =
+    let old = places g.L.Lanes g.W.Sink g.N.Sink c.args.lanes.now c.args.output.now c.args.notes.now in
+    let mid = places g.L.Lanes g.W.Sink g.N.Sink c.put_kind.new.lanes c.put_kind.new.output c.put_kind.new.notes in
+    let K : Kind → Type 0 = λ kind. FailsAt (in_output (byte_listing_text kind c.args.start) ∷ []) c.in-Err.end old mid in
+    stops_more (in_output (byte_listing_text (cut_kind c.args.what) c.args.start) ∷ []) (puts_after c.args.start c.args.what c.args.after c.args.offset) c.in-Err.end old mid
+    (subst K c.kind_of_cut.ensures c.in-Err.ensures)

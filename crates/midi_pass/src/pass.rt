@@ -1,0 +1,159 @@
+// One loop for every pass.
+ghost use Rattle.std.specs.Prelude.{◌≡◌, ◌<◌, ℕ, List, [], ◌∷◌, Option, true};
+ghost use Rattle.midi_pass.specs.Next.{ComesNearer, GivesNext, NextCause};
+ghost use Rattle.midi_pass.specs.Pass.{AreAccepted, ArePut, Closes, Cutting, Ends, Steps, Work, end_of as end_after, seen};
+ghost use Rattle.midi_pass.specs.Places.{places};
+ghost use Rattle.midi_pass.specs.Put.{Put};
+
+use crate::ends::{Reason, RunEnd};
+use midi_edge::{Lanes, Sink, Source};
+
+/// What comes next of an input.
+#[derive(Debug, Drop)]
+pub enum Next<A, I> {
+    /// An item, and where it stands.
+    Item { at: A, item: I },
+    /// The input ends with the last item.
+    End,
+    /// What stands at this offset is refused.
+    Refused { reason: Reason, offset: u64 },
+    /// A read failed.
+    Failed,
+}
+
+/// Cuts an input into items.
+pub trait Items<A, I> {
+    /// How an input is cut, by a new reader.
+    ghost IsCut: { Self → Cutting (A × I) };
+
+    /// A reader that has read nothing.
+    ghost IsNew: { Self → Type 0 };
+
+    /// The first reader, which was new, has become the second: it gave these items of all that there was, and this is left.
+    ghost HasGiven: { Self → Self → Option (List ℕ) → Option (List ℕ) → List (A × I) → Type 0 };
+
+    /// What holds of an item after others, the newest first.
+    ghost Promises: { List (A × I) → A × I → Type 0 };
+
+    /// How far the end may be.
+    ghost to_go: { Self → ℕ };
+
+    /// What comes next.
+    fn next<S: Source>(&mut self, input: &mut S) -> Next<A, I>
+        ensures answer { (first : Self) (all : Option (List ℕ)) (items : List (A × I)) →
+            HasGiven first self.old all (S.left input.old) items →
+            GivesNext (IsCut first) Promises (HasGiven first self.new all (S.left input.new)) all (S.left input.new) items result }
+        ensures nearer { ComesNearer (to_go self.old) (to_go self.new) result }
+        ensures cause { NextCause (S.faults input.old) (S.faults input.new) result };
+
+    /// A new reader has given nothing.
+    ghost starts: { (first : Self) (all : Option (List ℕ)) → IsNew first → HasGiven first first all all [] };
+}
+
+/// Does the work on items, one by one.
+pub trait Engine<A, I> {
+    /// Its work, by a new engine.
+    ghost work: { Self → Work (A × I) };
+
+    /// It has taken no item.
+    ghost IsReady: { Self → Type 0 };
+
+    /// It puts pieces in lanes.
+    ghost UsesLanes: { Type 0 };
+
+    /// The first engine, which was ready, has become the second by these items, the newest first.
+    ghost Holds: { Self → Self → List (A × I) → Type 0 };
+
+    /// What a step asks of an item.
+    ghost Asks: { A × I → Type 0 };
+
+    /// What must hold of an item after others, the newest first.
+    ghost AsksAfter: { List (A × I) → A × I → Type 0 };
+
+    /// Does the work on one more item.
+    fn step<L: Lanes, W: Sink, N: Sink>(
+        &mut self,
+        at: &A,
+        item: &I,
+        lanes: &mut L,
+        output: &mut W,
+        notes: &mut N,
+    ) -> Result<(), RunEnd>
+        requires item { Asks (at.now, item.now) }
+        requires begun { UsesLanes → L.begun lanes.old ≡ true }
+        ensures { (first : Self) (past : List (A × I)) → Holds first self.old past → AsksAfter past (at.now, item.now) →
+            Steps (work first) past
+            (places L.Lanes W.Sink N.Sink lanes.old output.old notes.old)
+            (places L.Lanes W.Sink N.Sink lanes.new output.new notes.new)
+            (Holds first self.new ((at.now, item.now) ∷ past)) (at.now, item.now) result };
+
+    /// Does what is to be done at the end of the input.
+    fn close<L: Lanes, W: Sink, N: Sink>(
+        &self,
+        lanes: &mut L,
+        output: &mut W,
+        notes: &mut N,
+    ) -> Result<(), RunEnd>
+        requires { UsesLanes → L.begun lanes.old ≡ true }
+        ensures { (first : Self) (past : List (A × I)) → Holds first self.now past →
+            Closes (work first) past
+            (places L.Lanes W.Sink N.Sink lanes.old output.old notes.old)
+            (places L.Lanes W.Sink N.Sink lanes.new output.new notes.new) result };
+
+    /// A ready engine holds what no items leave.
+    ghost starts: { (first : Self) → IsReady first → Holds first first [] };
+
+    /// What is put for items means what they mean.
+    ghost means: { (first now : Self) (past : List (A × I)) (puts : List Put) → Holds first now past → AreAccepted (work first) past →
+        ArePut (work first) past puts → (work first).Means past puts };
+}
+
+// The end where what is put at the end of the input is put, or failed.
+fn end_of(closed: Result<(), RunEnd>) -> RunEnd
+    ensures { result ≡ end_after closed }
+{
+    match closed {
+        Ok(()) => RunEnd::Done,
+        Err(end) => end,
+    }
+}
+
+/// Reads an input item by item and does the work on each, to the end or to the first refusal.
+#[inline(always)]
+pub fn drive<
+    A: Drop,
+    I: Drop,
+    R: Items<A, I> + Drop,
+    E: Engine<A, I> + Drop,
+    S: Source,
+    L: Lanes,
+    W: Sink,
+    N: Sink,
+>(
+    mut reader: R,
+    mut engine: E,
+    input: &mut S,
+    lanes: &mut L,
+    output: &mut W,
+    notes: &mut N,
+) -> RunEnd
+    requires new { R.IsNew reader }
+    requires ready { E.IsReady engine }
+    requires items { (past : List (A × I)) (item : A × I) → R.Promises past item → E.Asks item × E.AsksAfter past item }
+    requires begun { E.UsesLanes → L.begun lanes.old ≡ true }
+    ensures { Ends (R.IsCut reader) (E.work engine)
+        (seen S.Source L.Lanes W.Sink N.Sink input.old lanes.old output.old notes.old)
+        (seen S.Source L.Lanes W.Sink N.Sink input.new lanes.new output.new notes.new) result }
+{
+    loop {
+        match reader.next(input) {
+            Next::Item { at, item } => match engine.step(&at, &item, lanes, output, notes) {
+                Ok(()) => {}
+                Err(end) => return end,
+            },
+            Next::End => return end_of(engine.close(lanes, output, notes)),
+            Next::Refused { reason, offset } => return RunEnd::Refused { reason, offset },
+            Next::Failed => return RunEnd::ReadFault,
+        }
+    }
+}
