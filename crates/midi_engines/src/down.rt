@@ -109,8 +109,8 @@ pub fn run_down<S: Source, L: Lanes, W: Sink, N: Sink>(
     )
 }
 
-// Puts a line of the listing.
-fn put_line<L: Lanes, W: Sink, N: Sink>(
+/// Puts a line of the listing.
+pub(crate) fn put_line<L: Lanes, W: Sink, N: Sink>(
     listed: &Listed,
     lanes: &mut L,
     output: &mut W,
