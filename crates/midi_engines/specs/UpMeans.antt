@@ -48,12 +48,12 @@ written-then : (order : Order) (packets others : List Packet) (ps qs : List Put)
 written-then order [] others ps qs first second =
     let W : List Put → Type 0 = λ xs. AreWritten order others xs in subst W (sym (ap (λ xs. xs ++ qs) first)) second
 written-then order (packet ∷ packets) others ps qs first second = (
-      first.0,
-      first.1 ++ qs,
-      first.2,
-      written-then order packets others first.1 qs first.3 second,
-      ap (λ xs. xs ++ qs) first.4 ∙ append_assoc first.0 first.1 qs,
-    )
+  first.0,
+  first.1 ++ qs,
+  first.2,
+  written-then order packets others first.1 qs first.3 second,
+  ap (λ xs. xs ++ qs) first.4 ∙ append_assoc first.0 first.1 qs,
+)
 
 written-all : (options : RaiseOptions) (past : List (ℕ × ℕ)) (puts : List Put) → ArePut (raising options) past puts
     → AreWritten options.order (packets_up (Some options.room) options.group (bytes_of past)) (output_puts puts)

@@ -9,6 +9,7 @@ ghost use Rattle.midi_engines.specs.UpMeans.{raised_means};
 use crate::raised::{PacketWork, put_byte, put_open};
 use midi_edge::{ByteReader, Lanes, NoMemory, Sink, Source, U4};
 use midi_pass::{Engine, LIMIT, RunEnd, drive};
+use midi1_bytes::laws::parsed_bytes_are_the_definition;
 use std::alloc::Global;
 use std::marker::Model;
 use ump_grammar::{Packet, encode};
@@ -114,6 +115,7 @@ impl Engine<u64, u8> for UpEngine {
         output: &mut W,
         notes: &mut N,
     ) -> Result<(), RunEnd> {
+        parsed_bytes_are_the_definition();
         raised_bytes_are_the_definition();
         raised_packets_are_in_range();
         rooms_that_are_not_reached_do_not_matter_in_bytes();

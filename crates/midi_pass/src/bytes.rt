@@ -28,7 +28,10 @@ impl Items<u64, u8> for ByteReader {
     #[inline]
     fn next<S: Source>(&mut self, input: &mut S) -> Next<u64, u8> {
         match ByteReader::next(self, input) {
-            Ok(Some((byte, offset))) => Next::Item { at: offset, item: byte },
+            Ok(Some((byte, offset))) => Next::Item {
+                at: offset,
+                item: byte,
+            },
             Ok(None) => Next::End,
             Err(ReadStop::TooLong) => Next::Refused {
                 reason: Reason::InputTooLong,
