@@ -106,7 +106,7 @@ module _ {Item : Type 0} (IsCut : Cutting Item) (work : Work Item) where
     pub places : new.places ≡ after_puts (puts ++ last) old.places
     pub reads : new.reads ≡ old.reads
 
-  -- behind these items the bytes are refused, or the next item is
+  -- after these items the bytes are refused, or the next item is
   abbrev pub IsFirstRefusal : List ℕ → List Item → Reason → ℕ → Type 0
   IsFirstRefusal bytes items reason offset =
       IsCut bytes items (Some (reason, offset)) ⊎ ((item : Item) × IsFront IsCut bytes (items ++ item ∷ []) × (work.refusal (reverse items) item ≡ Some (reason, offset)))
