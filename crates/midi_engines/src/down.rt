@@ -15,7 +15,7 @@ ghost use Rattle.voice_state.specs.Listing.{groups};
 ghost use Rattle.down_translator.specs.Carried.{line_in};
 ghost use Rattle.down_translator.specs.Recording.{pair_put};
 ghost use Rattle.midi_engines.specs.Down.{Carries, HoldsDown, IsReadyDown, carrying, line_puts, open_line, open_puts, options_of, pair_puts, puts_for, reason_of};
-ghost use Rattle.midi_engines.specs.DownMeans.{carries_nothing, carries_means};
+ghost use Rattle.midi_engines.specs.DownMeans.{carries_named, carries_nothing, carries_means, ends_named};
 ghost use Rattle.midi_engines.specs.Packets.{packet_cutting};
 
 use crate::packets::PacketReader;
@@ -112,6 +112,10 @@ impl Engine<Framed, Packet> for DownEngine {
         what_is_held_is_the_definition();
         list_open(&self.down, lanes, output, notes)
     }
+
+    ghost puts_are_named = { λ first past item puts put. carries_named (options_of first.down) past item puts put };
+
+    ghost last_puts_are_named = { λ first past puts put. ends_named (options_of first.down) past puts put };
 
     ghost starts = { λ first ready. carries_nothing first.down ready };
 

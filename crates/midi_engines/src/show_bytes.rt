@@ -8,7 +8,7 @@ ghost use Rattle.midi_pass.specs.Bytes.{bytes_of, byte_cutting};
 ghost use Rattle.midi_pass.specs.Pass.{Ends, IsDoneUnless, Takes, Work, seen};
 ghost use Rattle.midi_pass.specs.Places.{Puts, places};
 ghost use Rattle.midi_pass.specs.Put.{in_output};
-ghost use Rattle.midi_engines.specs.ShowBytes.{open_puts, puts_after, refusal_of, showing_bytes, shown_puts};
+ghost use Rattle.midi_engines.specs.ShowBytes.{open_puts, puts_after, refusal_of, showing_bytes, shown_puts, shows_last_named, shows_named};
 ghost use Rattle.midi_engines.specs.Starting.{nothing_held};
 
 use midi_edge::{ByteReader, Lanes, Sink, Source};
@@ -71,6 +71,10 @@ impl Engine<u64, u8> for ShowBytes {
         parsed_bytes_are_the_definition();
         put_open(&self.parser, lanes, output, notes)
     }
+
+    ghost puts_are_named = { λ first past item puts put. shows_named (record { room = first.parser.room }) past item puts put };
+
+    ghost last_puts_are_named = { λ first past puts put. shows_last_named (record { room = first.parser.room }) past puts put };
 
     ghost starts = { λ first ready. nothing_held first.parser ready };
 

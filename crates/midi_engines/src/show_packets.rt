@@ -9,7 +9,7 @@ ghost use Rattle.midi_pass.specs.Put.{in_output};
 ghost use Rattle.midi_lines.specs.PacketLines.{packet_text};
 ghost use Rattle.midi_engines.specs.Down.{reason_of, refusal_by};
 ghost use Rattle.midi_engines.specs.Packets.{packet_cutting};
-ghost use Rattle.midi_engines.specs.ShowPackets.{HoldsShow, IsReadyShow, bad_join, options_of, showing, shows_nothing};
+ghost use Rattle.midi_engines.specs.ShowPackets.{HoldsShow, IsReadyShow, bad_join, options_of, showing, shows_last_named, shows_named, shows_nothing};
 
 use crate::down::refused;
 use crate::packets::PacketReader;
@@ -73,6 +73,10 @@ impl Engine<Framed, Packet> for ShowPackets {
     ) -> Result<(), RunEnd> {
         Ok(())
     }
+
+    ghost puts_are_named = { λ first past item puts put. shows_named (options_of first.groups) past item puts put };
+
+    ghost last_puts_are_named = { λ first past puts put. shows_last_named (options_of first.groups) past puts put };
 
     ghost starts = { λ first ready. shows_nothing first.groups ready };
 
