@@ -1,5 +1,5 @@
 -- The packets to which a byte is raised, and what is done with them, one after the other.
-use Rattle.std.specs.Prelude.{◌≡◌, ℕ, List, [], ◌∷◌, ◌++◌, map, None, Some, Result, Ok, Err}
+use Rattle.std.specs.Prelude.{◌≡◌, ℕ, true, false, List, [], ◌∷◌, ◌++◌, map, None, Some, Result, Ok, Err}
 use Rattle.std.specs.Option.{option_map}
 use Rattle.voice_messages.specs.declared.voice2.Form.{Form}
 use Rattle.ump_grammar.specs.declared.packet.Packet.{Packet}
@@ -10,12 +10,17 @@ use Rattle.voice_state.specs.UpRefusal.{refusal_of_step}
 use Rattle.up_translator.specs.declared.raised.Raised.{Raised}
 use Rattle.up_translator.specs.Held.{UpState, step_in}
 use Rattle.up_translator.specs.Raised.{lines_in, packets_in}
+use Rattle.midi_pass.specs.Named.{Named}
 use Rattle.midi_pass.specs.Pass.{Tail}
 use Rattle.midi_pass.specs.Places.{FailsAt, Places, after_puts}
 use Rattle.midi_pass.specs.Put.{Put, in_lane, in_notes, in_output}
 use Rattle.midi_pass.specs.declared.ends.RunEnd.{RunEnd}
 use Rattle.midi_pass.specs.declared.ends.RunEnd.TheVariants.{Refused}
 use Rattle.midi_engines.specs.Down.{line_puts, refusal_by}
+
+-- such a pass writes to the output and the notes
+abbrev pub output_and_notes : Named
+output_and_notes = record { lanes = false; output = true; notes = true }
 
 -- the puts in the output among these
 abbrev pub output_puts : List Put → List Put

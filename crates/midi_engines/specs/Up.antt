@@ -17,13 +17,8 @@ use Rattle.midi_pass.specs.Bytes.{bytes_of}
 use Rattle.midi_pass.specs.Pass.{Work}
 use Rattle.midi_pass.specs.Put.{Put, in_output}
 use Rattle.midi_engines.specs.Down.{line_puts, refusal_by}
-use Rattle.midi_engines.specs.Raised.{output_puts}
-
--- the group of the packets, the order of the bytes of their words, and the most bytes of an exclusive between F0 and F7
-pub record RaiseOptions : Type 0 where
-  pub group : ℕ
-  pub order : Order
-  pub room : ℕ
+use Rattle.midi_engines.specs.Options.{UpOptions}
+use Rattle.midi_engines.specs.Raised.{output_and_notes, output_puts}
 
 -- one put in the output: the bytes of words that encode the packet
 abbrev pub IsWritten : Order → Packet → List Put → Type 0
@@ -46,9 +41,10 @@ RaisedMean room group past =
 
 -- What is done with a stream that is raised. A byte is refused for a data increment, a data decrement, or an exclusive that passes
 -- its limit. What is put in the output is the words of all packets; after each byte the packets so far mean what the bytes so far mean.
-abbrev pub raising : RaiseOptions → Work (ℕ × ℕ)
+abbrev pub raising : UpOptions → Work (ℕ × ℕ)
 raising options =
     record {
+      names = output_and_notes;
       refusal = λ past item. refusal_by (refusal_up (Some options.room) (bytes_of past) item.1) item.0;
       IsPut = λ past item puts. AreWrittenAndListed options.order (packets_at (Some options.room) options.group (bytes_of past) item.1)
           (line_puts (lines_at (Some options.room) options.group (bytes_of past) item.1)) puts;
@@ -57,12 +53,16 @@ raising options =
           × RaisedMean options.room options.group (bytes_of past);
     }
 
+-- the options of an engine
+abbrev pub options_of : UpState → Order → UpOptions
+options_of up order = record { group = up.group; order = order; room = up.parsing.room }
+
 -- what accepted bytes mean, which is a law of the state of voices
 abbrev pub RaisedBytesMean : ℕ → ℕ → Type 0
 RaisedBytesMean room group = (past : List ℕ) → AreAcceptedUp (Some room) past → RaisedMean room group past
 
 -- the translator holds what these bytes leave, which are accepted
-pub record HoldsRaised (options : RaiseOptions) (up : UpState) (past : List (ℕ × ℕ)) : Type 0 where
+pub record HoldsRaised (options : UpOptions) (up : UpState) (past : List (ℕ × ℕ)) : Type 0 where
   pub few : options.group < 16
   pub law : RaisedBytesMean options.room options.group
   pub accepted : AreAcceptedUp (Some options.room) (bytes_of past)

@@ -15,8 +15,9 @@ use Rattle.midi_pass.specs.Pass.{Tail}
 use Rattle.midi_pass.specs.Places.{places}
 use Rattle.midi_pass.specs.Put.{Put}
 use Rattle.midi_engines.specs.Down.{line_puts, refusal_by}
+use Rattle.midi_engines.specs.Options.{UpOptions}
 use Rattle.midi_engines.specs.Raised.{Answers, AreTaken, ByteIsDone}
-use Rattle.midi_engines.specs.Up.{AreWritten, RaiseOptions, raising}
+use Rattle.midi_engines.specs.Up.{AreWritten, raising}
 use Rattle.midi_engines.proofs.RaisedLaws.{answered_steps}
 use Rattle.midi_engines.proofs.UpLaws.{accepts_words, all_taken, are_written, exclusive_is_written, same_words, writes}
 use Rattle.midi_engines.proofs.up.UpEngineEngineU64U8.step.Goals as goal
@@ -43,7 +44,7 @@ returns g c = λ first past holds place.
     let room : ℕ = first.up.parsing.room in
     let group : ℕ = first.up.group in
     let order : Order = first.words.order in
-    let options : RaiseOptions = record { group = group; order = order; room = room } in
+    let options : UpOptions = record { group = group; order = order; room = room } in
     let held = holds.1 in
     let bytes : List ℕ = bytes_of past in
     let byte : ℕ = c.args.item.now in
