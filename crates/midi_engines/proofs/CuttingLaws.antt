@@ -1,5 +1,5 @@
 -- A recording is cut into packets in one way.
-use Rattle.std.proofs.Common.{◌≡◌, ◌+◌, ℕ, List, [], ◌∷◌, ◌++◌, length, None, Some, refl, ap, sym, ◌∙◌, subst, arith, inl, inr}
+use Rattle.std.proofs.Common.{◌≡◌, ◌+◌, ◌≤◌, ℕ, List, [], ◌∷◌, ◌++◌, length, Option, None, Some, refl, ap, sym, ◌∙◌, subst, arith, inl, inr}
 use Rattle.std.specs.List.{AllByRecursion, concat}
 use Rattle.std.proofs.lemmas.List.{append_assoc, append-nil, length-append}
 use Rattle.ump_words.specs.Cut.{Cuts, Ends, IsCutInto, IsPacket, framed_from, words_of}
@@ -14,7 +14,7 @@ use Rattle.ump_grammar.specs.Reason.{reason as reason_of}
 use Rattle.ump_grammar.specs.Spelling.{Spells}
 use Rattle.midi_pass.specs.Bytes.{limit}
 use Rattle.midi_pass.specs.Pass.{CutsOnce, IsFront, Tail}
-use Rattle.midi_engines.specs.Packets.{AreRead, framed_of, packet_cutting, reason_for, refusal_at}
+use Rattle.midi_engines.specs.Packets.{AreRead, EndsAt, RefusesWords, framed_of, packet_cutting, reason_for, refusal_at}
 
 abbrev head_or : {A : Type 0} → A → List A → A
 head_or a [] = a
