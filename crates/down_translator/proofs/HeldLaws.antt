@@ -15,8 +15,8 @@ use Rattle.voice_state.specs.Parts.{Placed, parts_of, whole_by}
 use Rattle.voice_state.specs.Packets.{IsInRange}
 use Rattle.voice_state.specs.Listing.{begun_before}
 use Rattle.voice_state.specs.Refusal.{bad_step}
-use Rattle.down_translator.specs.Held.{whole_in, begun_at_in, bad_answer, refusal_in, table_behind}
-use Rattle.down_translator.specs.Recording.{AreInRange, table_of}
+use Rattle.down_translator.specs.Held.{whole_in, begun_at_in, bad_answer, refusal_in, down_after}
+use Rattle.down_translator.specs.Recording.{AreInRange, state_of}
 
 -- ---- ranges
 
@@ -60,9 +60,9 @@ begun-start : (o : Option (List Part)) → option_map (λ (begun : Begun). begun
 begun-start None = refl
 begun-start (Some parts) = refl
 
-pub held-whole : FedPartsAreTheDefinition → (room : ℕ) (past : List Placed) → 6 ≤ room → AreInRange past → (p : Packet) → whole_in (table_of room past) p ≡ whole_by (Some room) (parts_of past) p
+pub held-whole : FedPartsAreTheDefinition → (room : ℕ) (past : List Placed) → 6 ≤ room → AreInRange past → (p : Packet) → whole_in (state_of room past) p ≡ whole_by (Some room) (parts_of past) p
 held-whole fed room past least a (packet.Exclusive g f bytes) =
-    ap (λ r. ended_by (Some r) f (option_map (λ (begun : Begun). begun.bytes) (begun_in (table_of room past) g)) bytes) (table_room room (parts_of past))
+    ap (λ r. ended_by (Some r) f (option_map (λ (begun : Begun). begun.bytes) (begun_in (state_of room past).exclusives g)) bytes) (table_room room (parts_of past))
     ∙ ap (λ o. ended_by (Some room) f (option_map (λ (begun : Begun). begun.bytes) o) bytes) (fed.begun room (parts_of past) least (parts_in_range past a) g)
     ∙ ap (λ o. ended_by (Some room) f o bytes) (begun-bytes (opened (Some room) g (parts_of past)))
 held-whole fed room past least a (packet.Utility s v) = refl
@@ -74,7 +74,7 @@ held-whole fed room past least a (packet.Flex g w) = refl
 held-whole fed room past least a (packet.Stream f s l w x y) = refl
 held-whole fed room past least a (packet.Reserved w) = refl
 
-pub held-begun : FedPartsAreTheDefinition → (room : ℕ) (past : List Placed) → 6 ≤ room → AreInRange past → (p : Packet) → begun_at_in (table_of room past) p ≡ begun_before (Some room) (parts_of past) p
+pub held-begun : FedPartsAreTheDefinition → (room : ℕ) (past : List Placed) → 6 ≤ room → AreInRange past → (p : Packet) → begun_at_in (state_of room past) p ≡ begun_before (Some room) (parts_of past) p
 held-begun fed room past least a (packet.Exclusive g f bytes) =
     ap (option_map (λ (begun : Begun). begun.start)) (fed.begun room (parts_of past) least (parts_in_range past a) g)
     ∙ begun-start (opened (Some room) g (parts_of past))
@@ -111,7 +111,7 @@ bad-answer room form.End start (Some before) bytes stray = go (fits room (length
     go true u = refl
     go false u = refl
 
-pub held-refusal : FedPartsAreTheDefinition → (room : ℕ) (past : List Placed) → 6 ≤ room → AreInRange past → (p : Packet) → refusal_in (table_of room past) p ≡ bad_step (Some room) (parts_of past) p
+pub held-refusal : FedPartsAreTheDefinition → (room : ℕ) (past : List Placed) → 6 ≤ room → AreInRange past → (p : Packet) → refusal_in (state_of room past) p ≡ bad_step (Some room) (parts_of past) p
 held-refusal fed room past least a (packet.Exclusive g f bytes) =
     let part : Part = record { group = g; form = f; bytes = bytes; offset = 0 } in
     ap bad_answer (fed.answers room (parts_of past) least (parts_in_range past a) part)
@@ -127,10 +127,10 @@ held-refusal fed room past least a (packet.Reserved w) = refl
 
 -- ---- what stands behind a packet
 
-pub held-behind : (room : ℕ) (past : List Placed) (placed : Placed) → table_behind placed.offset placed.packet (table_of room past) ≡ table_of room (placed ∷ past)
+pub held-behind : (room : ℕ) (past : List Placed) (placed : Placed) → down_after placed.offset placed.packet (state_of room past) ≡ state_of room (placed ∷ past)
 held-behind room past placed = go placed.offset placed.packet
   where
-    go : (offset : ℕ) (p : Packet) → table_behind offset p (table_of room past) ≡ table_of room (record { offset = offset; packet = p } ∷ past)
+    go : (offset : ℕ) (p : Packet) → down_after offset p (state_of room past) ≡ state_of room (record { offset = offset; packet = p } ∷ past)
     go offset (packet.Exclusive g f bytes) = refl
     go offset (packet.Utility s v) = refl
     go offset (packet.System g m) = refl

@@ -8,7 +8,6 @@ use Rattle.std.specs.Option.{option_map, option_to_list}
 use Rattle.ump_grammar.specs.declared.packet.Packet.{Packet}
 use Rattle.ump_grammar.specs.declared.packet.Packet.TheVariants as packet
 use Rattle.sysex_groups.specs.Exclusives.{Part, ended_by, passes_room, start_of}
-use Rattle.sysex_groups.specs.Table.{Table}
 use Rattle.sysex_groups.specs.Laws.{FedPartsAreTheDefinition}
 use Rattle.voice_state.specs.declared.listed.BadStep.TheVariants as bad
 use Rattle.voice_state.specs.Laws.{CarriedPacketsHaveAPiece, JoinedBytesKnowNoOffsets, PlainPairsAreATranslation, RoomsThatAreNotPassedDoNotMatter}
@@ -22,9 +21,9 @@ use Rattle.voice_state.specs.Refusal.{bad_step}
 use Rattle.voice_state.specs.Rooms.{AreWithinRoom}
 use Rattle.down_translator.specs.declared.carried.Carried.{Carried}
 use Rattle.down_translator.specs.Carried.{lane_in, line_in}
-use Rattle.down_translator.specs.Held.{whole_in}
+use Rattle.down_translator.specs.Held.{DownState, whole_in}
 use Rattle.down_translator.specs.Step.{lane_of, IsPlainStep}
-use Rattle.down_translator.specs.Recording.{packets_of, AreInRange, table_of, AreAccepted, AreSteps, pair_put, pairs_put, lines_put}
+use Rattle.down_translator.specs.Recording.{packets_of, AreInRange, state_of, AreAccepted, AreSteps, pair_put, pairs_put, lines_put}
 use Rattle.down_translator.proofs.HeldLaws.{held-whole, held-begun, held-refusal}
 
 -- ---- a room that isn't passed
@@ -101,18 +100,18 @@ pair-from None false [] in_group h = refl
 pair-from None false (b ∷ bytes) in_group h = cc (h.1 (omega arith))
 
 -- an answer's pair, by the exclusive that its packet ends
-pair-whole : CarriedPacketsHaveAPiece → (table : Table) (offset : ℕ) (p : Packet) (carried : Carried) → IsPlainStep table offset p carried → pair_put carried ≡ pair_by (group_of p) (is_carried (whole_in table p) p) (plain_piece (whole_in table p) p)
-pair-whole pieces table offset p carried step =
-    let whole = whole_in table p in
+pair-whole : CarriedPacketsHaveAPiece → (state : DownState) (offset : ℕ) (p : Packet) (carried : Carried) → IsPlainStep state offset p carried → pair_put carried ≡ pair_by (group_of p) (is_carried (whole_in state p) p) (plain_piece (whole_in state p) p)
+pair-whole pieces state offset p carried step =
+    let whole = whole_in state p in
     ap (λ bytes. cond (length bytes == 0) [] ((lane_in carried, bytes) ∷ [])) step.piece
     ∙ ap (λ lane. cond (length (plain_piece whole p) == 0) [] ((lane, plain_piece whole p) ∷ [])) step.lane
     ∙ pair-from (group_of p) (is_carried whole p) (plain_piece whole p) (carried_in_group whole p) (pieces whole p)
 
-pub step-carried : CarriedPacketsHaveAPiece → (table : Table) (offset : ℕ) (p : Packet) (carried : Carried) → IsPlainStep table offset p carried → IsTrue (is_carried (whole_in table p) p) ↔ (0 < length carried.piece.now)
-step-carried pieces table offset p carried step = subst (λ bytes. IsTrue (is_carried (whole_in table p) p) ↔ (0 < length bytes)) (sym step.piece) (pieces (whole_in table p) p)
+pub step-carried : CarriedPacketsHaveAPiece → (state : DownState) (offset : ℕ) (p : Packet) (carried : Carried) → IsPlainStep state offset p carried → IsTrue (is_carried (whole_in state p) p) ↔ (0 < length carried.piece.now)
+step-carried pieces state offset p carried step = subst (λ bytes. IsTrue (is_carried (whole_in state p) p) ↔ (0 < length bytes)) (sym step.piece) (pieces (whole_in state p) p)
 
-pub step-lane : CarriedPacketsHaveAPiece → (table : Table) (offset : ℕ) (p : Packet) (carried : Carried) → IsPlainStep table offset p carried → carried.piece.now ≡ [] → lane_in carried ≡ 0
-step-lane pieces table offset p carried step e = step.lane ∙ go (group_of p) (is_carried (whole_in table p) p) (λ h. nothing_below carried.piece.now e ((step-carried pieces table offset p carried step).0 h))
+pub step-lane : CarriedPacketsHaveAPiece → (state : DownState) (offset : ℕ) (p : Packet) (carried : Carried) → IsPlainStep state offset p carried → carried.piece.now ≡ [] → lane_in carried ≡ 0
+step-lane pieces state offset p carried step e = step.lane ∙ go (group_of p) (is_carried (whole_in state p) p) (λ h. nothing_below carried.piece.now e ((step-carried pieces state offset p carried step).0 h))
   where
     nothing_below : (xs : List ℕ) → xs ≡ [] → 0 < length xs → ⊥
     nothing_below xs e h = omega (arith, subst (λ ys. 0 < length ys) e h)
@@ -122,14 +121,14 @@ step-lane pieces table offset p carried step e = step.lane ∙ go (group_of p) (
     go (Some g) true h = absurd (h refl)
     go (Some g) false h = refl
 
-pub step-pair : FedPartsAreTheDefinition → RoomsThatAreNotPassedDoNotMatter → JoinedBytesKnowNoOffsets → CarriedPacketsHaveAPiece → (room : ℕ) (past : List Placed) (placed : Placed) (carried : Carried) → 6 ≤ room → AreInRange past → AreAccepted room past → IsPlainStep (table_of room past) placed.offset placed.packet carried → pair_put carried ≡ pair_of (packets_of past) placed.packet
+pub step-pair : FedPartsAreTheDefinition → RoomsThatAreNotPassedDoNotMatter → JoinedBytesKnowNoOffsets → CarriedPacketsHaveAPiece → (room : ℕ) (past : List Placed) (placed : Placed) (carried : Carried) → 6 ≤ room → AreInRange past → AreAccepted room past → IsPlainStep (state_of room past) placed.offset placed.packet carried → pair_put carried ≡ pair_of (packets_of past) placed.packet
 step-pair fed rooms offsets pieces room past placed carried least a b step =
     let p = placed.packet in
     let accepted = sym (held-refusal fed room past least a p) ∙ step.accepted in
-    pair-whole pieces (table_of room past) placed.offset p carried step
+    pair-whole pieces (state_of room past) placed.offset p carried step
     ∙ ap (λ whole. pair_by (group_of p) (is_carried whole p) (plain_piece whole p)) (held-whole fed room past least a p ∙ whole-without_room rooms offsets room past p (accepted-within room past least a b) accepted)
 
-pub step-line : FedPartsAreTheDefinition → (room : ℕ) (past : List Placed) (placed : Placed) (carried : Carried) → 6 ≤ room → AreInRange past → IsPlainStep (table_of room past) placed.offset placed.packet carried → line_in carried ≡ line_of (Some room) (parts_of past) placed
+pub step-line : FedPartsAreTheDefinition → (room : ℕ) (past : List Placed) (placed : Placed) (carried : Carried) → 6 ≤ room → AreInRange past → IsPlainStep (state_of room past) placed.offset placed.packet carried → line_in carried ≡ line_of (Some room) (parts_of past) placed
 step-line fed room past placed carried least a step = step.line ∙ ap (λ o. listed o placed.offset placed.packet) (held-begun fed room past least a placed.packet)
 
 -- ---- a recording

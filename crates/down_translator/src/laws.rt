@@ -1,20 +1,16 @@
 // What holds of all recordings. Packets and answers are listed the newest first.
-ghost use Rattle.std.specs.Prelude.{◌≡◌, ◌↔◌, ◌<◌, ◌≤◌, ℕ, List, [], ◌∷◌, length, reverse, Some, None, IsTrue};
-ghost use Rattle.sysex_groups.specs.Table.{Table};
+ghost use Rattle.std.specs.Prelude.{◌≡◌, ◌↔◌, ◌<◌, ◌≤◌, ℕ, List, [], length, reverse, Some, IsTrue};
 ghost use Rattle.ump_grammar.specs.declared.packet.Packet.{Packet};
-ghost use Rattle.ump_grammar.specs.Ranges.{IsPacket};
-ghost use Rattle.voice_state.specs.Parts.{Placed, parts_of, whole_by};
-ghost use Rattle.voice_state.specs.Packets.{IsInRange};
-ghost use Rattle.voice_state.specs.Listing.{is_carried, begun_before, line_of, lines_behind};
-ghost use Rattle.voice_state.specs.Lanes.{pair_of, pairs_behind, plain_pairs};
+ghost use Rattle.voice_state.specs.Parts.{Placed};
+ghost use Rattle.voice_state.specs.Listing.{is_carried, lines_behind};
+ghost use Rattle.voice_state.specs.Lanes.{pairs_behind, plain_pairs};
 ghost use Rattle.voice_state.specs.Translation.{IsTranslation};
-ghost use Rattle.voice_state.specs.Refusal.{bad_step};
 ghost use Rattle.down_translator.specs.declared.carried.Carried.{Carried};
-ghost use Rattle.down_translator.specs.Carried.{lane_in, line_in};
-ghost use Rattle.down_translator.specs.Held.{whole_in, begun_at_in, refusal_in, table_behind};
+ghost use Rattle.down_translator.specs.Carried.{lane_in};
+ghost use Rattle.down_translator.specs.Held.{DownState, whole_in};
 ghost use Rattle.down_translator.specs.Laws.{OneMoreAcceptedPacketAddsItsPairAndLine, SpelledPacketsAreInRange, WhatIsHeldIsTheDefinition};
 ghost use Rattle.down_translator.specs.Step.{IsPlainStep};
-ghost use Rattle.down_translator.specs.Recording.{packets_of, AreInRange, table_of, AreAccepted, AreSteps, pair_put, pairs_put, lines_put};
+ghost use Rattle.down_translator.specs.Recording.{packets_of, AreInRange, AreAccepted, AreSteps, pairs_put, lines_put};
 
 use sysex_groups::laws::fed_parts_are_the_definition;
 use voice_state::laws::{
@@ -38,11 +34,11 @@ pub fn what_is_held_is_the_definition()
 
 /// An answer's piece is empty exactly where its packet isn't carried, and the lane is then 0.
 pub fn empty_pieces_are_not_carried()
-    ensures carried { (table : Table) (offset : ℕ) (packet : Packet) (carried : Carried) →
-        IsPlainStep table offset packet carried →
-        IsTrue (is_carried (whole_in table packet) packet) ↔ (0 < length carried.piece.now) }
-    ensures lane { (table : Table) (offset : ℕ) (packet : Packet) (carried : Carried) →
-        IsPlainStep table offset packet carried → carried.piece.now ≡ [] → lane_in carried ≡ 0 }
+    ensures carried { (state : DownState) (offset : ℕ) (packet : Packet) (carried : Carried) →
+        IsPlainStep state offset packet carried →
+        IsTrue (is_carried (whole_in state packet) packet) ↔ (0 < length carried.piece.now) }
+    ensures lane { (state : DownState) (offset : ℕ) (packet : Packet) (carried : Carried) →
+        IsPlainStep state offset packet carried → carried.piece.now ≡ [] → lane_in carried ≡ 0 }
 {
     carried_packets_have_a_piece();
 }

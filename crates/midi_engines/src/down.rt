@@ -1,15 +1,10 @@
 // From packets to MIDI 1.0 bytes.
-ghost use Rattle.std.specs.Prelude.{◌≡◌, ◌<◌, ◌≤◌, ◌∷◌, ℕ, List, [], true, length};
-ghost use Rattle.std.specs.List.{AllByRecursion};
+ghost use Rattle.std.specs.Prelude.{◌≡◌, ◌<◌, ◌≤◌, ◌∷◌, [], true};
 ghost use Rattle.std.specs.Option.{option_to_list};
 ghost use Rattle.ump_grammar.specs.declared.packet.Packet.{Packet};
 ghost use Rattle.ump_grammar.specs.Ranges.{IsPacket};
-ghost use Rattle.voice_state.specs.Lanes.{plain_pairs};
-ghost use Rattle.voice_state.specs.Packets.{IsInRange};
-ghost use Rattle.voice_state.specs.Translation.{IsTranslation};
-ghost use Rattle.down_translator.specs.Held.{table_behind};
-ghost use Rattle.sysex_groups.specs.Table.{empty_table};
-ghost use Rattle.midi_pass.specs.Pass.{Ends, Work, seen};
+ghost use Rattle.down_translator.specs.Held.{down_after, limit_of, new_down};
+ghost use Rattle.midi_pass.specs.Pass.{Ends, seen};
 ghost use Rattle.midi_pass.specs.Places.{Puts, places};
 ghost use Rattle.voice_state.specs.Listing.{groups};
 ghost use Rattle.down_translator.specs.Carried.{line_in};
@@ -40,7 +35,7 @@ pub struct DownEngine {
 }
 
 impl Engine<Framed, Packet> for DownEngine {
-    ghost work = { λ first. carrying first.down.room };
+    ghost work = { λ first. carrying (limit_of first.down) };
 
     ghost IsReady = { λ first. IsReadyDown first.down };
 
@@ -91,10 +86,10 @@ pub fn run_down<S: Source, L: Lanes, W: Sink, N: Sink>(
     output: &mut W,
     notes: &mut N,
 ) -> RunEnd
-    requires empty { down ≡ empty_table down.room }
-    requires least { 6 ≤ down.room }
+    requires empty { down ≡ new_down (limit_of down) }
+    requires least { 6 ≤ limit_of down }
     requires begun { L.begun lanes.old ≡ true }
-    ensures { Ends (packet_cut order) (carrying down.room)
+    ensures { Ends (packet_cut order) (carrying (limit_of down))
         (seen S.Source L.Lanes W.Sink N.Sink input.old lanes.old output.old notes.old)
         (seen S.Source L.Lanes W.Sink N.Sink input.new lanes.new output.new notes.new) result }
 {
@@ -202,7 +197,7 @@ fn carry<L: Lanes, W: Sink, N: Sink>(
 ) -> Result<(), RunEnd>
     requires packet { IsPacket packet.now }
     requires begun { L.begun lanes.old ≡ true }
-    ensures behind { down.new ≡ table_behind offset packet.now down.old }
+    ensures behind { down.new ≡ down_after offset packet.now down.old }
     ensures carries { Carries down.old offset packet.now
         (places L.Lanes W.Sink N.Sink lanes.old output.old notes.old)
         (places L.Lanes W.Sink N.Sink lanes.new output.new notes.new) result }

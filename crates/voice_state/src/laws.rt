@@ -1,19 +1,15 @@
 // What holds of all recordings.
-ghost use Rattle.std.specs.Prelude.{◌≡◌, ◌↔◌, ◌<◌, ℕ, List, [], ◌∷◌, ◌++◌, reverse, map, length, Option, Some, None, IsTrue, false};
+ghost use Rattle.std.specs.Prelude.{◌≡◌, ℕ, List, [], ◌∷◌, ◌++◌, reverse, map, Some, None};
 ghost use Rattle.std.specs.List.{AllByRecursion};
 ghost use Rattle.ump_grammar.specs.declared.packet.Packet.{Packet};
-ghost use Rattle.sysex_groups.specs.Exclusives.{Part, joined, opened, ended, passes_room};
+ghost use Rattle.sysex_groups.specs.Exclusives.{joined};
 ghost use Rattle.voice_state.specs.declared.listed.Kind.TheVariants as kinds;
 ghost use Rattle.voice_state.specs.Agreement.{Agrees};
 ghost use Rattle.voice_state.specs.Laws.{CarriedPacketsHaveAPiece, JoinedBytesKnowNoOffsets, PlainPairsAreATranslation, RoomsThatAreNotPassedDoNotMatter};
 ghost use Rattle.voice_state.specs.Lanes.{Denotes, lane_after, lane_bytes, pair_of, plain_pairs};
-ghost use Rattle.voice_state.specs.Listing.{is_carried, listing_of};
+ghost use Rattle.voice_state.specs.Listing.{listing_of};
 ghost use Rattle.voice_state.specs.Messages.{mean1};
 ghost use Rattle.voice_state.specs.Packets.{mean2, IsInRange};
-ghost use Rattle.voice_state.specs.Parts.{Placed, parts_of, packet_parts};
-ghost use Rattle.voice_state.specs.Plain.{plain_piece};
-ghost use Rattle.voice_state.specs.Translation.{IsTranslation};
-ghost use Rattle.voice_state.specs.Rooms.{AreWithinRoom};
 ghost use Rattle.voice_state.specs.Rows.{exclusives_of_two_groups, cut_stray_and_open, mixed_protocols, registered};
 
 use midi1_bytes::laws::written_messages_are_read_again;

@@ -1,28 +1,22 @@
 // What holds of all streams of bytes that are raised to packets. Bytes that are called `past` are listed the newest first.
-ghost use Rattle.std.specs.Prelude.{◌≡◌, ◌<◌, ◌≤◌, ◌^◌, ℕ, List, [], ◌∷◌, ◌++◌, length, map, reverse, take, Option, Some, None, IfSome};
+ghost use Rattle.std.specs.Prelude.{◌≡◌, ◌<◌, ◌≤◌, ◌^◌, ℕ, List, [], ◌∷◌, ◌++◌, length, reverse, Some, None, IfSome};
 ghost use Rattle.std.specs.Option.{unwrap_or, option_to_list};
-ghost use Rattle.std.specs.List.{AllByRecursion, fold};
+ghost use Rattle.std.specs.List.{fold};
 ghost use Rattle.voice_messages.specs.declared.voice2.Param.{Param};
 ghost use Rattle.voice_messages.specs.Ranges.{IsBank, IsParam};
 ghost use Rattle.ump_grammar.specs.declared.packet.Packet.{Packet};
-ghost use Rattle.ump_grammar.specs.Ranges.{IsPacket};
-ghost use Rattle.sysex_groups.specs.Exclusives.{opened};
-ghost use Rattle.midi1_bytes.specs.Messages.{AreData, exclusive};
+ghost use Rattle.midi1_bytes.specs.Messages.{exclusive};
 ghost use Rattle.midi1_bytes.specs.Steps.{step_of, completed_by};
-ghost use Rattle.midi1_bytes.specs.Stream.{Room, open_in};
-ghost use Rattle.voice_state.specs.Agreement.{Agrees};
-ghost use Rattle.voice_state.specs.Back.{pieces_of, back, back_at, back_of_bytes, SameState, AllComeBack};
-ghost use Rattle.voice_state.specs.Lanes.{lane_bytes, plain_pairs};
-ghost use Rattle.voice_state.specs.Listing.{lines_behind, end_lines};
-ghost use Rattle.voice_state.specs.Parts.{Placed, parts_of, whole_of};
-ghost use Rattle.voice_state.specs.Messages.{meaning1, mean1, step1};
-ghost use Rattle.voice_state.specs.Packets.{meaning2, mean2, IsInRange};
+ghost use Rattle.midi1_bytes.specs.Stream.{Room};
+ghost use Rattle.voice_state.specs.Back.{pieces_of, back, back_at, back_of_bytes};
+ghost use Rattle.voice_state.specs.Parts.{whole_of};
+ghost use Rattle.voice_state.specs.Messages.{meaning1, step1};
 ghost use Rattle.voice_state.specs.Plain.{plain_piece};
 ghost use Rattle.voice_state.specs.Registers.{bank_of, selected};
-ghost use Rattle.voice_state.specs.Raising.{packets_at, packets_up, packets_of_bytes, exclusive_packet};
-ghost use Rattle.voice_state.specs.StepListing.{lines_at, lines_up, lines_up_to_end, lines_of_bytes};
+ghost use Rattle.voice_state.specs.Raising.{packets_at, packets_of_bytes};
+ghost use Rattle.voice_state.specs.StepListing.{lines_at, lines_of_bytes};
 ghost use Rattle.voice_state.specs.UpLaws.{BytesThatComeBackMeanTheSame, RaisedPacketsAreInRange, RaisedPacketsComeBackInSilence, RaisedPacketsMeanTheBytes, RoomsThatAreNotReachedDoNotMatterInBytes};
-ghost use Rattle.voice_state.specs.UpRefusal.{AreStepsWithinRoom, AreAcceptedUp};
+ghost use Rattle.voice_state.specs.UpRefusal.{AreStepsWithinRoom};
 
 use midi1_bytes::laws::{completed_messages_are_in_range, written_messages_are_read_again};
 use sysex_groups::laws::cut_payload_is_joined;
