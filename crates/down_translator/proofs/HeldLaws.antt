@@ -7,22 +7,16 @@ use Rattle.voice_messages.specs.declared.voice2.Form.TheVariants as form
 use Rattle.ump_grammar.specs.declared.packet.Packet.{Packet}
 use Rattle.ump_grammar.specs.declared.packet.Packet.TheVariants as packet
 use Rattle.ump_grammar.specs.Ranges.{IsPacket}
-use Rattle.sysex_groups.specs.Exclusives.{Part, Room, opened, joined, started, ended_by, passes_by, fits, goes_on, bytes_of, start_of, answer_from, answer_at}
-use Rattle.sysex_groups.specs.Table.{Begun, begun_in, begun_of, begun_behind, answer_to, table_after, AreParts}
+use Rattle.sysex_groups.specs.Exclusives.{Part, Room, opened, joined, started, ended_by, passes_by, fits, goes_on, bytes_of, start_of, answer_from}
+use Rattle.sysex_groups.specs.Table.{Begun, begun_in, begun_of, table_after, AreParts}
+use Rattle.sysex_groups.specs.Laws.{FedPartsAreTheDefinition}
 use Rattle.voice_state.specs.declared.listed.BadStep.TheVariants as bad
 use Rattle.voice_state.specs.Parts.{Placed, parts_of, whole_by}
 use Rattle.voice_state.specs.Packets.{IsInRange}
 use Rattle.voice_state.specs.Listing.{begun_before}
 use Rattle.voice_state.specs.Refusal.{bad_step}
-use Rattle.down_translator.specs.Held.{whole_in, begun_at_in, bad_answer, refusal_in, table_behind}
-use Rattle.down_translator.specs.Recording.{AreInRange, table_of}
-
--- what holds of fed parts
-abbrev pub BegunIsFed : Type 0
-BegunIsFed = (room : ℕ) (past : List Part) → 6 ≤ room → AreParts past → (group : ℕ) → begun_in (table_after room past) group ≡ begun_behind (Some room) group past
-
-abbrev pub AnswersAreFed : Type 0
-AnswersAreFed = (room : ℕ) (past : List Part) → 6 ≤ room → AreParts past → (part : Part) → answer_to (table_after room past) part ≡ answer_at (Some room) past part
+use Rattle.down_translator.specs.Held.{whole_in, begun_at_in, bad_answer, refusal_in, down_after}
+use Rattle.down_translator.specs.Recording.{AreInRange, state_of}
 
 -- ---- ranges
 
@@ -66,10 +60,10 @@ begun-start : (o : Option (List Part)) → option_map (λ (begun : Begun). begun
 begun-start None = refl
 begun-start (Some parts) = refl
 
-pub held-whole : BegunIsFed → (room : ℕ) (past : List Placed) → 6 ≤ room → AreInRange past → (p : Packet) → whole_in (table_of room past) p ≡ whole_by (Some room) (parts_of past) p
+pub held-whole : FedPartsAreTheDefinition → (room : ℕ) (past : List Placed) → 6 ≤ room → AreInRange past → (p : Packet) → whole_in (state_of room past) p ≡ whole_by (Some room) (parts_of past) p
 held-whole fed room past least a (packet.Exclusive g f bytes) =
-    ap (λ r. ended_by (Some r) f (option_map (λ (begun : Begun). begun.bytes) (begun_in (table_of room past) g)) bytes) (table_room room (parts_of past))
-    ∙ ap (λ o. ended_by (Some room) f (option_map (λ (begun : Begun). begun.bytes) o) bytes) (fed room (parts_of past) least (parts_in_range past a) g)
+    ap (λ r. ended_by (Some r) f (option_map (λ (begun : Begun). begun.bytes) (begun_in (state_of room past).exclusives g)) bytes) (table_room room (parts_of past))
+    ∙ ap (λ o. ended_by (Some room) f (option_map (λ (begun : Begun). begun.bytes) o) bytes) (fed.begun room (parts_of past) least (parts_in_range past a) g)
     ∙ ap (λ o. ended_by (Some room) f o bytes) (begun-bytes (opened (Some room) g (parts_of past)))
 held-whole fed room past least a (packet.Utility s v) = refl
 held-whole fed room past least a (packet.System g m) = refl
@@ -80,9 +74,9 @@ held-whole fed room past least a (packet.Flex g w) = refl
 held-whole fed room past least a (packet.Stream f s l w x y) = refl
 held-whole fed room past least a (packet.Reserved w) = refl
 
-pub held-begun : BegunIsFed → (room : ℕ) (past : List Placed) → 6 ≤ room → AreInRange past → (p : Packet) → begun_at_in (table_of room past) p ≡ begun_before (Some room) (parts_of past) p
+pub held-begun : FedPartsAreTheDefinition → (room : ℕ) (past : List Placed) → 6 ≤ room → AreInRange past → (p : Packet) → begun_at_in (state_of room past) p ≡ begun_before (Some room) (parts_of past) p
 held-begun fed room past least a (packet.Exclusive g f bytes) =
-    ap (option_map (λ (begun : Begun). begun.start)) (fed room (parts_of past) least (parts_in_range past a) g)
+    ap (option_map (λ (begun : Begun). begun.start)) (fed.begun room (parts_of past) least (parts_in_range past a) g)
     ∙ begun-start (opened (Some room) g (parts_of past))
 held-begun fed room past least a (packet.Utility s v) = refl
 held-begun fed room past least a (packet.System g m) = refl
@@ -117,10 +111,10 @@ bad-answer room form.End start (Some before) bytes stray = go (fits room (length
     go true u = refl
     go false u = refl
 
-pub held-refusal : AnswersAreFed → (room : ℕ) (past : List Placed) → 6 ≤ room → AreInRange past → (p : Packet) → refusal_in (table_of room past) p ≡ bad_step (Some room) (parts_of past) p
+pub held-refusal : FedPartsAreTheDefinition → (room : ℕ) (past : List Placed) → 6 ≤ room → AreInRange past → (p : Packet) → refusal_in (state_of room past) p ≡ bad_step (Some room) (parts_of past) p
 held-refusal fed room past least a (packet.Exclusive g f bytes) =
     let part : Part = record { group = g; form = f; bytes = bytes; offset = 0 } in
-    ap bad_answer (fed room (parts_of past) least (parts_in_range past a) part)
+    ap bad_answer (fed.answers room (parts_of past) least (parts_in_range past a) part)
     ∙ bad-answer (Some room) f (started (Some room) g (parts_of past)) (joined (Some room) g (parts_of past)) bytes _
 held-refusal fed room past least a (packet.Utility s v) = refl
 held-refusal fed room past least a (packet.System g m) = refl
@@ -133,10 +127,10 @@ held-refusal fed room past least a (packet.Reserved w) = refl
 
 -- ---- what stands behind a packet
 
-pub held-behind : (room : ℕ) (past : List Placed) (placed : Placed) → table_behind placed.offset placed.packet (table_of room past) ≡ table_of room (placed ∷ past)
+pub held-behind : (room : ℕ) (past : List Placed) (placed : Placed) → down_after placed.offset placed.packet (state_of room past) ≡ state_of room (placed ∷ past)
 held-behind room past placed = go placed.offset placed.packet
   where
-    go : (offset : ℕ) (p : Packet) → table_behind offset p (table_of room past) ≡ table_of room (record { offset = offset; packet = p } ∷ past)
+    go : (offset : ℕ) (p : Packet) → down_after offset p (state_of room past) ≡ state_of room (record { offset = offset; packet = p } ∷ past)
     go offset (packet.Exclusive g f bytes) = refl
     go offset (packet.Utility s v) = refl
     go offset (packet.System g m) = refl

@@ -7,10 +7,11 @@ use Rattle.std.specs.Prelude.{◌↔◌, IsTrue, ◌==◌}
 use Rattle.std.specs.Option.{option_map, option_to_list}
 use Rattle.ump_grammar.specs.declared.packet.Packet.{Packet}
 use Rattle.ump_grammar.specs.declared.packet.Packet.TheVariants as packet
-use Rattle.sysex_groups.specs.Exclusives.{Part, opened, joined, ended, ended_by, passes_room, start_of}
-use Rattle.sysex_groups.specs.Table.{Table}
+use Rattle.sysex_groups.specs.Exclusives.{Part, ended_by, passes_room, start_of}
+use Rattle.sysex_groups.specs.Laws.{FedPartsAreTheDefinition}
 use Rattle.voice_state.specs.declared.listed.BadStep.TheVariants as bad
-use Rattle.voice_state.specs.Parts.{Placed, group_of, parts_of, packet_parts, whole_by, whole_of}
+use Rattle.voice_state.specs.Laws.{CarriedPacketsHaveAPiece, JoinedBytesKnowNoOffsets, PlainPairsAreATranslation, RoomsThatAreNotPassedDoNotMatter}
+use Rattle.voice_state.specs.Parts.{Placed, group_of, parts_of, whole_by, whole_of}
 use Rattle.voice_state.specs.Packets.{IsInRange}
 use Rattle.voice_state.specs.Listing.{is_carried, listed, begun_before, line_of, lines_behind}
 use Rattle.voice_state.specs.Plain.{plain_piece}
@@ -20,21 +21,12 @@ use Rattle.voice_state.specs.Refusal.{bad_step}
 use Rattle.voice_state.specs.Rooms.{AreWithinRoom}
 use Rattle.down_translator.specs.declared.carried.Carried.{Carried}
 use Rattle.down_translator.specs.Carried.{lane_in, line_in}
-use Rattle.down_translator.specs.Held.{whole_in}
+use Rattle.down_translator.specs.Held.{DownState, whole_in}
 use Rattle.down_translator.specs.Step.{lane_of, IsPlainStep}
-use Rattle.down_translator.specs.Recording.{packets_of, AreInRange, table_of, AreAccepted, AreSteps, pair_put, pairs_put, lines_put}
-use Rattle.down_translator.proofs.HeldLaws.{BegunIsFed, AnswersAreFed, held-whole, held-begun, held-refusal}
+use Rattle.down_translator.specs.Recording.{packets_of, AreInRange, state_of, AreAccepted, AreSteps, pair_put, pairs_put, lines_put}
+use Rattle.down_translator.proofs.HeldLaws.{held-whole, held-begun, held-refusal}
 
 -- ---- a room that isn't passed
-
-abbrev pub OpenedInRoom : Type 0
-OpenedInRoom = (room group : ℕ) (past : List Part) → AreWithinRoom room past → opened (Some room) group past ≡ opened None group past
-
-abbrev pub EndedInRoom : Type 0
-EndedInRoom = (room : ℕ) (past : List Part) (part : Part) → AreWithinRoom room past → passes_room (Some room) past part ≡ false → ended (Some room) past part ≡ ended None past part
-
-abbrev pub JoinedWithoutOffsets : Type 0
-JoinedWithoutOffsets = (group : ℕ) (past : List Placed) → joined None group (parts_of past) ≡ joined None group (packet_parts (packets_of past))
 
 not-passed : (t : Bool) → cond t (Some bad.ExclusiveTooLong) None ≡ None → t ≡ false
 not-passed true e = cc
@@ -56,39 +48,36 @@ accepted-within room [] least a b = tt
 accepted-within room (placed ∷ past) least a b = more_within room placed.offset placed.packet past least a.0 b.0 (accepted-within room past least a.1 b.1)
 
 -- the exclusive that a packet ends is that without a room
-pub whole-without_room : EndedInRoom → JoinedWithoutOffsets → (room : ℕ) (past : List Placed) (p : Packet) → AreWithinRoom room (parts_of past) → bad_step (Some room) (parts_of past) p ≡ None → whole_by (Some room) (parts_of past) p ≡ whole_of (packets_of past) p
-whole-without_room in_room offsets room past (packet.Exclusive g f bytes) w b =
+pub whole-without_room : RoomsThatAreNotPassedDoNotMatter → JoinedBytesKnowNoOffsets → (room : ℕ) (past : List Placed) (p : Packet) → AreWithinRoom room (parts_of past) → bad_step (Some room) (parts_of past) p ≡ None → whole_by (Some room) (parts_of past) p ≡ whole_of (packets_of past) p
+whole-without_room rooms offsets room past (packet.Exclusive g f bytes) w b =
     let part : Part = record { group = g; form = f; bytes = bytes; offset = 0 } in
-    in_room room (parts_of past) part w (not-passed (passes_room (Some room) (parts_of past) part) b)
+    rooms.ended room (parts_of past) part w (not-passed (passes_room (Some room) (parts_of past) part) b)
     ∙ ap (λ o. ended_by None f o bytes) (offsets g past)
-whole-without_room in_room offsets room past (packet.Utility s v) w b = refl
-whole-without_room in_room offsets room past (packet.System g m) w b = refl
-whole-without_room in_room offsets room past (packet.Voice1 g m) w b = refl
-whole-without_room in_room offsets room past (packet.Voice2 g m) w b = refl
-whole-without_room in_room offsets room past (packet.Data8 g wd) w b = refl
-whole-without_room in_room offsets room past (packet.Flex g wd) w b = refl
-whole-without_room in_room offsets room past (packet.Stream f s l wd x y) w b = refl
-whole-without_room in_room offsets room past (packet.Reserved wd) w b = refl
+whole-without_room rooms offsets room past (packet.Utility s v) w b = refl
+whole-without_room rooms offsets room past (packet.System g m) w b = refl
+whole-without_room rooms offsets room past (packet.Voice1 g m) w b = refl
+whole-without_room rooms offsets room past (packet.Voice2 g m) w b = refl
+whole-without_room rooms offsets room past (packet.Data8 g wd) w b = refl
+whole-without_room rooms offsets room past (packet.Flex g wd) w b = refl
+whole-without_room rooms offsets room past (packet.Stream f s l wd x y) w b = refl
+whole-without_room rooms offsets room past (packet.Reserved wd) w b = refl
 
 -- the line of a packet too
-begun-without_room : OpenedInRoom → (room : ℕ) (parts : List Part) (p : Packet) → AreWithinRoom room parts → begun_before (Some room) parts p ≡ begun_before None parts p
-begun-without_room in_room room parts (packet.Exclusive g f bytes) w = ap (option_map start_of) (in_room room g parts w)
-begun-without_room in_room room parts (packet.Utility s v) w = refl
-begun-without_room in_room room parts (packet.System g m) w = refl
-begun-without_room in_room room parts (packet.Voice1 g m) w = refl
-begun-without_room in_room room parts (packet.Voice2 g m) w = refl
-begun-without_room in_room room parts (packet.Data8 g wd) w = refl
-begun-without_room in_room room parts (packet.Flex g wd) w = refl
-begun-without_room in_room room parts (packet.Stream f s l wd x y) w = refl
-begun-without_room in_room room parts (packet.Reserved wd) w = refl
+begun-without_room : RoomsThatAreNotPassedDoNotMatter → (room : ℕ) (parts : List Part) (p : Packet) → AreWithinRoom room parts → begun_before (Some room) parts p ≡ begun_before None parts p
+begun-without_room rooms room parts (packet.Exclusive g f bytes) w = ap (option_map start_of) (rooms.opened room g parts w)
+begun-without_room rooms room parts (packet.Utility s v) w = refl
+begun-without_room rooms room parts (packet.System g m) w = refl
+begun-without_room rooms room parts (packet.Voice1 g m) w = refl
+begun-without_room rooms room parts (packet.Voice2 g m) w = refl
+begun-without_room rooms room parts (packet.Data8 g wd) w = refl
+begun-without_room rooms room parts (packet.Flex g wd) w = refl
+begun-without_room rooms room parts (packet.Stream f s l wd x y) w = refl
+begun-without_room rooms room parts (packet.Reserved wd) w = refl
 
-pub line-without_room : OpenedInRoom → (room : ℕ) (past : List Placed) (placed : Placed) → AreWithinRoom room (parts_of past) → line_of (Some room) (parts_of past) placed ≡ line_of None (parts_of past) placed
-line-without_room in_room room past placed w = ap (λ o. listed o placed.offset placed.packet) (begun-without_room in_room room (parts_of past) placed.packet w)
+pub line-without_room : RoomsThatAreNotPassedDoNotMatter → (room : ℕ) (past : List Placed) (placed : Placed) → AreWithinRoom room (parts_of past) → line_of (Some room) (parts_of past) placed ≡ line_of None (parts_of past) placed
+line-without_room rooms room past placed w = ap (λ o. listed o placed.offset placed.packet) (begun-without_room rooms room (parts_of past) placed.packet w)
 
 -- ---- one packet
-
-abbrev pub CarriedHavePieces : Type 0
-CarriedHavePieces = (whole : Option (List ℕ)) (p : Packet) → IsTrue (is_carried whole p) ↔ (0 < length (plain_piece whole p))
 
 carried_in_group : (whole : Option (List ℕ)) (p : Packet) → is_carried whole p ≡ true → is_some (group_of p) ≡ true
 carried_in_group whole (packet.System g m) e = refl
@@ -111,18 +100,18 @@ pair-from None false [] in_group h = refl
 pair-from None false (b ∷ bytes) in_group h = cc (h.1 (omega arith))
 
 -- an answer's pair, by the exclusive that its packet ends
-pair-whole : CarriedHavePieces → (table : Table) (offset : ℕ) (p : Packet) (carried : Carried) → IsPlainStep table offset p carried → pair_put carried ≡ pair_by (group_of p) (is_carried (whole_in table p) p) (plain_piece (whole_in table p) p)
-pair-whole pieces table offset p carried step =
-    let whole = whole_in table p in
+pair-whole : CarriedPacketsHaveAPiece → (state : DownState) (offset : ℕ) (p : Packet) (carried : Carried) → IsPlainStep state offset p carried → pair_put carried ≡ pair_by (group_of p) (is_carried (whole_in state p) p) (plain_piece (whole_in state p) p)
+pair-whole pieces state offset p carried step =
+    let whole = whole_in state p in
     ap (λ bytes. cond (length bytes == 0) [] ((lane_in carried, bytes) ∷ [])) step.piece
     ∙ ap (λ lane. cond (length (plain_piece whole p) == 0) [] ((lane, plain_piece whole p) ∷ [])) step.lane
     ∙ pair-from (group_of p) (is_carried whole p) (plain_piece whole p) (carried_in_group whole p) (pieces whole p)
 
-pub step-carried : CarriedHavePieces → (table : Table) (offset : ℕ) (p : Packet) (carried : Carried) → IsPlainStep table offset p carried → IsTrue (is_carried (whole_in table p) p) ↔ (0 < length carried.piece.now)
-step-carried pieces table offset p carried step = subst (λ bytes. IsTrue (is_carried (whole_in table p) p) ↔ (0 < length bytes)) (sym step.piece) (pieces (whole_in table p) p)
+pub step-carried : CarriedPacketsHaveAPiece → (state : DownState) (offset : ℕ) (p : Packet) (carried : Carried) → IsPlainStep state offset p carried → IsTrue (is_carried (whole_in state p) p) ↔ (0 < length carried.piece.now)
+step-carried pieces state offset p carried step = subst (λ bytes. IsTrue (is_carried (whole_in state p) p) ↔ (0 < length bytes)) (sym step.piece) (pieces (whole_in state p) p)
 
-pub step-lane : CarriedHavePieces → (table : Table) (offset : ℕ) (p : Packet) (carried : Carried) → IsPlainStep table offset p carried → carried.piece.now ≡ [] → lane_in carried ≡ 0
-step-lane pieces table offset p carried step e = step.lane ∙ go (group_of p) (is_carried (whole_in table p) p) (λ h. nothing_below carried.piece.now e ((step-carried pieces table offset p carried step).0 h))
+pub step-lane : CarriedPacketsHaveAPiece → (state : DownState) (offset : ℕ) (p : Packet) (carried : Carried) → IsPlainStep state offset p carried → carried.piece.now ≡ [] → lane_in carried ≡ 0
+step-lane pieces state offset p carried step e = step.lane ∙ go (group_of p) (is_carried (whole_in state p) p) (λ h. nothing_below carried.piece.now e ((step-carried pieces state offset p carried step).0 h))
   where
     nothing_below : (xs : List ℕ) → xs ≡ [] → 0 < length xs → ⊥
     nothing_below xs e h = omega (arith, subst (λ ys. 0 < length ys) e h)
@@ -132,38 +121,38 @@ step-lane pieces table offset p carried step e = step.lane ∙ go (group_of p) (
     go (Some g) true h = absurd (h refl)
     go (Some g) false h = refl
 
-pub step-pair : BegunIsFed → AnswersAreFed → EndedInRoom → JoinedWithoutOffsets → CarriedHavePieces → (room : ℕ) (past : List Placed) (placed : Placed) (carried : Carried) → 6 ≤ room → AreInRange past → AreAccepted room past → IsPlainStep (table_of room past) placed.offset placed.packet carried → pair_put carried ≡ pair_of (packets_of past) placed.packet
-step-pair begun answers in_room offsets pieces room past placed carried least a b step =
+pub step-pair : FedPartsAreTheDefinition → RoomsThatAreNotPassedDoNotMatter → JoinedBytesKnowNoOffsets → CarriedPacketsHaveAPiece → (room : ℕ) (past : List Placed) (placed : Placed) (carried : Carried) → 6 ≤ room → AreInRange past → AreAccepted room past → IsPlainStep (state_of room past) placed.offset placed.packet carried → pair_put carried ≡ pair_of (packets_of past) placed.packet
+step-pair fed rooms offsets pieces room past placed carried least a b step =
     let p = placed.packet in
-    let accepted = sym (held-refusal answers room past least a p) ∙ step.accepted in
-    pair-whole pieces (table_of room past) placed.offset p carried step
-    ∙ ap (λ whole. pair_by (group_of p) (is_carried whole p) (plain_piece whole p)) (held-whole begun room past least a p ∙ whole-without_room in_room offsets room past p (accepted-within room past least a b) accepted)
+    let accepted = sym (held-refusal fed room past least a p) ∙ step.accepted in
+    pair-whole pieces (state_of room past) placed.offset p carried step
+    ∙ ap (λ whole. pair_by (group_of p) (is_carried whole p) (plain_piece whole p)) (held-whole fed room past least a p ∙ whole-without_room rooms offsets room past p (accepted-within room past least a b) accepted)
 
-pub step-line : BegunIsFed → (room : ℕ) (past : List Placed) (placed : Placed) (carried : Carried) → 6 ≤ room → AreInRange past → IsPlainStep (table_of room past) placed.offset placed.packet carried → line_in carried ≡ line_of (Some room) (parts_of past) placed
-step-line begun room past placed carried least a step = step.line ∙ ap (λ o. listed o placed.offset placed.packet) (held-begun begun room past least a placed.packet)
+pub step-line : FedPartsAreTheDefinition → (room : ℕ) (past : List Placed) (placed : Placed) (carried : Carried) → 6 ≤ room → AreInRange past → IsPlainStep (state_of room past) placed.offset placed.packet carried → line_in carried ≡ line_of (Some room) (parts_of past) placed
+step-line fed room past placed carried least a step = step.line ∙ ap (λ o. listed o placed.offset placed.packet) (held-begun fed room past least a placed.packet)
 
 -- ---- a recording
 
-pub steps-accepted : AnswersAreFed → (room : ℕ) (past : List Placed) (answers : List Carried) → 6 ≤ room → AreInRange past → AreSteps room past answers → AreAccepted room past
+pub steps-accepted : FedPartsAreTheDefinition → (room : ℕ) (past : List Placed) (answers : List Carried) → 6 ≤ room → AreInRange past → AreSteps room past answers → AreAccepted room past
 steps-accepted fed room [] answers least a steps = tt
 steps-accepted fed room (placed ∷ past) [] least a steps = absurd steps
 steps-accepted fed room (placed ∷ past) (carried ∷ before) least a steps = (sym (held-refusal fed room past least a.1 placed.packet) ∙ steps.0.accepted, steps-accepted fed room past before least a.1 steps.1)
 
-pub steps-pairs : BegunIsFed → AnswersAreFed → EndedInRoom → JoinedWithoutOffsets → CarriedHavePieces → (room : ℕ) (past : List Placed) (answers : List Carried) → 6 ≤ room → AreInRange past → AreSteps room past answers → pairs_put answers ≡ pairs_behind (packets_of past)
-steps-pairs begun fed in_room offsets pieces room [] [] least a steps = refl
-steps-pairs begun fed in_room offsets pieces room [] (carried ∷ before) least a steps = absurd steps
-steps-pairs begun fed in_room offsets pieces room (placed ∷ past) [] least a steps = absurd steps
-steps-pairs begun fed in_room offsets pieces room (placed ∷ past) (carried ∷ before) least a steps =
-    ap (λ pairs. pairs ++ pair_put carried) (steps-pairs begun fed in_room offsets pieces room past before least a.1 steps.1)
-    ∙ ap (λ pair. pairs_behind (packets_of past) ++ pair) (step-pair begun fed in_room offsets pieces room past placed carried least a.1 (steps-accepted fed room past before least a.1 steps.1) steps.0)
+pub steps-pairs : FedPartsAreTheDefinition → RoomsThatAreNotPassedDoNotMatter → JoinedBytesKnowNoOffsets → CarriedPacketsHaveAPiece → (room : ℕ) (past : List Placed) (answers : List Carried) → 6 ≤ room → AreInRange past → AreSteps room past answers → pairs_put answers ≡ pairs_behind (packets_of past)
+steps-pairs fed rooms offsets pieces room [] [] least a steps = refl
+steps-pairs fed rooms offsets pieces room [] (carried ∷ before) least a steps = absurd steps
+steps-pairs fed rooms offsets pieces room (placed ∷ past) [] least a steps = absurd steps
+steps-pairs fed rooms offsets pieces room (placed ∷ past) (carried ∷ before) least a steps =
+    ap (λ pairs. pairs ++ pair_put carried) (steps-pairs fed rooms offsets pieces room past before least a.1 steps.1)
+    ∙ ap (λ pair. pairs_behind (packets_of past) ++ pair) (step-pair fed rooms offsets pieces room past placed carried least a.1 (steps-accepted fed room past before least a.1 steps.1) steps.0)
 
-pub steps-lines : BegunIsFed → (room : ℕ) (past : List Placed) (answers : List Carried) → 6 ≤ room → AreInRange past → AreSteps room past answers → lines_put answers ≡ lines_behind (Some room) past
-steps-lines begun room [] [] least a steps = refl
-steps-lines begun room [] (carried ∷ before) least a steps = absurd steps
-steps-lines begun room (placed ∷ past) [] least a steps = absurd steps
-steps-lines begun room (placed ∷ past) (carried ∷ before) least a steps =
-    ap (λ lines. lines ++ option_to_list (line_in carried)) (steps-lines begun room past before least a.1 steps.1)
-    ∙ ap (λ line. lines_behind (Some room) past ++ option_to_list line) (step-line begun room past placed carried least a.1 steps.0)
+pub steps-lines : FedPartsAreTheDefinition → (room : ℕ) (past : List Placed) (answers : List Carried) → 6 ≤ room → AreInRange past → AreSteps room past answers → lines_put answers ≡ lines_behind (Some room) past
+steps-lines fed room [] [] least a steps = refl
+steps-lines fed room [] (carried ∷ before) least a steps = absurd steps
+steps-lines fed room (placed ∷ past) [] least a steps = absurd steps
+steps-lines fed room (placed ∷ past) (carried ∷ before) least a steps =
+    ap (λ lines. lines ++ option_to_list (line_in carried)) (steps-lines fed room past before least a.1 steps.1)
+    ∙ ap (λ line. lines_behind (Some room) past ++ option_to_list line) (step-line fed room past placed carried least a.1 steps.0)
 
 -- ---- in the order in which they came
 
@@ -179,14 +168,11 @@ range-packets : (packets : List Placed) → AreInRange packets → AllByRecursio
 range-packets [] a = tt
 range-packets (placed ∷ packets) a = (a.0, range-packets packets a.1)
 
-abbrev pub PairsAreTranslation : Type 0
-PairsAreTranslation = (packets : List Packet) → AllByRecursion IsInRange packets → IsTranslation packets (plain_pairs packets)
-
-pub steps-plain : BegunIsFed → AnswersAreFed → EndedInRoom → JoinedWithoutOffsets → CarriedHavePieces → (room : ℕ) (packets : List Placed) (answers : List Carried) → 6 ≤ room → AreInRange packets → AreSteps room (reverse packets) answers → pairs_put answers ≡ plain_pairs (packets_of packets)
-steps-plain begun fed in_room offsets pieces room packets answers least a steps =
-    steps-pairs begun fed in_room offsets pieces room (reverse packets) answers least (range-turned packets [] a tt) steps
+pub steps-plain : FedPartsAreTheDefinition → RoomsThatAreNotPassedDoNotMatter → JoinedBytesKnowNoOffsets → CarriedPacketsHaveAPiece → (room : ℕ) (packets : List Placed) (answers : List Carried) → 6 ≤ room → AreInRange packets → AreSteps room (reverse packets) answers → pairs_put answers ≡ plain_pairs (packets_of packets)
+steps-plain fed rooms offsets pieces room packets answers least a steps =
+    steps-pairs fed rooms offsets pieces room (reverse packets) answers least (range-turned packets [] a tt) steps
     ∙ ap pairs_behind (packets-turned packets [])
 
-pub steps-translation : PairsAreTranslation → BegunIsFed → AnswersAreFed → EndedInRoom → JoinedWithoutOffsets → CarriedHavePieces → (room : ℕ) (packets : List Placed) (answers : List Carried) → 6 ≤ room → AreInRange packets → AreSteps room (reverse packets) answers → IsTranslation (packets_of packets) (pairs_put answers)
-steps-translation means begun fed in_room offsets pieces room packets answers least a steps =
-    subst (IsTranslation (packets_of packets)) (sym (steps-plain begun fed in_room offsets pieces room packets answers least a steps)) (means (packets_of packets) (range-packets packets a))
+pub steps-translation : PlainPairsAreATranslation → FedPartsAreTheDefinition → RoomsThatAreNotPassedDoNotMatter → JoinedBytesKnowNoOffsets → CarriedPacketsHaveAPiece → (room : ℕ) (packets : List Placed) (answers : List Carried) → 6 ≤ room → AreInRange packets → AreSteps room (reverse packets) answers → IsTranslation (packets_of packets) (pairs_put answers)
+steps-translation means fed rooms offsets pieces room packets answers least a steps =
+    subst (IsTranslation (packets_of packets)) (sym (steps-plain fed rooms offsets pieces room packets answers least a steps)) (means (packets_of packets) (range-packets packets a))

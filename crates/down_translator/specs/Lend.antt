@@ -2,8 +2,8 @@
 use Rattle.std.specs.Prelude.{◌≡◌}
 use Rattle.std.specs.Borrow.{MutBor, Fml}
 use Rattle.std.specs.Io.BufRead.{Rests}
-use Rattle.sysex_groups.specs.Table.{Table}
 use Rattle.down_translator.specs.contracts.down.Down.{the_row}
+use Rattle.down_translator.specs.Held.{DownState}
 
-abbrev pub KeepsDown : MutBor Table → Table → Fml
-KeepsDown down table = Rests the_row down (λ new. new ≡ table)
+abbrev pub KeepsDown : MutBor DownState → DownState → Fml
+KeepsDown down state = Rests the_row down (λ new. new ≡ state)

@@ -4,13 +4,14 @@ use Rattle.std.specs.Prelude.{◌≡◌, ℕ, ◌==◌, if◌then◌else◌, Lis
 use Rattle.std.specs.List.{AllByRecursion}
 use Rattle.std.specs.Option.{option_to_list}
 use Rattle.ump_grammar.specs.declared.packet.Packet.{Packet}
-use Rattle.sysex_groups.specs.Table.{Table, table_after}
+use Rattle.sysex_groups.specs.Table.{table_after}
 use Rattle.voice_state.specs.declared.listed.Listed.{Listed}
 use Rattle.voice_state.specs.Parts.{Placed, parts_of}
 use Rattle.voice_state.specs.Packets.{IsInRange}
 use Rattle.voice_state.specs.Refusal.{bad_step}
 use Rattle.down_translator.specs.declared.carried.Carried.{Carried}
 use Rattle.down_translator.specs.Carried.{lane_in, line_in}
+use Rattle.down_translator.specs.Held.{DownState}
 use Rattle.down_translator.specs.Step.{IsPlainStep}
 
 abbrev pub packets_of : List Placed → List Packet
@@ -20,9 +21,9 @@ packets_of past = map (λ placed. placed.packet) past
 abbrev pub AreInRange : List Placed → Type 0
 AreInRange past = AllByRecursion (λ placed. IsInRange placed.packet) past
 
--- what the groups have begun behind these packets
-abbrev pub table_of : ℕ → List Placed → Table
-table_of room past = table_after room (parts_of past)
+-- what is held after these packets
+abbrev pub state_of : ℕ → List Placed → DownState
+state_of room past = record { exclusives = table_after room (parts_of past) }
 
 -- no packet is refused behind those before it
 abbrev pub AreAccepted : ℕ → List Placed → Type 0
@@ -33,7 +34,7 @@ AreAccepted room (placed ∷ past) = (bad_step (Some room) (parts_of past) place
 abbrev pub AreSteps : ℕ → List Placed → List Carried → Type 0
 AreSteps room [] [] = Unit {0}
 AreSteps room (placed ∷ past) (carried ∷ before) =
-    IsPlainStep (table_of room past) placed.offset placed.packet carried × AreSteps room past before
+    IsPlainStep (state_of room past) placed.offset placed.packet carried × AreSteps room past before
 AreSteps room _ _ = ⊥
 
 -- what is put for an answer: nothing where its piece is empty

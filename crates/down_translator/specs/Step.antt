@@ -1,14 +1,13 @@
--- What the translator answers to a packet, by what its groups have begun.
+-- What the translator answers to a packet, by what it holds.
 use Rattle.std.specs.Prelude.{◌≡◌, ℕ, Bool, true, Option, Some, None, Result, Ok, Err}
 use Rattle.ump_grammar.specs.declared.packet.Packet.{Packet}
-use Rattle.sysex_groups.specs.Table.{Table}
 use Rattle.voice_state.specs.declared.listed.BadStep.{BadStep}
 use Rattle.voice_state.specs.Parts.{group_of}
 use Rattle.voice_state.specs.Listing.{is_carried, listed}
 use Rattle.voice_state.specs.Plain.{plain_piece}
 use Rattle.down_translator.specs.declared.carried.Carried.{Carried}
 use Rattle.down_translator.specs.Carried.{lane_in, line_in}
-use Rattle.down_translator.specs.Held.{whole_in, begun_at_in, refusal_in}
+use Rattle.down_translator.specs.Held.{DownState, whole_in, begun_at_in, refusal_in}
 
 -- the lane of a packet is its group where it is carried, and else 0
 abbrev pub lane_of : Option ℕ → Bool → ℕ
@@ -16,13 +15,13 @@ lane_of (Some group) true = group
 lane_of _ _ = 0
 
 -- A packet is accepted with its plain piece, in its group's lane, and with its line of the listing.
-pub record IsPlainStep (table : Table) (offset : ℕ) (packet : Packet) (carried : Carried) : Type 0 where
-  pub accepted : refusal_in table packet ≡ None
-  pub piece : carried.piece.now ≡ plain_piece (whole_in table packet) packet
-  pub lane : lane_in carried ≡ lane_of (group_of packet) (is_carried (whole_in table packet) packet)
-  pub line : line_in carried ≡ listed (begun_at_in table packet) offset packet
+pub record IsPlainStep (state : DownState) (offset : ℕ) (packet : Packet) (carried : Carried) : Type 0 where
+  pub accepted : refusal_in state packet ≡ None
+  pub piece : carried.piece.now ≡ plain_piece (whole_in state packet) packet
+  pub lane : lane_in carried ≡ lane_of (group_of packet) (is_carried (whole_in state packet) packet)
+  pub line : line_in carried ≡ listed (begun_at_in state packet) offset packet
 
 -- It is refused exactly where there is a reason to refuse it, and for that reason.
-abbrev pub Translates : Table → ℕ → Packet → Result Carried BadStep → Type 0
-Translates table offset packet (Ok carried) = IsPlainStep table offset packet carried
-Translates table offset packet (Err bad) = refusal_in table packet ≡ Some bad
+abbrev pub Translates : DownState → ℕ → Packet → Result Carried BadStep → Type 0
+Translates state offset packet (Ok carried) = IsPlainStep state offset packet carried
+Translates state offset packet (Err bad) = refusal_in state packet ≡ Some bad

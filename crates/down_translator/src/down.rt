@@ -1,6 +1,5 @@
 // The translator down, in plain style.
-ghost use Rattle.std.specs.Prelude.{◌≡◌, ◌≤◌, ◌<◌, ◌==◌, if◌then◌else◌, IfOk, [], Some, None, length};
-ghost use Rattle.std.specs.List.{All};
+ghost use Rattle.std.specs.Prelude.{◌≡◌, ◌≤◌, ◌<◌, IfOk, Some, None, length};
 ghost use Rattle.sysex_groups.specs.Exclusives.{IsData};
 ghost use Rattle.ump_grammar.specs.Ranges.{IsPacket};
 ghost use Rattle.ump_grammar.specs.declared.packet.Packet.TheVariants as packet;
@@ -19,8 +18,8 @@ use voice_messages::{Form, Voice1, Voice2};
 use voice_state::laws::carried_packets_have_a_piece;
 use voice_state::{BadStep, Kind, Listed};
 
-/// The translator of packets to the MIDI 1.0 bytes of sixteen lanes, a lane for each group. To a contract it is what the groups
-/// have begun of exclusives.
+/// The translator of packets to the MIDI 1.0 bytes of sixteen lanes, a lane for each group. To a contract it is what it
+/// holds: the exclusives that the groups have open.
 #[derive(Drop)]
 pub struct Down {
     groups: Groups,
@@ -28,28 +27,27 @@ pub struct Down {
 }
 
 impl Model for Down {
-    ghost use Rattle.sysex_groups.specs.Table.{Table};
+    ghost use Rattle.down_translator.specs.Held.{DownState};
 
-    ghost Value = { Table };
+    ghost Value = { DownState };
 
-    ghost view = { λ down. down.groups };
+    ghost view = { λ down. record { exclusives = down.groups } };
 }
 
 impl Down {
     ghost use Rattle.std.specs.Borrow.{sem};
     ghost use Rattle.std.specs.Option.{option_map};
-    ghost use Rattle.sysex_groups.specs.Table.{empty_table, begun_in, with_part};
-    ghost use Rattle.down_translator.specs.Carried.{lane_in, line_in};
-    ghost use Rattle.down_translator.specs.Held.{table_behind};
+    ghost use Rattle.sysex_groups.specs.Table.{begun_in};
+    ghost use Rattle.down_translator.specs.Held.{down_after, new_down};
     ghost use Rattle.down_translator.specs.Lend.{KeepsDown};
     ghost use Rattle.down_translator.specs.Step.{Translates};
 
-    /// A translator in which nothing is begun. Reserves memory for exclusives of `room` bytes between F0 and F7 in each group, 6
+    /// A translator in which nothing is open. Reserves memory for exclusives of `room` bytes between F0 and F7 in each group, 6
     /// to 1,048,576; no other call takes any. `NoMemory` where there isn't so much.
     pub fn new(alloc: Global, room: u32, _style: Style) -> Result<Down, NoMemory>
         requires least { 6 ≤ room }
         requires most { room ≤ 1048576 }
-        ensures { IfOk result (λ down. down ≡ empty_table room) }
+        ensures { IfOk result (λ down. down ≡ new_down room) }
     {
         match Groups::new(alloc, room) {
             Ok(groups) => Ok(Down {
@@ -72,7 +70,7 @@ impl Down {
         requires data_bytes { IsData bytes.now }
         ensures answer { Translates self.old offset (packet.Exclusive group form bytes.now) result }
         ensures* after { sem 𝓛 (KeepsDown self.entry
-            (with_part (record { group = group; form = form; bytes = bytes.now; offset = offset }) self.old)) }
+            (down_after offset (packet.Exclusive group form bytes.now) self.old)) }
     {
         match self.groups.feed(group, form, bytes, offset) {
             Fed::Held => Ok(Carried::nothing()),
@@ -130,7 +128,7 @@ impl Down {
     pub fn packet(&mut self, packet: &Packet, offset: u64) -> Result<Carried<'_>, BadStep>
         requires { IsPacket packet.now }
         ensures answer { Translates self.old offset packet.now result }
-        ensures* after { sem 𝓛 (KeepsDown self.entry (table_behind offset packet.now self.old)) }
+        ensures* after { sem 𝓛 (KeepsDown self.entry (down_after offset packet.now self.old)) }
     {
         match packet {
             Packet::Utility { .. } => Ok(Carried::only_listed(offset, None, Kind::Utility)),
@@ -158,7 +156,7 @@ impl Down {
 
     /// The offset of the packet that began the group's exclusive; `None` exactly where nothing is begun.
     pub fn begun_at(&self, group: U4) -> Option<u64>
-        ensures { result ≡ option_map (λ begun. begun.start) (begun_in self.now group) }
+        ensures { result ≡ option_map (λ begun. begun.start) (begun_in self.now.exclusives group) }
     {
         self.groups.begun_at(group)
     }

@@ -1,19 +1,16 @@
 // What holds of all recordings. Packets and answers are listed the newest first.
-ghost use Rattle.std.specs.Prelude.{◌≡◌, ◌↔◌, ◌<◌, ◌≤◌, ℕ, List, [], ◌∷◌, length, reverse, Some, None, IsTrue};
-ghost use Rattle.sysex_groups.specs.Table.{Table};
+ghost use Rattle.std.specs.Prelude.{◌≡◌, ◌↔◌, ◌<◌, ◌≤◌, ℕ, List, [], length, reverse, Some, IsTrue};
 ghost use Rattle.ump_grammar.specs.declared.packet.Packet.{Packet};
-ghost use Rattle.ump_grammar.specs.Ranges.{IsPacket};
-ghost use Rattle.voice_state.specs.Parts.{Placed, parts_of, whole_by};
-ghost use Rattle.voice_state.specs.Packets.{IsInRange};
-ghost use Rattle.voice_state.specs.Listing.{is_carried, begun_before, line_of, lines_behind};
-ghost use Rattle.voice_state.specs.Lanes.{pair_of, pairs_behind, plain_pairs};
+ghost use Rattle.voice_state.specs.Parts.{Placed};
+ghost use Rattle.voice_state.specs.Listing.{is_carried, lines_behind};
+ghost use Rattle.voice_state.specs.Lanes.{pairs_behind, plain_pairs};
 ghost use Rattle.voice_state.specs.Translation.{IsTranslation};
-ghost use Rattle.voice_state.specs.Refusal.{bad_step};
 ghost use Rattle.down_translator.specs.declared.carried.Carried.{Carried};
-ghost use Rattle.down_translator.specs.Carried.{lane_in, line_in};
-ghost use Rattle.down_translator.specs.Held.{whole_in, begun_at_in, refusal_in, table_behind};
+ghost use Rattle.down_translator.specs.Carried.{lane_in};
+ghost use Rattle.down_translator.specs.Held.{DownState, whole_in};
+ghost use Rattle.down_translator.specs.Laws.{OneMoreAcceptedPacketAddsItsPairAndLine, SpelledPacketsAreInRange, WhatIsHeldIsTheDefinition};
 ghost use Rattle.down_translator.specs.Step.{IsPlainStep};
-ghost use Rattle.down_translator.specs.Recording.{packets_of, AreInRange, table_of, AreAccepted, AreSteps, pair_put, pairs_put, lines_put};
+ghost use Rattle.down_translator.specs.Recording.{packets_of, AreInRange, AreAccepted, AreSteps, pairs_put, lines_put};
 
 use sysex_groups::laws::fed_parts_are_the_definition;
 use voice_state::laws::{
@@ -23,32 +20,25 @@ use voice_state::laws::{
 
 /// A packet that some words spell has its fields in range.
 pub fn spelled_packets_are_in_range()
-    ensures { (packet : Packet) → IsPacket packet → IsInRange packet }
+    ensures { SpelledPacketsAreInRange }
 {}
 
 /// What the translator holds behind any packets tells of one more what the definitions tell that look back over the packets:
 /// the exclusive that it ends, where the exclusive started that its group has begun, and why it is refused. Behind it the same
 /// is held as behind all of them.
 pub fn what_is_held_is_the_definition()
-    ensures whole { (room : ℕ) (past : List Placed) → 6 ≤ room → AreInRange past → (packet : Packet) →
-        whole_in (table_of room past) packet ≡ whole_by (Some room) (parts_of past) packet }
-    ensures begun { (room : ℕ) (past : List Placed) → 6 ≤ room → AreInRange past → (packet : Packet) →
-        begun_at_in (table_of room past) packet ≡ begun_before (Some room) (parts_of past) packet }
-    ensures refusal { (room : ℕ) (past : List Placed) → 6 ≤ room → AreInRange past → (packet : Packet) →
-        refusal_in (table_of room past) packet ≡ bad_step (Some room) (parts_of past) packet }
-    ensures behind { (room : ℕ) (past : List Placed) (placed : Placed) →
-        table_behind placed.offset placed.packet (table_of room past) ≡ table_of room (placed ∷ past) }
+    ensures { WhatIsHeldIsTheDefinition }
 {
     fed_parts_are_the_definition();
 }
 
 /// An answer's piece is empty exactly where its packet isn't carried, and the lane is then 0.
 pub fn empty_pieces_are_not_carried()
-    ensures carried { (table : Table) (offset : ℕ) (packet : Packet) (carried : Carried) →
-        IsPlainStep table offset packet carried →
-        IsTrue (is_carried (whole_in table packet) packet) ↔ (0 < length carried.piece.now) }
-    ensures lane { (table : Table) (offset : ℕ) (packet : Packet) (carried : Carried) →
-        IsPlainStep table offset packet carried → carried.piece.now ≡ [] → lane_in carried ≡ 0 }
+    ensures carried { (state : DownState) (offset : ℕ) (packet : Packet) (carried : Carried) →
+        IsPlainStep state offset packet carried →
+        IsTrue (is_carried (whole_in state packet) packet) ↔ (0 < length carried.piece.now) }
+    ensures lane { (state : DownState) (offset : ℕ) (packet : Packet) (carried : Carried) →
+        IsPlainStep state offset packet carried → carried.piece.now ≡ [] → lane_in carried ≡ 0 }
 {
     carried_packets_have_a_piece();
 }
@@ -56,14 +46,7 @@ pub fn empty_pieces_are_not_carried()
 /// One more packet that the translator accepts, behind packets that it accepted: what is put for the answer is the plain pair
 /// of the packet, and what is listed is its line, which a room that isn't passed doesn't change.
 pub fn one_more_accepted_packet_adds_its_pair_and_line()
-    ensures pair { (room : ℕ) (past : List Placed) (placed : Placed) (carried : Carried) → 6 ≤ room → AreInRange past → AreAccepted room past →
-        IsPlainStep (table_of room past) placed.offset placed.packet carried →
-        pair_put carried ≡ pair_of (packets_of past) placed.packet }
-    ensures line { (room : ℕ) (past : List Placed) (placed : Placed) (carried : Carried) → 6 ≤ room → AreInRange past →
-        IsPlainStep (table_of room past) placed.offset placed.packet carried →
-        line_in carried ≡ line_of (Some room) (parts_of past) placed }
-    ensures without_room { (room : ℕ) (past : List Placed) (placed : Placed) → 6 ≤ room → AreInRange past → AreAccepted room past →
-        line_of (Some room) (parts_of past) placed ≡ line_of None (parts_of past) placed }
+    ensures { OneMoreAcceptedPacketAddsItsPairAndLine }
 {
     fed_parts_are_the_definition();
     rooms_that_are_not_passed_do_not_matter();

@@ -1,5 +1,6 @@
 pub mod Answers
 pub mod Held
+pub mod Laws
 pub mod Lend
 pub mod Messages
 pub mod Parsing

@@ -1,31 +1,26 @@
 // What holds of all streams of bytes, which are listed the newest first.
-ghost use Rattle.std.specs.Prelude.{◌≡◌, ℕ, List, [], ◌∷◌, length, reverse, Some, None, IfSome};
-ghost use Rattle.std.specs.List.{AllByRecursion, flat_map};
+ghost use Rattle.std.specs.Prelude.{◌≡◌, [], ◌∷◌, reverse};
 ghost use Rattle.voice_messages.specs.declared.voice1.Voice1.TheVariants as voice1;
 ghost use Rattle.voice_messages.specs.declared.voice1.System.TheVariants as system;
-ghost use Rattle.midi1_bytes.specs.Messages.{Message, voice, real_time, IsMessage, spelled};
-ghost use Rattle.midi1_bytes.specs.Parsing.{held_behind, idle, open_of, parse};
-ghost use Rattle.midi1_bytes.specs.Steps.{ReadsAs, completed, completed_by, step_of};
-ghost use Rattle.midi1_bytes.specs.Stream.{Room, open_at_end, open_in};
+ghost use Rattle.midi1_bytes.specs.Laws.{CompletedMessagesAreInRange, ParsedBytesAreTheDefinition, WrittenMessagesAreReadAgain};
+ghost use Rattle.midi1_bytes.specs.Messages.{voice, real_time};
+ghost use Rattle.midi1_bytes.specs.Steps.{completed};
 
 /// Written messages are read again from any bytes in which nothing is open, and leave nothing open.
 pub fn written_messages_are_read_again()
-    ensures { (messages : List Message) (past : List ℕ) → AllByRecursion IsMessage messages → open_in None past ≡ None → ReadsAs past (flat_map spelled messages) messages }
+    ensures { WrittenMessagesAreReadAgain }
 {}
 
 /// The message that a byte completes, if it completes one, has its fields in range.
 pub fn completed_messages_are_in_range()
-    ensures { (room : Room) (past : List ℕ) (byte : ℕ) → IfSome (completed_by (step_of room past byte)) IsMessage }
+    ensures { CompletedMessagesAreInRange }
 {}
 
 /// A parser that takes the bytes of a stream, each with its offset, says of each what the definition says that looks back over
 /// all the bytes before, whatever the room. It begins with what is held behind no bytes, and what is held behind some bytes
 /// becomes with one more what is held behind them all. At the end it tells what is open there.
 pub fn parsed_bytes_are_the_definition()
-    ensures new { (room : ℕ) → held_behind room [] ≡ idle room }
-    ensures step { (room : ℕ) (past : List ℕ) (byte : ℕ) → (parse (held_behind room past) (length past) byte).step ≡ step_of (Some room) past byte }
-    ensures after { (room : ℕ) (past : List ℕ) (byte : ℕ) → (parse (held_behind room past) (length past) byte).after ≡ held_behind room (byte ∷ past) }
-    ensures end { (room : ℕ) (past : List ℕ) → open_of (held_behind room past) ≡ open_at_end (Some room) past }
+    ensures { ParsedBytesAreTheDefinition }
 {}
 
 /// A clock between the data bytes of a note under running status: the bytes complete a note, the clock, and a note.

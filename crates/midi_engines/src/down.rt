@@ -1,15 +1,10 @@
 // From packets to MIDI 1.0 bytes.
-ghost use Rattle.std.specs.Prelude.{◌≡◌, ◌<◌, ◌≤◌, ◌∷◌, ℕ, IfOk, List, [], true, length};
-ghost use Rattle.std.specs.List.{AllByRecursion};
+ghost use Rattle.std.specs.Prelude.{◌≡◌, ◌<◌, ◌≤◌, ◌∷◌, IfOk, [], true};
 ghost use Rattle.std.specs.Option.{option_to_list};
 ghost use Rattle.ump_grammar.specs.declared.packet.Packet.{Packet};
 ghost use Rattle.ump_grammar.specs.Ranges.{IsPacket};
-ghost use Rattle.voice_state.specs.Lanes.{plain_pairs};
-ghost use Rattle.voice_state.specs.Packets.{IsInRange};
-ghost use Rattle.voice_state.specs.Translation.{IsTranslation};
-ghost use Rattle.down_translator.specs.Held.{table_behind};
-ghost use Rattle.sysex_groups.specs.Table.{empty_table};
-ghost use Rattle.midi_pass.specs.Pass.{Ends, IsDoneUnless, Work, seen};
+ghost use Rattle.down_translator.specs.Held.{down_after, limit_of, new_down};
+ghost use Rattle.midi_pass.specs.Pass.{Ends, IsDoneUnless, seen};
 ghost use Rattle.midi_pass.specs.Places.{Puts, places};
 ghost use Rattle.voice_state.specs.Listing.{groups};
 ghost use Rattle.down_translator.specs.Carried.{line_in};
@@ -44,14 +39,14 @@ pub struct DownRun {
 
 impl Model for DownRun {
     ghost use Rattle.std.specs.Prelude.{◌≡◌, ◌≤◌};
-    ghost use Rattle.sysex_groups.specs.Table.{empty_table};
+    ghost use Rattle.down_translator.specs.Held.{limit_of, new_down};
     ghost use Rattle.midi_engines.specs.Options.{DownOptions};
 
     ghost Value = { DownOptions };
 
-    ghost view = { λ r. record { order = r.order; room = r.down.room } };
+    ghost view = { λ r. record { order = r.order; room = limit_of r.down } };
 
-    ghost invariant = { λ r. (r.down ≡ empty_table r.down.room) × (6 ≤ r.down.room) };
+    ghost invariant = { λ r. (r.down ≡ new_down (limit_of r.down)) × (6 ≤ limit_of r.down) };
 }
 
 impl DownRun {
@@ -157,13 +152,13 @@ fn translate<S: Source, L: Lanes, W: Sink, N: Sink>(
     output: &mut W,
     notes: &mut N,
 ) -> RunEnd
-    requires empty { down ≡ empty_table down.room }
-    requires least { 6 ≤ down.room }
+    requires empty { down ≡ new_down (limit_of down) }
+    requires least { 6 ≤ limit_of down }
     requires begun { L.begun lanes.old ≡ true }
-    ensures ends { Ends (packet_cutting order) (carrying (record { order = order; room = down.room }))
+    ensures ends { Ends (packet_cutting order) (carrying (record { order = order; room = limit_of down }))
         (seen S.Source L.Lanes W.Sink N.Sink input.old lanes.old output.old notes.old)
         (seen S.Source L.Lanes W.Sink N.Sink input.new lanes.new output.new notes.new) result }
-    ensures complete { IsDoneUnless (packet_cutting order) (carrying (record { order = order; room = down.room }))
+    ensures complete { IsDoneUnless (packet_cutting order) (carrying (record { order = order; room = limit_of down }))
         (seen S.Source L.Lanes W.Sink N.Sink input.old lanes.old output.old notes.old)
         (seen S.Source L.Lanes W.Sink N.Sink input.new lanes.new output.new notes.new) result }
 {
@@ -267,7 +262,7 @@ fn carry<L: Lanes, W: Sink, N: Sink>(
 ) -> Result<(), RunEnd>
     requires packet { IsPacket packet.now }
     requires begun { L.begun lanes.old ≡ true }
-    ensures behind { down.new ≡ table_behind offset packet.now down.old }
+    ensures behind { down.new ≡ down_after offset packet.now down.old }
     ensures carries { Carries down.old offset packet.now
         (places L.Lanes W.Sink N.Sink lanes.old output.old notes.old)
         (places L.Lanes W.Sink N.Sink lanes.new output.new notes.new) result }

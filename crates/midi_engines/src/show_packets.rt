@@ -1,13 +1,14 @@
 // From packets to lines.
 ghost use Rattle.std.specs.Prelude.{◌≡◌, ◌≤◌, ◌∷◌, [], length};
 ghost use Rattle.ump_grammar.specs.Ranges.{IsPacket};
-ghost use Rattle.down_translator.specs.Held.{table_behind};
+ghost use Rattle.down_translator.specs.Held.{with_part_of};
+ghost use Rattle.voice_state.specs.Parts.{part_of};
 ghost use Rattle.sysex_groups.specs.Table.{empty_table};
 ghost use Rattle.midi_pass.specs.Pass.{Ends, IsDoneUnless, Takes, seen};
 ghost use Rattle.midi_pass.specs.Places.{places};
 ghost use Rattle.midi_pass.specs.Put.{in_output};
 ghost use Rattle.midi_lines.specs.PacketLines.{packet_text};
-ghost use Rattle.midi_engines.specs.Down.{reason_of, refusal_by};
+ghost use Rattle.midi_engines.specs.Down.{refusal_by};
 ghost use Rattle.midi_engines.specs.Packets.{packet_cutting};
 ghost use Rattle.midi_engines.specs.ShowPackets.{HoldsShow, IsReadyShow, bad_join, options_of, showing, shows_last_named, shows_named, shows_nothing};
 
@@ -116,7 +117,7 @@ pub(crate) fn show_packets<S: Source, L: Lanes, W: Sink, N: Sink>(
 // Joins the exclusives of one more packet. Why it is refused: it passes the room.
 fn join(groups: &mut Groups, packet: &Packet, offset: u64) -> Option<BadStep>
     requires { IsPacket packet.now }
-    ensures behind { groups.new ≡ table_behind offset packet.now groups.old }
+    ensures behind { groups.new ≡ with_part_of (part_of offset packet.now) groups.old }
     ensures bad { result ≡ bad_join groups.old packet.now }
 {
     match packet {
@@ -141,7 +142,7 @@ fn put_packet<L: Lanes, W: Sink, N: Sink>(
     notes: &mut N,
 ) -> Result<(), RunEnd>
     requires { IsPacket packet.now }
-    ensures behind { groups.new ≡ table_behind framed.now.offset packet.now groups.old }
+    ensures behind { groups.new ≡ with_part_of (part_of framed.now.offset packet.now) groups.old }
     ensures takes { Takes (refusal_by (bad_join groups.old packet.now) framed.now.offset)
         (in_output (packet_text packet.now framed.now.words framed.now.offset) ∷ [])
         (places L.Lanes W.Sink N.Sink lanes.old output.old notes.old)

@@ -17,6 +17,8 @@ use Rattle.ump_grammar.specs.declared.packet.Packet.TheVariants as packet
 use Rattle.midi1_bytes.specs.Messages.{Message, voice, common, exclusive, real_time}
 use Rattle.midi1_bytes.specs.Stream.{Room}
 use Rattle.midi1_bytes.specs.Steps.{completed_by, step_of}
+use Rattle.midi1_bytes.specs.Laws.{CompletedMessagesAreInRange, WrittenMessagesAreReadAgain}
+use Rattle.sysex_groups.specs.Laws.{CutPayloadIsJoined}
 use Rattle.voice_state.specs.Registers.{selected}
 use Rattle.voice_state.specs.Controllers.{Role, data_msb, data_lsb, role_of}
 use Rattle.voice_state.specs.State.{Channel, GroupState, same_param}
@@ -29,11 +31,11 @@ use Rattle.voice_state.specs.Plain.{plain_piece}
 use Rattle.voice_state.specs.Lanes.{Denotes, lane_after, pair_of, pairs_behind, plain_pairs, bytes_for, lane_bytes}
 use Rattle.voice_state.specs.Raising.{raised_voice, first_exclusive_packets, raised_message, raised_completed, packets_at, packets_up}
 use Rattle.voice_state.specs.Back.{pieces_of, back_at, back, SameChannel, SameState}
-use Rattle.voice_state.proofs.Induction.{AreRead, start_denotes, one_more}
+use Rattle.voice_state.proofs.Induction.{start_denotes, one_more}
 use Rattle.voice_state.proofs.Raising.{Raises}
 use Rattle.voice_state.proofs.Recording.{uncarried, lane_bytes-pair}
 use Rattle.voice_state.proofs.RaisedRanges.{all_in_range, packets_at_fit, packets_up_fit}
-use Rattle.voice_state.proofs.Up.{AreJoined, AreSound, raises, turned, packets_up-turned, meaning1-more}
+use Rattle.voice_state.proofs.Up.{raises, turned, packets_up-turned, meaning1-more}
 
 -- ---- the bytes' side never has a loose parameter
 
@@ -87,7 +89,7 @@ lane_after-own : (bytes : List ℕ) (past : List Packet) (p : Packet) (g : ℕ) 
 lane_after-own bytes past p g e = ap (λ t. cond t (reverse (plain_piece (whole_of past p) p) ++ bytes) bytes) (ap (λ o. is_group o g) e ∙ eq-eqb g g refl)
 
 -- the bytes of a lane, the newest first, behind further packets
-pieces_denote : AreRead → (g : ℕ) (ps : List Packet) (bytes : List ℕ) (past : List Packet) → AreOf g ps → AllByRecursion IsInRange ps → AllByRecursion IsInRange past → Denotes bytes past g → Denotes (reverse (pieces_of past ps) ++ bytes) (reverse ps ++ past) g
+pieces_denote : WrittenMessagesAreReadAgain → (g : ℕ) (ps : List Packet) (bytes : List ℕ) (past : List Packet) → AreOf g ps → AllByRecursion IsInRange ps → AllByRecursion IsInRange past → Denotes bytes past g → Denotes (reverse (pieces_of past ps) ++ bytes) (reverse ps ++ past) g
 pieces_denote reads g [] bytes past o a b d = d
 pieces_denote reads g (p ∷ ps) bytes past o a b d =
     let piece = plain_piece (whole_of past p) p in
@@ -131,7 +133,7 @@ turned_in_range : (xs acc : List Packet) → AllByRecursion IsInRange xs → All
 turned_in_range [] acc h k = k
 turned_in_range (x ∷ xs) acc h k = turned_in_range xs (x ∷ acc) h.1 (h.0, k)
 
-back_denotes : AreRead → AreJoined → AreSound → (room : Room) (g : ℕ) (past : List ℕ) → g < 16 → Denotes (reverse (back room g past)) (reverse (packets_up room g past)) g
+back_denotes : WrittenMessagesAreReadAgain → CutPayloadIsJoined → CompletedMessagesAreInRange → (room : Room) (g : ℕ) (past : List ℕ) → g < 16 → Denotes (reverse (back room g past)) (reverse (packets_up room g past)) g
 back_denotes reads joined sound room g [] l = start_denotes g
 back_denotes reads joined sound room g (b ∷ past) l =
     let before : List Packet = reverse (packets_up room g past) in
@@ -154,7 +156,7 @@ same_channel a b c r h s t = record {
   loose = λ p. t p ∙ sym (s p);
 }
 
-pub back_means : AreRead → AreJoined → AreSound → (g : ℕ) (past : List ℕ) → g < 16 → SameState (meaning1 (reverse (back None g past))) (meaning1 past)
+pub back_means : WrittenMessagesAreReadAgain → CutPayloadIsJoined → CompletedMessagesAreInRange → (g : ℕ) (past : List ℕ) → g < 16 → SameState (meaning1 (reverse (back None g past))) (meaning1 past)
 back_means reads joined sound g past l =
     let r = raises joined sound g past in
     let d = back_denotes reads joined sound None g past l in

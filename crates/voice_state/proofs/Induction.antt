@@ -3,7 +3,7 @@ use Rattle.std.proofs.Common.{ℕ, ◌≡◌, ◌<◌, ◌∙◌, ap, sym, refl,
 use Rattle.std.proofs.lemmas.Bool.{cond_both}
 use Rattle.std.proofs.lemmas.Grind.{fold-append}
 use Rattle.std.specs.Option.{IfSome}
-use Rattle.std.specs.List.{fold, flat_map, AllByRecursion}
+use Rattle.std.specs.List.{fold, AllByRecursion}
 use Rattle.voice_messages.specs.declared.voice1.System.{System}
 use Rattle.voice_messages.specs.declared.voice1.System.TheVariants as system
 use Rattle.voice_messages.specs.declared.voice2.ParamKind.{ParamKind}
@@ -14,9 +14,10 @@ use Rattle.voice_messages.specs.Ranges.{IsSystem, IsVoice2}
 use Rattle.ump_grammar.specs.declared.packet.Packet.{Packet}
 use Rattle.ump_grammar.specs.declared.packet.Packet.TheVariants as packet
 use Rattle.bit_scaling.specs.Scaling.{up, down7, down14}
-use Rattle.midi1_bytes.specs.Messages.{Message, message_of, IsMessage, AreData, spelled}
+use Rattle.midi1_bytes.specs.Messages.{Message, message_of, IsMessage, AreData}
 use Rattle.midi1_bytes.specs.Stream.{open_in}
 use Rattle.midi1_bytes.specs.Steps.{ReadsAs, completed}
+use Rattle.midi1_bytes.specs.Laws.{WrittenMessagesAreReadAgain}
 use Rattle.voice_state.specs.Registers.{is_null}
 use Rattle.voice_state.specs.Controllers.{role_of, number_msb_index, number_lsb_index}
 use Rattle.voice_state.specs.Messages.{as_they_come, start, step1, meaning1}
@@ -102,11 +103,7 @@ start_denotes g = record {
 meaning1-piece : (bytes piece : List ℕ) (ms : List Message) → ReadsAs bytes piece ms → meaning1 (reverse piece ++ bytes) ≡ fold step1 (meaning1 bytes) ms
 meaning1-piece bytes piece ms r = ap (fold step1 (start as_they_come)) r.completes ∙ fold-append step1 (start as_they_come) (completed bytes) ms
 
--- a written list of messages is read again
-abbrev pub AreRead : Type 0
-AreRead = (ms : List Message) (past : List ℕ) → AllByRecursion IsMessage ms → open_in None past ≡ None → ReadsAs past (flat_map spelled ms) ms
-
-pub one_more : AreRead → (bytes : List ℕ) (past : List Packet) (p : Packet) (g : ℕ) → AllByRecursion IsInRange past → IsInRange p → Denotes bytes past g → Denotes (lane_after bytes past p g) (p ∷ past) g
+pub one_more : WrittenMessagesAreReadAgain → (bytes : List ℕ) (past : List Packet) (p : Packet) (g : ℕ) → AllByRecursion IsInRange past → IsInRange p → Denotes bytes past g → Denotes (lane_after bytes past p g) (p ∷ past) g
 one_more reads bytes past p g a b d = go (is_group (group_of p) g) refl
   where
     matched : (t : Bool) → is_group (group_of p) g ≡ t → GroupMatches (meaning1 (cond t (reverse (plain_piece (whole_of past p) p) ++ bytes) bytes)) (cond t (step2 (meaning2 past g) p (whole_of past p)) (meaning2 past g)) → open_in None (cond t (reverse (plain_piece (whole_of past p) p) ++ bytes) bytes) ≡ None → Denotes (lane_after bytes past p g) (p ∷ past) g

@@ -27,13 +27,15 @@ use Rattle.sysex_groups.specs.Cut.{part_count}
 use Rattle.midi1_bytes.specs.Messages.{Message, voice, common, exclusive, real_time, IsMessage, IsCommon, IsRealTime, AreData}
 use Rattle.midi1_bytes.specs.Stream.{Room}
 use Rattle.midi1_bytes.specs.Steps.{completed_by, step_of}
+use Rattle.midi1_bytes.specs.Laws.{CompletedMessagesAreInRange}
+use Rattle.sysex_groups.specs.Laws.{CutPayloadIsJoined}
 use Rattle.voice_state.specs.Registers.{Pair, Registers, bank_of, bank_by, selected, selected_by, selected_of}
 use Rattle.voice_state.specs.Controllers.{Role, bank_msb, bank_lsb, data_msb, data_lsb, data_step, number_msb, number_lsb, reset_all, channel_mode, plain, role_of}
 use Rattle.voice_state.specs.State.{Channel, GroupState}
 use Rattle.voice_state.specs.Messages.{as_they_come, enter_msb, enter_lsb, control, voice_at, channel_of, step1, meaning1}
 use Rattle.voice_state.specs.Packets.{IsInRange}
 use Rattle.voice_state.specs.Raising.{selected_value, raised_entry, raised_control, raised_voice, exclusive_packet, first_exclusive_packets, raised_message, raised_completed, packets_at, packets_up}
-use Rattle.voice_state.proofs.Up.{AreJoined, AreSound, raises, meaning1-more}
+use Rattle.voice_state.proofs.Up.{raises, meaning1-more}
 
 -- ---- registers
 
@@ -93,7 +95,7 @@ small-completed : (o : Option Message) (g : GroupState) → IfSome o IsMessage �
 small-completed None g b h = h
 small-completed (Some m) g b h = small-step m g b h
 
-pub small-meaning : AreSound → (past : List ℕ) → IsSmallState (meaning1 past)
+pub small-meaning : CompletedMessagesAreInRange → (past : List ℕ) → IsSmallState (meaning1 past)
 small-meaning sound [] = λ j. record { bank = record { msb = tt; lsb = tt }; registered = record { msb = tt; lsb = tt }; assignable = record { msb = tt; lsb = tt } }
 small-meaning sound (b ∷ past) = subst IsSmallState (sym (meaning1-more past b)) (small-completed (completed_by (step_of None past b)) (meaning1 past) (sound None past b) (small-meaning sound past))
 
@@ -195,20 +197,20 @@ real_time_is_system (system.Position n) b = absurd b
 real_time_is_system (system.Song n) b = absurd b
 real_time_is_system _ b = tt
 
-message_fits : AreJoined → AreSound → (g : ℕ) (m : Message) (past : List ℕ) → g < 16 → IsMessage m → AllByRecursion Fits (raised_message (meaning1 past) g m)
+message_fits : CutPayloadIsJoined → CompletedMessagesAreInRange → (g : ℕ) (m : Message) (past : List ℕ) → g < 16 → IsMessage m → AllByRecursion Fits (raised_message (meaning1 past) g m)
 message_fits joined sound g (voice m) past l b = voices_fit g _ l (voice_small m ((meaning1 past).channels (channel_of m)) b (small-meaning sound past (channel_of m)) ((raises joined sound g past).channels (channel_of m)).follows.bounded)
 message_fits joined sound g (common m) past l b = (((l, common_is_system m b), (l, common_is_system m b)), tt)
 message_fits joined sound g (real_time m) past l b = (((l, real_time_is_system m b), (l, real_time_is_system m b)), tt)
 message_fits joined sound g (exclusive bytes) past l b = first_fit g bytes (part_count bytes) l b
 
-completed_fits : AreJoined → AreSound → (g : ℕ) (o : Option Message) (past : List ℕ) → g < 16 → IfSome o IsMessage → AllByRecursion Fits (raised_completed (meaning1 past) g o)
+completed_fits : CutPayloadIsJoined → CompletedMessagesAreInRange → (g : ℕ) (o : Option Message) (past : List ℕ) → g < 16 → IfSome o IsMessage → AllByRecursion Fits (raised_completed (meaning1 past) g o)
 completed_fits joined sound g None past l b = tt
 completed_fits joined sound g (Some m) past l b = message_fits joined sound g m past l b
 
-pub packets_at_fit : AreJoined → AreSound → (room : Room) (g : ℕ) (past : List ℕ) (b : ℕ) → g < 16 → AllByRecursion Fits (packets_at room g past b)
+pub packets_at_fit : CutPayloadIsJoined → CompletedMessagesAreInRange → (room : Room) (g : ℕ) (past : List ℕ) (b : ℕ) → g < 16 → AllByRecursion Fits (packets_at room g past b)
 packets_at_fit joined sound room g past b l = completed_fits joined sound g (completed_by (step_of room past b)) past l (sound room past b)
 
-pub packets_up_fit : AreJoined → AreSound → (room : Room) (g : ℕ) (past : List ℕ) → g < 16 → AllByRecursion Fits (packets_up room g past)
+pub packets_up_fit : CutPayloadIsJoined → CompletedMessagesAreInRange → (room : Room) (g : ℕ) (past : List ℕ) → g < 16 → AllByRecursion Fits (packets_up room g past)
 packets_up_fit joined sound room g [] l = tt
 packets_up_fit joined sound room g (b ∷ past) l = fits_append (packets_up room g past) _ (packets_up_fit joined sound room g past l) (packets_at_fit joined sound room g past b l)
 
@@ -224,17 +226,17 @@ all_in_range (p ∷ ps) h = (h.0.1, all_in_range ps h.1)
 
 -- ---- what is left in a receiver
 
-pub bank_in_range : AreSound → (past : List ℕ) (ch : ℕ) → IsBank (bank_of ((meaning1 past).channels ch).registers)
+pub bank_in_range : CompletedMessagesAreInRange → (past : List ℕ) (ch : ℕ) → IsBank (bank_of ((meaning1 past).channels ch).registers)
 bank_in_range sound past ch =
     let r = ((meaning1 past).channels ch).registers in
     bank_small r.bank.msb r.bank.lsb (small-meaning sound past ch).bank.msb (small-meaning sound past ch).bank.lsb
 
-pub number_in_range : AreSound → (past : List ℕ) (ch : ℕ) → IfSome (selected ((meaning1 past).channels ch).registers) IsParam
+pub number_in_range : CompletedMessagesAreInRange → (past : List ℕ) (ch : ℕ) → IfSome (selected ((meaning1 past).channels ch).registers) IsParam
 number_in_range sound past ch = go (selected ((meaning1 past).channels ch).registers) refl
   where
     go : (o : Option Param) → selected ((meaning1 past).channels ch).registers ≡ o → IfSome o IsParam
     go None e = tt
     go (Some p) e = param_small ((meaning1 past).channels ch).registers ((meaning1 past).channels ch).registers.touched p e (small-meaning sound past ch)
 
-pub values_in_range : AreJoined → AreSound → (past : List ℕ) (ch : ℕ) (p : Param) → unwrap_or (((meaning1 past).channels ch).params p) 0 < 16384
+pub values_in_range : CutPayloadIsJoined → CompletedMessagesAreInRange → (past : List ℕ) (ch : ℕ) (p : Param) → unwrap_or (((meaning1 past).channels ch).params p) 0 < 16384
 values_in_range joined sound past ch p = ((raises joined sound 0 past).channels ch).follows.bounded p

@@ -17,6 +17,7 @@ use Rattle.voice_messages.specs.declared.voice1.System.{System}
 use Rattle.voice_messages.specs.declared.voice1.System.TheVariants as system
 use Rattle.bit_scaling.specs.Scaling.{down7, down14}
 use Rattle.midi1_bytes.specs.Messages.{Message, voice, message_of, spelled, spelled_voice}
+use Rattle.midi1_bytes.specs.Laws.{WrittenMessagesAreReadAgain}
 use Rattle.voice_state.specs.Registers.{is_null}
 use Rattle.voice_state.specs.Controllers.{role_of}
 use Rattle.voice_state.specs.Parts.{group_of, is_group, whole_of}
@@ -26,7 +27,7 @@ use Rattle.voice_state.specs.Agreement.{Agrees}
 use Rattle.voice_state.specs.Listing.{is_carried, is_carried_voice, is_carried_role}
 use Rattle.voice_state.specs.Plain.{set_messages, voice_messages, plain_piece}
 use Rattle.voice_state.specs.Lanes.{pair_by, pair_of, pairs_behind, plain_pairs, bytes_for, lane_bytes, Denotes, lane_after}
-use Rattle.voice_state.proofs.Induction.{AreRead, start_denotes, one_more}
+use Rattle.voice_state.proofs.Induction.{start_denotes, one_more}
 
 -- ---- a packet that isn't carried has no piece
 
@@ -136,7 +137,7 @@ lane_bytes-more g past p =
     at true bytes piece = reverse-append bytes piece
     at false bytes piece = ap reverse (append-nil bytes)
 
-pub recording_denotes : AreRead → (g : ℕ) (past : List Packet) → AllByRecursion IsInRange past → Denotes (reverse (lane_bytes g (pairs_behind past))) past g
+pub recording_denotes : WrittenMessagesAreReadAgain → (g : ℕ) (past : List Packet) → AllByRecursion IsInRange past → Denotes (reverse (lane_bytes g (pairs_behind past))) past g
 recording_denotes reads g [] a = start_denotes g
 recording_denotes reads g (p ∷ past) a = subst (λ bytes. Denotes bytes (p ∷ past) g) (sym (lane_bytes-more g past p)) (one_more reads (reverse (lane_bytes g (pairs_behind past))) past p g a.1 a.0 (recording_denotes reads g past a.1))
 
@@ -144,7 +145,7 @@ all_reverse : (xs acc : List Packet) → AllByRecursion IsInRange xs → AllByRe
 all_reverse [] acc h k = k
 all_reverse (x ∷ xs) acc h k = all_reverse xs (x ∷ acc) h.1 (h.0, k)
 
-pub recording_agrees : AreRead → (packets : List Packet) (g : ℕ) → AllByRecursion IsInRange packets → Agrees (mean1 (lane_bytes g (plain_pairs packets))) (mean2 packets g)
+pub recording_agrees : WrittenMessagesAreReadAgain → (packets : List Packet) (g : ℕ) → AllByRecursion IsInRange packets → Agrees (mean1 (lane_bytes g (plain_pairs packets))) (mean2 packets g)
 recording_agrees reads packets g a = (recording_denotes reads g (reverse packets) (all_reverse packets [] a tt)).agrees
 
 -- the pairs of one more packet stand behind those before

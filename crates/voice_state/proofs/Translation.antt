@@ -5,6 +5,7 @@ use Rattle.std.proofs.lemmas.List.{append-nil, reverse-append, map-append, lengt
 use Rattle.std.proofs.Math.Seq.{take-append_seam}
 use Rattle.std.specs.List.{AllByRecursion}
 use Rattle.ump_grammar.specs.declared.packet.Packet.{Packet}
+use Rattle.midi1_bytes.specs.Laws.{WrittenMessagesAreReadAgain}
 use Rattle.voice_state.specs.Messages.{mean1}
 use Rattle.voice_state.specs.Parts.{group_of, whole_of}
 use Rattle.voice_state.specs.Packets.{mean2, IsInRange}
@@ -13,7 +14,6 @@ use Rattle.voice_state.specs.Listing.{is_carried}
 use Rattle.voice_state.specs.Plain.{plain_piece}
 use Rattle.voice_state.specs.Lanes.{pair_by, pair_of, pairs_behind, plain_pairs, lane_bytes}
 use Rattle.voice_state.specs.Translation.{lane_by, lanes_behind, carried_lanes, IsTranslation}
-use Rattle.voice_state.proofs.Induction.{AreRead}
 use Rattle.voice_state.proofs.Recording.{recording_agrees}
 
 -- ---- one pair for each packet that is carried
@@ -62,7 +62,7 @@ all_take count packets a = first (take count packets) (drop count packets) (subs
     first [] after a = tt
     first (p ∷ before) after a = (a.0, first before after a.1)
 
-pub plain_is_translation : AreRead → (packets : List Packet) → AllByRecursion IsInRange packets → IsTranslation packets (plain_pairs packets)
+pub plain_is_translation : WrittenMessagesAreReadAgain → (packets : List Packet) → AllByRecursion IsInRange packets → IsTranslation packets (plain_pairs packets)
 plain_is_translation reads packets a = record {
   lanes = pairs-lanes (reverse packets);
   agrees = λ count group.

@@ -1,6 +1,5 @@
 -- The main induction of the way up: after each byte the packets mean what the bytes mean.
-use Rattle.std.proofs.Common.{ℕ, ◌+◌, ◌≡◌, ◌<◌, ◌∙◌, ap, sym, refl, subst, zero, suc, List, [], ◌∷◌, ◌++◌, map, reverse, length, Option, Some, None, Bool, true, false, cond, arith, append_assoc, ◌==◌}
-use Rattle.std.specs.Prelude.{IsTrue}
+use Rattle.std.proofs.Common.{ℕ, ◌+◌, ◌≡◌, ◌<◌, ◌∙◌, ap, sym, refl, subst, zero, suc, List, [], ◌∷◌, ◌++◌, map, reverse, Option, Some, None, Bool, true, false, cond, arith, append_assoc, ◌==◌}
 use Rattle.std.specs.Option.{option_to_list, IfSome}
 use Rattle.std.proofs.lemmas.Bool.{cond_both, eqb-true, eq-eqb, ne_eqb}
 use Rattle.std.proofs.lemmas.List.{reverse-append}
@@ -18,10 +17,12 @@ use Rattle.voice_messages.specs.declared.voice2.Param.{Param}
 use Rattle.bit_scaling.specs.Scaling.{up}
 use Rattle.ump_grammar.specs.declared.packet.Packet.{Packet}
 use Rattle.ump_grammar.specs.declared.packet.Packet.TheVariants as packet
-use Rattle.sysex_groups.specs.Exclusives.{Part, Room, fits, of_group, ended}
+use Rattle.sysex_groups.specs.Exclusives.{Part, Room, of_group}
 use Rattle.sysex_groups.specs.Cut.{part_count, sent_part, sent}
 use Rattle.midi1_bytes.specs.Messages.{Message, voice, common, exclusive, real_time, message_of, IsMessage, IsCommon, IsRealTime}
 use Rattle.midi1_bytes.specs.Steps.{completed, completed_by, step_of}
+use Rattle.midi1_bytes.specs.Laws.{CompletedMessagesAreInRange}
+use Rattle.sysex_groups.specs.Laws.{CutPayloadIsJoined}
 use Rattle.voice_state.specs.Registers.{selected}
 use Rattle.voice_state.specs.Controllers.{Role, data_msb, data_lsb, reset_all, channel_mode, plain, role_of}
 use Rattle.voice_state.specs.State.{Channel, GroupState, at_channel, with_common, with_real_time}
@@ -33,16 +34,6 @@ use Rattle.voice_state.specs.Raising.{raised_entry, raised_control, raised_voice
 use Rattle.voice_state.proofs.Packets.{at_channel-at_channel}
 use Rattle.voice_state.proofs.Induction.{start_denotes}
 use Rattle.voice_state.proofs.Raising.{Raises, raises-voice}
-
--- ---- what is known of the crates below
-
--- the packets of a payload are joined to it again
-abbrev pub AreJoined : Type 0
-AreJoined = (room : Room) (payload : List ℕ) → IsTrue (fits room (length payload)) → (group : ℕ) (offsets : ℕ → ℕ) (past all : List Part) (k : ℕ) → k < part_count payload → of_group group all ≡ sent group offsets payload past k → ended room all (sent_part group offsets payload k) ≡ cond (k + 1 == part_count payload) (Some payload) None
-
--- completed messages have their fields in range
-abbrev pub AreSound : Type 0
-AreSound = (room : Room) (past : List ℕ) (byte : ℕ) → IfSome (completed_by (step_of room past byte)) IsMessage
 
 -- ---- one more packet of the group
 
@@ -76,17 +67,17 @@ behind-parts g payload past (suc k) =
     ap (λ t. cond t (part ∷ own) own) (eq-eqb g g refl)
     ∙ ap (λ l. part ∷ l) (behind-parts g payload past k)
 
-pub behind-whole : AreJoined → (g : ℕ) (payload : List ℕ) (past : List Packet) (k : ℕ) → k < part_count payload → whole_of (behind g payload past k) (exclusive_packet g payload k) ≡ cond (k + 1 == part_count payload) (Some payload) None
+pub behind-whole : CutPayloadIsJoined → (g : ℕ) (payload : List ℕ) (past : List Packet) (k : ℕ) → k < part_count payload → whole_of (behind g payload past k) (exclusive_packet g payload k) ≡ cond (k + 1 == part_count payload) (Some payload) None
 behind-whole joined g payload past k h = joined None payload refl g (λ n. 0) (of_group g (packet_parts past)) (packet_parts (behind g payload past k)) k h (behind-parts g payload past k)
 
-behind-mean : AreJoined → (g : ℕ) (payload : List ℕ) (past : List Packet) (k : ℕ) → k < part_count payload → meaning2 (behind g payload past (suc k)) g ≡ with_ended (cond (k + 1 == part_count payload) (Some payload) None) (meaning2 (behind g payload past k) g)
+behind-mean : CutPayloadIsJoined → (g : ℕ) (payload : List ℕ) (past : List Packet) (k : ℕ) → k < part_count payload → meaning2 (behind g payload past (suc k)) g ≡ with_ended (cond (k + 1 == part_count payload) (Some payload) None) (meaning2 (behind g payload past k) g)
 unfolding behind
 behind-mean joined g payload past k h =
     meaning2-own g (exclusive_packet g payload k) (behind g payload past k) refl
     ∙ ap (λ o. with_ended o (meaning2 (behind g payload past k) g)) (behind-whole joined g payload past k h)
 
 -- all but the last are held
-held-mean : AreJoined → (g : ℕ) (payload : List ℕ) (past : List Packet) (k : ℕ) → k < part_count payload → meaning2 (behind g payload past k) g ≡ meaning2 past g
+held-mean : CutPayloadIsJoined → (g : ℕ) (payload : List ℕ) (past : List Packet) (k : ℕ) → k < part_count payload → meaning2 (behind g payload past k) g ≡ meaning2 past g
 unfolding behind
 held-mean joined g payload past zero h = refl
 held-mean joined g payload past (suc k) h =
@@ -94,7 +85,7 @@ held-mean joined g payload past (suc k) h =
     ∙ ap (λ t. with_ended (cond t (Some payload) None) (meaning2 (behind g payload past k) g)) (ne_eqb (k + 1) (part_count payload) (λ e. omega arith))
     ∙ held-mean joined g payload past k (omega arith)
 
-pub exclusive-mean : AreJoined → (g : ℕ) (payload : List ℕ) (past : List Packet) → meaning2 (reverse (exclusive_packets g payload) ++ past) g ≡ with_common (exclusive payload) (meaning2 past g)
+pub exclusive-mean : CutPayloadIsJoined → (g : ℕ) (payload : List ℕ) (past : List Packet) → meaning2 (reverse (exclusive_packets g payload) ++ past) g ≡ with_common (exclusive payload) (meaning2 past g)
 exclusive-mean joined g payload past = ap (λ l. meaning2 l g) (turned-first g payload past (part_count payload)) ∙ go (part_count payload) refl
   where
     go : (n : ℕ) → part_count payload ≡ n → meaning2 (behind g payload past n) g ≡ with_common (exclusive payload) (meaning2 past g)
@@ -168,7 +159,7 @@ real_time-is system.Stop b = refl
 real_time-is system.Sensing b = refl
 real_time-is system.Reset b = refl
 
-raises_message : AreJoined → (g : ℕ) (m : Message) (g1 : GroupState) (past : List Packet) → IsMessage m → GroupRaises g1 (meaning2 past g) → GroupRaises (step1 g1 m) (meaning2 (reverse (raised_message g1 g m) ++ past) g)
+raises_message : CutPayloadIsJoined → (g : ℕ) (m : Message) (g1 : GroupState) (past : List Packet) → IsMessage m → GroupRaises g1 (meaning2 past g) → GroupRaises (step1 g1 m) (meaning2 (reverse (raised_message g1 g m) ++ past) g)
 raises_message joined g (voice m) g1 past b h =
     let ch = channel_of m in
     let f2 : Channel → Channel = λ c. fold (λ c m. voice2_at m c) c (raised_voice (g1.channels ch) m) in
@@ -182,7 +173,7 @@ raises_message joined g (exclusive bytes) g1 past b h = subst (GroupRaises (step
 raises_message joined g (common m) g1 past b h = subst (GroupRaises (with_common (common m) g1)) (sym (meaning2-own g (packet.System g m) past refl ∙ ap (step_at raised (meaning2 past g)) (common-is m b))) (record { channels = h.channels; commons = ap (λ l. l ++ common m ∷ []) h.commons; real_times = h.real_times })
 raises_message joined g (real_time m) g1 past b h = subst (GroupRaises (with_real_time m g1)) (sym (meaning2-own g (packet.System g m) past refl ∙ ap (step_at raised (meaning2 past g)) (real_time-is m b))) (record { channels = h.channels; commons = h.commons; real_times = ap (λ l. l ++ m ∷ []) h.real_times })
 
-raises_completed : AreJoined → (g : ℕ) (o : Option Message) (g1 : GroupState) (past : List Packet) → IfSome o IsMessage → GroupRaises g1 (meaning2 past g) → GroupRaises (fold step1 g1 (option_to_list o)) (meaning2 (reverse (raised_completed g1 g o) ++ past) g)
+raises_completed : CutPayloadIsJoined → (g : ℕ) (o : Option Message) (g1 : GroupState) (past : List Packet) → IfSome o IsMessage → GroupRaises g1 (meaning2 past g) → GroupRaises (fold step1 g1 (option_to_list o)) (meaning2 (reverse (raised_completed g1 g o) ++ past) g)
 raises_completed joined g None g1 past b h = h
 raises_completed joined g (Some m) g1 past b h = raises_message joined g m g1 past b h
 
@@ -194,7 +185,7 @@ packets_up-turned room g past b = reverse-append (packets_up room g past) (packe
 pub meaning1-more : (past : List ℕ) (b : ℕ) → meaning1 (b ∷ past) ≡ fold step1 (meaning1 past) (option_to_list (completed_by (step_of None past b)))
 meaning1-more past b = fold-append step1 (start as_they_come) (completed past) (option_to_list (completed_by (step_of None past b)))
 
-pub raises : AreJoined → AreSound → (g : ℕ) (past : List ℕ) → GroupRaises (meaning1 past) (meaning2 (reverse (packets_up None g past)) g)
+pub raises : CutPayloadIsJoined → CompletedMessagesAreInRange → (g : ℕ) (past : List ℕ) → GroupRaises (meaning1 past) (meaning2 (reverse (packets_up None g past)) g)
 raises joined sound g [] =
     let d = start_denotes g in
     record {
@@ -208,7 +199,7 @@ raises joined sound g (b ∷ past) =
     subst (λ s. GroupRaises s (meaning2 (reverse (packets_up None g (b ∷ past))) g)) (sym (meaning1-more past b))
     (subst (λ l. GroupRaises (fold step1 (meaning1 past) (option_to_list o)) (meaning2 l g)) (sym (packets_up-turned None g past b)) one)
 
-pub raised_agrees : AreJoined → AreSound → (g : ℕ) (past : List ℕ) → Agrees (meaning1 past) (meaning2 (reverse (packets_up None g past)) g)
+pub raised_agrees : CutPayloadIsJoined → CompletedMessagesAreInRange → (g : ℕ) (past : List ℕ) → Agrees (meaning1 past) (meaning2 (reverse (packets_up None g past)) g)
 raised_agrees joined sound g past =
     let r = raises joined sound g past in
     record { channels = λ j. (r.channels j).follows.agrees; commons = r.commons; real_times = r.real_times }

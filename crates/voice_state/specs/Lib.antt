@@ -2,6 +2,7 @@ pub mod Agreement
 pub mod Back
 pub mod Controllers
 pub mod Lanes
+pub mod Laws
 pub mod Listing
 pub mod Messages
 pub mod Packets
@@ -15,4 +16,5 @@ pub mod Rows
 pub mod State
 pub mod StepListing
 pub mod Translation
+pub mod UpLaws
 pub mod UpRefusal

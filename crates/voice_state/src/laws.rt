@@ -1,18 +1,15 @@
 // What holds of all recordings.
-ghost use Rattle.std.specs.Prelude.{◌≡◌, ◌↔◌, ◌<◌, ℕ, List, [], ◌∷◌, ◌++◌, reverse, map, length, Option, Some, None, IsTrue, false};
+ghost use Rattle.std.specs.Prelude.{◌≡◌, ℕ, List, [], ◌∷◌, ◌++◌, reverse, map, Some, None};
 ghost use Rattle.std.specs.List.{AllByRecursion};
 ghost use Rattle.ump_grammar.specs.declared.packet.Packet.{Packet};
-ghost use Rattle.sysex_groups.specs.Exclusives.{Part, joined, opened, ended, passes_room};
+ghost use Rattle.sysex_groups.specs.Exclusives.{joined};
 ghost use Rattle.voice_state.specs.declared.listed.Kind.TheVariants as kinds;
 ghost use Rattle.voice_state.specs.Agreement.{Agrees};
+ghost use Rattle.voice_state.specs.Laws.{CarriedPacketsHaveAPiece, JoinedBytesKnowNoOffsets, PlainPairsAreATranslation, RoomsThatAreNotPassedDoNotMatter};
 ghost use Rattle.voice_state.specs.Lanes.{Denotes, lane_after, lane_bytes, pair_of, plain_pairs};
-ghost use Rattle.voice_state.specs.Listing.{is_carried, listing_of};
+ghost use Rattle.voice_state.specs.Listing.{listing_of};
 ghost use Rattle.voice_state.specs.Messages.{mean1};
 ghost use Rattle.voice_state.specs.Packets.{mean2, IsInRange};
-ghost use Rattle.voice_state.specs.Parts.{Placed, parts_of, packet_parts};
-ghost use Rattle.voice_state.specs.Plain.{plain_piece};
-ghost use Rattle.voice_state.specs.Translation.{IsTranslation};
-ghost use Rattle.voice_state.specs.Rooms.{AreWithinRoom};
 ghost use Rattle.voice_state.specs.Rows.{exclusives_of_two_groups, cut_stray_and_open, mixed_protocols, registered};
 
 use midi1_bytes::laws::written_messages_are_read_again;
@@ -41,7 +38,7 @@ pub fn plain_pairs_mean_the_packets()
 /// The plain pairs of a recording are its translation: one for each packet that is carried, in its group's lane, and behind
 /// each packet the bytes so far of each lane mean what the packets so far of its group mean.
 pub fn plain_pairs_are_a_translation()
-    ensures { (packets : List Packet) → AllByRecursion IsInRange packets → IsTranslation packets (plain_pairs packets) }
+    ensures { PlainPairsAreATranslation }
 {
     written_messages_are_read_again();
 }
@@ -53,18 +50,17 @@ pub fn pairs_come_packet_by_packet()
 
 /// A packet has a piece exactly where it is carried.
 pub fn carried_packets_have_a_piece()
-    ensures { (whole : Option (List ℕ)) (packet : Packet) → IsTrue (is_carried whole packet) ↔ (0 < length (plain_piece whole packet)) }
+    ensures { CarriedPacketsHaveAPiece }
 {}
 
 /// The bytes of an exclusive that is begun don't depend on the offsets of its packets.
 pub fn joined_bytes_know_no_offsets()
-    ensures { (group : ℕ) (past : List Placed) → joined None group (parts_of past) ≡ joined None group (packet_parts (map (λ placed. placed.packet) past)) }
+    ensures { JoinedBytesKnowNoOffsets }
 {}
 
 /// Where no part passes the room, exclusives are those without a room.
 pub fn rooms_that_are_not_passed_do_not_matter()
-    ensures opened { (room group : ℕ) (past : List Part) → AreWithinRoom room past → opened (Some room) group past ≡ opened None group past }
-    ensures ended { (room : ℕ) (past : List Part) (part : Part) → AreWithinRoom room past → passes_room (Some room) past part ≡ false → ended (Some room) past part ≡ ended None past part }
+    ensures { RoomsThatAreNotPassedDoNotMatter }
 {}
 
 /// An exclusive of one group is joined across a whole one of another group.

@@ -1,27 +1,22 @@
 // What holds of all streams of bytes that are raised to packets. Bytes that are called `past` are listed the newest first.
-ghost use Rattle.std.specs.Prelude.{◌≡◌, ◌<◌, ◌≤◌, ◌^◌, ℕ, List, [], ◌∷◌, ◌++◌, length, map, reverse, take, Option, Some, None, IfSome};
+ghost use Rattle.std.specs.Prelude.{◌≡◌, ◌<◌, ◌≤◌, ◌^◌, ℕ, List, [], ◌∷◌, ◌++◌, length, reverse, Some, None, IfSome};
 ghost use Rattle.std.specs.Option.{unwrap_or, option_to_list};
-ghost use Rattle.std.specs.List.{AllByRecursion, fold};
+ghost use Rattle.std.specs.List.{fold};
 ghost use Rattle.voice_messages.specs.declared.voice2.Param.{Param};
 ghost use Rattle.voice_messages.specs.Ranges.{IsBank, IsParam};
 ghost use Rattle.ump_grammar.specs.declared.packet.Packet.{Packet};
-ghost use Rattle.ump_grammar.specs.Ranges.{IsPacket};
-ghost use Rattle.sysex_groups.specs.Exclusives.{opened};
-ghost use Rattle.midi1_bytes.specs.Messages.{AreData, exclusive};
+ghost use Rattle.midi1_bytes.specs.Messages.{exclusive};
 ghost use Rattle.midi1_bytes.specs.Steps.{step_of, completed_by};
-ghost use Rattle.midi1_bytes.specs.Stream.{Room, open_in};
-ghost use Rattle.voice_state.specs.Agreement.{Agrees};
-ghost use Rattle.voice_state.specs.Back.{pieces_of, back, back_at, back_of_bytes, SameState, AllComeBack};
-ghost use Rattle.voice_state.specs.Lanes.{lane_bytes, plain_pairs};
-ghost use Rattle.voice_state.specs.Listing.{lines_behind, end_lines};
-ghost use Rattle.voice_state.specs.Parts.{Placed, parts_of, whole_of};
-ghost use Rattle.voice_state.specs.Messages.{meaning1, mean1, step1};
-ghost use Rattle.voice_state.specs.Packets.{meaning2, mean2, IsInRange};
+ghost use Rattle.midi1_bytes.specs.Stream.{Room};
+ghost use Rattle.voice_state.specs.Back.{pieces_of, back, back_at, back_of_bytes};
+ghost use Rattle.voice_state.specs.Parts.{whole_of};
+ghost use Rattle.voice_state.specs.Messages.{meaning1, step1};
 ghost use Rattle.voice_state.specs.Plain.{plain_piece};
 ghost use Rattle.voice_state.specs.Registers.{bank_of, selected};
-ghost use Rattle.voice_state.specs.Raising.{packets_at, packets_up, packets_of_bytes, exclusive_packet};
-ghost use Rattle.voice_state.specs.StepListing.{lines_at, lines_up, lines_up_to_end, lines_of_bytes};
-ghost use Rattle.voice_state.specs.UpRefusal.{AreStepsWithinRoom, AreAcceptedUp};
+ghost use Rattle.voice_state.specs.Raising.{packets_at, packets_of_bytes};
+ghost use Rattle.voice_state.specs.StepListing.{lines_at, lines_of_bytes};
+ghost use Rattle.voice_state.specs.UpLaws.{BytesThatComeBackMeanTheSame, RaisedPacketsAreInRange, RaisedPacketsComeBackInSilence, RaisedPacketsMeanTheBytes, RoomsThatAreNotReachedDoNotMatterInBytes};
+ghost use Rattle.voice_state.specs.UpRefusal.{AreStepsWithinRoom};
 
 use midi1_bytes::laws::{completed_messages_are_in_range, written_messages_are_read_again};
 use sysex_groups::laws::cut_payload_is_joined;
@@ -29,8 +24,7 @@ use sysex_groups::laws::cut_payload_is_joined;
 /// After each byte the packets of the bytes so far, raised into any group, mean there what the bytes mean. A data increment or
 /// decrement, which is refused, changes neither meaning.
 pub fn raised_packets_mean_the_bytes()
-    ensures behind { (group : ℕ) (past : List ℕ) → Agrees (meaning1 past) (meaning2 (reverse (packets_up None group past)) group) }
-    ensures after_each { (group count : ℕ) (bytes : List ℕ) → Agrees (mean1 (take count bytes)) (mean2 (packets_of_bytes None group (take count bytes)) group) }
+    ensures { RaisedPacketsMeanTheBytes }
 {
     cut_payload_is_joined();
     completed_messages_are_in_range();
@@ -39,11 +33,7 @@ pub fn raised_packets_mean_the_bytes()
 /// The packets of each byte in one of the sixteen groups are ones that words spell, with their fields in range; so is each
 /// packet of an exclusive.
 pub fn raised_packets_are_in_range()
-    ensures packets { (room : Room) (group : ℕ) (past : List ℕ) (byte : ℕ) → group < 16 → AllByRecursion IsPacket (packets_at room group past byte) }
-    ensures in_range { (room : Room) (group : ℕ) (past : List ℕ) (byte : ℕ) → group < 16 → AllByRecursion IsInRange (packets_at room group past byte) }
-    ensures all_packets { (room : Room) (group : ℕ) (past : List ℕ) → group < 16 → AllByRecursion IsPacket (packets_up room group past) }
-    ensures all_in_range { (room : Room) (group : ℕ) (past : List ℕ) → group < 16 → AllByRecursion IsInRange (packets_up room group past) }
-    ensures exclusive { (group : ℕ) (payload : List ℕ) (k : ℕ) → group < 16 → AreData payload → IsPacket (exclusive_packet group payload k) × IsInRange (exclusive_packet group payload k) }
+    ensures { RaisedPacketsAreInRange }
 {
     cut_payload_is_joined();
     completed_messages_are_in_range();
@@ -52,21 +42,13 @@ pub fn raised_packets_are_in_range()
 /// Where no exclusive in the bytes passes the room, each of their steps, what is open behind them, their packets, what
 /// comes back of them, and their lines are those without a room. Bytes that are accepted are such.
 pub fn rooms_that_are_not_reached_do_not_matter_in_bytes()
-    ensures step { (room : ℕ) (past : List ℕ) (byte : ℕ) → AreStepsWithinRoom room (byte ∷ past) → step_of (Some room) past byte ≡ step_of None past byte }
-    ensures left_open { (room : ℕ) (past : List ℕ) → AreStepsWithinRoom room past → open_in (Some room) past ≡ open_in None past }
-    ensures packets { (room group : ℕ) (past : List ℕ) → AreStepsWithinRoom room past → packets_up (Some room) group past ≡ packets_up None group past }
-    ensures pieces { (room group : ℕ) (past : List ℕ) → AreStepsWithinRoom room past → back (Some room) group past ≡ back None group past }
-    ensures lines { (room group : ℕ) (past : List ℕ) → AreStepsWithinRoom room past → lines_up (Some room) group past ≡ lines_up None group past }
-    ensures lines_to_end { (room group : ℕ) (past : List ℕ) → AreStepsWithinRoom room past → lines_up_to_end (Some room) group past ≡ lines_up_to_end None group past }
-    ensures accepted { (room : ℕ) (past : List ℕ) → AreAcceptedUp (Some room) past → AreStepsWithinRoom room past }
+    ensures { RoomsThatAreNotReachedDoNotMatterInBytes }
 {}
 
 /// There and back: after each byte, the plain pieces of the packets to which the bytes so far are raised leave a receiver in the
 /// state in which the bytes themselves leave it, registers aside. The pieces are the bytes of the group's lane.
 pub fn bytes_that_come_back_mean_the_same()
-    ensures behind { (group : ℕ) (past : List ℕ) → group < 16 → SameState (meaning1 (reverse (back None group past))) (meaning1 past) }
-    ensures after_each { (group count : ℕ) (bytes : List ℕ) → group < 16 → SameState (mean1 (back_of_bytes None group (take count bytes))) (mean1 (take count bytes)) }
-    ensures lane { (room : Room) (group : ℕ) (past : List ℕ) → back room group past ≡ lane_bytes group (plain_pairs (packets_up room group past)) }
+    ensures { BytesThatComeBackMeanTheSame }
 {
     cut_payload_is_joined();
     completed_messages_are_in_range();
@@ -77,9 +59,7 @@ pub fn bytes_that_come_back_mean_the_same()
 /// is accepted by the way down with that room and isn't listed, and it is carried unless it is a part of an exclusive that
 /// others follow. Behind all packets of some bytes no group has an exclusive begun, and the way down has listed nothing.
 pub fn raised_packets_come_back_in_silence()
-    ensures each { (room group : ℕ) (past : List ℕ) (packets more : List Packet) (placed : List Placed) → packets ++ more ≡ packets_up (Some room) group past → map (λ placed. placed.packet) placed ≡ reverse packets → AllComeBack room placed }
-    ensures nothing_begun { (room group : ℕ) (past : List ℕ) (placed : List Placed) → map (λ placed. placed.packet) placed ≡ reverse (packets_up (Some room) group past) → (other : ℕ) → opened (Some room) other (parts_of placed) ≡ None }
-    ensures nothing_listed { (room group : ℕ) (past : List ℕ) (placed : List Placed) → map (λ placed. placed.packet) placed ≡ reverse (packets_up (Some room) group past) → lines_behind (Some room) placed ++ end_lines (Some room) (parts_of placed) ≡ [] }
+    ensures { RaisedPacketsComeBackInSilence }
 {}
 
 /// One more byte, behind bytes in the order in which they come: its packets, lines and pieces stand behind those before it, and

@@ -5,7 +5,7 @@ pub returns : goal.returns
 returns c =
     let fed = c.fed_parts_are_the_definition.ensures in
     record {
-      accepted = steps-accepted fed.answers;
-      pairs = steps-pairs fed.begun fed.answers c.rooms_that_are_not_passed_do_not_matter.ensures.ended c.joined_bytes_know_no_offsets.ensures c.carried_packets_have_a_piece.ensures;
-      lines = steps-lines fed.begun;
+      accepted = steps-accepted fed;
+      pairs = steps-pairs fed c.rooms_that_are_not_passed_do_not_matter.ensures c.joined_bytes_know_no_offsets.ensures c.carried_packets_have_a_piece.ensures;
+      lines = steps-lines fed;
     }

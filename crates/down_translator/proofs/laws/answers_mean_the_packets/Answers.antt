@@ -8,6 +8,6 @@ returns c =
     let offsets = c.joined_bytes_know_no_offsets.ensures in
     let pieces = c.carried_packets_have_a_piece.ensures in
     record {
-      pairs = steps-plain fed.begun fed.answers rooms.ended offsets pieces;
-      translation = steps-translation c.plain_pairs_are_a_translation.ensures fed.begun fed.answers rooms.ended offsets pieces;
+      pairs = steps-plain fed rooms offsets pieces;
+      translation = steps-translation c.plain_pairs_are_a_translation.ensures fed rooms offsets pieces;
     }

@@ -6,7 +6,7 @@ returns c =
     let fed = c.fed_parts_are_the_definition.ensures in
     let rooms = c.rooms_that_are_not_passed_do_not_matter.ensures in
     record {
-      pair = step-pair fed.begun fed.answers rooms.ended c.joined_bytes_know_no_offsets.ensures c.carried_packets_have_a_piece.ensures;
-      line = step-line fed.begun;
-      without_room = λ room past placed least a b. line-without_room rooms.opened room past placed (accepted-within room past least a b);
+      pair = step-pair fed rooms c.joined_bytes_know_no_offsets.ensures c.carried_packets_have_a_piece.ensures;
+      line = step-line fed;
+      without_room = λ room past placed least a b. line-without_room rooms room past placed (accepted-within room past least a b);
     }

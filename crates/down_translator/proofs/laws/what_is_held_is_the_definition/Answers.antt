@@ -2,9 +2,6 @@ use Rattle.down_translator.proofs.HeldLaws.{held-whole, held-begun, held-refusal
 use Rattle.down_translator.proofs.laws.what_is_held_is_the_definition.Goals as goal
 
 pub returns : goal.returns
-returns c = record {
-  whole = held-whole c.fed_parts_are_the_definition.ensures.begun;
-  begun = held-begun c.fed_parts_are_the_definition.ensures.begun;
-  refusal = held-refusal c.fed_parts_are_the_definition.ensures.answers;
-  behind = held-behind;
-}
+returns c =
+    let fed = c.fed_parts_are_the_definition.ensures in
+    record { whole = held-whole fed; begun = held-begun fed; refusal = held-refusal fed; behind = held-behind }

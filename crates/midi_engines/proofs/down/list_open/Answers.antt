@@ -13,32 +13,32 @@ loop-number-preserved g c =
     let n : ℕ = c.loop-number.number in
     let below : n < 16 = omega arith in
     let number : c.low_bits.result ≡ n = omega (arith, c.low_bits.ensures) in
-    let table = c.args.down.now in
+    let state = c.args.down.now in
     let old = places g.L.Lanes g.W.Sink g.N.Sink c.args.lanes.now c.args.output.now c.args.notes.now in
     let mid = places g.L.Lanes g.W.Sink g.N.Sink c.loop-number.lanes c.loop-number.output c.loop-number.notes in
     let new = places g.L.Lanes g.W.Sink g.N.Sink c.list_group.new.lanes c.list_group.new.output c.list_group.new.notes in
-    let N : ℕ → Type 0 = λ group. new ≡ after_puts (line_puts (option_to_list (open_line table group))) mid in
+    let N : ℕ → Type 0 = λ group. new ≡ after_puts (line_puts (option_to_list (open_line state group))) mid in
     let D : List Put → Type 0 = λ puts. new ≡ after_puts puts old in
-    let all : open_puts table (take n groups) ++ line_puts (option_to_list (open_line table n)) ≡ open_puts table (take (n + 1) groups) =
-    ap (λ puts. open_puts table (take n groups) ++ puts) (sym (open-one table n)) ∙ sym (open-then table (take n groups) (n ∷ [])) ∙ ap (open_puts table) (sym (next_group n below)) in
-    subst D all (then_put (open_puts table (take n groups)) (line_puts (option_to_list (open_line table n))) old mid new c.loop-number.invariant (subst N number c.in-Ok.ensures))
+    let all : open_puts state (take n groups) ++ line_puts (option_to_list (open_line state n)) ≡ open_puts state (take (n + 1) groups) =
+    ap (λ puts. open_puts state (take n groups) ++ puts) (sym (open-one state n)) ∙ sym (open-then state (take n groups) (n ∷ [])) ∙ ap (open_puts state) (sym (next_group n below)) in
+    subst D all (then_put (open_puts state (take n groups)) (line_puts (option_to_list (open_line state n))) old mid new c.loop-number.invariant (subst N number c.in-Ok.ensures))
 
 pub returns-in-Err : goal.returns-in-Err
 returns-in-Err g c =
     let n : ℕ = c.loop-number.number in
     let below : n < 16 = omega arith in
     let number : c.low_bits.result ≡ n = omega (arith, c.low_bits.ensures) in
-    let table = c.args.down.now in
+    let state = c.args.down.now in
     let old = places g.L.Lanes g.W.Sink g.N.Sink c.args.lanes.now c.args.output.now c.args.notes.now in
     let mid = places g.L.Lanes g.W.Sink g.N.Sink c.loop-number.lanes c.loop-number.output c.loop-number.notes in
     let new = places g.L.Lanes g.W.Sink g.N.Sink c.list_group.new.lanes c.list_group.new.output c.list_group.new.notes in
-    let one : List Put = line_puts (option_to_list (open_line table n)) in
-    let rest : List Put = open_puts table (drop (n + 1) groups) in
-    let N : ℕ → Type 0 = λ group. FailsAt (line_puts (option_to_list (open_line table group))) c.in-Err.end mid new in
+    let one : List Put = line_puts (option_to_list (open_line state n)) in
+    let rest : List Put = open_puts state (drop (n + 1) groups) in
+    let N : ℕ → Type 0 = λ group. FailsAt (line_puts (option_to_list (open_line state group))) c.in-Err.end mid new in
     let S : List Put → Type 0 = λ puts. FailsAt puts c.in-Err.end old new in
-    let all : open_puts table (take n groups) ++ (one ++ rest) ≡ open_puts table groups =
-    ap (λ puts. open_puts table (take n groups) ++ (puts ++ rest)) (sym (open-one table n))
-    ∙ ap (λ puts. open_puts table (take n groups) ++ puts) (sym (open-then table (n ∷ []) (drop (n + 1) groups)))
-    ∙ sym (open-then table (take n groups) (n ∷ drop (n + 1) groups))
-    ∙ ap (open_puts table) (sym (at_group n below)) in
-    subst S all (then_stops (open_puts table (take n groups)) (one ++ rest) c.in-Err.end old mid new c.loop-number.invariant (stops_more one rest c.in-Err.end mid new (subst N number c.in-Err.ensures)))
+    let all : open_puts state (take n groups) ++ (one ++ rest) ≡ open_puts state groups =
+    ap (λ puts. open_puts state (take n groups) ++ (puts ++ rest)) (sym (open-one state n))
+    ∙ ap (λ puts. open_puts state (take n groups) ++ puts) (sym (open-then state (n ∷ []) (drop (n + 1) groups)))
+    ∙ sym (open-then state (take n groups) (n ∷ drop (n + 1) groups))
+    ∙ ap (open_puts state) (sym (at_group n below)) in
+    subst S all (then_stops (open_puts state (take n groups)) (one ++ rest) c.in-Err.end old mid new c.loop-number.invariant (stops_more one rest c.in-Err.end mid new (subst N number c.in-Err.ensures)))

@@ -1,0 +1,25 @@
+-- What holds of all exclusives.
+use Rattle.std.specs.Prelude.{◌≡◌, ◌≢◌, ◌<◌, ◌≤◌, ◌+◌, ◌==◌, if◌then◌else◌, ℕ, List, Some, None, IsTrue, length}
+use Rattle.sysex_groups.specs.Cut.{part_count, sent_part, sent}
+use Rattle.sysex_groups.specs.Exclusives.{Part, Room, of_group, fits, ended, answer_at}
+use Rattle.sysex_groups.specs.Table.{Table, AreParts, begun_in, begun_behind, answer_to, with_part, table_after}
+
+pub record FedPartsAreTheDefinition : Type 0 where
+  pub begun : (room : ℕ) (past : List Part) → 6 ≤ room → AreParts past → (group : ℕ) →
+      begun_in (table_after room past) group ≡ begun_behind (Some room) group past
+  pub answers : (room : ℕ) (past : List Part) → 6 ≤ room → AreParts past → (part : Part) →
+      answer_to (table_after room past) part ≡ answer_at (Some room) past part
+  pub begun_alone : (room : ℕ) (past : List Part) → 6 ≤ room → AreParts past → (group : ℕ) →
+      begun_in (table_after room past) group ≡ begun_in (table_after room (of_group group past)) group
+  pub answers_alone : (room : ℕ) (past : List Part) → 6 ≤ room → AreParts past → (part : Part) →
+      answer_to (table_after room past) part ≡ answer_to (table_after room (of_group part.group past)) part
+  pub others : (table : Table) (part : Part) (group : ℕ) → group ≢ part.group →
+      begun_in (with_part part table) group ≡ begun_in table group
+
+abbrev pub CutPayloadIsJoined : Type 0
+CutPayloadIsJoined =
+    (room : Room) (payload : List ℕ) → IsTrue (fits room (length payload)) →
+    (group : ℕ) (offsets : ℕ → ℕ) (past all : List Part) (k : ℕ) →
+    k < part_count payload → of_group group all ≡ sent group offsets payload past k →
+    ended room all (sent_part group offsets payload k) ≡
+    (if k + 1 == part_count payload then Some payload else None)

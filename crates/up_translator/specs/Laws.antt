@@ -1,0 +1,24 @@
+-- What holds of all streams of bytes, which are listed the newest first.
+use Rattle.std.specs.Prelude.{◌≡◌, ℕ, List, ◌∷◌, length, map, Some, Result}
+use Rattle.std.specs.Option.{option_map}
+use Rattle.midi1_bytes.specs.Parsing.{open_of}
+use Rattle.voice_state.specs.declared.listed.BadStep.{BadStep}
+use Rattle.voice_state.specs.StepListing.{kinds_at_end, line_up, open_pair}
+use Rattle.voice_state.specs.UpRefusal.{AreStepsWithinRoom}
+use Rattle.up_translator.specs.declared.raised.Raised.{Raised}
+use Rattle.up_translator.specs.Answers.{IsAnswerAt}
+use Rattle.up_translator.specs.Held.{UpState, KeepsBehind, step_in, up_behind}
+use Rattle.up_translator.specs.Recording.{HoldsUp}
+use Rattle.up_translator.specs.Step.{Raises}
+
+pub record RaisedBytesAreTheDefinition : Type 0 where
+  pub answer : (room group : ℕ) (past : List ℕ) (byte : ℕ) (up : UpState) (result : Result Raised BadStep) →
+      HoldsUp room group past up → Raises up (length past) byte result → IsAnswerAt room group past byte result
+  pub after : (room group : ℕ) (past : List ℕ) (byte : ℕ) (up : UpState) →
+      AreStepsWithinRoom room (byte ∷ past) → HoldsUp room group past up →
+      KeepsBehind up.holding (step_in up (length past) byte) →
+      HoldsUp room group (byte ∷ past) (up_behind up (length past) byte)
+  pub end : (room group : ℕ) (past : List ℕ) (up : UpState) → HoldsUp room group past up →
+      map (line_up up.group)
+      (kinds_at_end (option_map (λ begun. (begun.start, begun.kind)) (open_of up.parsing))) ≡
+      map (line_up group) (kinds_at_end (open_pair (Some room) past))

@@ -1,0 +1,32 @@
+-- What holds of all recordings.
+use Rattle.std.specs.Prelude.{◌≡◌, ◌↔◌, ◌<◌, ℕ, List, map, length, Option, Some, None, IsTrue, false}
+use Rattle.std.specs.List.{AllByRecursion}
+use Rattle.ump_grammar.specs.declared.packet.Packet.{Packet}
+use Rattle.sysex_groups.specs.Exclusives.{Part, joined, opened, ended, passes_room}
+use Rattle.voice_state.specs.Lanes.{plain_pairs}
+use Rattle.voice_state.specs.Listing.{is_carried}
+use Rattle.voice_state.specs.Packets.{IsInRange}
+use Rattle.voice_state.specs.Parts.{Placed, parts_of, packet_parts}
+use Rattle.voice_state.specs.Plain.{plain_piece}
+use Rattle.voice_state.specs.Rooms.{AreWithinRoom}
+use Rattle.voice_state.specs.Translation.{IsTranslation}
+
+abbrev pub PlainPairsAreATranslation : Type 0
+PlainPairsAreATranslation =
+    (packets : List Packet) → AllByRecursion IsInRange packets → IsTranslation packets (plain_pairs packets)
+
+abbrev pub CarriedPacketsHaveAPiece : Type 0
+CarriedPacketsHaveAPiece =
+    (whole : Option (List ℕ)) (packet : Packet) →
+    IsTrue (is_carried whole packet) ↔ (0 < length (plain_piece whole packet))
+
+abbrev pub JoinedBytesKnowNoOffsets : Type 0
+JoinedBytesKnowNoOffsets =
+    (group : ℕ) (past : List Placed) →
+    joined None group (parts_of past) ≡ joined None group (packet_parts (map (λ placed. placed.packet) past))
+
+pub record RoomsThatAreNotPassedDoNotMatter : Type 0 where
+  pub opened : (room group : ℕ) (past : List Part) → AreWithinRoom room past →
+      opened (Some room) group past ≡ opened None group past
+  pub ended : (room : ℕ) (past : List Part) (part : Part) → AreWithinRoom room past →
+      passes_room (Some room) past part ≡ false → ended (Some room) past part ≡ ended None past part
