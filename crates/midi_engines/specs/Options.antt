@@ -13,6 +13,11 @@ pub record UpOptions : Type 0 where
   pub order : Order
   pub room : ℕ
 
+-- such a stream whose packets come down again, and so have no words
+pub record BackOptions : Type 0 where
+  pub group : ℕ
+  pub room : ℕ
+
 -- a recording whose packets are shown
 pub record PacketLineOptions : Type 0 where
   pub order : Order

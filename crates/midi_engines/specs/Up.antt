@@ -18,7 +18,7 @@ use Rattle.midi_pass.specs.Pass.{Work}
 use Rattle.midi_pass.specs.Put.{Put, in_output}
 use Rattle.midi_engines.specs.Down.{line_puts, refusal_by}
 use Rattle.midi_engines.specs.Options.{UpOptions}
-use Rattle.midi_engines.specs.Raised.{output_and_notes, output_puts}
+use Rattle.midi_engines.specs.Raised.{byte_lines, byte_packets, last_lines, output_and_notes, output_puts, refusal_at}
 
 -- one put in the output: the bytes of words that encode the packet
 abbrev pub IsWritten : Order → Packet → List Put → Type 0
@@ -39,18 +39,18 @@ abbrev pub RaisedMean : ℕ → ℕ → List ℕ → Type 0
 RaisedMean room group past =
     (count : ℕ) → Agrees (mean1 (take count (reverse past))) (mean2 (packets_of_bytes (Some room) group (take count (reverse past))) group)
 
--- What is done with a stream that is raised. A byte is refused for a data increment, a data decrement, or an exclusive that passes
--- its limit. What is put in the output is the words of all packets; after each byte the packets so far mean what the bytes so far mean.
+-- What is done with a stream that is raised. What is put in the output is the words of all packets; after each byte the packets so
+-- far mean what the bytes so far mean.
 abbrev pub raising : UpOptions → Work (ℕ × ℕ)
 raising options =
     record {
       names = output_and_notes;
-      refusal = λ past item. refusal_by (refusal_up (Some options.room) (bytes_of past) item.1) item.0;
-      IsPut = λ past item puts. AreWrittenAndListed options.order (packets_at (Some options.room) options.group (bytes_of past) item.1)
-          (line_puts (lines_at (Some options.room) options.group (bytes_of past) item.1)) puts;
-      IsPutAtEnd = λ past puts. puts ≡ line_puts (map (line_up options.group) (kinds_at_end (open_pair (Some options.room) (bytes_of past))));
-      Means = λ past puts. AreWritten options.order (packets_up (Some options.room) options.group (bytes_of past)) (output_puts puts)
-          × RaisedMean options.room options.group (bytes_of past);
+      refusal = λ past item. refusal_at options.room past item;
+      IsPut = λ past item puts.
+          AreWrittenAndListed options.order (byte_packets options.room options.group past item) (byte_lines options.room options.group past item) puts;
+      IsPutAtEnd = λ past puts. puts ≡ last_lines options.room options.group past;
+      Means = λ past puts.
+          AreWritten options.order (packets_up (Some options.room) options.group (bytes_of past)) (output_puts puts) × RaisedMean options.room options.group (bytes_of past);
     }
 
 -- the options of an engine

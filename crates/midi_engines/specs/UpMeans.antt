@@ -15,34 +15,10 @@ use Rattle.midi_pass.specs.Put.{Put, in_lane, in_notes, in_output}
 use Rattle.midi_engines.specs.Down.{line_puts}
 use Rattle.midi_engines.specs.Options.{UpOptions}
 use Rattle.midi_engines.specs.Raised.{output_and_notes, output_puts}
+use Rattle.midi_engines.specs.RaisedMeans.{lines_named, named-then, output-listed, output-then}
 use Rattle.midi_engines.specs.Up.{AreWritten, HoldsRaised, raising}
 
--- ---- the puts in the output among others
-
-pub output-then : (ps qs : List Put) → output_puts (ps ++ qs) ≡ output_puts ps ++ output_puts qs
-output-then [] qs = refl
-output-then (in_output text ∷ ps) qs = ap (λ xs. in_output text ∷ xs) (output-then ps qs)
-output-then (in_lane lane piece ∷ ps) qs = output-then ps qs
-output-then (in_notes text ∷ ps) qs = output-then ps qs
-
-pub output-lines : (lines : List Listed) → output_puts (line_puts lines) ≡ []
-output-lines [] = refl
-output-lines (line ∷ lines) = output-lines lines
-
--- those of a byte are those before its lines
-pub output-listed : (written puts : List Put) (lines : List Listed) → puts ≡ written ++ line_puts lines → output_puts puts ≡ output_puts written
-output-listed written puts lines e =
-    ap output_puts e ∙ output-then written (line_puts lines) ∙ ap (λ xs. output_puts written ++ xs) (output-lines lines) ∙ append-nil (output_puts written)
-
--- ---- the places of puts
-
-pub named-then : (ps qs : List Put) → AreNamed output_and_notes ps → AreNamed output_and_notes qs → AreNamed output_and_notes (ps ++ qs)
-named-then [] qs first second = second
-named-then (p ∷ ps) qs first second = (first.0, named-then ps qs first.1 second)
-
-pub lines_named : (lines : List Listed) → AreNamed output_and_notes (line_puts lines)
-lines_named [] = tt
-lines_named (line ∷ lines) = (refl, lines_named lines)
+-- ---- written packets
 
 written_named : (order : Order) (packets : List Packet) (puts : List Put) → AreWritten order packets puts → AreNamed output_and_notes puts
 written_named order [] puts written =
@@ -57,13 +33,6 @@ raises_named options past item puts put =
     let packets : List Packet = packets_at (Some options.room) options.group (bytes_of past) item.1 in
     let lines : List Listed = lines_at (Some options.room) options.group (bytes_of past) item.1 in
     subst A (sym put.2) (named-then put.0 (line_puts lines) (written_named options.order packets put.0 put.1) (lines_named lines))
-
-pub raises_last_named : (options : UpOptions) (past : List (ℕ × ℕ)) (puts : List Put) → (raising options).IsPutAtEnd past puts → AreNamed output_and_notes puts
-raises_last_named options past puts put =
-    let A : List Put → Type 0 = λ ps. AreNamed output_and_notes ps in
-    subst A (sym put) (lines_named (map (line_up options.group) (kinds_at_end (open_pair (Some options.room) (bytes_of past)))))
-
--- ---- written packets
 
 output-written : (order : Order) (packets : List Packet) (puts : List Put) → AreWritten order packets puts → output_puts puts ≡ puts
 output-written order [] puts written = ap output_puts written ∙ sym written

@@ -5,7 +5,8 @@ ghost use Rattle.up_translator.specs.Recording.{HoldsUp};
 ghost use Rattle.midi_pass.specs.Bytes.{byte_cutting};
 ghost use Rattle.midi_pass.specs.Pass.{Ends, IsDoneUnless, seen};
 ghost use Rattle.midi_engines.specs.Up.{HoldsRaised, IsWritten, options_of, raising};
-ghost use Rattle.midi_engines.specs.UpMeans.{raised_means, raises_last_named, raises_named};
+ghost use Rattle.midi_engines.specs.RaisedMeans.{last_named};
+ghost use Rattle.midi_engines.specs.UpMeans.{raised_means, raises_named};
 
 use crate::raised::{PacketWork, put_byte, put_open};
 use midi_edge::{ByteReader, Lanes, NoMemory, Sink, Source, U4};
@@ -140,7 +141,7 @@ impl Engine<u64, u8> for UpEngine {
 
     ghost puts_are_named = { λ first past item puts put. raises_named (options_of first.up first.words.order) past item puts put };
 
-    ghost last_puts_are_named = { λ first past puts put. raises_last_named (options_of first.up first.words.order) past puts put };
+    ghost last_puts_are_named = { λ first past puts put. last_named first.up.parsing.room first.up.group past puts put };
 
     ghost starts = { λ first ready. (refl, ready) };
 

@@ -6,10 +6,9 @@ use Rattle.midi_engines.proofs.up.translate.Goals as goal
 
 pub drive-requires-clause-ready : goal.drive-requires-clause-ready
 drive-requires-clause-ready g c =
-    let rooms = c.rooms_that_are_not_reached_do_not_matter_in_bytes.ensures in
     record {
       few = c.requires.few;
-      law = raised_bytes_mean c.args.up.parsing.room c.args.up.group c.raised_packets_mean_the_bytes.ensures.after_each rooms.packets rooms.accepted;
+      law = raised_bytes_mean c.args.up.parsing.room c.args.up.group c.raised_packets_mean_the_bytes.ensures c.rooms_that_are_not_reached_do_not_matter_in_bytes.ensures;
       accepted = tt;
       holds = c.requires.new;
     }
