@@ -1,5 +1,5 @@
 -- One more byte of a stream that is raised, by the laws of the crates below.
-use Rattle.std.proofs.Common.{◌≡◌, ◌<◌, ℕ, List, [], ◌∷◌, ◌++◌, length, take, drop, ap, sym, ◌∙◌, subst}
+use Rattle.std.proofs.Common.{◌≡◌, ℕ, List, [], ◌∷◌, ◌++◌, length, take, drop, ap, sym, ◌∙◌, subst}
 use Rattle.std.specs.Prelude.{Some, Ok, reverse}
 use Rattle.std.proofs.lemmas.List.{length-map, reverse-append, reverse-reverse, take-append-drop}
 use Rattle.midi1_bytes.specs.Laws.{ParsedBytesAreTheDefinition}

@@ -1,5 +1,5 @@
 -- A stream of bytes that is raised: the words of the packets of each byte, and its lines; at the end the line of what is open.
-use Rattle.std.specs.Prelude.{◌≡◌, ℕ, ◌<◌, List, [], ◌∷◌, ◌++◌, map, reverse, take, Some}
+use Rattle.std.specs.Prelude.{◌≡◌, ℕ, ◌<◌, List, [], ◌∷◌, ◌++◌, reverse, take, Some}
 use Rattle.std.specs.List.{flat_map}
 use Rattle.ump_words.specs.Cut.{word_bytes}
 use Rattle.ump_words.specs.declared.words.Order.{Order}
@@ -8,15 +8,13 @@ use Rattle.ump_grammar.specs.declared.packet.Packet.{Packet}
 use Rattle.voice_state.specs.Agreement.{Agrees}
 use Rattle.voice_state.specs.Messages.{mean1}
 use Rattle.voice_state.specs.Packets.{mean2}
-use Rattle.voice_state.specs.Raising.{packets_at, packets_of_bytes, packets_up}
-use Rattle.voice_state.specs.StepListing.{kinds_at_end, line_up, lines_at, open_pair}
-use Rattle.voice_state.specs.UpRefusal.{AreAcceptedUp, refusal_up}
+use Rattle.voice_state.specs.Raising.{packets_of_bytes, packets_up}
+use Rattle.voice_state.specs.UpRefusal.{AreAcceptedUp}
 use Rattle.up_translator.specs.Held.{UpState}
 use Rattle.up_translator.specs.Recording.{HoldsUp}
 use Rattle.midi_pass.specs.Bytes.{bytes_of}
 use Rattle.midi_pass.specs.Pass.{Work}
 use Rattle.midi_pass.specs.Put.{Put, in_output}
-use Rattle.midi_engines.specs.Down.{line_puts, refusal_by}
 use Rattle.midi_engines.specs.Options.{UpOptions}
 use Rattle.midi_engines.specs.Raised.{byte_lines, byte_packets, last_lines, output_and_notes, output_puts, refusal_at}
 

@@ -1,17 +1,17 @@
 -- What is put for raised bytes means what they mean.
 use Rattle.std.proofs.Common.{◌≡◌, ℕ, List, [], ◌∷◌, ◌++◌, refl, ap, sym, ◌∙◌, subst}
-use Rattle.std.specs.Prelude.{Some, map}
-use Rattle.std.proofs.lemmas.List.{append-nil, append_assoc}
+use Rattle.std.specs.Prelude.{Some}
+use Rattle.std.proofs.lemmas.List.{append_assoc}
 use Rattle.ump_words.specs.declared.words.Order.{Order}
 use Rattle.ump_grammar.specs.declared.packet.Packet.{Packet}
 use Rattle.voice_state.specs.declared.listed.Listed.{Listed}
 use Rattle.voice_state.specs.Raising.{packets_at, packets_up}
-use Rattle.voice_state.specs.StepListing.{kinds_at_end, line_up, lines_at, open_pair}
+use Rattle.voice_state.specs.StepListing.{lines_at}
 use Rattle.up_translator.specs.Held.{UpState}
 use Rattle.midi_pass.specs.Bytes.{bytes_of}
 use Rattle.midi_pass.specs.Named.{AreNamed}
 use Rattle.midi_pass.specs.Pass.{ArePut}
-use Rattle.midi_pass.specs.Put.{Put, in_lane, in_notes, in_output}
+use Rattle.midi_pass.specs.Put.{Put}
 use Rattle.midi_engines.specs.Down.{line_puts}
 use Rattle.midi_engines.specs.Options.{UpOptions}
 use Rattle.midi_engines.specs.Raised.{output_and_notes, output_puts}
