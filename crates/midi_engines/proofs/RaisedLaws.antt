@@ -165,7 +165,7 @@ module _ {Held : Type 0} (IsDone : Doing Held) (from : Held) (raised : Raised) (
 -- ---- a step of the work
 
 pub answered_steps : {Held I : Type 0} (work : Work I) (past : List I) (item : I) (Does : Held → List Put → Type 0) (to : Held) (old new : Places) (Then : Type 0) (result : Result (Unit {0}) RunEnd)
-    → Answers (work.refusal past item) Does to (old, new) result → ((to : Held) (puts : List Put) → Does to puts → work.IsPut past item puts) → ((puts : List Put) → Does to puts → Then) → Steps work past old new Then item result
+    → Answers (work.refusal past item) Does to old new result → ((to : Held) (puts : List Put) → Does to puts → work.IsPut past item puts) → ((puts : List Put) → Does to puts → Then) → Steps work past old new Then item result
 answered_steps {Held = Held} work past item Does to old new Then result answers is_put goes_on = by_refusal (work.refusal past item) refl answers
   where
     by_result : (r : Result (Unit {0}) RunEnd) → work.refusal past item ≡ None → CarriesOut Does to old new r → Steps work past old new Then item r
@@ -174,7 +174,7 @@ answered_steps {Held = Held} work past item Does to old new Then result answers 
         let T : Tail → Type 0 = λ tail. Takes tail out.1 old new (Err end) in
         takes_steps work past item old new (Unit {0}) (Err end) out.1 (subst T (sym fine) out.3) (λ _. (is_put out.0 out.1 out.2, tt))
 
-    by_refusal : (refusal : Tail) → work.refusal past item ≡ refusal → Answers refusal Does to (old, new) result → Steps work past old new Then item result
+    by_refusal : (refusal : Tail) → work.refusal past item ≡ refusal → Answers refusal Does to old new result → Steps work past old new Then item result
     by_refusal (Some refusal) e out =
         let R : Result (Unit {0}) RunEnd → Type 0 = λ r. Steps work past old new Then item r in
         subst R (sym out.0) (e, out.1)

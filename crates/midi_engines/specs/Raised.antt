@@ -11,6 +11,7 @@ use Rattle.voice_state.specs.UpRefusal.{refusal_of_step, refusal_up}
 use Rattle.up_translator.specs.declared.raised.Raised.{Raised}
 use Rattle.up_translator.specs.Held.{UpState, step_in}
 use Rattle.up_translator.specs.Raised.{lines_in, packets_in}
+use Rattle.up_translator.specs.Step.{Raises}
 use Rattle.midi_pass.specs.Bytes.{bytes_of}
 use Rattle.midi_pass.specs.Named.{Named}
 use Rattle.midi_pass.specs.Pass.{Tail}
@@ -83,15 +84,19 @@ CarriesOut Does to old new (Ok done) = (puts : List Put) × Does to puts × (new
 CarriesOut {Held = Held} Does to old new (Err end) = (meant : Held) × (puts : List Put) × Does meant puts × FailsAt puts end old new
 
 -- it is refused, and nothing is put; or it is done, or a put failed
-abbrev pub Answers : {Held : Type 0} → Tail → (Held → List Put → Type 0) → Held → Places × Places → Result (Unit {0}) RunEnd → Type 0
-Answers (Some refusal) Does to places result = (result ≡ Err (Refused refusal.0 refusal.1)) × (places.1 ≡ places.0)
-Answers None Does to places result = CarriesOut Does to places.0 places.1 result
+abbrev pub Answers : {Held : Type 0} → Tail → (Held → List Put → Type 0) → Held → Places → Places → Result (Unit {0}) RunEnd → Type 0
+Answers (Some refusal) Does to old new result = (result ≡ Err (Refused refusal.0 refusal.1)) × (new ≡ old)
+Answers None Does to old new result = CarriesOut Does to old new result
 
 -- ---- by what the translator up holds
 
 -- why a byte is refused, by what the translator up holds
 abbrev pub byte_refusal : UpState → ℕ → ℕ → Tail
 byte_refusal up offset byte = refusal_by (refusal_of_step (step_in up offset byte)) offset
+
+-- the packets and lines of a byte at its offset, which the translator up accepts, are done
+abbrev pub RaisedIsDone : {Held : Type 0} → Doing Held → UpState → ℕ × ℕ → Held → Held → List Put → Type 0
+RaisedIsDone IsDone up item from to puts = (raised : Raised) × Raises up item.0 item.1 (Ok raised) × ByteIsDone IsDone from raised to puts
 
 -- the line of what is open at the end, by what the translator up holds
 abbrev pub open_puts : UpState → List Put

@@ -45,8 +45,8 @@ impl Model for BackRun {
 
     ghost view = { λ r. options_of r.up };
 
-    ghost invariant = { λ r. HoldsUp r.up.parsing.room r.up.group [] r.up × (r.down ≡ new_down r.up.parsing.room)
-        × (6 ≤ r.up.parsing.room) × (r.up.group < 16) };
+    ghost invariant = { λ r. HoldsUp r.up.parsing.room r.up.group [] r.up
+        × (r.down ≡ new_down r.up.parsing.room) × (6 ≤ r.up.parsing.room) × (r.up.group < 16) };
 }
 
 impl BackRun {
@@ -163,9 +163,11 @@ impl Engine<u64, u8> for BackEngine {
         put_open(&self.up, lanes, output, notes)
     }
 
-    ghost puts_are_named = { λ first past item puts put. returns_named (options_of first.up) past item puts put };
+    ghost puts_are_named = { λ first past item puts put.
+        returns_named (options_of first.up) past item puts put };
 
-    ghost last_puts_are_named = { λ first past puts put. last_named first.up.parsing.room first.up.group past puts put };
+    ghost last_puts_are_named = { λ first past puts put.
+        last_named first.up.parsing.room first.up.group past puts put };
 
     ghost starts = { λ first ready. ready };
 

@@ -10,7 +10,7 @@ ghost use Rattle.up_translator.specs.Step.{Raises};
 ghost use Rattle.midi_pass.specs.Places.{Puts, places};
 ghost use Rattle.midi_pass.specs.Put.{Put};
 ghost use Rattle.midi_engines.specs.Down.{line_puts};
-ghost use Rattle.midi_engines.specs.Raised.{Answers, AreDone, AreTaken, ByteIsDone, CanBeDone, CarriesOut, Doing, byte_refusal, open_puts};
+ghost use Rattle.midi_engines.specs.Raised.{Answers, AreDone, AreTaken, ByteIsDone, CanBeDone, CarriesOut, Doing, RaisedIsDone, byte_refusal, open_puts};
 
 use crate::down::{put_line, refused};
 use midi_edge::{Lanes, Sink, U4};
@@ -173,10 +173,9 @@ pub(crate) fn put_byte<P: PacketWork, L: Lanes, W: Sink, N: Sink>(
         AreTaken P.Accepts (P.IsDone offset) work.old (packets_in raised) }
     requires done { CanBeDone P.Accepts (P.IsDone offset) }
     ensures answer { Answers (byte_refusal up.old offset byte)
-        (λ to puts. (raised : Raised) × Raises up.old offset byte (Ok raised) × ByteIsDone (P.IsDone offset) work.old raised to puts)
-        work.new
-        ((places L.Lanes W.Sink N.Sink lanes.old output.old notes.old), (places L.Lanes W.Sink N.Sink lanes.new output.new notes.new))
-        result }
+        (RaisedIsDone (P.IsDone offset) up.old (offset, byte) work.old) work.new
+        (places L.Lanes W.Sink N.Sink lanes.old output.old notes.old)
+        (places L.Lanes W.Sink N.Sink lanes.new output.new notes.new) result }
     ensures kept { KeepsBehind up.old.holding (step_in up.old offset byte) }
     ensures after { up.new ≡ up_behind up.old offset byte }
 {

@@ -99,7 +99,8 @@ impl Engine<u64, u8> for UpEngine {
 
     ghost UsesLanes = { ⊥ };
 
-    ghost Holds = { λ first now past. (now.words ≡ first.words) × HoldsRaised (options_of first.up first.words.order) now.up past };
+    ghost Holds = { λ first now past.
+        (now.words ≡ first.words) × HoldsRaised (options_of first.up first.words.order) now.up past };
 
     ghost Asks = { λ item. Unit {0} };
 
@@ -139,9 +140,11 @@ impl Engine<u64, u8> for UpEngine {
         put_open(&self.up, lanes, output, notes)
     }
 
-    ghost puts_are_named = { λ first past item puts put. raises_named (options_of first.up first.words.order) past item puts put };
+    ghost puts_are_named = { λ first past item puts put.
+        raises_named (options_of first.up first.words.order) past item puts put };
 
-    ghost last_puts_are_named = { λ first past puts put. last_named first.up.parsing.room first.up.group past puts put };
+    ghost last_puts_are_named = { λ first past puts put.
+        last_named first.up.parsing.room first.up.group past puts put };
 
     ghost starts = { λ first ready. (refl, ready) };
 

@@ -12,7 +12,7 @@ use Rattle.midi_pass.specs.Places.{places}
 use Rattle.midi_pass.specs.Put.{Put}
 use Rattle.midi_engines.specs.Back.{comes_down, options_of, puts_down, returning}
 use Rattle.midi_engines.specs.Down.{line_puts}
-use Rattle.midi_engines.specs.Raised.{Answers, AreDone, AreTaken, ByteIsDone, byte_lines}
+use Rattle.midi_engines.specs.Raised.{Answers, AreDone, AreTaken, RaisedIsDone, byte_lines}
 use Rattle.midi_engines.proofs.BackLaws.{byte_comes_down, piece_is_put}
 use Rattle.midi_engines.proofs.RaisedLaws.{answered_steps}
 use Rattle.midi_engines.proofs.StreamLaws.{answered, holds_more, refused_as}
@@ -46,8 +46,8 @@ returns g c = λ first past held place.
     let down : DownState = c.args.self.now.down in
     let law = c.raised_bytes_are_the_definition.ensures in
     let comes = byte_comes_down c.raised_packets_come_back_in_silence.ensures c.what_is_held_is_the_definition.ensures c.raised_packets_are_in_range.ensures room group held.least held.few past item down held.holds_down in
-    let does = λ (to : DownState). λ (puts : List Put). (raised : Raised) × Raises up offset byte (Ok raised) × ByteIsDone (puts_down offset) down raised to puts in
-    let A : Tail → Type 0 = λ tail. Answers tail does c.put_byte.new.work (old, new) c.put_byte.result in
+    let does = RaisedIsDone (puts_down offset) up (offset, byte) down in
+    let A : Tail → Type 0 = λ tail. Answers tail does c.put_byte.new.work old new c.put_byte.result in
     let D : DownState → List Put → List Packet → Type 0 = λ to puts ps. AreDone (puts_down offset) down ps to puts in
     answered_steps (returning (options_of first.up)) past item does c.put_byte.new.work old new _ c.put_byte.result
     (subst A (refused_as law room group past up held.holds_up offset byte place c.parsed_bytes_are_the_definition.ensures) c.put_byte.ensures.answer)

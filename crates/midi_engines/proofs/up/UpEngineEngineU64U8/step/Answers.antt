@@ -12,7 +12,7 @@ use Rattle.midi_pass.specs.Pass.{Tail}
 use Rattle.midi_pass.specs.Places.{places}
 use Rattle.midi_pass.specs.Put.{Put}
 use Rattle.midi_engines.specs.Down.{line_puts}
-use Rattle.midi_engines.specs.Raised.{Answers, AreTaken, ByteIsDone}
+use Rattle.midi_engines.specs.Raised.{Answers, AreTaken, RaisedIsDone}
 use Rattle.midi_engines.specs.Up.{AreWritten, options_of, raising}
 use Rattle.midi_engines.proofs.RaisedLaws.{answered_steps}
 use Rattle.midi_engines.proofs.StreamLaws.{answered, holds_more, refused_as}
@@ -43,8 +43,8 @@ returns g c = λ first past holds place.
     let offset : ℕ = c.args.at.now in
     let up : UpState = c.args.self.now.up in
     let law = c.raised_bytes_are_the_definition.ensures in
-    let does = λ (to : _). λ (puts : List Put). (raised : Raised) × Raises up offset byte (Ok raised) × ByteIsDone writes c.args.self.now.words raised to puts in
-    let A : Tail → Type 0 = λ tail. Answers tail does c.put_byte.new.work (old, new) c.put_byte.result in
+    let does = RaisedIsDone writes up (offset, byte) c.args.self.now.words in
+    let A : Tail → Type 0 = λ tail. Answers tail does c.put_byte.new.work old new c.put_byte.result in
     answered_steps (raising (options_of first.up order)) past (offset, byte) does c.put_byte.new.work old new _ c.put_byte.result
     (subst A (refused_as law room group past up held.holds offset byte place c.parsed_bytes_are_the_definition.ensures) c.put_byte.ensures.answer)
     (λ to puts done.
