@@ -1,9 +1,10 @@
 -- What is done with the packets of a byte, one after the other.
 use Rattle.std.proofs.Common.{◌≡◌, ◌+◌, ◌<◌, ℕ, zero, suc, Bool, true, false, List, [], ◌∷◌, ◌++◌, None, Some, refl, ap, sym, ◌∙◌, subst, arith, inl, inr}
-use Rattle.std.specs.Prelude.{Result, Ok, Err, nat_lt, if◌then◌else◌}
+use Rattle.std.specs.Prelude.{Option, is_none, ◌&&◌, Result, Ok, Err, nat_lt, if◌then◌else◌}
 use Rattle.std.specs.Fork.{slice_chunk}
 use Rattle.std.specs.List.{AllByRecursion}
-use Rattle.std.proofs.lemmas.Bool.{cases_eq, ltb-true}
+use Rattle.std.specs.Option.{option_to_list}
+use Rattle.std.proofs.lemmas.Bool.{cases_eq, false≢true, ltb-true}
 use Rattle.std.proofs.lemmas.List.{append_assoc, append-nil}
 use Rattle.std.proofs.lemmas.Option.{same_Some}
 use Rattle.voice_messages.specs.declared.voice2.Form.{Form}
@@ -11,14 +12,15 @@ use Rattle.ump_grammar.specs.declared.packet.Packet.{Packet}
 use Rattle.ump_grammar.specs.declared.packet.Packet.TheVariants.{Exclusive}
 use Rattle.sysex_groups.specs.Cut.{form_at, part_at, part_count}
 use Rattle.voice_state.specs.Raising.{exclusive_packet, exclusive_packets, first_exclusive_packets}
+use Rattle.voice_state.specs.declared.listed.Listed.{Listed}
 use Rattle.up_translator.specs.declared.raised.Raised.{Raised}
-use Rattle.up_translator.specs.Raised.{lines_in, packets_in}
+use Rattle.up_translator.specs.Raised.{first_in, group_in, is_empty_in, lines_in, packet_in, packets_by, packets_in, payload_in, second_in}
 use Rattle.midi_pass.specs.Pass.{Steps, Tail, Takes, Work}
 use Rattle.midi_pass.specs.Places.{Places, Puts, after_puts}
 use Rattle.midi_pass.specs.Put.{Put}
 use Rattle.midi_pass.specs.declared.ends.RunEnd.{RunEnd}
 use Rattle.midi_pass.proofs.PassLaws.{takes_steps}
-use Rattle.midi_pass.proofs.PutLaws.{stops_more, then_put, then_stops}
+use Rattle.midi_pass.proofs.PutLaws.{after_puts-none, stops_more, then_put, then_stops}
 use Rattle.midi_engines.specs.Down.{line_puts}
 use Rattle.midi_engines.specs.Raised.{Answers, AreDone, AreTaken, ByteIsDone, CanBeDone, CarriesOut, Doing}
 
@@ -150,6 +152,21 @@ pub carries_as : {Held : Type 0} (Does Meant : Held → List Put → Type 0) (le
     → CarriesOut Does left a b result → CarriesOut Meant left a b result
 carries_as Does Meant left a b (Ok done) means out = (out.0, means left out.0 out.1, out.2)
 carries_as Does Meant left a b (Err end) means out = (out.0, out.1, means out.0 out.1 out.2, out.3)
+
+-- a byte of which nothing comes has neither packets nor lines
+no_packets : (group : ℕ) (packet : Option Packet) (payload : Option (List ℕ)) (first second : Option Listed) → (is_none packet && is_none payload && is_none first && is_none second) ≡ true
+    → (packets_by group packet payload ≡ []) × ((option_to_list first ++ option_to_list second) ≡ [])
+no_packets group None None None None empty = (refl, refl)
+no_packets group None None None (Some second) empty = absurd (false≢true empty)
+no_packets group None None (Some first) second empty = absurd (false≢true empty)
+no_packets group None (Some payload) first second empty = absurd (false≢true empty)
+no_packets group (Some packet) payload first second empty = absurd (false≢true empty)
+
+pub nothing_done : {Held : Type 0} (IsDone : Doing Held) (from : Held) (raised : Raised) (s : Places) → is_empty_in raised ≡ true → CarriesOut (ByteIsDone IsDone from raised) from s s (Ok tt)
+nothing_done IsDone from raised s empty =
+    let none = no_packets (group_in raised) (packet_in raised) (payload_in raised) (first_in raised) (second_in raised) empty in
+    let D : List Packet → Type 0 = λ ps. AreDone IsDone from ps from [] in
+    ([], ([], subst D (sym none.0) (refl, refl), ap line_puts (sym none.1)), sym (after_puts-none s))
 
 module _ {Held : Type 0} (IsDone : Doing Held) (from : Held) (raised : Raised) (to : Held) where
   abbrev lines : List Put

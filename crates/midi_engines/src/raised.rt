@@ -135,7 +135,7 @@ fn put_lines<L: Lanes, W: Sink, N: Sink>(
     }
 }
 
-// Does the work on the packets of a byte, and then puts its lines.
+// Does the work on the packets of a byte, and then puts its lines. Of most bytes nothing comes, since they are only held.
 #[inline(always)]
 fn put_raised<P: PacketWork, L: Lanes, W: Sink, N: Sink>(
     raised: &Raised<'_>,
@@ -152,6 +152,9 @@ fn put_raised<P: PacketWork, L: Lanes, W: Sink, N: Sink>(
         (places L.Lanes W.Sink N.Sink lanes.old output.old notes.old)
         (places L.Lanes W.Sink N.Sink lanes.new output.new notes.new) result }
 {
+    if raised.is_empty() {
+        return Ok(());
+    }
     match put_packets(raised, offset, work, lanes, output, notes) {
         Ok(()) => put_lines(raised, lanes, output, notes),
         Err(end) => Err(end),
