@@ -169,8 +169,8 @@ fn translate<S: Source, L: Lanes, W: Sink, N: Sink>(
     drive(reader, DownEngine { down }, input, lanes, output, notes)
 }
 
-// Puts a line of the listing.
-fn put_line<L: Lanes, W: Sink, N: Sink>(
+/// Puts a line of the listing.
+pub(crate) fn put_line<L: Lanes, W: Sink, N: Sink>(
     listed: &Listed,
     lanes: &mut L,
     output: &mut W,

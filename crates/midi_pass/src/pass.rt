@@ -81,6 +81,7 @@ pub trait Engine<A, I> {
         notes: &mut N,
     ) -> Result<(), RunEnd>
         requires item { Asks (at.now, item.now) }
+        requires holds { (first : Self) × (past : List (A × I)) × Holds first self.old past × AsksAfter past (at.now, item.now) }
         requires begun { UsesLanes → L.begun lanes.old ≡ true }
         ensures { (first : Self) (past : List (A × I)) → Holds first self.old past → AsksAfter past (at.now, item.now) →
             Steps (work first) past

@@ -1,0 +1,70 @@
+-- A stream of bytes that is raised: the words of the packets of each byte, and its lines; at the end the line of what is open.
+use Rattle.std.specs.Prelude.{◌≡◌, ℕ, true, false, ◌<◌, List, [], ◌∷◌, ◌++◌, map, reverse, take, Some}
+use Rattle.std.specs.List.{flat_map}
+use Rattle.ump_words.specs.Cut.{word_bytes}
+use Rattle.ump_words.specs.declared.words.Order.{Order}
+use Rattle.ump_grammar.specs.Reading.{Encodes}
+use Rattle.ump_grammar.specs.declared.packet.Packet.{Packet}
+use Rattle.voice_state.specs.Agreement.{Agrees}
+use Rattle.voice_state.specs.Messages.{mean1}
+use Rattle.voice_state.specs.Packets.{mean2}
+use Rattle.voice_state.specs.Raising.{packets_at, packets_of_bytes, packets_up}
+use Rattle.voice_state.specs.StepListing.{kinds_at_end, line_up, lines_at, open_pair}
+use Rattle.voice_state.specs.UpRefusal.{AreAcceptedUp, refusal_up}
+use Rattle.up_translator.specs.Held.{UpState}
+use Rattle.up_translator.specs.Recording.{HoldsUp}
+use Rattle.midi_pass.specs.Bytes.{bytes_of}
+use Rattle.midi_pass.specs.Pass.{Work}
+use Rattle.midi_pass.specs.Put.{Put, in_output}
+use Rattle.midi_engines.specs.Down.{line_puts, refusal_by}
+use Rattle.midi_engines.specs.Raised.{output_puts}
+
+-- the group of the packets, the order of the bytes of their words, and the most bytes of an exclusive between F0 and F7
+pub record RaiseOptions : Type 0 where
+  pub group : ℕ
+  pub order : Order
+  pub room : ℕ
+
+-- one put in the output: the bytes of words that encode the packet
+abbrev pub IsWritten : Order → Packet → List Put → Type 0
+IsWritten order packet puts = (words : List ℕ) × Encodes packet words × (puts ≡ in_output (flat_map (word_bytes order) words) ∷ [])
+
+-- the same for each of these packets, one after the other
+abbrev pub AreWritten : Order → List Packet → List Put → Type 0
+AreWritten order [] puts = puts ≡ []
+AreWritten order (packet ∷ packets) puts =
+    (first : List Put) × (rest : List Put) × IsWritten order packet first × AreWritten order packets rest × (puts ≡ first ++ rest)
+
+-- these packets are written, and then these lines are put in the notes
+abbrev pub AreWrittenAndListed : Order → List Packet → List Put → List Put → Type 0
+AreWrittenAndListed order packets lines puts = (written : List Put) × AreWritten order packets written × (puts ≡ written ++ lines)
+
+-- after each of these bytes, the newest first, the packets so far mean what the bytes so far mean
+abbrev pub RaisedMean : ℕ → ℕ → List ℕ → Type 0
+RaisedMean room group past =
+    (count : ℕ) → Agrees (mean1 (take count (reverse past))) (mean2 (packets_of_bytes (Some room) group (take count (reverse past))) group)
+
+-- What is done with a stream that is raised. A byte is refused for a data increment, a data decrement, or an exclusive that passes
+-- its limit. What is put in the output is the words of all packets; after each byte the packets so far mean what the bytes so far mean.
+abbrev pub raising : RaiseOptions → Work (ℕ × ℕ)
+raising options =
+    record {
+      names = record { lanes = false; output = true; notes = true };
+      refusal = λ past item. refusal_by (refusal_up (Some options.room) (bytes_of past) item.1) item.0;
+      IsPut = λ past item puts. AreWrittenAndListed options.order (packets_at (Some options.room) options.group (bytes_of past) item.1)
+          (line_puts (lines_at (Some options.room) options.group (bytes_of past) item.1)) puts;
+      IsPutAtEnd = λ past puts. puts ≡ line_puts (map (line_up options.group) (kinds_at_end (open_pair (Some options.room) (bytes_of past))));
+      Means = λ past puts. AreWritten options.order (packets_up (Some options.room) options.group (bytes_of past)) (output_puts puts)
+          × RaisedMean options.room options.group (bytes_of past);
+    }
+
+-- what accepted bytes mean, which is a law of the state of voices
+abbrev pub RaisedBytesMean : ℕ → ℕ → Type 0
+RaisedBytesMean room group = (past : List ℕ) → AreAcceptedUp (Some room) past → RaisedMean room group past
+
+-- the translator holds what these bytes leave, which are accepted
+pub record HoldsRaised (options : RaiseOptions) (up : UpState) (past : List (ℕ × ℕ)) : Type 0 where
+  pub few : options.group < 16
+  pub law : RaisedBytesMean options.room options.group
+  pub accepted : AreAcceptedUp (Some options.room) (bytes_of past)
+  pub holds : HoldsUp options.room options.group (bytes_of past) up
