@@ -1,7 +1,6 @@
 -- The packets of a byte, whose words are put one after the other.
-use Rattle.std.proofs.Common.{◌≡◌, ◌+◌, ◌*◌, ◌<◌, ◌≤◌, ◌/◌, ◌%◌, ℕ, zero, suc, List, [], ◌∷◌, ◌++◌, length, get_or, take, drop, refl, ap, sym, ◌∙◌, subst, arith}
-use Rattle.std.specs.Prelude.{Some, None, reverse, slice_index_or}
-use Rattle.std.proofs.lemmas.List.{reverse-append, reverse-reverse, take-append-drop}
+use Rattle.std.proofs.Common.{◌≡◌, ◌+◌, ◌*◌, ◌<◌, ◌≤◌, ◌/◌, ◌%◌, ℕ, zero, suc, List, [], ◌∷◌, length, get_or, take, refl, ap, sym, ◌∙◌, subst, arith}
+use Rattle.std.specs.Prelude.{reverse, slice_index_or}
 use Rattle.std.specs.List.{All, AllByRecursion}
 use Rattle.std.proofs.lemmas.List.Elements.{All-head, All-tail}
 use Rattle.voice_messages.specs.declared.voice2.Form.{Form}
@@ -17,12 +16,12 @@ use Rattle.ump_grammar.proofs.Encoded.{Encodes-exclusive}
 use Rattle.voice_state.specs.Agreement.{Agrees}
 use Rattle.voice_state.specs.Messages.{mean1}
 use Rattle.voice_state.specs.Packets.{mean2}
-use Rattle.voice_state.specs.Raising.{packets_of_bytes, packets_up}
-use Rattle.voice_state.specs.UpRefusal.{AreAcceptedUp, AreStepsWithinRoom}
+use Rattle.voice_state.specs.UpLaws.{RaisedPacketsMeanTheBytes, RoomsThatAreNotReachedDoNotMatterInBytes}
 use Rattle.midi_pass.specs.Put.{Put}
 use Rattle.midi_engines.specs.declared.up.WordOutput.{WordOutput}
 use Rattle.midi_engines.specs.Raised.{AreDone, AreTaken, CanBeDone, Doing}
 use Rattle.midi_engines.specs.Up.{AreWritten, IsWritten, RaisedBytesMean}
+use Rattle.midi_engines.proofs.StreamLaws.{front_accepted}
 
 abbrev pub accepts_words : WordOutput → Packet → Type 0
 accepts_words from packet = IsPacket packet
@@ -104,23 +103,8 @@ exclusive_is_written from group f bytes fits =
 
 -- ---- accepted bytes mean what their packets mean
 
-pub accepted_before : (room : ℕ) (newer past : List ℕ) → AreAcceptedUp (Some room) (newer ++ past) → AreAcceptedUp (Some room) past
-accepted_before room [] past accepted = accepted
-accepted_before room (byte ∷ newer) past accepted = accepted_before room newer past accepted.1
-
--- the first of accepted bytes are accepted
-pub front_accepted : (room count : ℕ) (past : List ℕ) → AreAcceptedUp (Some room) past → AreAcceptedUp (Some room) (reverse (take count (reverse past)))
-front_accepted room count past accepted =
-    let bytes : List ℕ = reverse past in
-    let turned : past ≡ reverse (drop count bytes) ++ reverse (take count bytes) =
-    sym (reverse-reverse past) ∙ ap reverse (sym (take-append-drop count bytes)) ∙ reverse-append (take count bytes) (drop count bytes) in
-    let A : List ℕ → Type 0 = λ xs. AreAcceptedUp (Some room) xs in
-    accepted_before room (reverse (drop count bytes)) (reverse (take count bytes)) (subst A turned accepted)
-
-pub raised_bytes_mean : (room group : ℕ) → ((group count : ℕ) (bytes : List ℕ) → Agrees (mean1 (take count bytes)) (mean2 (packets_of_bytes None group (take count bytes)) group))
-    → ((room group : ℕ) (past : List ℕ) → AreStepsWithinRoom room past → packets_up (Some room) group past ≡ packets_up None group past)
-    → ((room : ℕ) (past : List ℕ) → AreAcceptedUp (Some room) past → AreStepsWithinRoom room past) → RaisedBytesMean room group
-raised_bytes_mean room group means packets within = λ past accepted count.
+pub raised_bytes_mean : (room group : ℕ) → RaisedPacketsMeanTheBytes → RoomsThatAreNotReachedDoNotMatterInBytes → RaisedBytesMean room group
+raised_bytes_mean room group means rooms = λ past accepted count.
     let front : List ℕ = take count (reverse past) in
     let P : List Packet → Type 0 = λ ps. Agrees (mean1 front) (mean2 ps group) in
-    subst P (sym (packets room group (reverse front) (within room (reverse front) (front_accepted room count past accepted)))) (means group count (reverse past))
+    subst P (sym (rooms.packets room group (reverse front) (rooms.accepted room (reverse front) (front_accepted room count past accepted)))) (means.after_each group count (reverse past))

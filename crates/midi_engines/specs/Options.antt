@@ -7,6 +7,17 @@ pub record DownOptions : Type 0 where
   pub order : Order
   pub room : ℕ
 
+-- a stream of MIDI 1.0 bytes that is raised to packets of a group, whose words have an order
+pub record UpOptions : Type 0 where
+  pub group : ℕ
+  pub order : Order
+  pub room : ℕ
+
+-- such a stream whose packets come down again, and so have no words
+pub record BackOptions : Type 0 where
+  pub group : ℕ
+  pub room : ℕ
+
 -- a recording whose packets are shown
 pub record PacketLineOptions : Type 0 where
   pub order : Order

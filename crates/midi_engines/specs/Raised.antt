@@ -1,15 +1,18 @@
 -- The packets to which a byte is raised, and what is done with them, one after the other.
-use Rattle.std.specs.Prelude.{◌≡◌, ℕ, List, [], ◌∷◌, ◌++◌, map, None, Some, Result, Ok, Err}
+use Rattle.std.specs.Prelude.{◌≡◌, ℕ, true, false, List, [], ◌∷◌, ◌++◌, map, None, Some, Result, Ok, Err}
 use Rattle.std.specs.Option.{option_map}
 use Rattle.voice_messages.specs.declared.voice2.Form.{Form}
 use Rattle.ump_grammar.specs.declared.packet.Packet.{Packet}
 use Rattle.ump_grammar.specs.declared.packet.Packet.TheVariants.{Exclusive}
 use Rattle.midi1_bytes.specs.Parsing.{open_of}
-use Rattle.voice_state.specs.StepListing.{kinds_at_end, line_up}
-use Rattle.voice_state.specs.UpRefusal.{refusal_of_step}
+use Rattle.voice_state.specs.Raising.{packets_at}
+use Rattle.voice_state.specs.StepListing.{kinds_at_end, line_up, lines_at, open_pair}
+use Rattle.voice_state.specs.UpRefusal.{refusal_of_step, refusal_up}
 use Rattle.up_translator.specs.declared.raised.Raised.{Raised}
 use Rattle.up_translator.specs.Held.{UpState, step_in}
 use Rattle.up_translator.specs.Raised.{lines_in, packets_in}
+use Rattle.midi_pass.specs.Bytes.{bytes_of}
+use Rattle.midi_pass.specs.Named.{Named}
 use Rattle.midi_pass.specs.Pass.{Tail}
 use Rattle.midi_pass.specs.Places.{FailsAt, Places, after_puts}
 use Rattle.midi_pass.specs.Put.{Put, in_lane, in_notes, in_output}
@@ -17,12 +20,35 @@ use Rattle.midi_pass.specs.declared.ends.RunEnd.{RunEnd}
 use Rattle.midi_pass.specs.declared.ends.RunEnd.TheVariants.{Refused}
 use Rattle.midi_engines.specs.Down.{line_puts, refusal_by}
 
+-- such a pass writes to the output and the notes
+abbrev pub output_and_notes : Named
+output_and_notes = record { lanes = false; output = true; notes = true }
+
 -- the puts in the output among these
 abbrev pub output_puts : List Put → List Put
 output_puts [] = []
 output_puts (in_output text ∷ puts) = in_output text ∷ output_puts puts
 output_puts (in_lane lane piece ∷ puts) = output_puts puts
 output_puts (in_notes text ∷ puts) = output_puts puts
+
+-- ---- by the bytes before, the newest first
+
+-- A byte is refused for a data increment, a data decrement, or an exclusive that has more bytes than it may.
+abbrev pub refusal_at : ℕ → List (ℕ × ℕ) → ℕ × ℕ → Tail
+refusal_at room past item = refusal_by (refusal_up (Some room) (bytes_of past) item.1) item.0
+
+-- the packets of a byte, and the puts of its lines
+abbrev pub byte_packets : ℕ → ℕ → List (ℕ × ℕ) → ℕ × ℕ → List Packet
+byte_packets room group past item = packets_at (Some room) group (bytes_of past) item.1
+
+abbrev pub byte_lines : ℕ → ℕ → List (ℕ × ℕ) → ℕ × ℕ → List Put
+byte_lines room group past item = line_puts (lines_at (Some room) group (bytes_of past) item.1)
+
+-- the put of the line of what is open at the end
+abbrev pub last_lines : ℕ → ℕ → List (ℕ × ℕ) → List Put
+last_lines room group past = line_puts (map (line_up group) (kinds_at_end (open_pair (Some room) (bytes_of past))))
+
+-- ---- one packet after the other
 
 -- What is done with a packet is a relation of what is held before it, the packet, what is held after it, and what is put for it.
 abbrev pub Doing : Type 0 → Type 1
@@ -60,6 +86,8 @@ CarriesOut {Held = Held} Does to old new (Err end) = (meant : Held) × (puts : L
 abbrev pub Answers : {Held : Type 0} → Tail → (Held → List Put → Type 0) → Held → Places × Places → Result (Unit {0}) RunEnd → Type 0
 Answers (Some refusal) Does to places result = (result ≡ Err (Refused refusal.0 refusal.1)) × (places.1 ≡ places.0)
 Answers None Does to places result = CarriesOut Does to places.0 places.1 result
+
+-- ---- by what the translator up holds
 
 -- why a byte is refused, by what the translator up holds
 abbrev pub byte_refusal : UpState → ℕ → ℕ → Tail

@@ -1,66 +1,38 @@
 -- What is put for raised bytes means what they mean.
 use Rattle.std.proofs.Common.{◌≡◌, ℕ, List, [], ◌∷◌, ◌++◌, refl, ap, sym, ◌∙◌, subst}
-use Rattle.std.specs.Prelude.{Some, true, false, map}
-use Rattle.std.proofs.lemmas.List.{append-nil, append_assoc}
+use Rattle.std.specs.Prelude.{Some}
+use Rattle.std.proofs.lemmas.List.{append_assoc}
 use Rattle.ump_words.specs.declared.words.Order.{Order}
 use Rattle.ump_grammar.specs.declared.packet.Packet.{Packet}
 use Rattle.voice_state.specs.declared.listed.Listed.{Listed}
 use Rattle.voice_state.specs.Raising.{packets_at, packets_up}
-use Rattle.voice_state.specs.StepListing.{kinds_at_end, line_up, lines_at, open_pair}
+use Rattle.voice_state.specs.StepListing.{lines_at}
 use Rattle.up_translator.specs.Held.{UpState}
 use Rattle.midi_pass.specs.Bytes.{bytes_of}
-use Rattle.midi_pass.specs.Named.{AreNamed, named-then}
+use Rattle.midi_pass.specs.Named.{AreNamed}
 use Rattle.midi_pass.specs.Pass.{ArePut}
-use Rattle.midi_pass.specs.Put.{Put, in_lane, in_notes, in_output}
+use Rattle.midi_pass.specs.Put.{Put}
 use Rattle.midi_engines.specs.Down.{line_puts}
-use Rattle.midi_engines.specs.Raised.{output_puts}
-use Rattle.midi_engines.specs.Up.{AreWritten, HoldsRaised, RaiseOptions, raising}
-
--- ---- what is put goes to the output and the notes
-
-pub lines_named : (lines : List Listed) → AreNamed (record { lanes = false; output = true; notes = true }) (line_puts lines)
-lines_named [] = tt
-lines_named (line ∷ lines) = (refl, lines_named lines)
-
-written_named : (order : Order) (packets : List Packet) (puts : List Put) → AreWritten order packets puts → AreNamed (record { lanes = false; output = true; notes = true }) puts
-written_named order [] puts written =
-    let A : List Put → Type 0 = λ ps. AreNamed (record { lanes = false; output = true; notes = true }) ps in
-    subst A (sym written) tt
-written_named order (packet ∷ packets) puts written =
-    let A : List Put → Type 0 = λ ps. AreNamed (record { lanes = false; output = true; notes = true }) ps in
-    subst A (sym (written.4 ∙ ap (λ xs. xs ++ written.1) written.2.2)) (refl, written_named order packets written.1 written.3)
-
-pub raised_named : (options : RaiseOptions) (past : List (ℕ × ℕ)) (item : ℕ × ℕ) (puts : List Put) → (raising options).IsPut past item puts → AreNamed (raising options).names puts
-raised_named options past item puts put =
-    let A : List Put → Type 0 = λ ps. AreNamed (raising options).names ps in
-    let lines : List Listed = lines_at (Some options.room) options.group (bytes_of past) item.1 in
-    subst A (sym put.2)
-    (named-then (raising options).names put.0 (line_puts lines)
-    (written_named options.order (packets_at (Some options.room) options.group (bytes_of past) item.1) put.0 put.1) (lines_named lines))
-
-pub raised_last_named : (options : RaiseOptions) (past : List (ℕ × ℕ)) (puts : List Put) → (raising options).IsPutAtEnd past puts → AreNamed (raising options).names puts
-raised_last_named options past puts put =
-    let A : List Put → Type 0 = λ ps. AreNamed (raising options).names ps in
-    subst A (sym put) (lines_named (map (line_up options.group) (kinds_at_end (open_pair (Some options.room) (bytes_of past)))))
-
--- ---- the puts in the output among others
-
-pub output-then : (ps qs : List Put) → output_puts (ps ++ qs) ≡ output_puts ps ++ output_puts qs
-output-then [] qs = refl
-output-then (in_output text ∷ ps) qs = ap (λ xs. in_output text ∷ xs) (output-then ps qs)
-output-then (in_lane lane piece ∷ ps) qs = output-then ps qs
-output-then (in_notes text ∷ ps) qs = output-then ps qs
-
-pub output-lines : (lines : List Listed) → output_puts (line_puts lines) ≡ []
-output-lines [] = refl
-output-lines (line ∷ lines) = output-lines lines
-
--- those of a byte are those before its lines
-pub output-listed : (written puts : List Put) (lines : List Listed) → puts ≡ written ++ line_puts lines → output_puts puts ≡ output_puts written
-output-listed written puts lines e =
-    ap output_puts e ∙ output-then written (line_puts lines) ∙ ap (λ xs. output_puts written ++ xs) (output-lines lines) ∙ append-nil (output_puts written)
+use Rattle.midi_engines.specs.Options.{UpOptions}
+use Rattle.midi_engines.specs.Raised.{output_and_notes, output_puts}
+use Rattle.midi_engines.specs.RaisedMeans.{lines_named, named-then, output-listed, output-then}
+use Rattle.midi_engines.specs.Up.{AreWritten, HoldsRaised, raising}
 
 -- ---- written packets
+
+written_named : (order : Order) (packets : List Packet) (puts : List Put) → AreWritten order packets puts → AreNamed output_and_notes puts
+written_named order [] puts written =
+    let A : List Put → Type 0 = λ ps. AreNamed output_and_notes ps in subst A (sym written) tt
+written_named order (packet ∷ packets) puts written =
+    let A : List Put → Type 0 = λ ps. AreNamed output_and_notes ps in
+    subst A (sym written.4) (named-then written.0 written.1 (subst A (sym written.2.2) (refl, tt)) (written_named order packets written.1 written.3))
+
+pub raises_named : (options : UpOptions) (past : List (ℕ × ℕ)) (item : ℕ × ℕ) (puts : List Put) → (raising options).IsPut past item puts → AreNamed output_and_notes puts
+raises_named options past item puts put =
+    let A : List Put → Type 0 = λ ps. AreNamed output_and_notes ps in
+    let packets : List Packet = packets_at (Some options.room) options.group (bytes_of past) item.1 in
+    let lines : List Listed = lines_at (Some options.room) options.group (bytes_of past) item.1 in
+    subst A (sym put.2) (named-then put.0 (line_puts lines) (written_named options.order packets put.0 put.1) (lines_named lines))
 
 output-written : (order : Order) (packets : List Packet) (puts : List Put) → AreWritten order packets puts → output_puts puts ≡ puts
 output-written order [] puts written = ap output_puts written ∙ sym written
@@ -83,7 +55,7 @@ written-then order (packet ∷ packets) others ps qs first second = (
   ap (λ xs. xs ++ qs) first.4 ∙ append_assoc first.0 first.1 qs,
 )
 
-written-all : (options : RaiseOptions) (past : List (ℕ × ℕ)) (puts : List Put) → ArePut (raising options) past puts
+written-all : (options : UpOptions) (past : List (ℕ × ℕ)) (puts : List Put) → ArePut (raising options) past puts
     → AreWritten options.order (packets_up (Some options.room) options.group (bytes_of past)) (output_puts puts)
 written-all options [] puts put = ap output_puts put
 written-all options (item ∷ past) puts put =
@@ -96,5 +68,5 @@ written-all options (item ∷ past) puts put =
     subst W (sym all)
     (written-then options.order (packets_up (Some options.room) options.group bytes) packets (output_puts put.0) put.3.0 (written-all options past put.0 put.2) put.3.1)
 
-pub raised_means : (options : RaiseOptions) (up : UpState) (past : List (ℕ × ℕ)) (puts : List Put) → HoldsRaised options up past → ArePut (raising options) past puts → (raising options).Means past puts
+pub raised_means : (options : UpOptions) (up : UpState) (past : List (ℕ × ℕ)) (puts : List Put) → HoldsRaised options up past → ArePut (raising options) past puts → (raising options).Means past puts
 raised_means options up past puts holds put = (written-all options past puts put, holds.law (bytes_of past) holds.accepted)

@@ -1,10 +1,12 @@
 // From a stream of MIDI 1.0 bytes to packets.
 ghost use Rattle.std.specs.Prelude.{◌≡◌, ◌≤◌, ◌<◌, ℕ, List, [], IfOk, length, refl};
 ghost use Rattle.ump_grammar.specs.Ranges.{IsPacket};
+ghost use Rattle.up_translator.specs.Recording.{HoldsUp};
 ghost use Rattle.midi_pass.specs.Bytes.{byte_cutting};
 ghost use Rattle.midi_pass.specs.Pass.{Ends, IsDoneUnless, seen};
-ghost use Rattle.midi_engines.specs.Up.{HoldsRaised, IsWritten, RaiseOptions, raising};
-ghost use Rattle.midi_engines.specs.UpMeans.{raised_last_named, raised_means, raised_named};
+ghost use Rattle.midi_engines.specs.Up.{HoldsRaised, IsWritten, options_of, raising};
+ghost use Rattle.midi_engines.specs.RaisedMeans.{last_named};
+ghost use Rattle.midi_engines.specs.UpMeans.{raised_means, raises_named};
 
 use crate::raised::{PacketWork, put_byte, put_open};
 use midi_edge::{ByteReader, Lanes, NoMemory, Sink, Source, U4};
@@ -21,8 +23,7 @@ use voice_state::up_laws::{
     rooms_that_are_not_reached_do_not_matter_in_bytes,
 };
 
-/// A translation up that is ready to begin, with all its memory. To a contract it is its options: the group of its packets, the
-/// order of the bytes of their words, and its limit for exclusives.
+/// A translation up that is ready to begin, with all its memory. A contract sees its options.
 #[derive(Drop)]
 pub struct UpRun {
     up: Up,
@@ -32,9 +33,9 @@ pub struct UpRun {
 impl Model for UpRun {
     ghost use Rattle.std.specs.Prelude.{◌<◌, []};
     ghost use Rattle.up_translator.specs.Recording.{HoldsUp};
-    ghost use Rattle.midi_engines.specs.Up.{RaiseOptions};
+    ghost use Rattle.midi_engines.specs.Options.{UpOptions};
 
-    ghost Value = { RaiseOptions };
+    ghost Value = { UpOptions };
 
     ghost view = { λ r. record { group = r.up.group; order = r.order; room = r.up.parsing.room } };
 
@@ -42,8 +43,8 @@ impl Model for UpRun {
 }
 
 impl UpRun {
-    /// A translation into this group, with words in this order, and exclusives of at most `room` bytes between F0 and F7, 6 to
-    /// 1,048,576. `NoMemory` where there isn't so much; no other call takes any.
+    /// A translation into this group, whose words have this order. `room` is the most bytes of an exclusive between F0 and F7, 6
+    /// to 1,048,576, for which memory is reserved; `NoMemory` where there isn't so much. No other call takes any.
     pub fn new(alloc: Global, group: U4, order: Order, room: u32) -> Result<UpRun, NoMemory>
         requires least { 6 ≤ room }
         requires most { room ≤ 1048576 }
@@ -92,15 +93,13 @@ struct UpEngine {
 }
 
 impl Engine<u64, u8> for UpEngine {
-    ghost work = { λ first. raising (record { group = first.up.group; order = first.words.order; room = first.up.parsing.room }) };
+    ghost work = { λ first. raising (options_of first.up first.words.order) };
 
-    ghost IsReady = { λ first.
-        HoldsRaised (record { group = first.up.group; order = first.words.order; room = first.up.parsing.room }) first.up [] };
+    ghost IsReady = { λ first. HoldsRaised (options_of first.up first.words.order) first.up [] };
 
     ghost UsesLanes = { ⊥ };
 
-    ghost Holds = { λ first now past. (now.words ≡ first.words) ×
-        HoldsRaised (record { group = first.up.group; order = first.words.order; room = first.up.parsing.room }) now.up past };
+    ghost Holds = { λ first now past. (now.words ≡ first.words) × HoldsRaised (options_of first.up first.words.order) now.up past };
 
     ghost Asks = { λ item. Unit {0} };
 
@@ -140,23 +139,22 @@ impl Engine<u64, u8> for UpEngine {
         put_open(&self.up, lanes, output, notes)
     }
 
-    ghost puts_are_named = { λ first past item puts put.
-        raised_named (record { group = first.up.group; order = first.words.order; room = first.up.parsing.room }) past item puts put };
+    ghost puts_are_named = { λ first past item puts put. raises_named (options_of first.up first.words.order) past item puts put };
 
-    ghost last_puts_are_named = { λ first past puts put.
-        raised_last_named (record { group = first.up.group; order = first.words.order; room = first.up.parsing.room }) past puts put };
+    ghost last_puts_are_named = { λ first past puts put. last_named first.up.parsing.room first.up.group past puts put };
 
     ghost starts = { λ first ready. (refl, ready) };
 
-    ghost means = { λ first now past puts holds accepted put. raised_means _ now.up past puts holds.1 put };
+    ghost means = { λ first now past puts holds accepted put.
+        raised_means (options_of first.up first.words.order) now.up past puts holds.1 put };
 }
 
 /// Translates a stream up, to its end or to the first byte that is refused (M2-104-UM, translation from MIDI 1.0; what comes to
 /// nothing is listed by own rule): puts the words of each packet in the output, each packet by one put, and after those of a
 /// byte its lines in the notes, at the end the line of what is still open. Takes no memory.
 ///
-/// `Refused` comes for `InputTooLong`, `DataIncrement`, `DataDecrement` and `ExclusiveTooLong`, with the number of bytes before the
-/// refused one. There is no `LaneFault`.
+/// `Refused` comes for `InputTooLong`, `DataIncrement`, `DataDecrement` and `ExclusiveTooLong`, with the number of bytes before what
+/// is refused. `ReadFault`, `OutputFault` and `NoteFault` come only where the count of that object rose. The lanes stay as they are.
 pub fn run_up<S: Source, L: Lanes, W: Sink, N: Sink>(
     engine: UpRun,
     input: &mut S,
@@ -171,9 +169,32 @@ pub fn run_up<S: Source, L: Lanes, W: Sink, N: Sink>(
         (seen S.Source L.Lanes W.Sink N.Sink input.old lanes.old output.old notes.old)
         (seen S.Source L.Lanes W.Sink N.Sink input.new lanes.new output.new notes.new) result }
 {
+    let UpRun { up, order } = engine;
+    translate(up, order, input, lanes, output, notes)
+}
+
+// Translates a stream by a translator that has had no byte. It stays a function of its own, so that the loops of the other
+// passes keep their registers.
+#[inline(never)]
+fn translate<S: Source, L: Lanes, W: Sink, N: Sink>(
+    up: Up,
+    order: Order,
+    input: &mut S,
+    lanes: &mut L,
+    output: &mut W,
+    notes: &mut N,
+) -> RunEnd
+    requires new { HoldsUp up.parsing.room up.group [] up }
+    requires few { up.group < 16 }
+    ensures ends { Ends byte_cutting (raising (options_of up order))
+        (seen S.Source L.Lanes W.Sink N.Sink input.old lanes.old output.old notes.old)
+        (seen S.Source L.Lanes W.Sink N.Sink input.new lanes.new output.new notes.new) result }
+    ensures complete { IsDoneUnless byte_cutting (raising (options_of up order))
+        (seen S.Source L.Lanes W.Sink N.Sink input.old lanes.old output.old notes.old)
+        (seen S.Source L.Lanes W.Sink N.Sink input.new lanes.new output.new notes.new) result }
+{
     raised_packets_mean_the_bytes();
     rooms_that_are_not_reached_do_not_matter_in_bytes();
-    let UpRun { up, order } = engine;
     let words = WordOutput { order };
     drive(
         ByteReader::new(LIMIT),
