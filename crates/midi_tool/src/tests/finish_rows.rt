@@ -5,6 +5,7 @@ use midi_edge::{FolderLanes, Lanes, Sink, U4, WriteSink};
 use midi_pass::Reason;
 use std::io::ErrorKind;
 use std::test::Fail;
+use std::os::unix::fs as unix_fs;
 use std::{fs, process};
 
 // Where everything can be written, what is gathered is written out whatever the status, which gives its own exit code.
@@ -59,6 +60,7 @@ fn each_status_has_its_exit_code(rt: HostRuntime) -> Result<(), Fail> {
 }
 
 // Which objects write to a full place, the exit code and the last line after `Done` and after a refusal.
+#[derive(Clone, Copy)]
 struct Full {
     lanes: bool,
     output: bool,
@@ -127,7 +129,7 @@ fn a_full_place_is_told(rt: HostRuntime) -> Result<(), Fail> {
                 told.as_str()
             };
             if row.lanes {
-                fs::symlink(&rt, "/dev/full", lane.as_str())?;
+                unix_fs::symlink(&rt, "/dev/full", lane.as_str())?;
             }
             let mut lanes = FolderLanes::new(rt.clone()?);
             lanes.begin(folder.as_str())?;

@@ -256,9 +256,7 @@ fn gives(
     stream.extend_from_slice(bytes)?;
     let mut input = MemSource::new(stream, Vec::new(alloc), Vec::new(alloc));
     let mut lanes = MemLanes::new(alloc, 64, 4, Vec::new(alloc))?;
-    let mut lanes = MemLanes::new(alloc, 0, 0, Vec::new(alloc))?;
     let mut held = MemSink::new(alloc, 256, Vec::new(alloc))?;
-    let mut notes = MemSink::new(alloc, 0, Vec::new(alloc))?;
     let mut noted = MemSink::new(alloc, 256, Vec::new(alloc))?;
     let mut shelf = MemShelf::new(Vec::new(alloc), Vec::new(alloc));
     let answer = run(
