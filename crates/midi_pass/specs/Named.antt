@@ -1,5 +1,5 @@
 -- The places that a pass names, and what it leaves of the others.
-use Rattle.std.specs.Prelude.{◌≡◌, ◌≢◌, Bool, true, false, List}
+use Rattle.std.specs.Prelude.{◌≡◌, ◌≢◌, Bool, true, false, List, [], ◌∷◌, ◌++◌}
 use Rattle.std.specs.List.{AllByRecursion}
 use Rattle.midi_pass.specs.Places.{Places}
 use Rattle.midi_pass.specs.Put.{Put, in_lane, in_output, in_notes}
@@ -20,6 +20,10 @@ is_named named (in_notes text) = named.notes
 
 abbrev pub AreNamed : Named → List Put → Type 0
 AreNamed named puts = AllByRecursion (λ put. is_named named put ≡ true) puts
+
+pub named-then : (named : Named) (ps qs : List Put) → AreNamed named ps → AreNamed named qs → AreNamed named (ps ++ qs)
+named-then named [] qs are more = more
+named-then named (p ∷ ps) qs are more = (are.0, named-then named ps qs are.1 more)
 
 -- the lanes tell and count what they did, and no fault of theirs comes; so with the output and the notes
 abbrev pub SparesLanes : RunEnd → Places → Places → Type 0
