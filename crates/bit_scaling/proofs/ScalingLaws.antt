@@ -1,63 +1,10 @@
-use Rattle.std.proofs.Common.{ℕ, ◌+◌, ◌*◌, ◌-◌, ◌/◌, ◌^◌, ◌≡◌, ◌<◌, ◌≤◌, refl, arith, max, leb}
-use Rattle.std.proofs.lemmas.Bool.{cond_both, leb-true, leb-false}
-use Rattle.bit_scaling.specs.Scaling.{up, down7, down14, release_down, velocity_down, IsIncreasing, KeepsEnds}
+use Rattle.std.proofs.Common.{ℕ, ◌+◌, ◌*◌, ◌-◌, ◌/◌, ◌^◌, ◌≡◌, ◌<◌, ◌≤◌, refl, arith, leb}
+use Rattle.std.proofs.lemmas.Bool.{cond_both, leb-true}
+use Rattle.bit_scaling.specs.Scaled.{down7_up, down14_up, release_down_up, velocity_down_up}
+use Rattle.bit_scaling.specs.Scaling.{up, IsIncreasing, KeepsEnds}
 
 -- raised and lowered again
-pub down7_up : (value : ℕ) → value < 128 → down7 (up value 7 32) ≡ value
-unfolding up down7
-down7_up value h =
-    cond_both (leb value 64) _ _ (λ u. u / 2 ^ 25 ≡ value) (λ e. omega arith) (λ e. omega (arith, leb-false value 64 e))
-
-pub down14_up : (value : ℕ) → value < 16384 → down14 (up value 14 32) ≡ value
-unfolding up down14
-down14_up value h =
-    cond_both (leb value 8192) _ _ (λ u. u / 2 ^ 18 ≡ value) (λ e. omega arith) (λ e. omega (arith, leb-false value 8192 e))
-
-pub release_down_up : (velocity : ℕ) → velocity < 128 → release_down (up velocity 7 16) ≡ velocity
-unfolding up release_down
-release_down_up velocity h =
-    cond_both (leb velocity 64) _ _ (λ u. u / 512 ≡ velocity) (λ e. omega arith) (λ e. omega (arith, leb-false velocity 64 e))
-
-pub velocity_down_up : (velocity : ℕ) → 0 < velocity → velocity < 128 → velocity_down (up velocity 7 16) ≡ velocity
-unfolding up velocity_down
-velocity_down_up velocity p h =
-    cond_both (leb velocity 64) _ _ (λ u. max 1 (u / 512) ≡ velocity) (λ e. omega arith) (λ e. omega (arith, leb-false velocity 64 e))
-
 pub ruleset lowered_again = (down7_up, down14_up, release_down_up, velocity_down_up)
-
--- what is lowered fits
-pub down7_fits : (value : ℕ) → value < 2 ^ 32 → down7 value < 128
-unfolding down7
-down7_fits value h = omega arith
-
-pub down14_fits : (value : ℕ) → value < 2 ^ 32 → down14 value < 16384
-unfolding down14
-down14_fits value h = omega arith
-
-pub release_down_fits : (velocity : ℕ) → velocity < 2 ^ 16 → release_down velocity < 128
-unfolding release_down
-release_down_fits velocity h = omega arith
-
-pub velocity_down_fits : (velocity : ℕ) → velocity < 2 ^ 16 → velocity_down velocity < 128
-unfolding velocity_down
-velocity_down_fits velocity h = omega arith
-
-pub velocity_down_above_zero : (velocity : ℕ) → 0 < velocity_down velocity
-unfolding velocity_down
-velocity_down_above_zero velocity = omega arith
-
--- what is raised fits
-pub up_7_16_fits : (velocity : ℕ) → velocity < 128 → up velocity 7 16 < 2 ^ 16
-unfolding up
-up_7_16_fits velocity h = grind (arith, cond_both)
-
-pub up_7_32_fits : (value : ℕ) → value < 128 → up value 7 32 < 2 ^ 32
-unfolding up
-up_7_32_fits value h = grind (arith, cond_both)
-
-pub up_14_32_fits : (value : ℕ) → value < 16384 → up value 14 32 < 2 ^ 32
-unfolding up
-up_14_32_fits value h = grind (arith, cond_both)
 
 -- strictly increasing
 pub up_7_16_increases : IsIncreasing 7 16

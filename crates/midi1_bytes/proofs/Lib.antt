@@ -1,3 +1,4 @@
+pub mod CountLaws
 pub mod OpenLaws
 pub mod ParserLaws
 pub mod Ranges

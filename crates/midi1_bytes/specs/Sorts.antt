@@ -1,5 +1,5 @@
 -- What a byte of a MIDI 1.0 stream is (MIDI 1.0 Detailed Specification, summary of status bytes).
-use Rattle.std.specs.Prelude.{ℕ, nat_lt, ◌==◌, Bool, true, false, if◌then◌else◌}
+use Rattle.std.specs.Prelude.{ℕ, nat_lt, ◌==◌, Bool, true, false, if◌then◌else◌, Option, Some, None}
 
 -- how many data bytes a message has
 pub data Count : Type 0 where
@@ -46,3 +46,9 @@ abbrev pub is_real_time : Sort → Bool
 is_real_time real_time_status = true
 is_real_time undefined_real_time = true
 is_real_time _ = false
+
+-- how many data bytes a message of this status has
+abbrev pub count_of : Sort → Option Count
+count_of (voice_status count) = Some count
+count_of (common_status count) = Some count
+count_of _ = None

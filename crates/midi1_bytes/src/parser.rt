@@ -2,9 +2,9 @@
 ghost use Rattle.std.specs.Prelude.{◌≡◌, ◌<◌, ◌≤◌, [], ◌∷◌, ◌++◌, Some, None, IfOk, vec_len, vec_capacity};
 ghost use Rattle.std.specs.Option.{option_map, ForSome};
 ghost use Rattle.midi1_bytes.specs.Answers.{step_view, LendsFramed, cut_off_by};
-ghost use Rattle.midi1_bytes.specs.Sorts.{data_byte, sort_of};
+ghost use Rattle.midi1_bytes.specs.Sorts.{count_of, data_byte, one, sort_of, two};
 
-use crate::begun::Begun;
+use crate::begun::{Begun, Running};
 use crate::spoken::{CommonBytes, RealTimeByte, VoiceBytes};
 use crate::step::{AfterCut, CutKind, Step};
 use midi_edge::NoMemory;
@@ -49,7 +49,7 @@ fn cut_off<'a>(begun: Option<(u64, CutKind)>, besides: AfterCut, alone: Step<'a>
 /// number of bytes that an exclusive may have between F0 and F7, 6 to 1,048,576 (own rule).
 #[derive(Drop)]
 pub struct Parser {
-    running: Option<u8>,
+    running: Running,
     begun: Begun,
     bytes: Vec<u8>,
     room: u32,
@@ -58,13 +58,13 @@ pub struct Parser {
 impl Model for Parser {
     ghost use Rattle.std.specs.Prelude.{◌≡◌, ◌≤◌, ◌+◌, [], ◌∷◌, length, take, vec_capacity};
     ghost use Rattle.midi1_bytes.specs.Parsing.{Parsing};
-    ghost use Rattle.midi1_bytes.specs.Held.{begun_view, IsKept};
+    ghost use Rattle.midi1_bytes.specs.Held.{begun_view, running_view, IsCounted, IsKept};
 
     ghost Value = { Parsing };
 
-    ghost view = { λ p. record { room = p.room; running = p.running; begun = begun_view p.begun p.bytes.items } };
+    ghost view = { λ p. record { room = p.room; running = running_view p.running; begun = begun_view p.begun p.bytes.items } };
 
-    ghost invariant = { λ p. (p.room + 2 ≤ vec_capacity p.bytes) × (take 1 p.bytes.items ≡ 240 ∷ []) × IsKept p.room p.begun (length p.bytes.items) };
+    ghost invariant = { λ p. (p.room + 2 ≤ vec_capacity p.bytes) × (take 1 p.bytes.items ≡ 240 ∷ []) × IsKept p.room p.begun (length p.bytes.items) × IsCounted p.running };
 }
 
 impl Parser {
@@ -85,7 +85,7 @@ impl Parser {
         };
         append(&mut bytes, START_OF_EXCLUSIVE);
         Ok(Parser {
-            running: None,
+            running: Running::Unset,
             begun: Begun::Nothing,
             bytes,
             room,
@@ -100,7 +100,8 @@ impl Parser {
     {
         match self.begun {
             Begun::Nothing => None,
-            Begun::Message { start, .. } => Some((start, CutKind::Message)),
+            Begun::Only { start, .. } | Begun::First { start, .. } | Begun::Second { start, .. } =>
+                { Some((start, CutKind::Message)) }
             Begun::Exclusive { start } => Some((start, CutKind::Exclusive)),
         }
     }
@@ -110,60 +111,50 @@ impl Parser {
     fn leave(&mut self)
         ensures { self.new ≡ idle self.old.room }
     {
-        self.running = None;
+        self.running = Running::Unset;
         self.begun = Begun::Nothing;
     }
 
+    // Begins a voice message, whose status byte is the running status.
+    #[tactic(auto, unfolding(crate::specs::Sorts::sort_of))]
     #[inline(always)]
-    fn begin_message(&mut self, status: u8, running: Option<u8>, start: u64)
-        ensures { self.new ≡ beginning self.old.room running (begun_message start status None) }
+    fn begin_voice(&mut self, status: u8, start: u64)
+        requires least { 128 ≤ status }
+        requires most { status < 240 }
+        ensures { self.new ≡ beginning self.old.room (Some status) (begun_message start status None) }
     {
-        self.running = running;
-        self.begun = Begun::Message {
-            start,
-            status,
-            first: None,
-        };
+        if matches!(status, 0xc0..=0xdf) {
+            self.running = Running::One(status);
+            self.begun = Begun::Only { start, status };
+        } else {
+            self.running = Running::Two(status);
+            self.begun = Begun::First { start, status };
+        }
+    }
+
+    // Begins a common message with data bytes, which ends running status.
+    #[tactic(auto, unfolding(crate::specs::Sorts::sort_of))]
+    #[inline(always)]
+    fn begin_common(&mut self, status: u8, start: u64)
+        requires least { 241 ≤ status }
+        requires most { status ≤ 243 }
+        ensures { self.new ≡ beginning self.old.room None (begun_message start status None) }
+    {
+        self.running = Running::Unset;
+        if status == 0xf2 {
+            self.begun = Begun::First { start, status };
+        } else {
+            self.begun = Begun::Only { start, status };
+        }
     }
 
     #[inline(always)]
     fn begin_exclusive(&mut self, start: u64)
         ensures { self.new ≡ beginning self.old.room None (begun_exclusive start []) }
     {
-        self.running = None;
+        self.running = Running::Unset;
         self.begun = Begun::Exclusive { start };
         self.bytes.truncate(1);
-    }
-
-    // A data byte of a message of this status.
-    #[tactic(auto, unfolding(crate::specs::Sorts::sort_of))]
-    #[inline(always)]
-    fn message_data<'a>(&mut self, start: u64, status: u8, first: Option<u8>, byte: u8) -> Step<'a>
-        requires below { byte < 128 }
-        requires first_below { ForSome first (λ first. first < 128) }
-        ensures step { step_view result ≡ message_step (sort_of status) status first byte }
-        ensures framed { LendsFramed result }
-        ensures after { self.new ≡ record self.old {
-          begun = begun_after (message_step (sort_of status) status first byte) (begun_message start status (Some byte));
-        } }
-    {
-        // of a message of two data bytes, the first
-        if matches!((status, first), (0x80..=0xbf | 0xe0..=0xef | 0xf2, None)) {
-            self.begun = Begun::Message {
-                start,
-                status,
-                first: Some(byte),
-            };
-            return Step::Held;
-        }
-        self.begun = Begun::Nothing;
-        match (status, first) {
-            (0xc0..=0xdf, _) => Step::Voice(VoiceBytes::of_one(status, byte)),
-            (0x80..=0xef, Some(first)) => Step::Voice(VoiceBytes::of_two(status, first, byte)),
-            (0xf1 | 0xf3, _) => Step::Common(CommonBytes::of_one(status, byte)),
-            (0xf2, Some(first)) => Step::Common(CommonBytes::of_two(status, first, byte)),
-            _ => Step::Stray,
-        }
     }
 
     // A data byte of an exclusive.
@@ -185,7 +176,69 @@ impl Parser {
         Step::Held
     }
 
+    // Completes a message of one data byte.
+    #[tactic(auto, using(crate::proofs::CountLaws::counted_status))]
+    #[inline(always)]
+    fn complete_one<'a>(&mut self, status: u8, only: u8) -> Step<'a>
+        requires counted { count_of (sort_of status) ≡ Some one }
+        requires below { only < 128 }
+        ensures step { step_view result ≡ message_step (sort_of status) status None only }
+        ensures framed { LendsFramed result }
+        ensures after { self.new ≡ record self.old { begun = None } }
+    {
+        self.begun = Begun::Nothing;
+        if status < 0xf0 {
+            Step::Voice(VoiceBytes::of_one(status, only))
+        } else {
+            Step::Common(CommonBytes::of_one(status, only))
+        }
+    }
+
+    // Completes a message of two data bytes.
+    #[tactic(auto, using(crate::proofs::CountLaws::counted_status))]
+    #[inline(always)]
+    fn complete_two<'a>(&mut self, status: u8, first: u8, second: u8) -> Step<'a>
+        requires counted { count_of (sort_of status) ≡ Some two }
+        requires first_below { first < 128 }
+        requires second_below { second < 128 }
+        ensures step { step_view result ≡ message_step (sort_of status) status (Some first) second }
+        ensures framed { LendsFramed result }
+        ensures after { self.new ≡ record self.old { begun = None } }
+    {
+        self.begun = Begun::Nothing;
+        if status < 0xf0 {
+            Step::Voice(VoiceBytes::of_two(status, first, second))
+        } else {
+            Step::Common(CommonBytes::of_two(status, first, second))
+        }
+    }
+
+    // A data byte where nothing is begun: the first of a message under running status, or stray.
+    #[tactic(auto, using(crate::proofs::CountLaws::counted_data))]
+    #[inline(always)]
+    fn data_under_running<'a>(&mut self, byte: u8, offset: u64) -> Step<'a>
+        requires begun { self.old.begun ≡ None }
+        requires below { byte < 128 }
+        ensures step { step_view result ≡ (parse_under data_byte self.old offset byte).step }
+        ensures framed { LendsFramed result }
+        ensures after { self.new ≡ (parse_under data_byte self.old offset byte).after }
+    {
+        match self.running {
+            Running::Two(status) => {
+                self.begun = Begun::Second {
+                    start: offset,
+                    status,
+                    first: byte,
+                };
+                Step::Held
+            }
+            Running::One(status) => Step::Voice(VoiceBytes::of_one(status, byte)),
+            Running::Unset => Step::Stray,
+        }
+    }
+
     // A data byte.
+    #[tactic(auto, using(crate::proofs::CountLaws::counted_data))]
     #[inline(always)]
     fn data<'a>(&mut self, byte: u8, offset: u64) -> Step<'a>
         requires { byte < 128 }
@@ -194,16 +247,18 @@ impl Parser {
         ensures after { self.new ≡ (parse_under data_byte self.old offset byte).after }
     {
         match self.begun {
+            Begun::Second { status, first, .. } => self.complete_two(status, first, byte),
+            Begun::First { start, status } => {
+                self.begun = Begun::Second {
+                    start,
+                    status,
+                    first: byte,
+                };
+                Step::Held
+            }
             Begun::Exclusive { start } => self.exclusive_data(start, byte),
-            Begun::Message {
-                start,
-                status,
-                first,
-            } => self.message_data(start, status, first, byte),
-            Begun::Nothing => match self.running {
-                Some(status) => self.message_data(offset, status, None, byte),
-                None => Step::Stray,
-            },
+            Begun::Only { status, .. } => self.complete_one(status, byte),
+            Begun::Nothing => self.data_under_running(byte, offset),
         }
     }
 
@@ -220,11 +275,11 @@ impl Parser {
         let begun = self.end();
         match status {
             0x80..=0xef => {
-                self.begin_message(status, Some(status), offset);
+                self.begin_voice(status, offset);
                 cut_off(begun, AfterCut::Begins, Step::Held)
             }
             0xf1..=0xf3 => {
-                self.begin_message(status, None, offset);
+                self.begin_common(status, offset);
                 cut_off(begun, AfterCut::Begins, Step::Held)
             }
             0xf0 => {
@@ -250,15 +305,18 @@ impl Parser {
         ensures* after { sem 𝓛 (KeepsParser self.entry (idle self.old.room)) }
     {
         let begun = self.begun;
-        self.running = None;
+        self.running = Running::Unset;
         self.begun = Begun::Nothing;
         match begun {
             Begun::Nothing => Step::Stray,
-            Begun::Message { start, .. } => Step::Cut {
-                start,
-                what: CutKind::Message,
-                after: AfterCut::Stray,
-            },
+            Begun::Only { start, .. } | Begun::First { start, .. } | Begun::Second { start, .. } =>
+                {
+                    Step::Cut {
+                        start,
+                        what: CutKind::Message,
+                        after: AfterCut::Stray,
+                    }
+                }
             Begun::Exclusive { .. } => {
                 append(&mut self.bytes, END_OF_EXCLUSIVE);
                 Step::Exclusive(self.bytes.as_slice())

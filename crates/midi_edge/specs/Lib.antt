@@ -1,10 +1,12 @@
 pub mod Adapters
 pub mod ByteReader
 pub mod Entries
+pub mod Given
 pub mod KeptText
 pub mod MemLanes
 pub mod MemShelf
 pub mod MemSink
 pub mod MemSource
 pub mod Outside
+pub mod Runs
 pub mod Script

@@ -6,6 +6,7 @@ pub mod adapters;
 pub mod byte_reader;
 pub mod few_bits;
 mod kept_text;
+pub mod laws;
 pub mod lent;
 pub mod mem_lanes;
 pub mod mem_shelf;

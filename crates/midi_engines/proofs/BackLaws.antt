@@ -17,7 +17,7 @@ use Rattle.down_translator.specs.Laws.{WhatIsHeldIsTheDefinition}
 use Rattle.down_translator.specs.Recording.{AreInRange, packets_of, state_of}
 use Rattle.midi_pass.specs.Bytes.{bytes_of}
 use Rattle.midi_pass.specs.Put.{Put}
-use Rattle.midi_pass.proofs.PassLaws.{reverse-push}
+use Rattle.std.proofs.lemmas.List.{reverse-append}
 use Rattle.midi_engines.specs.Back.{HoldsReturned, ReturnedBytesMean, byte_pieces, comes_down, piece_puts, plain_puts, puts_down}
 use Rattle.midi_engines.specs.Raised.{AreDone, AreTaken, CanBeDone, byte_packets}
 use Rattle.midi_engines.proofs.StreamLaws.{front_accepted}
@@ -43,7 +43,7 @@ module _ (silence : RaisedPacketsComeBackInSilence) (held : WhatIsHeldIsTheDefin
       let upto : List Packet = earlier ++ p ∷ [] in
       let state : DownState = state_of room placed in
       let moved : upto ++ ps ≡ earlier ++ p ∷ ps = append_assoc earlier (p ∷ []) ps in
-      let turned : reverse upto ≡ p ∷ reverse earlier = reverse-push earlier p in
+      let turned : reverse upto ≡ p ∷ reverse earlier = reverse-append earlier (p ∷ []) in
       let are' : packets_of (here ∷ placed) ≡ reverse upto = ap (λ xs. p ∷ xs) are ∙ sym turned in
       let back = (silence.each room group past upto ps (here ∷ placed) (moved ∙ e) are').0 in
       let after : down_after offset p state ≡ state_of room (here ∷ placed) = held.behind room placed here in

@@ -7,7 +7,7 @@ use Rattle.ump_words.specs.declared.words.Framed.{Framed}
 use Rattle.ump_words.specs.declared.words.Order.{Order}
 use Rattle.ump_words.specs.declared.words.Tail as tails
 use Rattle.ump_words.specs.declared.words.Tail.TheVariants as tail
-use Rattle.ump_words.proofs.Laws.{one_front, packet_size}
+use Rattle.ump_words.specs.Laws.{BytesBeginWithOnePacket, StreamsAreCutInOneWay}
 use Rattle.ump_grammar.specs.declared.packet.Bad.{Bad}
 use Rattle.ump_grammar.specs.declared.packet.Packet.{Packet}
 use Rattle.ump_grammar.specs.Reason.{reason as reason_of}
@@ -25,13 +25,13 @@ tail_of [] = []
 tail_of (x ∷ xs) = xs
 
 -- chunks at the front of the bytes of chunks
-chunks_front : (order : Order) (cs ds : List (List ℕ)) (rest : List ℕ) → AllByRecursion (IsPacket order) cs → AllByRecursion (IsPacket order) ds → concat cs ≡ concat ds ++ rest → (more : List (List ℕ)) × (cs ≡ ds ++ more)
-chunks_front order cs [] rest each each' same = (cs, refl)
-chunks_front order [] (d ∷ ds) rest each each' same =
-    absurd (omega (arith, packet_size order d each'.0, ap length same, length-append (concat (d ∷ ds)) rest, length-append d (concat ds)))
-chunks_front order (c ∷ cs) (d ∷ ds) rest each each' same =
-    let one = one_front order c d (concat cs) (concat ds ++ rest) each.0 each'.0 (same ∙ append_assoc d (concat ds) rest) in
-    let more = chunks_front order cs ds rest each.1 each'.1 one.1 in
+chunks_front : (begins : BytesBeginWithOnePacket) (order : Order) (cs ds : List (List ℕ)) (rest : List ℕ) → AllByRecursion (IsPacket order) cs → AllByRecursion (IsPacket order) ds → concat cs ≡ concat ds ++ rest → (more : List (List ℕ)) × (cs ≡ ds ++ more)
+chunks_front begins order cs [] rest each each' same = (cs, refl)
+chunks_front begins order [] (d ∷ ds) rest each each' same =
+    absurd (omega (arith, begins.size order d each'.0, ap length same, length-append (concat (d ∷ ds)) rest, length-append d (concat ds)))
+chunks_front begins order (c ∷ cs) (d ∷ ds) rest each each' same =
+    let one = begins.one order c d (concat cs) (concat ds ++ rest) each.0 each'.0 (same ∙ append_assoc d (concat ds) rest) in
+    let more = chunks_front begins order cs ds rest each.1 each'.1 one.1 in
     (more.0, ap (λ x. x ∷ cs) one.0 ∙ ap (λ xs. d ∷ xs) more.1)
 
 framed-then : (order : Order) (at : ℕ) (ds more : List (List ℕ)) → framed_from order at (ds ++ more) ≡ framed_from order at ds ++ framed_from order (at + length (concat ds)) more
@@ -47,8 +47,7 @@ whole_at order bytes fs t cut is =
     let none = subst E is cut.cuts.ends in
     sym (cut.cuts.whole ∙ ap (λ xs. concat cut.chunks ++ xs) none.0 ∙ append-nil (concat cut.chunks))
 
-module _ (one_cutting : (order : Order) (limit : ℕ) (bytes : List ℕ) (cs ds : List (List ℕ)) (t u : tails.Tail) → Cuts order limit bytes cs t → Cuts order limit bytes ds u → (cs ≡ ds) × (t ≡ u))
-    (one_packet : (p q : Packet) (words : List ℕ) → Spells p words → Spells q words → p ≡ q) where
+module _ (one_cutting : StreamsAreCutInOneWay) (begins : BytesBeginWithOnePacket) (one_packet : (p q : Packet) (words : List ℕ) → Spells p words → Spells q words → p ≡ q) where
   one_framed : (order : Order) (bytes : List ℕ) (fs gs : List Framed) (t u : tails.Tail) → IsCutInto order limit bytes fs t → IsCutInto order limit bytes gs u → (fs ≡ gs) × (t ≡ u)
   one_framed order bytes fs gs t u p q =
       let one = one_cutting order limit bytes p.chunks q.chunks t u p.cuts q.cuts in
@@ -135,7 +134,7 @@ module _ (one_cutting : (order : Order) (limit : ℕ) (bytes : List ℕ) (cs ds 
   front order bytes items first (are, inl p) (start, rest, parts, (are', inl q)) =
       let all : concat p.cut.chunks ≡ bytes = whole_at order bytes (framed_of items) p.tail p.cut (at_end p.tail p.end_is) in
       let some : concat q.cut.chunks ≡ start = whole_at order start (framed_of first) q.tail q.cut (at_end q.tail q.end_is) in
-      let chunks = chunks_front order p.cut.chunks q.cut.chunks rest p.cut.cuts.each q.cut.cuts.each (all ∙ parts ∙ ap (λ xs. xs ++ rest) (sym some)) in
+      let chunks = chunks_front begins order p.cut.chunks q.cut.chunks rest p.cut.cuts.each q.cut.cuts.each (all ∙ parts ∙ ap (λ xs. xs ++ rest) (sym some)) in
       items_front items first (framed_from order (0 + length (concat q.cut.chunks)) chunks.0) are are'
       (p.cut.same ∙ ap (framed_from order 0) chunks.1 ∙ framed-then order 0 q.cut.chunks chunks.0 ∙ ap (λ fs. fs ++ framed_from order (0 + length (concat q.cut.chunks)) chunks.0) (sym q.cut.same))
     where

@@ -15,6 +15,7 @@ use down_translator::laws::what_is_held_is_the_definition;
 use down_translator::{Down, Style};
 use midi_edge::{ByteReader, Lanes, NoMemory, Sink, Source, U4};
 use midi_pass::places::put_output;
+use midi_pass::laws::bytes_are_cut_once;
 use midi_pass::{Engine, LIMIT, RunEnd, drive};
 use midi1_bytes::laws::parsed_bytes_are_the_definition;
 use std::alloc::Global;
@@ -221,6 +222,7 @@ fn translate<S: Source, L: Lanes, W: Sink, N: Sink>(
         (seen S.Source L.Lanes W.Sink N.Sink input.old lanes.old output.old notes.old)
         (seen S.Source L.Lanes W.Sink N.Sink input.new lanes.new output.new notes.new) result }
 {
+    bytes_are_cut_once();
     bytes_that_come_back_mean_the_same();
     rooms_that_are_not_reached_do_not_matter_in_bytes();
     drive(

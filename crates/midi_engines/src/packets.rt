@@ -8,7 +8,7 @@ ghost use Rattle.midi_engines.specs.Starting.{no_packets};
 use midi_edge::{ReadStop, Source};
 use midi_pass::{Items, LIMIT, Next, Reason};
 use ump_grammar::{Bad, Packet, decode};
-use ump_words::{Framed, Order, WordReader};
+use ump_words::{Framed, Order, WordReader, packets_are_read_in_order};
 
 /// Gives out the packets of a recording.
 #[derive(Drop)]
@@ -40,6 +40,7 @@ impl Items<Framed, Packet> for PacketReader {
 
     #[inline]
     fn next<S: Source>(&mut self, input: &mut S) -> Next<Framed, Packet> {
+        packets_are_read_in_order();
         match self.words.next(input) {
             Ok(Some(framed)) => match decode(&framed) {
                 Ok(packet) => Next::Item {

@@ -13,6 +13,7 @@ ghost use Rattle.midi_engines.specs.Starting.{nothing_held};
 
 use midi_edge::{ByteReader, Lanes, Sink, Source};
 use midi_lines::{Line, fill_byte_listing, fill_step_line};
+use midi_pass::laws::bytes_are_cut_once;
 use midi_pass::places::put_output;
 use midi_pass::{Engine, LIMIT, Reason, RunEnd, drive};
 use midi1_bytes::laws::parsed_bytes_are_the_definition;
@@ -98,6 +99,8 @@ pub(crate) fn show_bytes<S: Source, L: Lanes, W: Sink, N: Sink>(
         (seen S.Source L.Lanes W.Sink N.Sink input.old lanes.old output.old notes.old)
         (seen S.Source L.Lanes W.Sink N.Sink input.new lanes.new output.new notes.new) result }
 {
+    bytes_are_cut_once();
+    bytes_are_cut_once();
     let engine = ShowBytes {
         parser,
         line: Line::new(),

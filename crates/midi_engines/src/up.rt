@@ -10,6 +10,7 @@ ghost use Rattle.midi_engines.specs.UpMeans.{raised_means, raises_named};
 
 use crate::raised::{PacketWork, put_byte, put_open};
 use midi_edge::{ByteReader, Lanes, NoMemory, Sink, Source, U4};
+use midi_pass::laws::bytes_are_cut_once;
 use midi_pass::{Engine, LIMIT, RunEnd, drive};
 use midi1_bytes::laws::parsed_bytes_are_the_definition;
 use std::alloc::Global;
@@ -196,6 +197,7 @@ fn translate<S: Source, L: Lanes, W: Sink, N: Sink>(
         (seen S.Source L.Lanes W.Sink N.Sink input.old lanes.old output.old notes.old)
         (seen S.Source L.Lanes W.Sink N.Sink input.new lanes.new output.new notes.new) result }
 {
+    bytes_are_cut_once();
     raised_packets_mean_the_bytes();
     rooms_that_are_not_reached_do_not_matter_in_bytes();
     let words = WordOutput { order };

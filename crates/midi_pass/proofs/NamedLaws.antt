@@ -7,7 +7,7 @@ use Rattle.midi_pass.specs.Places.{Places, with_more, after_puts, with_faults, F
 use Rattle.midi_pass.specs.Put.{Put, in_lane, in_output, in_notes, pairs_in, output_in, notes_in, IsPartOf, fault_of}
 use Rattle.midi_pass.specs.declared.ends.RunEnd.{RunEnd}
 use Rattle.midi_pass.specs.declared.ends.RunEnd.TheVariants.{Done, Refused, ReadFault, LaneFault, OutputFault, NoteFault}
-use Rattle.midi_pass.proofs.PutLaws.{with_more-none}
+use Rattle.midi_pass.specs.PutLaws.{with_more-none}
 
 named-front : (named : Named) (ps : List Put) (failed : Put) (after : List Put) → AreNamed named (ps ++ failed ∷ after) → AreNamed named ps × (is_named named failed ≡ true)
 named-front named [] failed after are = (tt, are.0)

@@ -1,18 +1,17 @@
 -- What a pass has done so far, and what each end says of it.
-use Rattle.std.proofs.Common.{◌≡◌, ℕ, List, [], ◌∷◌, ◌++◌, Option, None, Some, refl, ap, sym, ◌∙◌, subst, inl, inr}
+use Rattle.std.proofs.Common.{◌≡◌, ℕ, List, [], ◌∷◌, ◌++◌, Option, None, Some, refl, sym, ◌∙◌, subst, inl, inr}
 use Rattle.std.specs.Prelude.{IfSome, Result, Ok, Err, reverse}
 use Rattle.std.proofs.lemmas.List.{reverse-append}
 use Rattle.midi_edge.specs.Outside.{Rose}
-use Rattle.midi_pass.specs.Next.{GivesNext, NextCause}
-use Rattle.midi_pass.specs.Pass.{Seen, Tail, Cutting, Work, AreAccepted, ArePut, IsWork, StepEnds, Steps, Closes, Takes, end_of, IsFront, HasGivenUp, IsDone, IsFirstRefusal, IsRefused, ReadFails, IsNextPut, PutFails, Stands}
+use Rattle.midi_pass.specs.Pass.{Seen, Cutting, Work, AreAccepted, ArePut, IsWork, StepEnds, Steps, Closes, end_of, IsFront, HasGivenUp, IsFirstRefusal, IsRefused, IsNextPut, PutFails, Stands}
 use Rattle.midi_pass.specs.Places.{Places, after_puts, FailsAt, Puts}
-use Rattle.midi_pass.specs.Put.{Put, in_lane, in_output, in_notes, fault_of}
-use Rattle.midi_pass.specs.declared.pass.Next.{Next}
+use Rattle.midi_pass.specs.Put.{Put}
 use Rattle.midi_pass.specs.declared.pass.Next.TheVariants as next
 use Rattle.midi_pass.specs.declared.ends.Reason.{Reason}
 use Rattle.midi_pass.specs.declared.ends.RunEnd.{RunEnd}
 use Rattle.midi_pass.specs.declared.ends.RunEnd.TheVariants.{Done, Refused, ReadFault, LaneFault, OutputFault, NoteFault}
-use Rattle.midi_pass.proofs.PutLaws.{after_puts-none, then_put}
+use Rattle.midi_pass.specs.PutLaws.{after_puts-none, then_put}
+use Rattle.midi_pass.specs.StepLaws.{place_failed}
 
 pub reverse-push : {A : Type 0} (xs : List A) (x : A) → reverse (xs ++ x ∷ []) ≡ x ∷ reverse xs
 reverse-push xs x = reverse-append xs (x ∷ [])
@@ -31,45 +30,6 @@ pub record SoFar {I : Type 0} (work : Work I) (Has : List I → Type 0) (Holds :
 pub nothing_yet : {I : Type 0} (work : Work I) (Has : List I → Type 0) (Holds : List I → Type 0) (old : Seen) → Has [] → Holds [] → SoFar work Has Holds old old
 nothing_yet work Has Holds old has holds =
     record { items = []; has = has; holds = holds; puts = []; accepted = tt; put = refl; places = sym (after_puts-none old.places); reads = refl }
-
--- a put that fails makes an end of its own
-fault_is : (put : Put) (reason : Reason) (offset : ℕ) → Refused reason offset ≡ fault_of put → ⊥
-fault_is (in_lane lane piece) reason offset e = let f : Refused reason offset ≡ LaneFault = e in cc
-fault_is (in_output text) reason offset e = let f : Refused reason offset ≡ OutputFault = e in cc
-fault_is (in_notes text) reason offset e = let f : Refused reason offset ≡ NoteFault = e in cc
-
-pub done_is : (put : Put) → Done ≡ fault_of put → ⊥
-done_is (in_lane lane piece) e = let f : Done ≡ LaneFault = e in cc
-done_is (in_output text) e = let f : Done ≡ OutputFault = e in cc
-done_is (in_notes text) e = let f : Done ≡ NoteFault = e in cc
-
-read_is : (put : Put) → ReadFault ≡ fault_of put → ⊥
-read_is (in_lane lane piece) e = let f : ReadFault ≡ LaneFault = e in cc
-read_is (in_output text) e = let f : ReadFault ≡ OutputFault = e in cc
-read_is (in_notes text) e = let f : ReadFault ≡ NoteFault = e in cc
-
--- what the code of a step does is a step of the work
-pub takes_steps : {I : Type 0} (work : Work I) (past : List I) (item : I) (old new : Places) (Then : Type 0) (result : Result (Unit {0}) RunEnd) (puts : List Put)
-    → Takes (work.refusal past item) puts old new result → (work.refusal past item ≡ None → work.IsPut past item puts × Then) → Steps work past old new Then item result
-takes_steps work past item old new Then result puts takes fine = by_refusal (work.refusal past item) refl takes
-  where
-    by_end : (end : RunEnd) → work.refusal past item ≡ None → FailsAt puts end old new → StepEnds work past old new item end
-    by_end (Refused reason offset) e stops = absurd (fault_is stops.failed reason offset stops.end_is)
-    by_end Done e stops = (e, (puts, (fine e).0, stops))
-    by_end ReadFault e stops = (e, (puts, (fine e).0, stops))
-    by_end LaneFault e stops = (e, (puts, (fine e).0, stops))
-    by_end OutputFault e stops = (e, (puts, (fine e).0, stops))
-    by_end NoteFault e stops = (e, (puts, (fine e).0, stops))
-
-    by_result : (r : Result (Unit {0}) RunEnd) → work.refusal past item ≡ None → Puts puts old new r → Steps work past old new Then item r
-    by_result (Ok done) e now = (e, (puts, (fine e).0, now), (fine e).1)
-    by_result (Err end) e stops = by_end end e stops
-
-    by_refusal : (refusal : Tail) → work.refusal past item ≡ refusal → Takes refusal puts old new result → Steps work past old new Then item result
-    by_refusal (Some refusal) e takes =
-        let R : Result (Unit {0}) RunEnd → Type 0 = λ r. Steps work past old new Then item r in
-        subst R (sym takes.0) (e, takes.1)
-    by_refusal None e takes = by_result result e takes
 
 module _ {I : Type 0} (IsCut : Cutting I) (work : Work I) (Has : List I → Type 0) (Holds : List I → Type 0) (old now : Seen) (so_far : SoFar work Has Holds old now) (means : (past : List I) (puts : List Put) → Holds past → AreAccepted work past → ArePut work past puts → work.Means past puts) where
   done : IsWork work so_far.items so_far.puts
@@ -116,8 +76,8 @@ module _ {I : Type 0} (IsCut : Cutting I) (work : Work I) (Has : List I → Type
       by_told : (all : Option (List ℕ)) → IfSome all (λ bytes. IsFront IsCut bytes (so_far.items ++ item ∷ [])) → IfSome all (λ bytes. IsFirstRefusal IsCut work bytes so_far.items reason offset)
       by_told None front = tt
       by_told (Some bytes) front = inr (item, front, ends.0)
-  ends_at_step item Done new front reads ends = let stops = ends.1.2 in absurd (done_is stops.failed stops.end_is)
-  ends_at_step item ReadFault new front reads ends = let stops = ends.1.2 in absurd (read_is stops.failed stops.end_is)
+  ends_at_step item Done new front reads ends = absurd (place_failed ends.1.0 Done now.places new.places ends.1.2)
+  ends_at_step item ReadFault new front reads ends = absurd (place_failed ends.1.0 ReadFault now.places new.places ends.1.2)
   ends_at_step item LaneFault new front reads ends = put_failed LaneFault new ends.1.0 (inl (item, front, ends.0, ends.1.1)) ends.1.2 reads
   ends_at_step item OutputFault new front reads ends = put_failed OutputFault new ends.1.0 (inl (item, front, ends.0, ends.1.1)) ends.1.2 reads
   ends_at_step item NoteFault new front reads ends = put_failed NoteFault new ends.1.0 (inl (item, front, ends.0, ends.1.1)) ends.1.2 reads
@@ -132,9 +92,9 @@ module _ {I : Type 0} (IsCut : Cutting I) (work : Work I) (Has : List I → Type
       by_told (Some bytes) cut = cut.0
 
       by_end : (e : RunEnd) → FailsAt closes.0 e now.places new.places → Stands IsCut work old new e
-      by_end Done stops = absurd (done_is stops.failed stops.end_is)
-      by_end (Refused reason offset) stops = absurd (fault_is stops.failed reason offset stops.end_is)
-      by_end ReadFault stops = absurd (read_is stops.failed stops.end_is)
+      by_end Done stops = absurd (place_failed closes.0 Done now.places new.places stops)
+      by_end (Refused reason offset) stops = absurd (place_failed closes.0 (Refused reason offset) now.places new.places stops)
+      by_end ReadFault stops = absurd (place_failed closes.0 ReadFault now.places new.places stops)
       by_end LaneFault stops = put_failed LaneFault new closes.0 (inr (by_told old.left cut, closes.1)) stops reads
       by_end OutputFault stops = put_failed OutputFault new closes.0 (inr (by_told old.left cut, closes.1)) stops reads
       by_end NoteFault stops = put_failed NoteFault new closes.0 (inr (by_told old.left cut, closes.1)) stops reads

@@ -1,25 +1,18 @@
--- A program that reads a stream packet by packet: what the packets so far are, and what they are at the end.
+-- What the packets that a reader has given so far are with one more of them, and at the end.
 use Rattle.std.proofs.Common.{◌≡◌, ◌+◌, ◌≤◌, ℕ, List, [], ◌∷◌, ◌++◌, length, Option, None, Some, refl, ap, sym, ◌∙◌, arith, subst, zero-add}
 use Rattle.std.specs.Prelude.{IfSome}
 use Rattle.std.specs.List.{concat, AllByRecursion}
 use Rattle.std.proofs.lemmas.List.{append_assoc, append-nil, length-append, nil_from_length}
 use Rattle.midi_edge.specs.Outside.{Loses, ahead}
+use Rattle.midi_edge.specs.Runs.{runs_are_lost}
 use Rattle.ump_words.specs.Cut.{IsPacket, IsCutInto, framed_from, words_of, Ends}
 use Rattle.ump_words.specs.Reader.{Reading, GivesPacket, Finishes}
+use Rattle.ump_words.specs.SoFar.{ReadSoFar, StandsBehind}
 use Rattle.ump_words.specs.declared.words.Framed.{Framed}
 use Rattle.ump_words.specs.declared.words.Order.{Order}
 use Rattle.ump_words.specs.declared.words.Tail.{Tail}
 use Rattle.ump_words.specs.declared.words.Tail.TheVariants.{End}
 use Rattle.ump_words.proofs.Laws.{some_cutting, cuts_behind, one_cutting_from}
-
--- The reader has given out these packets of what the source had left before, and goes on.
-pub record ReadSoFar (order : Order) (limit : ℕ) (reader : Reading) (before now : Option (List ℕ)) (framed : List Framed) : Type 0 where
-  pub chunks : List (List ℕ)
-  pub same : framed ≡ framed_from order 0 chunks
-  pub place : reader ≡ record { order = order; pending = reader.pending; offset = length (concat chunks); limit = limit; end = None }
-  pub within : length (concat chunks) ≤ limit
-  pub each : AllByRecursion (IsPacket order) chunks
-  pub lost : Loses before (ahead reader.pending now) (concat chunks)
 
 framed_from-append : (order : Order) (at : ℕ) (cs ds : List (List ℕ)) → framed_from order at (cs ++ ds) ≡ framed_from order at cs ++ framed_from order (at + length (concat cs)) ds
 framed_from-append order at [] ds = ap (λ n. framed_from order n ds) (omega arith)
@@ -34,37 +27,15 @@ AllByRecursion-append : {X : Type 0} (P : X → Type 0) (xs ys : List X) → All
 AllByRecursion-append P [] ys p q = q
 AllByRecursion-append P (x ∷ xs) ys p q = (p.0, AllByRecursion-append P xs ys p.1 q)
 
-Loses-none : (left : Option (List ℕ)) → Loses left (ahead [] left) []
-Loses-none None = tt
-Loses-none (Some left) = refl
-
-Loses-more : (a b c : Option (List ℕ)) (xs ys : List ℕ) → Loses a b xs → Loses b c ys → Loses a c (xs ++ ys)
-Loses-more None None None xs ys p q = tt
-Loses-more (Some a) (Some b) (Some c) xs ys p q = p ∙ ap (λ zs. xs ++ zs) q ∙ sym (append_assoc xs ys c)
-Loses-more None None (Some c) xs ys p q = absurd q
-Loses-more None (Some b) c xs ys p q = absurd p
-Loses-more (Some a) None c xs ys p q = absurd p
-Loses-more (Some a) (Some b) None xs ys p q = absurd q
-
 concat-push : (cs : List (List ℕ)) (c : List ℕ) → concat (cs ++ c ∷ []) ≡ concat cs ++ c
 concat-push [] c = append-nil c
 concat-push (b ∷ cs) c = ap (λ xs. b ++ xs) (concat-push cs c) ∙ sym (append_assoc b (concat cs) c)
-
--- a new reader has given out no packet
-pub start : (order : Order) (limit : ℕ) (left : Option (List ℕ)) → ReadSoFar order limit (record { order = order; pending = []; offset = 0; limit = limit; end = None }) left left []
-start order limit left = record { chunks = []; same = refl; place = refl; within = omega arith; each = tt; lost = Loses-none left }
 
 -- two cuttings of one stream give the same packets
 pub one_cut : (order : Order) (limit : ℕ) (bytes : List ℕ) (fs gs : List Framed) (t u : Tail) → IsCutInto order limit bytes fs t → IsCutInto order limit bytes gs u → (fs ≡ gs) × (t ≡ u)
 one_cut order limit bytes fs gs t u p q =
     let one = one_cutting_from order limit 0 bytes p.chunks q.chunks t u p.cuts q.cuts in
     (p.same ∙ ap (framed_from order 0) one.0 ∙ sym q.same, one.1)
-
--- behind these packets stands this one, and perhaps more
-pub record StandsBehind (order : Order) (limit : ℕ) (bytes : List ℕ) (before : List Framed) (framed : Framed) : Type 0 where
-  pub after : List Framed
-  pub tail : Tail
-  pub cut : IsCutInto order limit bytes (before ++ framed ∷ after) tail
 
 module _ (order : Order) (limit : ℕ) (reader : Reading) (before now : Option (List ℕ)) (read : List Framed) (so_far : ReadSoFar order limit reader before now read) where
   -- the packet that is given out, and its place
@@ -106,7 +77,7 @@ module _ (order : Order) (limit : ℕ) (reader : Reading) (before now : Option (
         place = goes_on ∙ ap (λ n. record { order = order; pending = reader'.pending; offset = n; limit = limit; end = None }) (sym len);
         within = omega arith;
         each = AllByRecursion-append (IsPacket order) p.chunks (chunk ∷ []) p.each (subst I p.place gives.is_packet, tt);
-        lost = subst L (sym whole) (Loses-more before (ahead reader.pending now) (ahead reader'.pending now') (concat p.chunks) chunk p.lost gives.lost);
+        lost = subst L (sym whole) (runs_are_lost.both before (ahead reader.pending now) (ahead reader'.pending now') (concat p.chunks) chunk p.lost gives.lost);
       }
 
   -- where the source tells what it has left, the bytes are the packets so far and what is ahead

@@ -26,7 +26,7 @@ use Rattle.voice_state.specs.Packets.{meaning2, step2, IsInRange}
 use Rattle.voice_state.specs.Listing.{is_carried_role}
 use Rattle.voice_state.specs.Plain.{voice_messages, ended_messages, plain_messages, plain_piece}
 use Rattle.voice_state.specs.Lanes.{Denotes, lane_after}
-use Rattle.bit_scaling.proofs.ScalingLaws.{down7_fits, down14_fits, release_down_fits, velocity_down_fits}
+use Rattle.bit_scaling.specs.Scaled.{down7_fits, down14_fits, release_down_fits, velocity_down_fits}
 use Rattle.voice_state.proofs.Packets.{GroupMatches, matches-packet}
 use Rattle.voice_state.proofs.Joined.{whole_data}
 

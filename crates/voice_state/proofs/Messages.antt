@@ -13,7 +13,7 @@ use Rattle.voice_state.specs.Controllers.{Role, bank_msb, bank_lsb, data_msb, da
 use Rattle.voice_state.specs.State.{Act, on, off, mode, Channel, with_act, with_registers}
 use Rattle.voice_state.specs.Messages.{as_they_come, raised, reset, enter_msb, enter_lsb, control, voice_at}
 use Rattle.voice_state.specs.Agreement.{lowered}
-use Rattle.bit_scaling.proofs.ScalingLaws.{down7_up, down14_up, release_down_up, velocity_down_up}
+use Rattle.bit_scaling.specs.Scaled.{down7_up, down14_up, release_down_up, velocity_down_up}
 use Rattle.voice_state.proofs.Changes.{Follows, follows-act, follows-poly, follows-controller, follows-pressure, follows-bend, follows-program, follows-registers, follows-param, follows-value, follows-reset}
 
 pub record Matches (c1 c2 : Channel) : Type 0 where

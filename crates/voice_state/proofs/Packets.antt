@@ -27,7 +27,7 @@ use Rattle.voice_state.specs.Messages.{as_they_come, raised, enter_msb, enter_ls
 use Rattle.voice_state.specs.Packets.{control2, set_param, program2, channel2, voice2_at, with_ended, step2, IsInRange}
 use Rattle.voice_state.specs.Listing.{is_carried_role}
 use Rattle.voice_state.specs.Plain.{set_messages, voice_messages, ended_messages, plain_messages}
-use Rattle.bit_scaling.proofs.ScalingLaws.{down14_fits, velocity_down_above_zero}
+use Rattle.bit_scaling.specs.Scaled.{down14_fits, velocity_down_above_zero}
 use Rattle.voice_state.proofs.Changes.{follows-poly, follows-controller, follows-pressure, follows-bend, follows-program, follows-param, follows-loose}
 use Rattle.voice_state.proofs.Messages.{Matches, matches-act, matches-reset, matches-registers, matches-voice}
 

@@ -15,7 +15,7 @@ use Rattle.voice_messages.specs.declared.voice2.Param.{Param}
 use Rattle.voice_messages.specs.declared.voice2.Bank.{Bank}
 use Rattle.voice_messages.specs.Ranges.{IsVoice1}
 use Rattle.bit_scaling.specs.Scaling.{up, release_down}
-use Rattle.bit_scaling.proofs.ScalingLaws.{down7_up, down14_up, release_down_up, velocity_down_up}
+use Rattle.bit_scaling.specs.Scaled.{down7_up, down14_up, release_down_up, velocity_down_up}
 use Rattle.voice_state.specs.Registers.{Registers, bank_of, bank_by, number_of, selected, selected_by, selected_of, is_null}
 use Rattle.voice_state.specs.Controllers.{Role, bank_msb, bank_lsb, data_msb, data_lsb, data_step, number_msb, number_lsb, reset_all, channel_mode, plain, role_of}
 use Rattle.voice_state.specs.State.{Channel, on, off, mode, with_act, with_param, same_param}

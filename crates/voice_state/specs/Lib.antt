@@ -4,6 +4,7 @@ pub mod Controllers
 pub mod Lanes
 pub mod Laws
 pub mod Listing
+pub mod MeaningRows
 pub mod Messages
 pub mod Packets
 pub mod Parts

@@ -3,6 +3,7 @@
 
 pub mod laws;
 pub mod listed;
+pub mod meaning_rows;
 pub mod up_laws;
 pub mod up_rows;
 

@@ -1,6 +1,6 @@
 use Rattle.std.proofs.Common.{[], refl}
 use Rattle.midi_pass.specs.Bytes.{byte_cutting}
-use Rattle.midi_pass.proofs.DoneLaws.{bytes_once, is_done_unless}
+use Rattle.midi_pass.specs.DoneLaws.{is_done_unless}
 use Rattle.midi_engines.specs.Back.{options_of, returning}
 use Rattle.midi_engines.proofs.BackLaws.{returned_bytes_mean}
 use Rattle.midi_engines.proofs.back.translate.Goals as goal
@@ -17,4 +17,4 @@ drive-requires-clause-ready g c =
     }
 
 pub returns-clause-complete : goal.returns-clause-complete
-returns-clause-complete g c = is_done_unless byte_cutting (returning (options_of c.args.up)) bytes_once _ _ c.drive.result c.drive.ensures
+returns-clause-complete g c = is_done_unless byte_cutting (returning (options_of c.args.up)) c.bytes_are_cut_once.ensures _ _ c.drive.result c.drive.ensures

@@ -2,7 +2,7 @@ use Rattle.std.proofs.Common.{ap, subst}
 use Rattle.ump_words.specs.declared.words.Order.{Order}
 use Rattle.down_translator.specs.Held.{limit_of}
 use Rattle.midi_pass.specs.Pass.{Ends, seen}
-use Rattle.midi_pass.proofs.DoneLaws.{is_done_unless}
+use Rattle.midi_pass.specs.DoneLaws.{is_done_unless}
 use Rattle.midi_engines.specs.Down.{carrying}
 use Rattle.midi_engines.specs.Packets.{packet_cutting}
 use Rattle.midi_engines.proofs.CuttingLaws.{packets_once}
@@ -18,5 +18,5 @@ returns-clause-ends g c =
 
 pub returns-clause-complete : goal.returns-clause-complete
 returns-clause-complete g c =
-    is_done_unless (packet_cutting c.args.order) (carrying (record { order = c.args.order; room = limit_of c.args.down })) (packets_once c.one_cutting.ensures c.words_spell_one_packet.ensures c.args.order) _ _ c.drive.result
+    is_done_unless (packet_cutting c.args.order) (carrying (record { order = c.args.order; room = limit_of c.args.down })) (packets_once c.one_cutting.ensures c.bytes_begin_with_one_packet.ensures c.words_spell_one_packet.ensures c.args.order) _ _ c.drive.result
     (returns-clause-ends g c)

@@ -5,7 +5,7 @@ use Rattle.voice_state.specs.declared.listed.Listed.{Listed}
 use Rattle.up_translator.specs.Raised.{first_in, second_in}
 use Rattle.midi_pass.specs.Places.{Puts, after_puts, places}
 use Rattle.midi_pass.specs.Put.{Put, in_notes}
-use Rattle.midi_pass.proofs.PutLaws.{then_puts}
+use Rattle.midi_pass.specs.PutLaws.{then_puts}
 use Rattle.midi_lines.specs.ListingLines.{listing_text}
 use Rattle.midi_engines.specs.Down.{line_puts}
 use Rattle.midi_engines.proofs.raised.put_lines.Goals as goal

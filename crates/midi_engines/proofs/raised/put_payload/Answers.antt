@@ -1,6 +1,6 @@
 use Rattle.std.proofs.Common.{◌++◌, arith}
 use Rattle.midi_pass.specs.Places.{places}
-use Rattle.midi_pass.proofs.PutLaws.{then_put}
+use Rattle.midi_pass.specs.PutLaws.{then_put}
 use Rattle.midi_engines.proofs.RaisedLaws.{packet_part, part_accepted, part_done, part_fails}
 use Rattle.midi_engines.proofs.raised.put_payload.Goals as goal
 

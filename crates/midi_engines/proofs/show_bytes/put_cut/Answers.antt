@@ -4,7 +4,7 @@ use Rattle.voice_state.specs.StepListing.{cut_kind}
 use Rattle.midi_lines.specs.StepLines.{byte_listing_text}
 use Rattle.midi_pass.specs.Places.{FailsAt, after_puts, places}
 use Rattle.midi_pass.specs.Put.{in_output}
-use Rattle.midi_pass.proofs.PutLaws.{then_puts, stops_more}
+use Rattle.midi_pass.specs.PutLaws.{then_puts, stops_more}
 use Rattle.midi_engines.specs.ShowBytes.{puts_after}
 use Rattle.midi_engines.proofs.show_bytes.put_cut.Goals as goal
 

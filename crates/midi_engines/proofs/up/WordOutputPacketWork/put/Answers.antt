@@ -4,7 +4,7 @@ use Rattle.ump_words.specs.Cut.{word_bytes}
 use Rattle.ump_grammar.specs.Reading.{Encodes}
 use Rattle.midi_pass.specs.Places.{places}
 use Rattle.midi_pass.specs.Put.{in_output}
-use Rattle.midi_pass.proofs.PutLaws.{output_fails, output_put}
+use Rattle.midi_pass.specs.PutLaws.{output_fails, output_put}
 use Rattle.midi_engines.proofs.up.WordOutputPacketWork.put.Goals as goal
 
 pub returns-in-Ok : goal.returns-in-Ok

@@ -1,25 +1,16 @@
--- A program that reads byte by byte: what was given so far, and what an answer tells.
-use Rattle.std.proofs.Common.{◌≡◌, ◌+◌, ◌<◌, ℕ, List, [], ◌∷◌, ◌++◌, length, take, Option, None, Some, refl, ap, sym, ◌∙◌, arith, subst}
+-- What a reader of bytes has given: nothing at first, and with each answer what that tells. So a loop over a reader keeps
+-- `HasGiven`.
+use Rattle.std.proofs.Common.{◌≡◌, ◌+◌, ◌<◌, ◌≤◌, ℕ, List, [], ◌∷◌, ◌++◌, length, take, Option, None, Some, refl, ap, sym, ◌∙◌, subst}
 use Rattle.std.specs.Prelude.{Result, Ok, Err, IfSome}
-use Rattle.std.proofs.lemmas.List.{append_assoc, append-nil, length-append, take_at}
+use Rattle.std.proofs.Math.Nat.{add-lt-add_of_le_of_lt, add-zero, le_refl}
+use Rattle.std.proofs.lemmas.List.{append-nil, length-append, take_at}
 use Rattle.midi_edge.specs.Outside.{Loses, IsUsedUp, ahead}
 use Rattle.midi_edge.specs.ByteReader.{ByteReading, Answers, HasGiven, Tells, answer_of, given_by, new_reading}
+use Rattle.midi_edge.specs.Runs.{runs_are_lost}
 use Rattle.midi_edge.specs.declared.outside.ReadStop.{ReadStop}
 use Rattle.midi_edge.specs.declared.outside.ReadStop.TheVariants.{Read, Truncated, TooLong as StopTooLong}
 use Rattle.midi_edge.specs.declared.byte_reader.Last.{Last}
 use Rattle.midi_edge.specs.declared.byte_reader.Last.TheVariants.{End, TooLong}
-
-Loses-none : (left : Option (List ℕ)) → Loses left (ahead [] left) []
-Loses-none None = tt
-Loses-none (Some left) = refl
-
-Loses-more : (a b c : Option (List ℕ)) (xs ys : List ℕ) → Loses a b xs → Loses b c ys → Loses a c (xs ++ ys)
-Loses-more None None None xs ys p q = tt
-Loses-more (Some a) (Some b) (Some c) xs ys p q = p ∙ ap (λ zs. xs ++ zs) q ∙ sym (append_assoc xs ys c)
-Loses-more None None (Some c) xs ys p q = absurd q
-Loses-more None (Some b) c xs ys p q = absurd p
-Loses-more (Some a) None c xs ys p q = absurd p
-Loses-more (Some a) (Some b) None xs ys p q = absurd q
 
 length-push : (bytes : List ℕ) (byte : ℕ) → length (bytes ++ byte ∷ []) ≡ length bytes + 1
 length-push bytes byte = length-append bytes (byte ∷ [])
@@ -40,13 +31,33 @@ passed : (all now : Option (List ℕ)) (limit : ℕ) (bytes : List ℕ) → leng
 passed None now limit bytes len lost more = tt
 passed (Some whole) None limit bytes len lost more = absurd lost
 passed (Some whole) (Some now) limit bytes len lost more =
-    (sym (ap (take limit) lost ∙ take_at bytes now limit len), omega (arith, ap length lost, length-append bytes now, len, more))
+    (sym (ap (take limit) lost ∙ take_at bytes now limit len), longer)
+  where
+    longer : limit < length whole
+    longer =
+        let L : ℕ → Type 0 = λ n. n < length whole in
+        let W : ℕ → Type 0 = λ n. length bytes + 0 < n in
+        let parts : length whole ≡ length bytes + length now = ap length lost ∙ length-append bytes now in
+        subst L (add-zero (length bytes) ∙ len) (subst W (sym parts) (add-lt-add_of_le_of_lt (le_refl (length bytes)) more))
 
 -- a new reader has given nothing
 pub nothing : (limit : ℕ) (left : Option (List ℕ)) → HasGiven left limit [] (new_reading limit) (ahead [] left)
-nothing limit left = record { lost = Loses-none left; limit_is = refl; offset_is = refl; ended = tt }
+nothing limit left = record { lost = runs_are_lost.none left; limit_is = refl; offset_is = refl; ended = tt }
 
 module _ (all : Option (List ℕ)) (limit : ℕ) (bytes : List ℕ) where
+  -- where the reader stands, it has given as many bytes
+  below : (reader : ByteReading) (now : Option (List ℕ)) → HasGiven all limit bytes reader now → reader.offset < reader.limit → length bytes < limit
+  below reader now given within =
+      let L : ℕ → Type 0 = λ n. reader.offset < n in
+      let O : ℕ → Type 0 = λ n. n < limit in
+      subst O given.offset_is (subst L given.limit_is within)
+
+  within_limit : (reader : ByteReading) (now : Option (List ℕ)) → HasGiven all limit bytes reader now → reader.offset ≤ reader.limit → length bytes ≤ limit
+  within_limit reader now given within =
+      let L : ℕ → Type 0 = λ n. reader.offset ≤ n in
+      let O : ℕ → Type 0 = λ n. n ≤ limit in
+      subst O given.offset_is (subst L given.limit_is within)
+
   -- the same bytes, and no more
   no_more : (reader : ByteReading) (now : Option (List ℕ)) → HasGiven all limit bytes reader now → HasGiven all limit (bytes ++ []) reader now
   no_more reader now given = let P : List ℕ → Type 0 = λ xs. HasGiven all limit xs reader now in subst P (sym (append-nil bytes)) given
@@ -66,8 +77,8 @@ module _ (all : Option (List ℕ)) (limit : ℕ) (bytes : List ℕ) where
       → HasGiven all limit bytes old before → old.last ≡ None → Answers old new before after result
       → Tells all limit bytes result × HasGiven all limit (bytes ++ given_by result) new after
   step old new before after (Ok (Some byte)) given going a =
-      let lost : Loses all after (bytes ++ byte.0 ∷ []) = Loses-more all before after bytes (byte.0 ∷ []) given.lost a.lost in (
-        (a.offset_is ∙ given.offset_is, omega (arith, a.within, given.offset_is, given.limit_is), front_is all after (length bytes + 1) (bytes ++ byte.0 ∷ []) (length-push bytes byte.0) lost),
+      let lost : Loses all after (bytes ++ byte.0 ∷ []) = runs_are_lost.both all before after bytes (byte.0 ∷ []) given.lost a.lost in (
+        (a.offset_is ∙ given.offset_is, below old before given a.within, front_is all after (length bytes + 1) (bytes ++ byte.0 ∷ []) (length-push bytes byte.0) lost),
         record {
           lost = lost;
           limit_is = ap (λ r. r.limit) a.goes_on ∙ given.limit_is;
@@ -76,7 +87,7 @@ module _ (all : Option (List ℕ)) (limit : ℕ) (bytes : List ℕ) where
         },
       )
   step old new before after (Ok None) given going a =
-      let tells : Tells all limit bytes (Ok None) = (omega (arith, a.within, given.offset_is, given.limit_is), all_given all before bytes given.lost a.none_left) in
+      let tells : Tells all limit bytes (Ok None) = (within_limit old before given a.within, all_given all before bytes given.lost a.none_left) in
       (tells, no_more new after (ended_with End old new before after given a.same (ap (λ r. r.limit) a.goes_on) (ap (λ r. r.offset) a.goes_on) (ap (λ r. r.last) a.goes_on) tells))
   step old new before after (Err (Read failed)) given going a = (
     tt,
@@ -86,7 +97,7 @@ module _ (all : Option (List ℕ)) (limit : ℕ) (bytes : List ℕ) where
   )
   step old new before after (Err (Truncated o)) given going a = absurd a
   step old new before after (Err StopTooLong) given going a =
-      let len : length bytes ≡ limit = omega (arith, a.at_limit, given.offset_is, given.limit_is) in
+      let len : length bytes ≡ limit = sym given.offset_is ∙ a.at_limit ∙ given.limit_is in
       let tells : Tells all limit bytes (Err StopTooLong) = (len, passed all before limit bytes len given.lost a.more_ahead) in
       (tells, no_more new after (ended_with TooLong old new before after given a.same (ap (λ r. r.limit) a.goes_on) (ap (λ r. r.offset) a.goes_on) (ap (λ r. r.last) a.goes_on) tells))
 
@@ -121,19 +132,3 @@ module _ (all : Option (List ℕ)) (limit : ℕ) (bytes : List ℕ) where
       → IfSome old.last (λ last. (result ≡ answer_of last) × (new ≡ old) × (after ≡ before))
       → Tells all limit bytes result × HasGiven all limit (bytes ++ given_by result) new after
   one_more old new before after result given answers ended = by_last old.last old new before after result given refl answers ended
-
--- one call of `next` at a source, from its clauses
-pub one_call : {S : Type 0} (left : S → Option (List ℕ)) (all : Option (List ℕ)) (limit : ℕ) (bytes : List ℕ) (src src' : S) (old new : ByteReading)
-    (result : Result (Option (ℕ × ℕ)) ReadStop)
-    → HasGiven all limit bytes old (ahead old.pending (left src))
-    → (old.last ≡ None → Answers old new (ahead old.pending (left src)) (ahead new.pending (left src')) result)
-    → IfSome old.last (λ last. (result ≡ answer_of last) × (new ≡ old) × (src' ≡ src))
-    → Tells all limit bytes result × HasGiven all limit (bytes ++ given_by result) new (ahead new.pending (left src'))
-one_call left all limit bytes src src' old new result given answers again =
-    one_more all limit bytes old new (ahead old.pending (left src)) (ahead new.pending (left src')) result given answers
-    (unmoved old.last again)
-  where
-    unmoved : (last : Option Last) → IfSome last (λ last. (result ≡ answer_of last) × (new ≡ old) × (src' ≡ src))
-        → IfSome last (λ last. (result ≡ answer_of last) × (new ≡ old) × (ahead new.pending (left src') ≡ ahead old.pending (left src)))
-    unmoved None a = tt
-    unmoved (Some last) a = (a.0, a.1, ap (λ r. ahead r.pending (left src')) a.1 ∙ ap (λ s. ahead old.pending (left s)) a.2)

@@ -1,0 +1,49 @@
+-- What the code of a step does is a step of the work.
+use Rattle.std.proofs.Common.{◌≡◌, List, None, Some, refl, sym, subst}
+use Rattle.std.specs.Prelude.{Result, Ok, Err}
+use Rattle.midi_pass.specs.Pass.{Tail, Work, StepEnds, Steps, Takes}
+use Rattle.midi_pass.specs.Places.{Places, FailsAt, Puts}
+use Rattle.midi_pass.specs.Put.{Put, in_lane, in_output, in_notes, fault_of}
+use Rattle.midi_pass.specs.declared.ends.RunEnd.{RunEnd}
+use Rattle.midi_pass.specs.declared.ends.RunEnd.TheVariants.{Done, Refused, ReadFault, LaneFault, OutputFault, NoteFault}
+
+-- an end that a put makes which failed
+abbrev pub IsPutFault : RunEnd → Type 0
+IsPutFault LaneFault = Unit {0}
+IsPutFault OutputFault = Unit {0}
+IsPutFault NoteFault = Unit {0}
+IsPutFault Done = ⊥
+IsPutFault ReadFault = ⊥
+IsPutFault (Refused reason offset) = ⊥
+
+fault_of-is : (put : Put) → IsPutFault (fault_of put)
+fault_of-is (in_lane lane piece) = tt
+fault_of-is (in_output text) = tt
+fault_of-is (in_notes text) = tt
+
+-- where a put failed, the end is that of a place
+pub place_failed : (puts : List Put) (end : RunEnd) (old new : Places) → FailsAt puts end old new → IsPutFault end
+place_failed puts end old new stops = subst IsPutFault (sym stops.end_is) (fault_of-is stops.failed)
+
+-- what the code of a step does is a step of the work
+pub takes_steps : {I : Type 0} (work : Work I) (past : List I) (item : I) (old new : Places) (Then : Type 0) (result : Result (Unit {0}) RunEnd) (puts : List Put)
+    → Takes (work.refusal past item) puts old new result → (work.refusal past item ≡ None → work.IsPut past item puts × Then) → Steps work past old new Then item result
+takes_steps work past item old new Then result puts takes fine = by_refusal (work.refusal past item) refl takes
+  where
+    by_end : (end : RunEnd) → work.refusal past item ≡ None → FailsAt puts end old new → StepEnds work past old new item end
+    by_end (Refused reason offset) e stops = absurd (place_failed puts (Refused reason offset) old new stops)
+    by_end Done e stops = (e, (puts, (fine e).0, stops))
+    by_end ReadFault e stops = (e, (puts, (fine e).0, stops))
+    by_end LaneFault e stops = (e, (puts, (fine e).0, stops))
+    by_end OutputFault e stops = (e, (puts, (fine e).0, stops))
+    by_end NoteFault e stops = (e, (puts, (fine e).0, stops))
+
+    by_result : (r : Result (Unit {0}) RunEnd) → work.refusal past item ≡ None → Puts puts old new r → Steps work past old new Then item r
+    by_result (Ok done) e now = (e, (puts, (fine e).0, now), (fine e).1)
+    by_result (Err end) e stops = by_end end e stops
+
+    by_refusal : (refusal : Tail) → work.refusal past item ≡ refusal → Takes refusal puts old new result → Steps work past old new Then item result
+    by_refusal (Some refusal) e takes =
+        let R : Result (Unit {0}) RunEnd → Type 0 = λ r. Steps work past old new Then item r in
+        subst R (sym takes.0) (e, takes.1)
+    by_refusal None e takes = by_result result e takes
