@@ -1,0 +1,10 @@
+//! Messages of MIDI-CI, read from an exclusive and written as one.
+#![tactic(auto)]
+
+pub mod kind;
+mod places;
+pub mod reading;
+pub mod view;
+
+pub use crate::reading::read;
+pub use crate::view::{Address, Body, CiFault, CiView, ProfileId};
