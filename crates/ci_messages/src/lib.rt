@@ -5,6 +5,7 @@ pub mod kind;
 mod places;
 pub mod reading;
 pub mod view;
+pub mod writing;
 
 pub use crate::reading::read;
 pub use crate::view::{Address, Body, CiFault, CiView, ProfileId};
