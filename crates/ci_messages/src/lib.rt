@@ -2,6 +2,7 @@
 #![tactic(auto)]
 
 pub mod kind;
+pub mod laws;
 mod places;
 pub mod reading;
 pub mod view;

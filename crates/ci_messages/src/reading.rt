@@ -79,7 +79,7 @@ fn counted<'a>(body: &'a [u8], at: usize, size: usize) -> Option<&'a [u8]>
     ensures { MatchOption result
         (length body.now < 2 + size * number2_at body.now at + at)
         (λ items. (2 + size * number2_at body.now at + at ≤ length body.now)
-        × (items.now ≡ part_at body.now (2 + at) (size * number2_at body.now at))) }
+        × (items.now ≡ part_at body.now (at + 2) (size * number2_at body.now at))) }
 {
     if body.len() - at < 2 {
         return None;
