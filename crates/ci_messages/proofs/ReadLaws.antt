@@ -11,9 +11,9 @@ use Rattle.ci_messages.specs.declared.view.CiFault.{CiFault}
 use Rattle.ci_messages.specs.declared.view.CiFault.TheVariants as fault
 use Rattle.ci_messages.specs.declared.view.CiView.{CiView}
 use Rattle.ci_messages.specs.Places.{byte_at, part_at, number2_at, number4_at}
-use Rattle.ci_messages.specs.Fields.{Field, Value, IsData, byte, number2, number4, bytes, counted, reserved, unread, number, list, nothing, Says, SayEach, Fits, FitEach, size_at, end_of}
-use Rattle.ci_messages.specs.Messages.{fields_of, kind_in, values_of}
-use Rattle.ci_messages.specs.Reading.{CiSpells, IsExclusive, address_of, body_of, ci_fault, is_not_ci, is_reserved, is_short, is_short_body, told_kind}
+use Rattle.ci_messages.specs.Fields.{Field, Value, IsData, byte, number2, number4, bytes, counted, reserved, unread, number, list, nothing, HasField, HasFields, FitsField, FitsFields, size_at, end_of_fields}
+use Rattle.ci_messages.specs.Messages.{fields_of, body_kind, values_of}
+use Rattle.ci_messages.specs.Reading.{CiSpells, IsExclusive, address_of, body_of, ci_fault, is_not_ci, is_reserved, is_short, is_short_body, message_kind}
 use Rattle.ci_messages.specs.Writing.{FitsBody, IsAddress, IsView}
 use Rattle.ci_messages.proofs.DataLaws.{body_is_data}
 
@@ -39,39 +39,39 @@ length-part_at : (body : List ℕ) (at size : ℕ) → at + size ≤ length body
 length-part_at body at size within = length-take-le size (drop at body) (omega (arith, within, length-drop at body))
 
 field-fits : (field : Field) (value : Value) (body : List ℕ) (at : ℕ) → IsData body → size_at field body at + at ≤ length body →
-    Says field value body at → Fits field value
-field-fits byte (number n) body at data_bytes within says =
-    subst (λ n. n < 128) (sym says) (all-data body data_bytes at (omega (arith, within)))
-field-fits number2 (number n) body at data_bytes within says =
-    subst (λ n. n < 2 ^ 14) (sym says) (number2_at-data body (length body) at (all-data body data_bytes) (omega (arith, within)))
-field-fits number4 (number n) body at data_bytes within says =
-    subst (λ n. n < 2 ^ 28) (sym says) (number4_at-data body (length body) at (all-data body data_bytes) (omega (arith, within)))
-field-fits (bytes size) (list xs) body at data_bytes within says =
-    (ap length says ∙ length-part_at body at size (omega (arith, within)), subst IsData (sym says) (part_at-data body at size data_bytes))
-field-fits (counted size) (list xs) body at data_bytes within says =
+    HasField field value body at → FitsField field value
+field-fits byte (number n) body at data_bytes within has =
+    subst (λ n. n < 128) (sym has) (all-data body data_bytes at (omega (arith, within)))
+field-fits number2 (number n) body at data_bytes within has =
+    subst (λ n. n < 2 ^ 14) (sym has) (number2_at-data body (length body) at (all-data body data_bytes) (omega (arith, within)))
+field-fits number4 (number n) body at data_bytes within has =
+    subst (λ n. n < 2 ^ 28) (sym has) (number4_at-data body (length body) at (all-data body data_bytes) (omega (arith, within)))
+field-fits (bytes size) (list xs) body at data_bytes within has =
+    (ap length has ∙ length-part_at body at size (omega (arith, within)), subst IsData (sym has) (part_at-data body at size data_bytes))
+field-fits (counted size) (list xs) body at data_bytes within has =
     let many : ℕ = size * number2_at body at in (
-      ap (λ xs. length xs % size) says
+      ap (λ xs. length xs % size) has
           ∙ ap (λ n. n % size) (length-part_at body (at + 2) (size * number2_at body at) (omega (arith, within)))
           ∙ mul-mod_right size (number2_at body at),
-      subst IsData (sym says) (part_at-data body (at + 2) (size * number2_at body at) data_bytes),
+      subst IsData (sym has) (part_at-data body (at + 2) (size * number2_at body at) data_bytes),
     )
-field-fits (reserved size) nothing body at data_bytes within says = tt
-field-fits unread (list xs) body at data_bytes within says = subst IsData (sym says) (All-drop (λ b. b < 128) at body data_bytes)
-field-fits _ _ body at data_bytes within says = absurd says
+field-fits (reserved size) nothing body at data_bytes within has = tt
+field-fits unread (list xs) body at data_bytes within has = subst IsData (sym has) (All-drop (λ b. b < 128) at body data_bytes)
+field-fits _ _ body at data_bytes within has = absurd has
 
-end_of-least : (fields : List Field) (body : List ℕ) (at : ℕ) → at ≤ end_of fields body at
-end_of-least [] body at = omega arith
-end_of-least (field ∷ fields) body at = omega (arith, end_of-least fields body (size_at field body at + at))
+end_of_fields-least : (fields : List Field) (body : List ℕ) (at : ℕ) → at ≤ end_of_fields fields body at
+end_of_fields-least [] body at = omega arith
+end_of_fields-least (field ∷ fields) body at = omega (arith, end_of_fields-least fields body (size_at field body at + at))
 
-fields-fit : (fields : List Field) (values : List Value) (body : List ℕ) (at : ℕ) → IsData body → end_of fields body at ≤ length body →
-    SayEach fields values body at → FitEach fields values
-fields-fit [] [] body at data_bytes within say = tt
-fields-fit (field ∷ fields) (value ∷ values) body at data_bytes within say =
+fields-fit : (fields : List Field) (values : List Value) (body : List ℕ) (at : ℕ) → IsData body → end_of_fields fields body at ≤ length body →
+    HasFields fields values body at → FitsFields fields values
+fields-fit [] [] body at data_bytes within have = tt
+fields-fit (field ∷ fields) (value ∷ values) body at data_bytes within have =
     let place : ℕ = size_at field body at + at in (
-      field-fits field value body at data_bytes (omega (arith, within, end_of-least fields body (size_at field body at + at))) say.0,
-      fields-fit fields values body (size_at field body at + at) data_bytes within say.1,
+      field-fits field value body at data_bytes (omega (arith, within, end_of_fields-least fields body (size_at field body at + at))) have.0,
+      fields-fit fields values body (size_at field body at + at) data_bytes within have.1,
     )
-fields-fit _ _ body at data_bytes within say = absurd say
+fields-fit _ _ body at data_bytes within have = absurd have
 
 -- no fault comes where none of the four tests holds
 no-fault : (a b c d : Bool) (one two three four : CiFault) →
@@ -120,15 +120,15 @@ read-fits message view (payload, is, data_bytes) none spells =
     let tests : (is_short message ≡ false) × (is_reserved (number4_at message 6) ≡ false) =
     no-fault (is_not_ci message) (is_short message) (is_none (address_of (byte_at message 2))) (is_reserved (number4_at message 6))
     fault.NotCi fault.Short fault.BadAddress fault.ReservedMuid none in
-    let lengths : (nat_lt (length message) 15 ≡ false) × (is_short_body (told_kind message) (body_of message) ≡ false) =
-    neither (nat_lt (length message) 15) (is_short_body (told_kind message) (body_of message)) tests.0 in
+    let lengths : (nat_lt (length message) 15 ≡ false) × (is_short_body (message_kind message) (body_of message) ≡ false) =
+    neither (nat_lt (length message) 15) (is_short_body (message_kind message) (body_of message)) tests.0 in
     let long : 15 ≤ length message = ltb-false (length message) 15 lengths.0 in
     let head : (byte_at message 4 < 128) × (byte_at message 5 < 128) × (number4_at message 6 < 2 ^ 28) × (number4_at message 10 < 2 ^ 28) =
     head-fits payload data_bytes (omega (arith, ap length is, length-append payload (0xF7 ∷ []), long)) message is in
-    let body : FitEach (fields_of (told_kind message)) (values_of view.body) =
-    fields-fit (fields_of (told_kind message)) (values_of view.body) (body_of message) 0
+    let body : FitsFields (fields_of (message_kind message)) (values_of view.body) =
+    fields-fit (fields_of (message_kind message)) (values_of view.body) (body_of message) 0
     (body_is_data message (payload, is, data_bytes) long)
-    (ltb-false (length (body_of message)) (end_of (fields_of (told_kind message)) (body_of message) 0) lengths.1)
+    (ltb-false (length (body_of message)) (end_of_fields (fields_of (message_kind message)) (body_of message) 0) lengths.1)
     spells.body.fields in
     record {
       address = address-fits (byte_at message 2) view.address spells.address;
@@ -136,6 +136,6 @@ read-fits message view (payload, is, data_bytes) none spells =
       version = subst (λ n. n < 128) (sym spells.version) head.1;
       source = subst (λ n. n < 2 ^ 28) (sym spells.source) head.2;
       destination = subst (λ n. n < 2 ^ 28) (sym spells.destination) head.3;
-      kind = rw (spells.sub, spells.version) spells.body.kind_is;
-      body = subst (λ kind. FitEach (fields_of kind) (values_of view.body)) (sym spells.body.kind_is) body;
+      kind = rw (spells.sub, spells.version) spells.body.same_kind;
+      body = subst (λ kind. FitsFields (fields_of kind) (values_of view.body)) (sym spells.body.same_kind) body;
     }

@@ -13,9 +13,9 @@ use Rattle.ci_messages.specs.declared.view.Body.{Body}
 use Rattle.ci_messages.specs.declared.view.CiFault.{CiFault}
 use Rattle.ci_messages.specs.declared.view.CiView.{CiView}
 use Rattle.ci_messages.specs.Places.{bytes2, bytes4}
-use Rattle.ci_messages.specs.Fields.{Field, Value, IsData, byte, number2, number4, bytes, counted, reserved, unread, number, list, nothing, SayEach, Fits, FitEach, end_of, field_bytes, bytes_of}
-use Rattle.ci_messages.specs.Messages.{fields_of, kind_in, kind_of, values_of}
-use Rattle.ci_messages.specs.Reading.{CiSpells, IsExclusive, Reads, SpellsBody, address_of, body_of, ci_fault, is_short_body, told_kind}
+use Rattle.ci_messages.specs.Fields.{Field, Value, IsData, byte, number2, number4, bytes, counted, reserved, unread, number, list, nothing, HasFields, FitsField, FitsFields, end_of_fields, bytes_of_field, bytes_of_fields}
+use Rattle.ci_messages.specs.Messages.{fields_of, body_kind, kind_of, values_of}
+use Rattle.ci_messages.specs.Reading.{CiSpells, IsExclusive, Reads, SpellsBody, address_of, body_of, ci_fault, is_short_body, message_kind}
 use Rattle.ci_messages.specs.Writing.{FitsBody, IsAddress, IsView, SameView, address_number, body_bytes, head_bytes, message_bytes}
 use Rattle.ci_messages.proofs.PlaceLaws.{number4-bytes4}
 use Rattle.ci_messages.proofs.FieldLaws.{IsClosed, fields-again}
@@ -37,7 +37,7 @@ data4 : (n : ℕ) → n < 2 ^ 28 → IsData (bytes4 n)
 data4 n small =
     data-append (bytes2 (n % 16384)) (bytes2 (n / 16384)) (data2 (n % 16384) (omega arith)) (data2 (n / 16384) (omega (arith, small)))
 
-field-data : (field : Field) (value : Value) → Fits field value → length (field_bytes field value) ≤ 512 → IsData (field_bytes field value)
+field-data : (field : Field) (value : Value) → FitsField field value → length (bytes_of_field field value) ≤ 512 → IsData (bytes_of_field field value)
 field-data byte (number n) fits small = data-cons n [] fits data-nil
 field-data number2 (number n) fits small = data2 n fits
 field-data number4 (number n) fits small = data4 n fits
@@ -49,11 +49,11 @@ field-data (reserved size) nothing fits small = All-replicate (λ b. b < 128) si
 field-data unread (list xs) fits small = fits
 field-data _ _ fits small = absurd fits
 
-fields-data : (fields : List Field) (values : List Value) → FitEach fields values → length (bytes_of fields values) ≤ 512 → IsData (bytes_of fields values)
+fields-data : (fields : List Field) (values : List Value) → FitsFields fields values → length (bytes_of_fields fields values) ≤ 512 → IsData (bytes_of_fields fields values)
 fields-data [] [] fit small = data-nil
 fields-data (field ∷ fields) (value ∷ values) fit small =
-    let one : List ℕ = field_bytes field value in
-    let rest : List ℕ = bytes_of fields values in
+    let one : List ℕ = bytes_of_field field value in
+    let rest : List ℕ = bytes_of_fields fields values in
     let sizes : length (one ++ rest) ≡ length one + length rest = length-append one rest in
     data-append one rest (field-data field value fit.0 (omega (arith, sizes, small))) (fields-data fields values fit.1 (omega (arith, sizes, small)))
 fields-data _ _ fit small = absurd fit
@@ -76,7 +76,7 @@ written-is_exclusive view is small =
     (data-cons 0x0D (view.sub ∷ view.version ∷ muids) (omega arith)
     (data-cons view.sub (view.version ∷ muids) is.sub
     (data-cons view.version muids is.version muids_data)))) in
-    let body_data : IsData body = fields-data (fields_of (kind_in view.body)) (values_of view.body) is.body (omega (arith, sizes, small)) in (
+    let body_data : IsData body = fields-data (fields_of (body_kind view.body)) (values_of view.body) is.body (omega (arith, sizes, small)) in (
       (0x7E ∷ address ∷ 0x0D ∷ view.sub ∷ view.version ∷ muids) ++ body,
       refl,
       data-append (0x7E ∷ address ∷ 0x0D ∷ view.sub ∷ view.version ∷ muids) body head_data body_data,
@@ -110,8 +110,8 @@ body-again view body =
 
 -- the body that is written, read as one of its kind
 written-body : (body : Body) → FitsBody body →
-    SayEach (fields_of (kind_in body)) (values_of body) (body_bytes body) 0 × (end_of (fields_of (kind_in body)) (body_bytes body) 0 ≡ length (body_bytes body))
-written-body body fits = fields-again (fields_of (kind_in body)) (values_of body) [] 0 refl fits (closed (kind_in body))
+    HasFields (fields_of (body_kind body)) (values_of body) (body_bytes body) 0 × (end_of_fields (fields_of (body_kind body)) (body_bytes body) 0 ≡ length (body_bytes body))
+written-body body fits = fields-again (fields_of (body_kind body)) (values_of body) [] 0 refl fits (closed (body_kind body))
 
 pub written-spells : (view : CiView) → IsView view → CiSpells view (message_bytes view)
 written-spells view is = record {
@@ -121,8 +121,8 @@ written-spells view is = record {
   source = sym (number4-bytes4 view.source);
   destination = sym (number4-bytes4 view.destination);
   body = subst (λ bytes. SpellsBody (kind_of view.sub view.version) view.body bytes) (sym (body-again view (body_bytes view.body))) (record {
-    kind_is = is.kind;
-    fields = subst (λ kind. SayEach (fields_of kind) (values_of view.body) (body_bytes view.body) 0) is.kind (written-body view.body is.body).0;
+    same_kind = is.kind;
+    fields = subst (λ kind. HasFields (fields_of kind) (values_of view.body) (body_bytes view.body) 0) is.kind (written-body view.body is.body).0;
   });
 }
 
@@ -131,8 +131,8 @@ long-enough view n small = le-ltb (length (message_bytes view)) n (omega (arith,
 
 whole-body : (view : CiView) → IsView view → is_short_body (kind_of view.sub view.version) (body_bytes view.body) ≡ false
 whole-body view is =
-    let end : end_of (fields_of (kind_of view.sub view.version)) (body_bytes view.body) 0 ≡ length (body_bytes view.body) =
-    subst (λ kind. end_of (fields_of kind) (body_bytes view.body) 0 ≡ length (body_bytes view.body)) is.kind (written-body view.body is.body).1 in
+    let end : end_of_fields (fields_of (kind_of view.sub view.version)) (body_bytes view.body) 0 ≡ length (body_bytes view.body) =
+    subst (λ kind. end_of_fields (fields_of kind) (body_bytes view.body) 0 ≡ length (body_bytes view.body)) is.kind (written-body view.body is.body).1 in
     le-ltb (length (body_bytes view.body)) _ (omega (arith, end))
 
 pub written-has_no_fault : (view : CiView) → IsView view → view.source < 0x0FFFFF00 → ci_fault (message_bytes view) ≡ None

@@ -6,7 +6,7 @@ use Rattle.ci_messages.specs.declared.view.Body.{Body}
 use Rattle.ci_messages.specs.declared.view.Body.TheVariants as body
 use Rattle.ci_messages.specs.Fields.{Field, Value, byte, number2, number4, bytes, counted, reserved, unread, number, list, nothing}
 
--- the kind of a message, by its sub-id and version
+-- The kind of a message, by its sub-id and version. A version above 02 is read as 02; 00 and 01 are left unread (own rule).
 abbrev pub kind_of : ℕ → ℕ → Kind
 kind_of sub version =
     if nat_lt version 2 then kind.Other
@@ -25,7 +25,7 @@ kind_of sub version =
     else if nat_le 0x30 sub && nat_le sub 0x3F then kind.Property
     else kind.Other
 
--- the fields of a body, in their order
+-- The fields of a body of version 02, in their order. It is the one table of places: reading and writing both follow it.
 abbrev pub fields_of : Kind → List Field
 fields_of kind.Discovery = bytes 3 ∷ bytes 2 ∷ bytes 2 ∷ bytes 4 ∷ byte ∷ number4 ∷ byte ∷ []
 fields_of kind.DiscoveryReply = bytes 3 ∷ bytes 2 ∷ bytes 2 ∷ bytes 4 ∷ byte ∷ number4 ∷ byte ∷ byte ∷ []
@@ -42,16 +42,18 @@ fields_of kind.DisabledReport = bytes 5 ∷ number2 ∷ []
 fields_of kind.Property = unread ∷ []
 fields_of kind.Other = unread ∷ []
 
--- what the fields of a body say, in the same order
+-- what these fields hold, in the same order
 abbrev pub values_of : Body → List Value
 values_of (body.Discovery manufacturer family model revision category size path) =
     list manufacturer ∷ list family ∷ list model ∷ list revision ∷ number category ∷ number size ∷ number path ∷ []
 values_of (body.DiscoveryReply manufacturer family model revision category size path block) =
-    list manufacturer ∷ list family ∷ list model ∷ list revision ∷ number category ∷ number size ∷ number path ∷ number block ∷ []
+    list manufacturer ∷ list family ∷ list model ∷ list revision ∷ number category ∷ number size ∷ number path
+    ∷ number block ∷ []
 values_of (body.EndpointInquiry status) = number status ∷ []
 values_of (body.EndpointReply status text) = number status ∷ list text.now ∷ []
 values_of (body.Invalidate target) = number target ∷ []
-values_of (body.Nak original code value details text) = number original ∷ number code ∷ number value ∷ list details ∷ list text.now ∷ []
+values_of (body.Nak original code value details text) =
+    number original ∷ number code ∷ number value ∷ list details ∷ list text.now ∷ []
 values_of body.ProfileInquiry = []
 values_of (body.ProfileReply on off) = list on.now ∷ list off.now ∷ []
 values_of (body.SetOn id channels) = list id.bytes ∷ number channels ∷ []
@@ -62,18 +64,18 @@ values_of (body.Property lent) = list lent.now ∷ []
 values_of (body.Other lent) = list lent.now ∷ []
 
 -- the kind of the message that has a body
-abbrev pub kind_in : Body → Kind
-kind_in (body.Discovery manufacturer family model revision category size path) = kind.Discovery
-kind_in (body.DiscoveryReply manufacturer family model revision category size path block) = kind.DiscoveryReply
-kind_in (body.EndpointInquiry status) = kind.EndpointInquiry
-kind_in (body.EndpointReply status text) = kind.EndpointReply
-kind_in (body.Invalidate target) = kind.Invalidate
-kind_in (body.Nak original code value details text) = kind.Nak
-kind_in body.ProfileInquiry = kind.ProfileInquiry
-kind_in (body.ProfileReply on off) = kind.ProfileReply
-kind_in (body.SetOn id channels) = kind.SetOn
-kind_in (body.SetOff id) = kind.SetOff
-kind_in (body.EnabledReport id channels) = kind.EnabledReport
-kind_in (body.DisabledReport id channels) = kind.DisabledReport
-kind_in (body.Property lent) = kind.Property
-kind_in (body.Other lent) = kind.Other
+abbrev pub body_kind : Body → Kind
+body_kind (body.Discovery manufacturer family model revision category size path) = kind.Discovery
+body_kind (body.DiscoveryReply manufacturer family model revision category size path block) = kind.DiscoveryReply
+body_kind (body.EndpointInquiry status) = kind.EndpointInquiry
+body_kind (body.EndpointReply status text) = kind.EndpointReply
+body_kind (body.Invalidate target) = kind.Invalidate
+body_kind (body.Nak original code value details text) = kind.Nak
+body_kind body.ProfileInquiry = kind.ProfileInquiry
+body_kind (body.ProfileReply on off) = kind.ProfileReply
+body_kind (body.SetOn id channels) = kind.SetOn
+body_kind (body.SetOff id) = kind.SetOff
+body_kind (body.EnabledReport id channels) = kind.EnabledReport
+body_kind (body.DisabledReport id channels) = kind.DisabledReport
+body_kind (body.Property lent) = kind.Property
+body_kind (body.Other lent) = kind.Other

@@ -8,8 +8,8 @@ use Rattle.ci_messages.specs.declared.view.CiFault.{CiFault}
 use Rattle.ci_messages.specs.declared.view.CiFault.TheVariants as fault
 use Rattle.ci_messages.specs.declared.view.CiView.{CiView}
 use Rattle.ci_messages.specs.Places.{byte_at, part_at, number4_at}
-use Rattle.ci_messages.specs.Fields.{IsData, SayEach, end_of}
-use Rattle.ci_messages.specs.Messages.{fields_of, kind_in, kind_of, values_of}
+use Rattle.ci_messages.specs.Fields.{IsData, HasFields, end_of_fields}
+use Rattle.ci_messages.specs.Messages.{fields_of, body_kind, kind_of, values_of}
 
 -- F0, data bytes, F7
 abbrev pub IsExclusive : List ℕ → Type 0
@@ -28,8 +28,8 @@ abbrev pub body_of : List ℕ → List ℕ
 body_of message = part_at message 14 (length message - 15)
 
 -- the kind that a message's sub-id and version tell
-abbrev pub told_kind : List ℕ → Kind
-told_kind message = kind_of (byte_at message 4) (byte_at message 5)
+abbrev pub message_kind : List ℕ → Kind
+message_kind message = kind_of (byte_at message 4) (byte_at message 5)
 
 -- it isn't universal, non-realtime and of MIDI-CI
 abbrev pub is_not_ci : List ℕ → Bool
@@ -37,10 +37,10 @@ is_not_ci message = nat_lt (length message) 6 || not (byte_at message 1 == 0x7E)
 
 -- a body ends before its fields do
 abbrev pub is_short_body : Kind → List ℕ → Bool
-is_short_body kind body = nat_lt (length body) (end_of (fields_of kind) body 0)
+is_short_body kind body = nat_lt (length body) (end_of_fields (fields_of kind) body 0)
 
 abbrev pub is_short : List ℕ → Bool
-is_short message = nat_lt (length message) 15 || is_short_body (told_kind message) (body_of message)
+is_short message = nat_lt (length message) 15 || is_short_body (message_kind message) (body_of message)
 
 -- 0FFFFF00 to 0FFFFFFE are reserved, and 0FFFFFFF is broadcast
 abbrev pub is_reserved : ℕ → Bool
@@ -55,10 +55,10 @@ ci_fault message =
     else if is_reserved (number4_at message 6) then Some fault.ReservedMuid
     else None
 
--- a body is of a kind, and its fields say what it holds
+-- a body is of a kind, and its fields have what it holds
 pub record SpellsBody (kind : Kind) (body : Body) (bytes : List ℕ) : Type 0 where
-  pub kind_is : kind_in body ≡ kind
-  pub fields : SayEach (fields_of kind) (values_of body) bytes 0
+  pub same_kind : body_kind body ≡ kind
+  pub fields : HasFields (fields_of kind) (values_of body) bytes 0
 
 -- the bytes of a message spell a view
 pub record CiSpells (view : CiView) (message : List ℕ) : Type 0 where
@@ -67,7 +67,7 @@ pub record CiSpells (view : CiView) (message : List ℕ) : Type 0 where
   pub version : view.version ≡ byte_at message 5
   pub source : view.source ≡ number4_at message 6
   pub destination : view.destination ≡ number4_at message 10
-  pub body : SpellsBody (told_kind message) view.body (body_of message)
+  pub body : SpellsBody (message_kind message) view.body (body_of message)
 
 -- the view that the message spells where it has no fault, and otherwise the fault
 abbrev pub Reads : List ℕ → Result CiView CiFault → Type 0

@@ -5,8 +5,8 @@ use Rattle.ci_messages.specs.declared.view.Address.TheVariants as address
 use Rattle.ci_messages.specs.declared.view.Body.{Body}
 use Rattle.ci_messages.specs.declared.view.CiView.{CiView}
 use Rattle.ci_messages.specs.Places.{bytes4}
-use Rattle.ci_messages.specs.Fields.{FitEach, bytes_of}
-use Rattle.ci_messages.specs.Messages.{fields_of, kind_in, kind_of, values_of}
+use Rattle.ci_messages.specs.Fields.{FitsFields, bytes_of_fields}
+use Rattle.ci_messages.specs.Messages.{fields_of, body_kind, kind_of, values_of}
 
 -- the number of an address
 abbrev pub address_number : Address → ℕ
@@ -20,7 +20,7 @@ IsAddress _ = Unit {0}
 
 -- the numbers of a body fit their fields
 abbrev pub FitsBody : Body → Type 0
-FitsBody body = FitEach (fields_of (kind_in body)) (values_of body)
+FitsBody body = FitsFields (fields_of (body_kind body)) (values_of body)
 
 -- a view's body is of the kind that its sub-id tells, and its numbers fit their bytes
 pub record IsView (view : CiView) : Type 0 where
@@ -29,11 +29,11 @@ pub record IsView (view : CiView) : Type 0 where
   pub version : view.version < 128
   pub source : view.source < 2 ^ 28
   pub destination : view.destination < 2 ^ 28
-  pub kind : kind_in view.body ≡ kind_of view.sub view.version
+  pub kind : body_kind view.body ≡ kind_of view.sub view.version
   pub body : FitsBody view.body
 
 abbrev pub body_bytes : Body → List ℕ
-body_bytes body = bytes_of (fields_of (kind_in body)) (values_of body)
+body_bytes body = bytes_of_fields (fields_of (body_kind body)) (values_of body)
 
 -- what stands before the body
 abbrev pub head_bytes : CiView → List ℕ
@@ -43,12 +43,12 @@ head_bytes view =
 abbrev pub message_bytes : CiView → List ℕ
 message_bytes view = head_bytes view ++ (body_bytes view.body ++ 0xF7 ∷ [])
 
--- two views say the same, wherever the bytes stand that they lend
+-- two views have the same, wherever the bytes stand that they lend
 pub record SameView (one other : CiView) : Type 0 where
   pub address : one.address ≡ other.address
   pub sub : one.sub ≡ other.sub
   pub version : one.version ≡ other.version
   pub source : one.source ≡ other.source
   pub destination : one.destination ≡ other.destination
-  pub kind : kind_in one.body ≡ kind_in other.body
+  pub kind : body_kind one.body ≡ body_kind other.body
   pub values : values_of one.body ≡ values_of other.body

@@ -1,7 +1,7 @@
 //! Messages of MIDI-CI, read from an exclusive and written as one.
 #![tactic(auto)]
 
-pub mod kind;
+mod kind;
 pub mod laws;
 mod places;
 pub mod reading;

@@ -1,4 +1,4 @@
-// What a message says.
+// What a message has.
 use thiserror::Error;
 use voice_messages::{U4, U7};
 
