@@ -1,9 +1,9 @@
 -- Fields that are written have what was written.
-use Rattle.std.proofs.Common.{rules, ◌≡◌, ◌∙◌, ap, sym, refl, subst, ℕ, List, [], ◌∷◌, ◌++◌, ◌+◌, ◌-◌, ◌*◌, ◌/◌, ◌%◌, ◌<◌, ◌≤◌, length, take, drop, replicate, arith, length-append, append_assoc, append-nil}
+use Rattle.std.proofs.Common.{◌≡◌, ◌∙◌, ap, sym, refl, subst, ℕ, List, [], ◌∷◌, ◌++◌, ◌+◌, ◌*◌, ◌/◌, ◌%◌, length, drop, arith, length-append, append_assoc, append-nil}
 use Rattle.std.proofs.lemmas.List.{length-replicate}
 use Rattle.std.proofs.Math.Nat.{mod-add-div}
 use Rattle.std.proofs.Math.Seq.{drop-append_seam}
-use Rattle.ci_messages.specs.Places.{byte_at, part_at, number2_at, number4_at, bytes2, bytes4}
+use Rattle.ci_messages.specs.Places.{part_at, number2_at, bytes2}
 use Rattle.ci_messages.specs.Fields.{Field, Value, byte, number2, number4, bytes, counted, reserved, unread, number, list, nothing, HasField, HasFields, FitsField, FitsFields, size_at, end_of_fields, bytes_of_field, bytes_of_fields}
 use Rattle.ci_messages.proofs.PlaceLaws.{byte_at-byte, number2_at-bytes2, number4_at-bytes4, part_at-list}
 

@@ -1,6 +1,6 @@
 -- A message that is written is read again.
-use Rattle.std.proofs.Common.{rules, ◌≡◌, ◌∙◌, ap, sym, refl, subst, ℕ, List, [], ◌∷◌, ◌++◌, None, Some, Result, Ok, Err, ◌+◌, ◌-◌, ◌*◌, ◌/◌, ◌%◌, ◌<◌, ◌≤◌, ◌^◌, nat_lt, nat_le, length, take, drop, false, arith, length-append, append_assoc}
-use Rattle.std.specs.Prelude.{IsOkAnd, All}
+use Rattle.std.proofs.Common.{◌≡◌, ◌∙◌, ap, sym, refl, subst, ℕ, List, [], ◌∷◌, ◌++◌, None, Some, Result, Ok, Err, ◌+◌, ◌-◌, ◌/◌, ◌%◌, ◌<◌, ◌≤◌, ◌^◌, nat_lt, length, take, false, arith, length-append}
+use Rattle.std.specs.Prelude.{IsOkAnd}
 use Rattle.std.proofs.Math.Nat.{div-le_self}
 use Rattle.std.proofs.Math.Seq.{take-append_seam}
 use Rattle.std.proofs.lemmas.Bool.{lt-ltb, le-ltb, lt-leb}
@@ -15,7 +15,7 @@ use Rattle.ci_messages.specs.declared.view.CiView.{CiView}
 use Rattle.ci_messages.specs.Places.{bytes2, bytes4}
 use Rattle.ci_messages.specs.Fields.{Field, Value, IsData, byte, number2, number4, bytes, counted, reserved, unread, number, list, nothing, HasFields, FitsField, FitsFields, end_of_fields, bytes_of_field, bytes_of_fields}
 use Rattle.ci_messages.specs.Messages.{fields_of, body_kind, kind_of, values_of}
-use Rattle.ci_messages.specs.Reading.{CiSpells, IsExclusive, Reads, SpellsBody, address_of, body_of, ci_fault, is_short_body, message_kind}
+use Rattle.ci_messages.specs.Reading.{CiSpells, IsExclusive, Reads, SpellsBody, address_of, body_of, ci_fault, is_short_body}
 use Rattle.ci_messages.specs.Writing.{FitsBody, IsAddress, IsView, SameView, address_number, body_bytes, head_bytes, message_bytes}
 use Rattle.ci_messages.proofs.PlaceLaws.{number4-bytes4}
 use Rattle.ci_messages.proofs.FieldLaws.{IsClosed, fields-again}

@@ -10,3 +10,4 @@ pub mod writing;
 
 pub use crate::reading::read;
 pub use crate::view::{Address, Body, CiFault, CiView, ProfileId};
+pub use crate::writing::write;

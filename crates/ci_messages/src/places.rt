@@ -14,42 +14,12 @@ pub fn part(bytes: &[u8], at: usize, size: usize) -> &[u8]
     &bytes[at..at + size]
 }
 
-/// Two bytes from a place on.
-pub fn two(bytes: &[u8], at: usize) -> [u8; 2]
-    requires { at + 2 ≤ length bytes.now }
-    ensures { result ≡ part_at bytes.now at 2 }
+/// `N` bytes from a place on.
+pub fn array<const N: usize>(bytes: &[u8], at: usize) -> [u8; N]
+    requires { at + N ≤ length bytes.now }
+    ensures { result ≡ part_at bytes.now at N }
 {
-    [bytes[at], bytes[at + 1]]
-}
-
-/// Three bytes from a place on.
-pub fn three(bytes: &[u8], at: usize) -> [u8; 3]
-    requires { at + 3 ≤ length bytes.now }
-    ensures { result ≡ part_at bytes.now at 3 }
-{
-    [bytes[at], bytes[at + 1], bytes[at + 2]]
-}
-
-/// Four bytes from a place on.
-pub fn four(bytes: &[u8], at: usize) -> [u8; 4]
-    requires { at + 4 ≤ length bytes.now }
-    ensures { result ≡ part_at bytes.now at 4 }
-{
-    [bytes[at], bytes[at + 1], bytes[at + 2], bytes[at + 3]]
-}
-
-/// Five bytes from a place on.
-pub fn five(bytes: &[u8], at: usize) -> [u8; 5]
-    requires { at + 5 ≤ length bytes.now }
-    ensures { result ≡ part_at bytes.now at 5 }
-{
-    [
-        bytes[at],
-        bytes[at + 1],
-        bytes[at + 2],
-        bytes[at + 3],
-        bytes[at + 4],
-    ]
+    *bytes[at..].first_chunk().unwrap()
 }
 
 /// A number of two bytes from a place on, seven bits each, the lowest first.

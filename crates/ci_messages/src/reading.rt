@@ -6,7 +6,7 @@ ghost use Rattle.ci_messages.specs.Fields.{IsData};
 ghost use Rattle.ci_messages.specs.Reading.{IsExclusive, Reads, ReadsBody, address_of, body_of, is_not_ci};
 
 use crate::kind::Kind;
-use crate::places::{five, four, number_of_four, number_of_two, part, profile_id, three, two};
+use crate::places::{array, number_of_four, number_of_two, part, profile_id};
 use crate::view::{Address, Body, CiFault, CiView, ProfileId};
 use voice_messages::U4;
 
@@ -37,10 +37,10 @@ fn discovery<'a>(body: &'a [u8]) -> Option<Body<'a>>
         return None;
     }
     Some(Body::Discovery {
-        manufacturer: three(body, 0),
-        family: two(body, 3),
-        model: two(body, 5),
-        revision: four(body, 7),
+        manufacturer: array(body, 0),
+        family: array(body, 3),
+        model: array(body, 5),
+        revision: array(body, 7),
         category: body[11],
         size: number_of_four(body, 12),
         path: body[16],
@@ -54,10 +54,10 @@ fn discovery_reply<'a>(body: &'a [u8]) -> Option<Body<'a>>
         return None;
     }
     Some(Body::DiscoveryReply {
-        manufacturer: three(body, 0),
-        family: two(body, 3),
-        model: two(body, 5),
-        revision: four(body, 7),
+        manufacturer: array(body, 0),
+        family: array(body, 3),
+        model: array(body, 5),
+        revision: array(body, 7),
         category: body[11],
         size: number_of_four(body, 12),
         path: body[16],
@@ -121,7 +121,7 @@ fn nak<'a>(body: &'a [u8]) -> Option<Body<'a>>
         original: body[0],
         code: body[1],
         value: body[2],
-        details: five(body, 3),
+        details: array(body, 3),
         text,
     })
 }
@@ -149,38 +149,6 @@ fn switch(body: &[u8]) -> Option<(ProfileId, u16)>
     Some((profile_id(body, 0), number_of_two(body, 5) as u16))
 }
 
-fn set_on<'a>(body: &'a [u8]) -> Option<Body<'a>>
-    requires { IsData body.now }
-    ensures { ReadsBody kind.SetOn body.now result }
-{
-    let (id, channels) = switch(body)?;
-    Some(Body::SetOn { id, channels })
-}
-
-fn set_off<'a>(body: &'a [u8]) -> Option<Body<'a>>
-    requires { IsData body.now }
-    ensures { ReadsBody kind.SetOff body.now result }
-{
-    let (id, _) = switch(body)?;
-    Some(Body::SetOff { id })
-}
-
-fn enabled_report<'a>(body: &'a [u8]) -> Option<Body<'a>>
-    requires { IsData body.now }
-    ensures { ReadsBody kind.EnabledReport body.now result }
-{
-    let (id, channels) = switch(body)?;
-    Some(Body::EnabledReport { id, channels })
-}
-
-fn disabled_report<'a>(body: &'a [u8]) -> Option<Body<'a>>
-    requires { IsData body.now }
-    ensures { ReadsBody kind.DisabledReport body.now result }
-{
-    let (id, channels) = switch(body)?;
-    Some(Body::DisabledReport { id, channels })
-}
-
 // The body of a message of a kind; `None` exactly where it is shorter than its fields.
 fn body_of_kind<'a>(kind: Kind, body: &'a [u8]) -> Option<Body<'a>>
     requires { IsData body.now }
@@ -195,10 +163,22 @@ fn body_of_kind<'a>(kind: Kind, body: &'a [u8]) -> Option<Body<'a>>
         Kind::Nak => nak(body),
         Kind::ProfileInquiry => Some(Body::ProfileInquiry),
         Kind::ProfileReply => profile_reply(body),
-        Kind::SetOn => set_on(body),
-        Kind::SetOff => set_off(body),
-        Kind::EnabledReport => enabled_report(body),
-        Kind::DisabledReport => disabled_report(body),
+        Kind::SetOn => {
+            let (id, channels) = switch(body)?;
+            Some(Body::SetOn { id, channels })
+        }
+        Kind::SetOff => {
+            let (id, _) = switch(body)?;
+            Some(Body::SetOff { id })
+        }
+        Kind::EnabledReport => {
+            let (id, channels) = switch(body)?;
+            Some(Body::EnabledReport { id, channels })
+        }
+        Kind::DisabledReport => {
+            let (id, channels) = switch(body)?;
+            Some(Body::DisabledReport { id, channels })
+        }
         Kind::Property => Some(Body::Property(body)),
         Kind::Other => Some(Body::Other(body)),
     }
