@@ -11,3 +11,6 @@ pub mod writing;
 pub use crate::reading::read;
 pub use crate::view::{Address, Body, CiFault, CiView, ProfileId};
 pub use crate::writing::write;
+
+#[cfg(test)]
+mod tests;

@@ -19,6 +19,26 @@ pub struct ProfileId {
     pub bytes: [U7; 5],
 }
 
+impl ProfileId {
+    ghost use Rattle.std.specs.Prelude.{◌≡◌};
+    ghost use Rattle.ci_messages.specs.Fields.{IsData};
+
+    /// The id as it stands in a message.
+    pub fn data_bytes(&self) -> [u8; 5]
+        ensures value { result ≡ self.now.bytes }
+        ensures data_bytes { IsData self.now.bytes }
+    {
+        let [first, second, third, fourth, fifth] = self.bytes;
+        [
+            first.get(),
+            second.get(),
+            third.get(),
+            fourth.get(),
+            fifth.get(),
+        ]
+    }
+}
+
 /// A MIDI-CI message (M2-101-UM). It lends its texts, lists and unread bytes from the bytes that were read.
 #[derive(Clone, Copy, Debug, PartialEq, Eq)]
 pub struct CiView<'a> {

@@ -44,18 +44,6 @@ fn put_counted(items: &[u8], size: usize, into: &mut Message)
     into.extend(items);
 }
 
-fn put_id(id: &ProfileId, into: &mut Message)
-    requires { length into.old + 5 ≤ 512 }
-    ensures { into.new ≡ into.old ++ id.now.bytes }
-{
-    let [first, second, third, fourth, fifth] = id.bytes;
-    into.push(first.get());
-    into.push(second.get());
-    into.push(third.get());
-    into.push(fourth.get());
-    into.push(fifth.get());
-}
-
 // The identity of a device.
 fn put_identity(
     manufacturer: &[u8; 3],
@@ -78,7 +66,7 @@ fn put_switch(id: &ProfileId, channels: u16, into: &mut Message)
     requires room { length into.old + 7 ≤ 512 }
     ensures { into.new ≡ into.old ++ (id.now.bytes ++ bytes2 channels) }
 {
-    put_id(id, into);
+    into.extend(&id.data_bytes());
     put_two(u32::from(channels), into);
 }
 
