@@ -214,3 +214,137 @@ fn unread_messages(rt: HostRuntime) {
         }
     }
 }
+
+// A Discovery to broadcast, and a switch of a profile.
+const DISCOVERY: [u8; 30] = [
+    0x7E, 0x7F, 0x0D, 0x70, 0x02, 0x05, 0x00, 0x00, 0x00, 0x7F, 0x7F, 0x7F, 0x7F, 0x7D, 0x00, 0x00,
+    0x01, 0x00, 0x02, 0x00, 0x01, 0x00, 0x00, 0x00, 0x04, 0x00, 0x02, 0x00, 0x00, 0x00,
+];
+
+const SET_ON: [u8; 20] = [
+    0x7E, 0x02, 0x0D, 0x22, 0x02, 0x05, 0x00, 0x00, 0x00, 0x67, 0x0A, 0x0D, 0x09, 0x7E, 0x00, 0x01,
+    0x01, 0x00, 0x01, 0x00,
+];
+
+#[test]
+fn worked_messages(rt: HostRuntime) {
+    let discovery = CiView {
+        address: Address::Block,
+        sub: 0x70,
+        version: 2,
+        source: 5,
+        destination: 0x0FFF_FFFF,
+        body: Body::Discovery {
+            manufacturer: [125, 0, 0],
+            family: [1, 0],
+            model: [2, 0],
+            revision: [1, 0, 0, 0],
+            category: 4,
+            size: 256,
+            path: 0,
+        },
+    };
+    assert!(rt; is_read(&DISCOVERY, &discovery));
+    assert!(rt; is_written(&discovery, &DISCOVERY));
+    let id = ProfileId {
+        bytes: [
+            U7::low_bits(126),
+            U7::low_bits(0),
+            U7::low_bits(1),
+            U7::low_bits(1),
+            U7::low_bits(0),
+        ],
+    };
+    let set_on = view_of!(0x22, Body::SetOn { id, channels: 1 });
+    assert!(rt; is_read(&SET_ON, &set_on));
+    assert!(rt; is_written(&set_on, &SET_ON));
+}
+
+#[test]
+fn a_text_of_130_bytes(rt: HostRuntime) {
+    // 130 is 02 01, the low seven bits first.
+    let mut bytes = [0x41; 133];
+    bytes[0] = 0x00;
+    bytes[1] = 0x02;
+    bytes[2] = 0x01;
+    let reply = Body::EndpointReply {
+        status: 0,
+        text: &[0x41; 130],
+    };
+    assert!(rt; is_row(&bytes, &view_of!(0x73, reply)));
+}
+
+#[test]
+fn the_most_profiles(rt: HostRuntime) {
+    // 98 ids of five bytes fill 509 bytes, and 64 is 40 00.
+    let mut bytes = [0x11; 494];
+    bytes[0] = 0x22;
+    bytes[1] = 0x00;
+    bytes[172] = 0x40;
+    bytes[173] = 0x00;
+    let reply = Body::ProfileReply {
+        on: &[0x11; 170],
+        off: &[0x11; 320],
+    };
+    assert!(rt; is_row(&bytes, &view_of!(0x21, reply)));
+}
+
+#[test]
+fn addresses(rt: HostRuntime) {
+    for (number, address) in [
+        (0x00, Address::Channel(U4::low_bits(0))),
+        (0x0F, Address::Channel(U4::low_bits(15))),
+        (0x7E, Address::Group),
+        (0x7F, Address::Block),
+    ] {
+        let mut payload = SET_ON;
+        payload[1] = number;
+        match framed(&payload) {
+            Some(message) => match read(message.as_slice()) {
+                Ok(found) => assert!(rt; found.address == address, "address {number}"),
+                Err(_) => assert!(rt; false, "address {number}"),
+            },
+            None => assert!(rt; false, "address {number}"),
+        }
+    }
+    for number in [0x10, 0x7D] {
+        let mut payload = SET_ON;
+        payload[1] = number;
+        assert!(rt;
+            is_refused(&payload, CiFault::BadAddress),
+            "address {number}"
+        );
+    }
+}
+
+#[test]
+fn versions(rt: HostRuntime) {
+    for version in [3, 127] {
+        let view = CiView {
+            address: Address::Channel(U4::low_bits(2)),
+            sub: 0x7E,
+            version,
+            source: 5,
+            destination: 19_088_743,
+            body: Body::Invalidate { target: 5 },
+        };
+        match payload(0x7E, version, &[0x05, 0x00, 0x00, 0x00]) {
+            Some(payload) => assert!(rt; is_read(payload.as_slice(), &view), "version {version}"),
+            None => assert!(rt; false, "version {version}"),
+        }
+    }
+    for version in [0, 1] {
+        let view = CiView {
+            address: Address::Channel(U4::low_bits(2)),
+            sub: 0x7E,
+            version,
+            source: 5,
+            destination: 19_088_743,
+            body: Body::Other(&[0x05]),
+        };
+        match payload(0x7E, version, &[0x05]) {
+            Some(payload) => assert!(rt; is_read(payload.as_slice(), &view), "version {version}"),
+            None => assert!(rt; false, "version {version}"),
+        }
+    }
+}
