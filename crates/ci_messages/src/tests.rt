@@ -348,3 +348,132 @@ fn versions(rt: HostRuntime) {
         }
     }
 }
+
+// The fault of the exclusive with these bytes between F0 and F7; `None` where it is read, or where they aren't data bytes.
+fn fault_of(payload: &[u8]) -> Option<CiFault> {
+    let message = framed(payload)?;
+    match read(message.as_slice()) {
+        Ok(_) => None,
+        Err(fault) => Some(fault),
+    }
+}
+
+#[test]
+fn each_prefix(rt: HostRuntime) {
+    // Each sub-id with a body that ends with its last field.
+    let rows: [(u8, &[u8]); 11] = [
+        (0x70, &[0x01; 17]),
+        (0x71, &[0x01; 18]),
+        (0x72, &[0x01]),
+        (0x73, &[0x01, 0x02, 0x00, 0x6E, 0x6F]),
+        (0x7E, &[0x01; 4]),
+        (
+            0x7F,
+            &[
+                0x01, 0x01, 0x01, 0x01, 0x01, 0x01, 0x01, 0x01, 0x01, 0x00, 0x6E,
+            ],
+        ),
+        (
+            0x21,
+            &[
+                0x01, 0x00, 0x01, 0x01, 0x01, 0x01, 0x01, 0x01, 0x00, 0x01, 0x01, 0x01, 0x01, 0x01,
+            ],
+        ),
+        (0x22, &[0x01; 7]),
+        (0x23, &[0x01; 7]),
+        (0x24, &[0x01; 7]),
+        (0x25, &[0x01; 7]),
+    ];
+    for (sub, body) in rows {
+        let Some(whole) = payload(sub, 2, body) else {
+            assert!(rt; false, "sub-id {sub}");
+            return;
+        };
+        let whole = whole.as_slice();
+        for size in 0..whole.len() {
+            let fault = if size < 4 {
+                CiFault::NotCi
+            } else {
+                CiFault::Short
+            };
+            assert!(rt;
+                is_refused(&whole[..size], fault),
+                "sub-id {sub}, {size} bytes"
+            );
+        }
+        assert!(rt; fault_of(whole).is_none(), "sub-id {sub}");
+    }
+}
+
+#[test]
+fn each_prefix_of_what_has_no_end(rt: HostRuntime) {
+    for sub in [0x20, 0x30, 0x40] {
+        let Some(whole) = payload(sub, 2, &[0x01; 3]) else {
+            assert!(rt; false, "sub-id {sub}");
+            return;
+        };
+        let whole = whole.as_slice();
+        for size in 0..whole.len() {
+            let fault = match size {
+                0..=3 => Some(CiFault::NotCi),
+                4..=12 => Some(CiFault::Short),
+                _ => None,
+            };
+            assert!(rt;
+                fault_of(&whole[..size]) == fault,
+                "sub-id {sub}, {size} bytes"
+            );
+        }
+        assert!(rt; fault_of(whole).is_none(), "sub-id {sub}");
+    }
+}
+
+#[test]
+fn bytes_after_the_fields(rt: HostRuntime) {
+    let invalidate = view_of!(0x7E, Body::Invalidate { target: 5 });
+    let inquiry = view_of!(0x20, Body::ProfileInquiry);
+    match payload(0x7E, 2, &[0x05, 0x00, 0x00, 0x00, 0x01, 0x02]) {
+        Some(payload) => assert!(rt; is_read(payload.as_slice(), &invalidate)),
+        None => assert!(rt; false),
+    }
+    match payload(0x20, 2, &[0x01, 0x02]) {
+        Some(payload) => assert!(rt; is_read(payload.as_slice(), &inquiry)),
+        None => assert!(rt; false),
+    }
+}
+
+#[test]
+fn the_first_fault(rt: HostRuntime) {
+    // Neither universal and non-realtime nor of MIDI-CI, however short.
+    assert!(rt; is_refused(&[], CiFault::NotCi));
+    assert!(rt; is_refused(&[0x7F, 0x7F, 0x0D, 0x70], CiFault::NotCi));
+    assert!(rt; is_refused(&[0x7E, 0x7F, 0x0E, 0x70], CiFault::NotCi));
+    // Too short, though no address is 10.
+    assert!(rt; is_refused(&[0x7E, 0x7F, 0x0D, 0x70], CiFault::Short));
+    assert!(rt; is_refused(&[0x7E, 0x10, 0x0D, 0x20], CiFault::Short));
+    // No address, though broadcast is no source.
+    let mut inquiry = [
+        0x7E, 0x10, 0x0D, 0x20, 0x02, 0x7F, 0x7F, 0x7F, 0x7F, 0x7F, 0x7F, 0x7F, 0x7F,
+    ];
+    assert!(rt; is_refused(&inquiry, CiFault::BadAddress));
+    // Broadcast, and the first and last of the reserved MUIDs.
+    inquiry[1] = 0x7F;
+    assert!(rt; is_refused(&inquiry, CiFault::ReservedMuid));
+    inquiry[5] = 0x7E;
+    assert!(rt; is_refused(&inquiry, CiFault::ReservedMuid));
+    inquiry[5] = 0x00;
+    inquiry[6] = 0x7E;
+    assert!(rt; is_refused(&inquiry, CiFault::ReservedMuid));
+    // The MUID before them, to broadcast.
+    inquiry[5] = 0x7F;
+    inquiry[6] = 0x7D;
+    let view = CiView {
+        address: Address::Block,
+        sub: 0x20,
+        version: 2,
+        source: 0x0FFF_FEFF,
+        destination: 0x0FFF_FFFF,
+        body: Body::ProfileInquiry,
+    };
+    assert!(rt; is_read(&inquiry, &view));
+}
