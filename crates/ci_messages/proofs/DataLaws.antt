@@ -16,5 +16,9 @@ body_is_data message (payload, is, data_bytes) long =
     let size : length message ≡ length payload + 2 = omega (arith, ap length is, length-append payload (0xF7 ∷ [])) in
     let least : 13 ≤ length payload = omega (arith, size, long) in
     let same : body_of message ≡ take (length payload - 13) (drop 13 payload) =
-    rw is (ap (λ n. take n (drop 13 (payload ++ 0xF7 ∷ []))) (omega (arith, length-append payload (0xF7 ∷ []))) ∙ part-payload payload least) in
-    subst IsData (sym same) (All-take (λ b. b < 128) (length payload - 13) (drop 13 payload) (All-drop (λ b. b < 128) 13 payload data_bytes))
+    rw is (
+    ap (λ n. take n (drop 13 (payload ++ 0xF7 ∷ []))) (omega (arith, length-append payload (0xF7 ∷ [])))
+    ∙ part-payload payload least
+    ) in
+    subst IsData (sym same)
+    (All-take (λ b. b < 128) (length payload - 13) (drop 13 payload) (All-drop (λ b. b < 128) 13 payload data_bytes))

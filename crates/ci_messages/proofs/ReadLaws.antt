@@ -30,52 +30,68 @@ number2_at-data body n at data_bytes within =
 
 number4_at-data : (body : List ℕ) (n at : ℕ) → AreData body n → at + 4 ≤ n → number4_at body at < 2 ^ 28
 number4_at-data body n at data_bytes within =
-    omega (arith, number2_at-data body n at data_bytes (omega (arith, within)), number2_at-data body n (at + 2) data_bytes (omega (arith, within)))
+    omega (
+      arith,
+      number2_at-data body n at data_bytes (omega (arith, within)),
+      number2_at-data body n (at + 2) data_bytes (omega (arith, within)),
+    )
 
 part_at-data : (body : List ℕ) (at size : ℕ) → IsData body → IsData (part_at body at size)
-part_at-data body at size data_bytes = All-take (λ b. b < 128) size (drop at body) (All-drop (λ b. b < 128) at body data_bytes)
+part_at-data body at size data_bytes =
+    All-take (λ b. b < 128) size (drop at body) (All-drop (λ b. b < 128) at body data_bytes)
 
 length-part_at : (body : List ℕ) (at size : ℕ) → at + size ≤ length body → length (part_at body at size) ≡ size
 length-part_at body at size within = length-take-le size (drop at body) (omega (arith, within, length-drop at body))
 
-field-fits : (field : Field) (value : Value) (body : List ℕ) (at : ℕ) → IsData body → size_at field body at + at ≤ length body →
+field-fits : (field : Field) (value : Value) (body : List ℕ) (at : ℕ) → IsData body →
+    size_at field body at + at ≤ length body →
     HasField field value body at → FitsField field value
-field-fits byte (number n) body at data_bytes within has =
-    subst (λ n. n < 128) (sym has) (all-data body data_bytes at (omega (arith, within)))
-field-fits number2 (number n) body at data_bytes within has =
-    subst (λ n. n < 2 ^ 14) (sym has) (number2_at-data body (length body) at (all-data body data_bytes) (omega (arith, within)))
-field-fits number4 (number n) body at data_bytes within has =
-    subst (λ n. n < 2 ^ 28) (sym has) (number4_at-data body (length body) at (all-data body data_bytes) (omega (arith, within)))
-field-fits (bytes size) (list xs) body at data_bytes within has =
-    (ap length has ∙ length-part_at body at size (omega (arith, within)), subst IsData (sym has) (part_at-data body at size data_bytes))
-field-fits (counted size) (list xs) body at data_bytes within has =
+field-fits byte (number n) body at data_bytes within holds =
+    subst (λ n. n < 128) (sym holds) (all-data body data_bytes at (omega (arith, within)))
+field-fits number2 (number n) body at data_bytes within holds =
+    subst (λ n. n < 2 ^ 14) (sym holds)
+    (number2_at-data body (length body) at (all-data body data_bytes) (omega (arith, within)))
+field-fits number4 (number n) body at data_bytes within holds =
+    subst (λ n. n < 2 ^ 28) (sym holds)
+    (number4_at-data body (length body) at (all-data body data_bytes) (omega (arith, within)))
+field-fits (bytes size) (list xs) body at data_bytes within holds = (
+  ap length holds ∙ length-part_at body at size (omega (arith, within)),
+  subst IsData (sym holds) (part_at-data body at size data_bytes),
+)
+field-fits (counted size) (list xs) body at data_bytes within holds =
     let many : ℕ = size * number2_at body at in (
-      ap (λ xs. length xs % size) has
+      ap (λ xs. length xs % size) holds
           ∙ ap (λ n. n % size) (length-part_at body (at + 2) (size * number2_at body at) (omega (arith, within)))
           ∙ mul-mod_right size (number2_at body at),
-      subst IsData (sym has) (part_at-data body (at + 2) (size * number2_at body at) data_bytes),
+      subst IsData (sym holds) (part_at-data body (at + 2) (size * number2_at body at) data_bytes),
     )
-field-fits (reserved size) nothing body at data_bytes within has = tt
-field-fits unread (list xs) body at data_bytes within has = subst IsData (sym has) (All-drop (λ b. b < 128) at body data_bytes)
-field-fits _ _ body at data_bytes within has = absurd has
+field-fits (reserved size) nothing body at data_bytes within holds = tt
+field-fits unread (list xs) body at data_bytes within holds =
+    subst IsData (sym holds) (All-drop (λ b. b < 128) at body data_bytes)
+field-fits _ _ body at data_bytes within holds = absurd holds
 
 end_of_fields-least : (fields : List Field) (body : List ℕ) (at : ℕ) → at ≤ end_of_fields fields body at
 end_of_fields-least [] body at = omega arith
-end_of_fields-least (field ∷ fields) body at = omega (arith, end_of_fields-least fields body (size_at field body at + at))
+end_of_fields-least (field ∷ fields) body at =
+    omega (arith, end_of_fields-least fields body (size_at field body at + at))
 
-fields-fit : (fields : List Field) (values : List Value) (body : List ℕ) (at : ℕ) → IsData body → end_of_fields fields body at ≤ length body →
+fields-fit : (fields : List Field) (values : List Value) (body : List ℕ) (at : ℕ) → IsData body →
+    end_of_fields fields body at ≤ length body →
     HasFields fields values body at → FitsFields fields values
-fields-fit [] [] body at data_bytes within have = tt
-fields-fit (field ∷ fields) (value ∷ values) body at data_bytes within have =
+fields-fit [] [] body at data_bytes within hold = tt
+fields-fit (field ∷ fields) (value ∷ values) body at data_bytes within hold =
     let place : ℕ = size_at field body at + at in (
-      field-fits field value body at data_bytes (omega (arith, within, end_of_fields-least fields body (size_at field body at + at))) have.0,
-      fields-fit fields values body (size_at field body at + at) data_bytes within have.1,
+      field-fits field value body at data_bytes
+          (omega (arith, within, end_of_fields-least fields body (size_at field body at + at)))
+          hold.0,
+      fields-fit fields values body (size_at field body at + at) data_bytes within hold.1,
     )
-fields-fit _ _ body at data_bytes within have = absurd have
+fields-fit _ _ body at data_bytes within hold = absurd hold
 
 -- no fault comes where none of the four tests holds
 no-fault : (a b c d : Bool) (one two three four : CiFault) →
-    (if a then Some one else if b then Some two else if c then Some three else if d then Some four else None) ≡ None → (b ≡ false) × (d ≡ false)
+    (if a then Some one else if b then Some two else if c then Some three else if d then Some four else None) ≡ None →
+    (b ≡ false) × (d ≡ false)
 no-fault false false false false one two three four is = (refl, refl)
 no-fault true b c d one two three four is = cc
 no-fault false true c d one two three four is = cc
@@ -92,18 +108,31 @@ IsAddressIfAny None = Unit {0}
 IsAddressIfAny (Some place) = IsAddress place
 
 address-by-tests : (n : ℕ) (channel group block : Bool) → (channel ≡ true → n < 16) →
-    IsAddressIfAny (if channel then Some (address.Channel n) else if group then Some address.Group else if block then Some address.Block else None)
+    IsAddressIfAny (
+    if channel then Some (address.Channel n)
+    else if group then Some address.Group
+    else if block then Some address.Block
+    else None
+    )
 address-by-tests n true group block below = below refl
 address-by-tests n false true block below = tt
 address-by-tests n false false true below = tt
 address-by-tests n false false false below = tt
 
 address-fits : (n : ℕ) (place : Address) → address_of n ≡ Some place → IsAddress place
-address-fits n place is = subst IsAddressIfAny is (address-by-tests n (nat_lt n 16) (n == 0x7E) (n == 0x7F) (ltb-true n 16))
+address-fits n place is =
+    subst IsAddressIfAny is (address-by-tests n (nat_lt n 16) (n == 0x7E) (n == 0x7F) (ltb-true n 16))
 
--- the head of a message, with the data bytes between F0 and F7
-head-fits : (payload : List ℕ) → IsData payload → 13 ≤ length payload → (message : List ℕ) → message ≡ 0xF0 ∷ payload ++ 0xF7 ∷ [] →
-    (byte_at message 4 < 128) × (byte_at message 5 < 128) × (number4_at message 6 < 2 ^ 28) × (number4_at message 10 < 2 ^ 28)
+-- the sub-id, the version and both MUIDs fit their bytes
+abbrev HeadFits : List ℕ → Type 0
+HeadFits message =
+    (byte_at message 4 < 128) × (byte_at message 5 < 128)
+    × (number4_at message 6 < 2 ^ 28) × (number4_at message 10 < 2 ^ 28)
+
+-- those of a message that has data bytes between F0 and F7
+head-fits : (payload : List ℕ) → IsData payload → 13 ≤ length payload → (message : List ℕ) →
+    message ≡ 0xF0 ∷ payload ++ 0xF7 ∷ [] →
+    HeadFits message
 head-fits payload data_bytes long message is =
     let after : List ℕ = payload ++ 0xF7 ∷ [] in
     let small : AreData after (length payload) =
@@ -115,7 +144,8 @@ head-fits payload data_bytes long message is =
       number4_at-data after (length payload) 9 small (omega (arith, long)),
     )
 
-pub read-fits : (message : List ℕ) (view : CiView) → IsExclusive message → ci_fault message ≡ None → CiSpells view message → IsView view
+pub read-fits : (message : List ℕ) (view : CiView) → IsExclusive message → ci_fault message ≡ None →
+    CiSpells view message → IsView view
 read-fits message view (payload, is, data_bytes) none spells =
     let tests : (is_short message ≡ false) × (is_reserved (number4_at message 6) ≡ false) =
     no-fault (is_not_ci message) (is_short message) (is_none (address_of (byte_at message 2))) (is_reserved (number4_at message 6))
@@ -123,7 +153,7 @@ read-fits message view (payload, is, data_bytes) none spells =
     let lengths : (nat_lt (length message) 15 ≡ false) × (is_short_body (message_kind message) (body_of message) ≡ false) =
     neither (nat_lt (length message) 15) (is_short_body (message_kind message) (body_of message)) tests.0 in
     let long : 15 ≤ length message = ltb-false (length message) 15 lengths.0 in
-    let head : (byte_at message 4 < 128) × (byte_at message 5 < 128) × (number4_at message 6 < 2 ^ 28) × (number4_at message 10 < 2 ^ 28) =
+    let head : HeadFits message =
     head-fits payload data_bytes (omega (arith, ap length is, length-append payload (0xF7 ∷ []), long)) message is in
     let body : FitsFields (fields_of (message_kind message)) (values_of view.body) =
     fields-fit (fields_of (message_kind message)) (values_of view.body) (body_of message) 0

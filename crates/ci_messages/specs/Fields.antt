@@ -82,5 +82,6 @@ bytes_of_field unread (list value) = value
 bytes_of_field _ _ = []
 
 abbrev pub bytes_of_fields : List Field → List Value → List ℕ
-bytes_of_fields (field ∷ fields) (value ∷ values) = bytes_of_field field value ++ bytes_of_fields fields values
+bytes_of_fields (field ∷ fields) (value ∷ values) =
+    bytes_of_field field value ++ bytes_of_fields fields values
 bytes_of_fields _ _ = []

@@ -6,7 +6,8 @@ use Rattle.ci_messages.specs.declared.view.Body.{Body}
 use Rattle.ci_messages.specs.declared.view.Body.TheVariants as body
 use Rattle.ci_messages.specs.Fields.{Field, Value, byte, number2, number4, bytes, counted, reserved, unread, number, list, nothing}
 
--- The kind of a message, by its sub-id and version. A version above 02 is read as 02; 00 and 01 are left unread (own rule).
+-- The kind of a message, by its sub-id and version. Versions above 02 are read as 02; 00 and 01 are left
+-- unread (own rule).
 abbrev pub kind_of : ℕ → ℕ → Kind
 kind_of sub version =
     if nat_lt version 2 then kind.Other
@@ -25,10 +26,12 @@ kind_of sub version =
     else if nat_le 0x30 sub && nat_le sub 0x3F then kind.Property
     else kind.Other
 
--- The fields of a body of version 02, in their order. It is the one table of places: reading and writing both follow it.
+-- The fields of a body of version 02, in their order. This is the one table of places: it decides which
+-- messages are too short, what is read, which values fit, and what is written.
 abbrev pub fields_of : Kind → List Field
 fields_of kind.Discovery = bytes 3 ∷ bytes 2 ∷ bytes 2 ∷ bytes 4 ∷ byte ∷ number4 ∷ byte ∷ []
-fields_of kind.DiscoveryReply = bytes 3 ∷ bytes 2 ∷ bytes 2 ∷ bytes 4 ∷ byte ∷ number4 ∷ byte ∷ byte ∷ []
+fields_of kind.DiscoveryReply =
+    bytes 3 ∷ bytes 2 ∷ bytes 2 ∷ bytes 4 ∷ byte ∷ number4 ∷ byte ∷ byte ∷ []
 fields_of kind.EndpointInquiry = byte ∷ []
 fields_of kind.EndpointReply = byte ∷ counted 1 ∷ []
 fields_of kind.Invalidate = number4 ∷ []
@@ -42,13 +45,14 @@ fields_of kind.DisabledReport = bytes 5 ∷ number2 ∷ []
 fields_of kind.Property = unread ∷ []
 fields_of kind.Other = unread ∷ []
 
--- what these fields hold, in the same order
+-- what a body says for each of its fields
 abbrev pub values_of : Body → List Value
 values_of (body.Discovery manufacturer family model revision category size path) =
-    list manufacturer ∷ list family ∷ list model ∷ list revision ∷ number category ∷ number size ∷ number path ∷ []
+    list manufacturer ∷ list family ∷ list model ∷ list revision
+    ∷ number category ∷ number size ∷ number path ∷ []
 values_of (body.DiscoveryReply manufacturer family model revision category size path block) =
-    list manufacturer ∷ list family ∷ list model ∷ list revision ∷ number category ∷ number size ∷ number path
-    ∷ number block ∷ []
+    list manufacturer ∷ list family ∷ list model ∷ list revision
+    ∷ number category ∷ number size ∷ number path ∷ number block ∷ []
 values_of (body.EndpointInquiry status) = number status ∷ []
 values_of (body.EndpointReply status text) = number status ∷ list text.now ∷ []
 values_of (body.Invalidate target) = number target ∷ []
@@ -66,7 +70,8 @@ values_of (body.Other lent) = list lent.now ∷ []
 -- the kind of the message that has a body
 abbrev pub body_kind : Body → Kind
 body_kind (body.Discovery manufacturer family model revision category size path) = kind.Discovery
-body_kind (body.DiscoveryReply manufacturer family model revision category size path block) = kind.DiscoveryReply
+body_kind (body.DiscoveryReply manufacturer family model revision category size path block) =
+    kind.DiscoveryReply
 body_kind (body.EndpointInquiry status) = kind.EndpointInquiry
 body_kind (body.EndpointReply status text) = kind.EndpointReply
 body_kind (body.Invalidate target) = kind.Invalidate

@@ -31,9 +31,10 @@ body_of message = part_at message 14 (length message - 15)
 abbrev pub message_kind : List ℕ → Kind
 message_kind message = kind_of (byte_at message 4) (byte_at message 5)
 
--- it isn't universal, non-realtime and of MIDI-CI
+-- an exclusive isn't universal, non-realtime and of MIDI-CI
 abbrev pub is_not_ci : List ℕ → Bool
-is_not_ci message = nat_lt (length message) 6 || not (byte_at message 1 == 0x7E) || not (byte_at message 3 == 0x0D)
+is_not_ci message =
+    nat_lt (length message) 6 || not (byte_at message 1 == 0x7E) || not (byte_at message 3 == 0x0D)
 
 -- a body ends before its fields do
 abbrev pub is_short_body : Kind → List ℕ → Bool
@@ -55,7 +56,7 @@ ci_fault message =
     else if is_reserved (number4_at message 6) then Some fault.ReservedMuid
     else None
 
--- a body is of a kind, and its fields have what it holds
+-- bytes spell a body of a kind: the fields of that kind hold what the body says
 pub record SpellsBody (kind : Kind) (body : Body) (bytes : List ℕ) : Type 0 where
   pub same_kind : body_kind body ≡ kind
   pub fields : HasFields (fields_of kind) (values_of body) bytes 0
@@ -72,9 +73,11 @@ pub record CiSpells (view : CiView) (message : List ℕ) : Type 0 where
 -- the view that the message spells where it has no fault, and otherwise the fault
 abbrev pub Reads : List ℕ → Result CiView CiFault → Type 0
 Reads message result =
-    MatchResult result (λ view. (ci_fault message ≡ None) × CiSpells view message) (λ fault. ci_fault message ≡ Some fault)
+    MatchResult result
+    (λ view. (ci_fault message ≡ None) × CiSpells view message)
+    (λ fault. ci_fault message ≡ Some fault)
 
--- the body of a kind, where the bytes are long enough
+-- the body of a kind that bytes spell, where they are long enough
 abbrev pub ReadsBody : Kind → List ℕ → Option Body → Type 0
 ReadsBody kind bytes (Some body) = (is_short_body kind bytes ≡ false) × SpellsBody kind body bytes
 ReadsBody kind bytes None = is_short_body kind bytes ≡ true

@@ -38,12 +38,13 @@ body_bytes body = bytes_of_fields (fields_of (body_kind body)) (values_of body)
 -- what stands before the body
 abbrev pub head_bytes : CiView → List ℕ
 head_bytes view =
-    0xF0 ∷ 0x7E ∷ address_number view.address ∷ 0x0D ∷ view.sub ∷ view.version ∷ (bytes4 view.source ++ bytes4 view.destination)
+    0xF0 ∷ 0x7E ∷ address_number view.address ∷ 0x0D ∷ view.sub ∷ view.version
+    ∷ (bytes4 view.source ++ bytes4 view.destination)
 
 abbrev pub message_bytes : CiView → List ℕ
 message_bytes view = head_bytes view ++ (body_bytes view.body ++ 0xF7 ∷ [])
 
--- two views have the same, wherever the bytes stand that they lend
+-- two views say the same, wherever the bytes stand that they lend
 pub record SameView (one other : CiView) : Type 0 where
   pub address : one.address ≡ other.address
   pub sub : one.sub ≡ other.sub

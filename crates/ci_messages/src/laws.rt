@@ -5,13 +5,14 @@ ghost use Rattle.ci_messages.specs.declared.view.CiView.{CiView};
 ghost use Rattle.ci_messages.specs.Reading.{CiSpells, IsExclusive, Reads, ci_fault};
 ghost use Rattle.ci_messages.specs.Writing.{IsView, SameView, message_bytes};
 
-/// A message that is written is an exclusive. Where its source is not reserved, reading it answers the same view.
+/// A message that is written is an exclusive. Where its source is below 0FFFFF00, it is read again as the same
+/// view.
 pub fn written_messages_are_read_again()
     ensures exclusive { (view : CiView) → IsView view → length (message_bytes view) ≤ 512 →
         IsExclusive (message_bytes view) }
     ensures again { (view : CiView) → IsView view → length (message_bytes view) ≤ 512 →
-        view.source < 0x0FFFFF00 →
-        (answer : Result CiView CiFault) → Reads (message_bytes view) answer → IsOkAnd answer (SameView view) }
+        view.source < 0x0FFFFF00 → (answer : Result CiView CiFault) → Reads (message_bytes view) answer →
+        IsOkAnd answer (SameView view) }
 {
     messages_spell_one_view();
 }
@@ -22,7 +23,7 @@ pub fn messages_spell_one_view()
         SameView one other }
 {}
 
-/// The numbers of a view that is read fit their bytes, and what it lends are data bytes: from version 02 on it can be written.
+/// The numbers of a view that is read fit their bytes, and what it lends are data bytes.
 pub fn views_that_are_read_fit()
     ensures { (message : List ℕ) (view : CiView) → IsExclusive message → ci_fault message ≡ None →
         CiSpells view message → IsView view }

@@ -72,7 +72,7 @@ fn endpoint_inquiry<'a>(body: &'a [u8]) -> Option<Body<'a>>
     Some(Body::EndpointInquiry { status })
 }
 
-// A count at a place, and that many items of `size` bytes each; `None` exactly where the bytes end before they do.
+// The items of `size` bytes each that follow their count at a place; `None` exactly where the bytes end too early.
 fn counted<'a>(body: &'a [u8], at: usize, size: usize) -> Option<&'a [u8]>
     requires place { at ≤ length body.now }
     requires size { size ≤ 5 }
@@ -201,17 +201,17 @@ fn body_bytes(message: &[u8]) -> &[u8]
     part(message, BODY, message.len() - SHORTEST)
 }
 
-/// The message that an exclusive is (M2-101-UM), from F0 to F7 with data bytes between. It lends the exclusive's bytes and
-/// copies none of its texts and lists. Bytes that follow the fields of a body are ignored.
+/// Reads a message (M2-101-UM) from its exclusive, which has data bytes between F0 and F7. The view lends the texts,
+/// lists and unread bytes of the exclusive. Bytes that follow the fields of a body are ignored.
 ///
-/// The faults, of which the first that applies is given:
+/// A fault is the first of these that applies:
 /// - `NotCi`: there are fewer than 6 bytes, or byte 2 (F0 is byte 1) isn't 7E, or byte 4 isn't 0D;
 /// - `Short`: there are fewer than 15 bytes, or the version is 2 or more and the body ends before its fields do;
 /// - `BadAddress`: the address is none of 00 to 0F, 7E and 7F;
 /// - `ReservedMuid`: the source is 0FFFFF00 or above.
 ///
-/// A version above 02 is kept, and its messages are read as those of version 02. The body of a message of version 00 or 01 is
-/// `Other` (own rule).
+/// A version above 02 is kept, and its messages are read as those of version 02. The body of a message of version
+/// 00 or 01 is `Other` (own rule).
 pub fn read<'a>(message: &'a [u8]) -> Result<CiView<'a>, CiFault>
     requires { IsExclusive message.now }
     ensures { Reads message.now result }

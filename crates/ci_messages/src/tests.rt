@@ -8,7 +8,7 @@ use super::*;
 use midi_edge::ShortList;
 use voice_messages::{U4, U7};
 
-/// What stands between F0 and F7 before the sub-id, and after the version: from MUID 5 to 19088743 at channel 2.
+// What stands before the sub-id and after the version: from MUID 5 to 19088743, at channel 2.
 const BEFORE_SUB: [u8; 3] = [0x7E, 0x02, 0x0D];
 
 const AFTER_VERSION: [u8; 8] = [0x05, 0x00, 0x00, 0x00, 0x67, 0x0A, 0x0D, 0x09];
@@ -349,7 +349,7 @@ fn versions(rt: HostRuntime) {
     }
 }
 
-// The fault of the exclusive with these bytes between F0 and F7; `None` where it is read, or where they aren't data bytes.
+// The fault of the exclusive with these bytes between F0 and F7; `None` where it is read.
 fn fault_of(payload: &[u8]) -> Option<CiFault> {
     let message = framed(payload)?;
     match read(message.as_slice()) {

@@ -54,8 +54,8 @@ pub struct CiView<'a> {
     pub body: Body<'a>,
 }
 
-/// What stands between the destination and F7, by sub-id. A message of version 02 or above has the fields of version 02;
-/// of version 00 and 01 it is `Other`, whatever its sub-id (own rule).
+/// What stands between the destination and F7, by sub-id. A message of version 02 or above has the fields of version
+/// 02; of version 00 and 01 it is `Other`, whatever its sub-id (own rule).
 ///
 /// A `u8` is a data byte, 0 to 127. A `u16` has 14 bits and a `u32` 28. Arrays and lent bytes are data bytes.
 #[derive(Clone, Copy, Debug, PartialEq, Eq)]
@@ -155,7 +155,7 @@ pub enum Body<'a> {
 /// Why an exclusive is not read as a message.
 #[derive(Clone, Copy, Debug, PartialEq, Eq, Error)]
 pub enum CiFault {
-    /// It is no universal non-realtime exclusive (7E) with the sub-id of MIDI-CI (0D), or has fewer than 6 bytes.
+    /// It isn't universal and non-realtime (7E) and of MIDI-CI (0D), or has fewer than 6 bytes.
     #[error("the exclusive is not MIDI-CI")]
     NotCi,
     /// It ends before its destination does, or before a field of its body does.

@@ -1,14 +1,7 @@
 // From a view to the bytes of its message.
 ghost use Rattle.std.specs.Prelude.{◌≡◌, ◌<◌, ◌≤◌, ◌+◌, ◌/◌, ◌^◌, [], ◌++◌, length};
 ghost use Rattle.ci_messages.specs.Places.{bytes2, bytes4};
-ghost use Rattle.ci_messages.specs.Writing.{
-  FitsBody,
-  IsView,
-  address_number,
-  body_bytes,
-  head_bytes,
-  message_bytes,
-};
+ghost use Rattle.ci_messages.specs.Writing.{FitsBody, IsView, address_number, body_bytes, message_bytes};
 
 use crate::view::{Address, Body, CiView, ProfileId};
 use midi_edge::ShortList;
@@ -18,7 +11,7 @@ type Message = ShortList<u8, 512>;
 
 fn put_two(number: u32, into: &mut Message)
     requires fits { number < 2 ^ 14 }
-    requires room { length into.old + 2 ≤ 512 }
+    requires capacity { length into.old + 2 ≤ 512 }
     ensures { into.new ≡ into.old ++ bytes2 number }
 {
     into.push((number % 128) as u8);
@@ -27,7 +20,7 @@ fn put_two(number: u32, into: &mut Message)
 
 fn put_four(number: u32, into: &mut Message)
     requires fits { number < 2 ^ 28 }
-    requires room { length into.old + 4 ≤ 512 }
+    requires capacity { length into.old + 4 ≤ 512 }
     ensures { into.new ≡ into.old ++ bytes4 number }
 {
     put_two(number % 16384, into);
@@ -37,7 +30,7 @@ fn put_four(number: u32, into: &mut Message)
 // A count of items of `size` bytes each, and the items.
 fn put_counted(items: &[u8], size: usize, into: &mut Message)
     requires size { 0 < size }
-    requires room { length into.old + 2 + length items.now ≤ 512 }
+    requires capacity { length into.old + 2 + length items.now ≤ 512 }
     ensures { into.new ≡ into.old ++ (bytes2 (length items.now / size) ++ items.now) }
 {
     put_two((items.len() / size) as u32, into);
@@ -63,7 +56,7 @@ fn put_identity(
 
 fn put_switch(id: &ProfileId, channels: u16, into: &mut Message)
     requires fits { channels < 2 ^ 14 }
-    requires room { length into.old + 7 ≤ 512 }
+    requires capacity { length into.old + 7 ≤ 512 }
     ensures { into.new ≡ into.old ++ (id.now.bytes ++ bytes2 channels) }
 {
     into.extend(&id.data_bytes());
@@ -72,7 +65,7 @@ fn put_switch(id: &ProfileId, channels: u16, into: &mut Message)
 
 fn put_body(body: &Body<'_>, into: &mut Message)
     requires fits { FitsBody body.now }
-    requires room { length into.old + length (body_bytes body.now) ≤ 512 }
+    requires capacity { length into.old + length (body_bytes body.now) ≤ 512 }
     ensures { into.new ≡ into.old ++ body_bytes body.now }
 {
     match body {
@@ -150,11 +143,11 @@ fn number_of(address: Address) -> u8
     }
 }
 
-/// Writes the bytes of a message, from F0 to F7 (M2-101-UM), into an empty list. Reserved bytes are written as zeros.
+/// Writes the bytes of a message (M2-101-UM), from F0 to F7, into an empty list. Reserved bytes are zeros.
 ///
-/// The version is 2 to 127, the body is the one of the sub-id, each number fits its bytes, what the view lends are data
-/// bytes, a list of profiles has five bytes for each, and the message has at most 512 bytes. What is written is read again as
-/// the same view where its source is below 0FFFFF00.
+/// The version is 2 to 127, the body is the one that the sub-id tells, each number fits its bytes, lent bytes are data
+/// bytes, a list of profiles has five bytes for each, and the message has at most 512 bytes. Where its source is below
+/// 0FFFFF00, it is read again as the same view.
 pub fn write(view: &CiView<'_>, into: &mut ShortList<u8, 512>)
     requires view { IsView view.now }
     requires version { 2 ≤ view.now.version }

@@ -5,4 +5,5 @@ pub returns-clause-exclusive : goal.returns-clause-exclusive
 returns-clause-exclusive c = written-is_exclusive
 
 pub returns-clause-again : goal.returns-clause-again
-returns-clause-again c view is small allowed answer reads = written-again c.messages_spell_one_view.ensures view is allowed answer reads
+returns-clause-again c view is small allowed answer reads =
+    written-again c.messages_spell_one_view.ensures view is allowed answer reads
