@@ -1,4 +1,4 @@
-// What a message has.
+// What a message says.
 use thiserror::Error;
 use voice_messages::{U4, U7};
 
