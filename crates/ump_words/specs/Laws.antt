@@ -44,3 +44,9 @@ pub record BytesBeginWithOnePacket : Type 0 where
   pub size : (order : Order) (packet : List ℕ) → IsPacket order packet → 4 ≤ length packet
   pub one : (order : Order) (packet other more rest : List ℕ) → IsPacket order packet → IsPacket order other →
       packet ++ more ≡ other ++ rest → (packet ≡ other) × (more ≡ rest)
+
+abbrev pub FrontsAreCutAsTheStream : Type 0
+FrontsAreCutAsTheStream =
+    (order : Order) (limit : ℕ) (front more : List ℕ) (chunks first : List (List ℕ)) (tail : Tail) →
+    Cuts order limit (front ++ more) chunks tail → Cuts order limit front first End →
+    (rest : List (List ℕ)) × (chunks ≡ first ++ rest)
