@@ -3,21 +3,46 @@ use Rattle.std.specs.Prelude.{◌≤◌, ◌<◌, ℕ, Bool, List}
 use Rattle.command_line.specs.declared.command.Command.{Command}
 use Rattle.command_line.specs.declared.command.Command.TheVariants.{Down, Up, Back, Show, ShowBytes}
 
--- folder, little endian, room; group, little endian, room; group, room; little endian, room; room
+-- `translate down`: the folder, little endian or not, and the most bytes of an exclusive
+pub record DownWords : Type 0 where
+  pub folder : List ℕ
+  pub little : Bool
+  pub room : ℕ
+
+-- `translate up`: the group of the packets, little endian or not, and the most bytes of an exclusive
+pub record UpWords : Type 0 where
+  pub group : ℕ
+  pub little : Bool
+  pub room : ℕ
+
+-- `translate back`: the group of the packets, and the most bytes of an exclusive
+pub record BackWords : Type 0 where
+  pub group : ℕ
+  pub room : ℕ
+
+-- `show`: little endian or not, and the most bytes of an exclusive
+pub record ShowWords : Type 0 where
+  pub little : Bool
+  pub room : ℕ
+
+-- `show --bytes`: the most bytes of an exclusive
+pub record ShowBytesWords : Type 0 where
+  pub room : ℕ
+
 pub data Asked : Type 0 where
-  down : List ℕ → Bool → ℕ → Asked
-  up : ℕ → Bool → ℕ → Asked
-  back : ℕ → ℕ → Asked
-  show : Bool → ℕ → Asked
-  show_bytes : ℕ → Asked
+  down : DownWords → Asked
+  up : UpWords → Asked
+  back : BackWords → Asked
+  show : ShowWords → Asked
+  show_bytes : ShowBytesWords → Asked
 
 -- what a command asks for
 abbrev pub asked_of : Command → Asked
-asked_of (Down folder little room) = down folder.now little room
-asked_of (Up group little room) = up group little room
-asked_of (Back group room) = back group room
-asked_of (Show little room) = show little room
-asked_of (ShowBytes room) = show_bytes room
+asked_of (Down folder little room) = down (record { folder = folder.now; little = little; room = room })
+asked_of (Up group little room) = up (record { group = group; little = little; room = room })
+asked_of (Back group room) = back (record { group = group; room = room })
+asked_of (Show little room) = show (record { little = little; room = room })
+asked_of (ShowBytes room) = show_bytes (record { room = room })
 
 -- the room for an exclusive, 6 to 1,048,576 bytes
 abbrev pub IsRoom : ℕ → Type 0
@@ -25,8 +50,8 @@ IsRoom n = (6 ≤ n) × (n ≤ 1048576)
 
 -- each number is in its range
 abbrev pub IsInRange : Asked → Type 0
-IsInRange (down folder little room) = IsRoom room
-IsInRange (up group little room) = (group < 16) × IsRoom room
-IsInRange (back group room) = (group < 16) × IsRoom room
-IsInRange (show little room) = IsRoom room
-IsInRange (show_bytes room) = IsRoom room
+IsInRange (down words) = IsRoom words.room
+IsInRange (up words) = (words.group < 16) × IsRoom words.room
+IsInRange (back words) = (words.group < 16) × IsRoom words.room
+IsInRange (show words) = IsRoom words.room
+IsInRange (show_bytes words) = IsRoom words.room

@@ -35,17 +35,17 @@ group_in = number_or 0 15 0
 
 -- down: with a folder, without a group
 abbrev pub down_of : Option Text → Option Text → Bool → Option Text → Option Asked
-down_of (Some folder) None little room = option_map (down folder little) (room_in room)
+down_of (Some folder) None little room = option_map (λ r. down (record { folder = folder; little = little; room = r })) (room_in room)
 down_of _ _ little room = None
 
 -- up: without a folder
 abbrev pub up_of : Option Text → Option Text → Bool → Option Text → Option Asked
-up_of None group little room = option_and_then (λ g. option_map (up g little) (room_in room)) (group_in group)
+up_of None group little room = option_and_then (λ g. option_map (λ r. up (record { group = g; little = little; room = r })) (room_in room)) (group_in group)
 up_of (Some folder) group little room = None
 
 -- back: without a folder, and not little
 abbrev pub back_of : Option Text → Option Text → Bool → Option Text → Option Asked
-back_of None group false room = option_and_then (λ g. option_map (back g) (room_in room)) (group_in group)
+back_of None group false room = option_and_then (λ g. option_map (λ r. back (record { group = g; room = r })) (room_in room)) (group_in group)
 back_of _ group _ room = None
 
 -- direction, folder, group, little, room
@@ -58,8 +58,8 @@ translate_of direction folder group little room =
 -- bytes, little, room: not both flags
 abbrev pub show_of : Bool → Bool → Option Text → Option Asked
 show_of true true room = None
-show_of true false room = option_map show_bytes (room_in room)
-show_of false little room = option_map (show little) (room_in room)
+show_of true false room = option_map (λ r. show_bytes (record { room = r })) (room_in room)
+show_of false little room = option_map (λ r. show (record { little = little; room = r })) (room_in room)
 
 -- what a subcommand with its rows asks for
 abbrev pub asked_in : Text → List Row → Option Asked

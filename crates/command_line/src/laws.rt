@@ -5,30 +5,40 @@ ghost use Rattle.command_line.specs.Rules.{command_of};
 
 /// `translate down` with its folder, alone and with all that may be left out.
 pub fn down_is_taken()
-    ensures least { command_of (codes "translate" ∷ codes "down" ∷ codes "--folder" ∷ codes "F" ∷ []) ≡ Some (down (codes "F") false 1048576) }
-    ensures most { command_of (codes "translate" ∷ codes "down" ∷ codes "--room" ∷ codes "6" ∷ codes "--little" ∷ codes "--folder" ∷ codes "F" ∷ [])
-        ≡ Some (down (codes "F") true 6) }
+    ensures least { command_of (codes "translate" ∷ codes "down" ∷ codes "--folder" ∷ codes "F" ∷ [])
+        ≡ Some (down (record { folder = codes "F"; little = false; room = 1048576 })) }
+    ensures most { command_of (codes "translate" ∷ codes "down" ∷ codes "--room" ∷ codes "6"
+        ∷ codes "--little" ∷ codes "--folder" ∷ codes "F" ∷ [])
+        ≡ Some (down (record { folder = codes "F"; little = true; room = 6 })) }
 {}
 
 /// `translate up`, alone and with all that may be left out.
 pub fn up_is_taken()
-    ensures least { command_of (codes "translate" ∷ codes "up" ∷ []) ≡ Some (up 0 false 1048576) }
-    ensures most { command_of (codes "translate" ∷ codes "up" ∷ codes "--group" ∷ codes "15" ∷ codes "--little" ∷ codes "--room" ∷ codes "6" ∷ [])
-        ≡ Some (up 15 true 6) }
+    ensures least { command_of (codes "translate" ∷ codes "up" ∷ [])
+        ≡ Some (up (record { group = 0; little = false; room = 1048576 })) }
+    ensures most { command_of (codes "translate" ∷ codes "up" ∷ codes "--group" ∷ codes "15"
+        ∷ codes "--little" ∷ codes "--room" ∷ codes "6" ∷ [])
+        ≡ Some (up (record { group = 15; little = true; room = 6 })) }
 {}
 
 /// `translate back`, alone and with all that may be left out.
 pub fn back_is_taken()
-    ensures least { command_of (codes "translate" ∷ codes "back" ∷ []) ≡ Some (back 0 1048576) }
-    ensures most { command_of (codes "translate" ∷ codes "back" ∷ codes "--group" ∷ codes "15" ∷ codes "--room" ∷ codes "6" ∷ []) ≡ Some (back 15 6) }
+    ensures least { command_of (codes "translate" ∷ codes "back" ∷ [])
+        ≡ Some (back (record { group = 0; room = 1048576 })) }
+    ensures most { command_of (codes "translate" ∷ codes "back" ∷ codes "--group" ∷ codes "15"
+        ∷ codes "--room" ∷ codes "6" ∷ [])
+        ≡ Some (back (record { group = 15; room = 6 })) }
 {}
 
 /// `show`, of words and of bytes, alone and with all that may be left out.
 pub fn show_is_taken()
-    ensures words { command_of (codes "show" ∷ []) ≡ Some (show false 1048576) }
-    ensures most_words { command_of (codes "show" ∷ codes "--little" ∷ codes "--room" ∷ codes "6" ∷ []) ≡ Some (show true 6) }
-    ensures bytes { command_of (codes "show" ∷ codes "--bytes" ∷ []) ≡ Some (show_bytes 1048576) }
-    ensures most_bytes { command_of (codes "show" ∷ codes "--bytes" ∷ codes "--room" ∷ codes "6" ∷ []) ≡ Some (show_bytes 6) }
+    ensures words { command_of (codes "show" ∷ []) ≡ Some (show (record { little = false; room = 1048576 })) }
+    ensures most_words { command_of (codes "show" ∷ codes "--little" ∷ codes "--room" ∷ codes "6" ∷ [])
+        ≡ Some (show (record { little = true; room = 6 })) }
+    ensures bytes { command_of (codes "show" ∷ codes "--bytes" ∷ [])
+        ≡ Some (show_bytes (record { room = 1048576 })) }
+    ensures most_bytes { command_of (codes "show" ∷ codes "--bytes" ∷ codes "--room" ∷ codes "6" ∷ [])
+        ≡ Some (show_bytes (record { room = 6 })) }
 {}
 
 /// Requests for help, and no words at all, aren't commands.

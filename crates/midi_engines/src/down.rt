@@ -1,41 +1,78 @@
 // From packets to MIDI 1.0 bytes.
-ghost use Rattle.std.specs.Prelude.{◌≡◌, ◌<◌, ◌≤◌, ◌∷◌, [], true};
+ghost use Rattle.std.specs.Prelude.{◌≡◌, ◌<◌, ◌≤◌, ◌∷◌, IfOk, [], true};
 ghost use Rattle.std.specs.Option.{option_to_list};
 ghost use Rattle.ump_grammar.specs.declared.packet.Packet.{Packet};
 ghost use Rattle.ump_grammar.specs.Ranges.{IsPacket};
 ghost use Rattle.down_translator.specs.Held.{down_after, limit_of, new_down};
-ghost use Rattle.midi_pass.specs.Pass.{Ends, seen};
+ghost use Rattle.midi_pass.specs.Pass.{Ends, IsDoneUnless, seen};
 ghost use Rattle.midi_pass.specs.Places.{Puts, places};
 ghost use Rattle.voice_state.specs.Listing.{groups};
 ghost use Rattle.down_translator.specs.Carried.{line_in};
 ghost use Rattle.down_translator.specs.Recording.{pair_put};
-ghost use Rattle.midi_engines.specs.Down.{Carries, HoldsDown, IsReadyDown, carrying, line_puts, open_line, open_puts, pair_puts, puts_for, reason_of};
-ghost use Rattle.midi_engines.specs.DownMeans.{carries_nothing, carries_means};
-ghost use Rattle.midi_engines.specs.Packets.{packet_cut};
+ghost use Rattle.midi_engines.specs.Down.{Carries, HoldsDown, IsReadyDown, carrying, line_puts, open_line, open_puts, options_of, pair_puts, puts_for, reason_of};
+ghost use Rattle.midi_engines.specs.DownMeans.{carries_named, carries_nothing, carries_means, ends_named};
+ghost use Rattle.midi_engines.specs.Packets.{packet_cutting};
 
 use crate::packets::PacketReader;
 use down_translator::laws::{
     one_more_accepted_packet_adds_its_pair_and_line, spelled_packets_are_in_range,
     what_is_held_is_the_definition,
 };
-use down_translator::{BadStep, Carried, Down, Kind, Listed};
-use midi_edge::{Lanes, Sink, Source, U4};
+use down_translator::{BadStep, Carried, Down, Kind, Listed, Style};
+use midi_edge::{Lanes, NoMemory, Sink, Source, U4};
 use midi_lines::{Line, fill_listing_line};
 use midi_pass::places::{put_lane, put_notes};
 use midi_pass::{Engine, Reason, RunEnd, drive};
+use std::alloc::Global;
+use std::marker::Model;
 use ump_grammar::Packet;
-use ump_words::{Framed, Order};
+use ump_grammar::laws::words_spell_one_packet;
+use ump_words::{Framed, Order, fronts_are_cut_as_the_stream, one_cutting};
 use voice_state::laws::plain_pairs_are_a_translation;
 
-/// Puts the plain piece of each packet that is carried into the lane of its group, and in the notes the line of each packet that
-/// is listed, at the end those of the exclusives that are still begun.
+/// A translation down that is ready to begin, with all its memory. A contract sees its options.
 #[derive(Drop)]
-pub struct DownEngine {
+pub struct DownRun {
+    down: Down,
+    order: Order,
+}
+
+impl Model for DownRun {
+    ghost use Rattle.std.specs.Prelude.{◌≡◌, ◌≤◌};
+    ghost use Rattle.down_translator.specs.Held.{limit_of, new_down};
+    ghost use Rattle.midi_engines.specs.Options.{DownOptions};
+
+    ghost Value = { DownOptions };
+
+    ghost view = { λ r. record { order = r.order; room = limit_of r.down } };
+
+    ghost invariant = { λ r. (r.down ≡ new_down (limit_of r.down)) × (6 ≤ limit_of r.down) };
+}
+
+impl DownRun {
+    /// A translation in this style of a recording whose words have this order. `room` is the most bytes of an exclusive between F0
+    /// and F7, 6 to 1,048,576, for which each group reserves memory; `NoMemory` where there isn't so much. No other call takes any.
+    pub fn new(alloc: Global, style: Style, order: Order, room: u32) -> Result<DownRun, NoMemory>
+        requires least { 6 ≤ room }
+        requires most { room ≤ 1048576 }
+        ensures { IfOk result (λ engine. engine ≡ record { order = order; room = room }) }
+    {
+        match Down::new(alloc, room, style) {
+            Ok(down) => Ok(DownRun { down, order }),
+            Err(no_memory) => Err(no_memory),
+        }
+    }
+}
+
+// Puts the plain piece of each packet that is carried into the lane of its group, and in the notes the line of each packet that
+// is listed, at the end those of the exclusives that are still open.
+#[derive(Drop)]
+struct DownEngine {
     down: Down,
 }
 
 impl Engine<Framed, Packet> for DownEngine {
-    ghost work = { λ first. carrying (limit_of first.down) };
+    ghost work = { λ first. carrying (options_of first.down) };
 
     ghost IsReady = { λ first. IsReadyDown first.down };
 
@@ -71,14 +108,43 @@ impl Engine<Framed, Packet> for DownEngine {
         list_open(&self.down, lanes, output, notes)
     }
 
+    ghost puts_are_named = { λ first past item puts put. carries_named (options_of first.down) past item puts put };
+
+    ghost last_puts_are_named = { λ first past puts put. ends_named (options_of first.down) past puts put };
+
     ghost starts = { λ first ready. carries_nothing first.down ready };
 
     ghost means = { λ first now past puts holds accepted put. carries_means first.down now.down past puts holds put };
 }
 
 /// Translates a recording down, to its end or to the first packet that is refused (M2-104-UM, default translation; what that
-/// leaves out is listed by own rule). The translator is a new one. Takes no memory.
+/// leaves out is listed by own rule): puts the piece of each packet that is carried into the lane of its group, and in the notes
+/// the line of each packet that is listed, at the end those of the exclusives that are still open. Takes no memory.
+///
+/// `Refused` comes at the first packet that is refused, with the number of input bytes before it, and for every `Reason`.
+/// `ReadFault`, `LaneFault` and `NoteFault` come only where the count of that object rose. The output stays as it is.
 pub fn run_down<S: Source, L: Lanes, W: Sink, N: Sink>(
+    engine: DownRun,
+    input: &mut S,
+    lanes: &mut L,
+    output: &mut W,
+    notes: &mut N,
+) -> RunEnd
+    requires begun { L.begun lanes.old ≡ true }
+    ensures ends { Ends (packet_cutting engine.order) (carrying engine)
+        (seen S.Source L.Lanes W.Sink N.Sink input.old lanes.old output.old notes.old)
+        (seen S.Source L.Lanes W.Sink N.Sink input.new lanes.new output.new notes.new) result }
+    ensures complete { IsDoneUnless (packet_cutting engine.order) (carrying engine)
+        (seen S.Source L.Lanes W.Sink N.Sink input.old lanes.old output.old notes.old)
+        (seen S.Source L.Lanes W.Sink N.Sink input.new lanes.new output.new notes.new) result }
+{
+    let DownRun { down, order } = engine;
+    translate(down, order, input, lanes, output, notes)
+}
+
+// Translates a recording by a translator in which nothing is open.
+#[inline(never)]
+fn translate<S: Source, L: Lanes, W: Sink, N: Sink>(
     down: Down,
     order: Order,
     input: &mut S,
@@ -89,23 +155,23 @@ pub fn run_down<S: Source, L: Lanes, W: Sink, N: Sink>(
     requires empty { down ≡ new_down (limit_of down) }
     requires least { 6 ≤ limit_of down }
     requires begun { L.begun lanes.old ≡ true }
-    ensures { Ends (packet_cut order) (carrying (limit_of down))
+    ensures ends { Ends (packet_cutting order) (carrying (record { order = order; room = limit_of down }))
+        (seen S.Source L.Lanes W.Sink N.Sink input.old lanes.old output.old notes.old)
+        (seen S.Source L.Lanes W.Sink N.Sink input.new lanes.new output.new notes.new) result }
+    ensures complete { IsDoneUnless (packet_cutting order) (carrying (record { order = order; room = limit_of down }))
         (seen S.Source L.Lanes W.Sink N.Sink input.old lanes.old output.old notes.old)
         (seen S.Source L.Lanes W.Sink N.Sink input.new lanes.new output.new notes.new) result }
 {
     plain_pairs_are_a_translation();
-    drive(
-        PacketReader::new(order),
-        DownEngine { down },
-        input,
-        lanes,
-        output,
-        notes,
-    )
+    one_cutting();
+    fronts_are_cut_as_the_stream();
+    words_spell_one_packet();
+    let reader = PacketReader::new(order);
+    drive(reader, DownEngine { down }, input, lanes, output, notes)
 }
 
-// Puts a line of the listing.
-fn put_line<L: Lanes, W: Sink, N: Sink>(
+/// Puts a line of the listing.
+pub(crate) fn put_line<L: Lanes, W: Sink, N: Sink>(
     listed: &Listed,
     lanes: &mut L,
     output: &mut W,
@@ -208,7 +274,7 @@ fn carry<L: Lanes, W: Sink, N: Sink>(
     }
 }
 
-// Lists the exclusive of a group, if it is still begun.
+// Lists the exclusive of a group, if it is still open.
 fn list_group<L: Lanes, W: Sink, N: Sink>(
     down: &Down,
     group: U4,
@@ -233,7 +299,7 @@ fn list_group<L: Lanes, W: Sink, N: Sink>(
     }
 }
 
-// Lists the exclusives that are still begun, by group.
+// Lists the exclusives that are still open, by group.
 fn list_open<L: Lanes, W: Sink, N: Sink>(
     down: &Down,
     lanes: &mut L,

@@ -2,7 +2,7 @@
 ghost use Rattle.std.specs.Prelude.{◌≡◌, ◌-◌, ℕ, List, Option, None};
 ghost use Rattle.midi_edge.specs.Outside.{ahead};
 ghost use Rattle.ump_grammar.specs.Ranges.{IsPacket};
-ghost use Rattle.midi_engines.specs.Packets.{GivenSoFar, new_words, packet_cut};
+ghost use Rattle.midi_engines.specs.Packets.{GivenSoFar, new_words, packet_cutting};
 ghost use Rattle.midi_engines.specs.Starting.{no_packets};
 
 use midi_edge::{ReadStop, Source};
@@ -28,7 +28,7 @@ impl PacketReader {
 }
 
 impl Items<Framed, Packet> for PacketReader {
-    ghost IsCut = { λ first. packet_cut first.words.order };
+    ghost IsCut = { λ first. packet_cutting first.words.order };
 
     ghost IsNew = { λ first. first.words ≡ new_words first.words.order };
 

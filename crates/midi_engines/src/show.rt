@@ -1,145 +1,107 @@
-// From packets to lines.
-ghost use Rattle.std.specs.Prelude.{◌≡◌, ◌≤◌, ◌∷◌, []};
-ghost use Rattle.ump_grammar.specs.Ranges.{IsPacket};
-ghost use Rattle.down_translator.specs.Held.{with_part_of};
-ghost use Rattle.sysex_groups.specs.Table.{empty_table};
-ghost use Rattle.voice_state.specs.Parts.{part_of};
-ghost use Rattle.midi_pass.specs.Pass.{Ends, Takes, seen};
-ghost use Rattle.midi_pass.specs.Places.{places};
-ghost use Rattle.midi_pass.specs.Put.{in_output};
-ghost use Rattle.midi_lines.specs.PacketLines.{packet_text};
-ghost use Rattle.midi_engines.specs.Down.{refusal_by};
-ghost use Rattle.midi_engines.specs.Packets.{packet_cut};
-ghost use Rattle.midi_engines.specs.Show.{HoldsShow, IsReadyShow, bad_join, showing, shows_nothing};
+// Lines of packets, or of bytes.
+ghost use Rattle.std.specs.Prelude.{◌≡◌, ◌≤◌, IfOk, IsOk, false};
+ghost use Rattle.midi_pass.specs.Pass.{seen};
+ghost use Rattle.midi_engines.specs.Options.{show_options};
+ghost use Rattle.midi_engines.specs.ShowReady.{IsDoneShowing, ShowEnds};
 
-use crate::packets::PacketReader;
-use down_translator::laws::{spelled_packets_are_in_range, what_is_held_is_the_definition};
-use midi_edge::{Lanes, Sink, Source};
-use midi_lines::{Line, fill_packet_line};
-use midi_pass::places::put_output;
-use midi_pass::{Engine, Reason, RunEnd, drive};
-use sysex_groups::{Fed, Groups};
-use ump_grammar::Packet;
-use ump_words::{Framed, Order};
-use voice_state::BadStep;
+use crate::show_bytes::show_bytes;
+use crate::show_packets::show_packets;
+use midi_edge::{Lanes, NoMemory, Sink, Source};
+use midi_pass::RunEnd;
+use midi1_bytes::Parser;
+use std::alloc::Global;
+use std::marker::Model;
+use sysex_groups::Groups;
+use ump_words::Order;
 
-/// Puts a line for each packet of a recording.
+// What the lines of packets or of bytes need.
 #[derive(Drop)]
-pub struct ShowPackets {
-    groups: Groups,
-    line: Line,
+enum Lines {
+    Packets { groups: Groups, order: Order },
+    Bytes { parser: Parser },
 }
 
-impl Engine<Framed, Packet> for ShowPackets {
-    ghost work = { λ first. showing first.groups.room };
-
-    ghost IsReady = { λ first. IsReadyShow first.groups };
-
-    ghost UsesLanes = { ⊥ };
-
-    ghost Holds = { λ first now past. HoldsShow first.groups now.groups past };
-
-    ghost Asks = { λ item. IsPacket item.1 };
-
-    ghost AsksAfter = { λ past item. Unit {0} };
-
-    fn step<L: Lanes, W: Sink, N: Sink>(
-        &mut self,
-        at: &Framed,
-        item: &Packet,
-        lanes: &mut L,
-        output: &mut W,
-        notes: &mut N,
-    ) -> Result<(), RunEnd> {
-        what_is_held_is_the_definition();
-        spelled_packets_are_in_range();
-        put_packet(
-            &mut self.groups,
-            &mut self.line,
-            at,
-            item,
-            lanes,
-            output,
-            notes,
-        )
-    }
-
-    fn close<L: Lanes, W: Sink, N: Sink>(
-        &self,
-        _lanes: &mut L,
-        _output: &mut W,
-        _notes: &mut N,
-    ) -> Result<(), RunEnd> {
-        Ok(())
-    }
-
-    ghost starts = { λ first ready. shows_nothing first.groups ready };
-
-    ghost means = { λ first now past puts holds accepted put. tt };
+/// Lines that are ready to begin, with all their memory. A contract sees their options.
+#[derive(Drop)]
+pub struct ShowRun {
+    lines: Lines,
 }
 
-/// Puts the lines of a recording, to its end or to the first packet that is refused. The groups are new ones. Takes no memory.
+impl Model for ShowRun {
+    ghost use Rattle.midi_engines.specs.Options.{ShowOptions};
+    ghost use Rattle.midi_engines.specs.ShowReady.{HasNothingOpen, options_in};
+
+    ghost Value = { ShowOptions };
+
+    ghost view = { λ r. options_in r.lines };
+
+    ghost invariant = { λ r. HasNothingOpen r.lines };
+}
+
+impl ShowRun {
+    /// Lines of packets, whose words have this order, or of the bytes of a MIDI 1.0 stream, which has no words. `room` is the most
+    /// bytes of an exclusive between F0 and F7, 6 to 1,048,576, for which each group, or the stream, reserves memory; `NoMemory`
+    /// where there isn't so much. `state` is false: state lines aren't there yet.
+    pub fn new(
+        alloc: Global,
+        bytes: bool,
+        _state: bool,
+        order: Order,
+        room: u32,
+    ) -> Result<ShowRun, NoMemory>
+        requires state { _state ≡ false }
+        requires least { 6 ≤ room }
+        requires most { room ≤ 1048576 }
+        ensures { IfOk result (λ engine. engine ≡ show_options bytes order room) }
+    {
+        if bytes {
+            match Parser::new(alloc, room) {
+                Ok(parser) => Ok(ShowRun {
+                    lines: Lines::Bytes { parser },
+                }),
+                Err(no_memory) => Err(no_memory),
+            }
+        } else {
+            match Groups::new(alloc, room) {
+                Ok(groups) => Ok(ShowRun {
+                    lines: Lines::Packets { groups, order },
+                }),
+                Err(no_memory) => Err(no_memory),
+            }
+        }
+    }
+}
+
+/// Puts the lines of the input in the output, to its end or to the first packet or byte that is refused. Of a recording (M2-104-UM)
+/// each packet has a line; one that makes its group's exclusive too long is refused and has none, and data increments and
+/// decrements are shown (own rules). Of a stream of bytes (MIDI 1.0 Detailed Specification) each message that is completed has a
+/// line, and so has each byte that belongs to nothing, what is cut off and, at the end, what is still open.
+///
+/// `Refused` comes for `InputTooLong` and `ExclusiveTooLong`, of a recording also for `Truncated`, `BadCount` and `HighBit`, with the
+/// number of bytes before what is refused. `ReadFault` and `OutputFault` come only where the count of that object rose. Takes no
+/// memory, so `NoMemory` doesn't come. The lanes and the notes stay as they are.
 pub fn run_show<S: Source, L: Lanes, W: Sink, N: Sink>(
-    groups: Groups,
-    order: Order,
+    _alloc: Global,
+    engine: ShowRun,
     input: &mut S,
     lanes: &mut L,
     output: &mut W,
     notes: &mut N,
-) -> RunEnd
-    requires empty { groups ≡ empty_table groups.room }
-    requires least { 6 ≤ groups.room }
-    ensures { Ends (packet_cut order) (showing groups.room)
+) -> Result<RunEnd, NoMemory>
+    ensures memory { IsOk result }
+    ensures ends { IfOk result (λ end. ShowEnds engine
         (seen S.Source L.Lanes W.Sink N.Sink input.old lanes.old output.old notes.old)
-        (seen S.Source L.Lanes W.Sink N.Sink input.new lanes.new output.new notes.new) result }
+        (seen S.Source L.Lanes W.Sink N.Sink input.new lanes.new output.new notes.new) end) }
+    ensures complete { IfOk result (λ end. IsDoneShowing engine
+        (seen S.Source L.Lanes W.Sink N.Sink input.old lanes.old output.old notes.old)
+        (seen S.Source L.Lanes W.Sink N.Sink input.new lanes.new output.new notes.new) end) }
 {
-    let reader = PacketReader::new(order);
-    let engine = ShowPackets {
-        groups,
-        line: Line::new(),
+    let ShowRun { lines } = engine;
+    let end = match lines {
+        Lines::Packets { groups, order } => {
+            show_packets(groups, order, input, lanes, output, notes)
+        }
+        Lines::Bytes { parser } => show_bytes(parser, input, lanes, output, notes),
     };
-    drive(reader, engine, input, lanes, output, notes)
-}
-
-// Joins the exclusives of one more packet. Why it is refused: it passes the room.
-fn join(groups: &mut Groups, packet: &Packet, offset: u64) -> Option<BadStep>
-    requires { IsPacket packet.now }
-    ensures behind { groups.new ≡ with_part_of (part_of offset packet.now) groups.old }
-    ensures bad { result ≡ bad_join groups.old packet.now }
-{
-    match packet {
-        Packet::Exclusive { group, form, bytes } => {
-            match groups.feed(*group, *form, bytes.as_slice(), offset) {
-                Fed::TooLong => Some(BadStep::ExclusiveTooLong),
-                _ => None,
-            }
-        }
-        _ => None,
-    }
-}
-
-// Puts the line of one more packet, unless it is refused.
-fn put_packet<L: Lanes, W: Sink, N: Sink>(
-    groups: &mut Groups,
-    line: &mut Line,
-    framed: &Framed,
-    packet: &Packet,
-    lanes: &mut L,
-    output: &mut W,
-    notes: &mut N,
-) -> Result<(), RunEnd>
-    requires { IsPacket packet.now }
-    ensures behind { groups.new ≡ with_part_of (part_of framed.now.offset packet.now) groups.old }
-    ensures takes { Takes (refusal_by (bad_join groups.old packet.now) framed.now.offset)
-        (in_output (packet_text packet.now framed.now.words framed.now.offset) ∷ [])
-        (places L.Lanes W.Sink N.Sink lanes.old output.old notes.old)
-        (places L.Lanes W.Sink N.Sink lanes.new output.new notes.new) result }
-{
-    match join(groups, packet, framed.offset) {
-        Some(bad) => Err(crate::down::refused(bad, framed.offset)),
-        None => {
-            fill_packet_line(line, packet, framed.words.as_slice(), framed.offset);
-            put_output(line.as_slice(), lanes, output, notes)
-        }
-    }
+    Ok(end)
 }

@@ -4,11 +4,11 @@ ghost use Rattle.midi1_bytes.specs.Answers.{step_view};
 ghost use Rattle.midi1_bytes.specs.Parsing.{held_behind, idle, open_of, parse};
 ghost use Rattle.midi1_bytes.specs.Steps.{cut};
 ghost use Rattle.midi_lines.specs.StepLines.{HasBothEnds, byte_listing_text};
-ghost use Rattle.midi_pass.specs.Bytes.{bytes_of, is_byte_cut};
+ghost use Rattle.midi_pass.specs.Bytes.{bytes_of, byte_cutting};
 ghost use Rattle.midi_pass.specs.Pass.{Ends, IsDoneUnless, Takes, Work, seen};
 ghost use Rattle.midi_pass.specs.Places.{Puts, places};
 ghost use Rattle.midi_pass.specs.Put.{in_output};
-ghost use Rattle.midi_engines.specs.ShowBytes.{open_puts, puts_after, refusal_of, showing_bytes, shown_puts};
+ghost use Rattle.midi_engines.specs.ShowBytes.{open_puts, puts_after, refusal_of, showing_bytes, shown_puts, shows_last_named, shows_named};
 ghost use Rattle.midi_engines.specs.Starting.{nothing_held};
 
 use midi_edge::{ByteReader, Lanes, Sink, Source};
@@ -21,16 +21,16 @@ use midi1_bytes::{AfterCut, CutKind, Parser, Step};
 use up_translator::{kind_of_cut, kind_of_open};
 use voice_state::Kind;
 
-/// Puts a line for each message that the bytes of a stream complete, and for each byte that belongs to nothing or cuts something
-/// off, and at the end a line for what is still open.
+// Puts a line for each message that the bytes of a stream complete, and for each byte that belongs to nothing or cuts something
+// off, and at the end a line for what is still open.
 #[derive(Drop)]
-pub struct ShowBytes {
+struct ShowBytes {
     parser: Parser,
     line: Line,
 }
 
 impl Engine<u64, u8> for ShowBytes {
-    ghost work = { λ first. showing_bytes first.parser.room };
+    ghost work = { λ first. showing_bytes (record { room = first.parser.room }) };
 
     ghost IsReady = { λ first. first.parser ≡ idle first.parser.room };
 
@@ -73,14 +73,18 @@ impl Engine<u64, u8> for ShowBytes {
         put_open(&self.parser, lanes, output, notes)
     }
 
+    ghost puts_are_named = { λ first past item puts put. shows_named (record { room = first.parser.room }) past item puts put };
+
+    ghost last_puts_are_named = { λ first past puts put. shows_last_named (record { room = first.parser.room }) past puts put };
+
     ghost starts = { λ first ready. nothing_held first.parser ready };
 
     ghost means = { λ first now past puts holds accepted put. tt };
 }
 
-/// Puts the lines of a stream, to its end or to the first byte that is refused. The parser is a new one, and its room bounds the
-/// exclusives. Takes no memory.
-pub fn run_show_bytes<S: Source, L: Lanes, W: Sink, N: Sink>(
+/// Puts the lines of a stream, to its end or to the first byte that is refused. Nothing is open in the parser.
+#[inline(never)]
+pub(crate) fn show_bytes<S: Source, L: Lanes, W: Sink, N: Sink>(
     parser: Parser,
     input: &mut S,
     lanes: &mut L,
@@ -88,10 +92,10 @@ pub fn run_show_bytes<S: Source, L: Lanes, W: Sink, N: Sink>(
     notes: &mut N,
 ) -> RunEnd
     requires { parser ≡ idle parser.room }
-    ensures ends { Ends is_byte_cut (showing_bytes parser.room)
+    ensures ends { Ends byte_cutting (showing_bytes (record { room = parser.room }))
         (seen S.Source L.Lanes W.Sink N.Sink input.old lanes.old output.old notes.old)
         (seen S.Source L.Lanes W.Sink N.Sink input.new lanes.new output.new notes.new) result }
-    ensures complete { IsDoneUnless is_byte_cut (showing_bytes parser.room)
+    ensures complete { IsDoneUnless byte_cutting (showing_bytes (record { room = parser.room }))
         (seen S.Source L.Lanes W.Sink N.Sink input.old lanes.old output.old notes.old)
         (seen S.Source L.Lanes W.Sink N.Sink input.new lanes.new output.new notes.new) result }
 {

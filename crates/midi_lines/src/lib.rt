@@ -6,6 +6,7 @@ mod listing;
 mod packets;
 mod put;
 mod steps;
+mod texts;
 mod voice;
 mod voice1;
 mod voice2;
@@ -15,6 +16,7 @@ pub use crate::listing::{byte_listing, fill_byte_listing, fill_listing_line, lis
 pub use crate::packets::{fill_packet_line, packet_line};
 pub use crate::put::{put_decimal, put_text};
 pub use crate::steps::{fill_step_line, step_line};
+pub use crate::texts::{fill_text_line, text_line};
 
 #[cfg(test)]
 mod tests;

@@ -3,7 +3,7 @@ use Rattle.std.proofs.Common.{◌≡◌, ℕ, List, [], ◌∷◌, ◌++◌, Opt
 use Rattle.std.specs.Prelude.{IfSome, Result, Ok, Err, reverse}
 use Rattle.std.proofs.lemmas.List.{reverse-append}
 use Rattle.midi_edge.specs.Outside.{Rose}
-use Rattle.midi_pass.specs.Pass.{Seen, Cutting, Work, AreAccepted, ArePut, IsWork, StepEnds, Steps, Closes, end_of, IsFront, HasGivenUp, IsFirstRefusal, IsNextPut, PutFails, Ends}
+use Rattle.midi_pass.specs.Pass.{Seen, Cutting, Work, AreAccepted, ArePut, IsWork, StepEnds, Steps, Closes, end_of, IsFront, HasGivenUp, IsFirstRefusal, IsRefused, IsNextPut, PutFails, Stands}
 use Rattle.midi_pass.specs.Places.{Places, after_puts, FailsAt, Puts}
 use Rattle.midi_pass.specs.Put.{Put}
 use Rattle.midi_pass.specs.declared.pass.Next.TheVariants as next
@@ -62,7 +62,7 @@ module _ {I : Type 0} (IsCut : Cutting I) (work : Work I) (Has : List I → Type
 
   -- the next item ends the pass
   pub ends_at_step : (item : I) (end : RunEnd) (new : Seen) → IfSome old.left (λ bytes. IsFront IsCut bytes (so_far.items ++ item ∷ [])) → new.reads ≡ now.reads
-      → StepEnds work (reverse so_far.items) now.places new.places item end → Ends IsCut work old new end
+      → StepEnds work (reverse so_far.items) now.places new.places item end → Stands IsCut work old new end
   ends_at_step item (Refused reason offset) new front reads ends =
       record {
         items = so_far.items;
@@ -84,14 +84,14 @@ module _ {I : Type 0} (IsCut : Cutting I) (work : Work I) (Has : List I → Type
 
   -- the input ends, and the pass is closed
   pub ends_at_close : (result : Result (Unit {0}) RunEnd) (new : Seen) → IfSome old.left (λ bytes. IsCut bytes so_far.items None × (new.left ≡ Some [])) → new.reads ≡ now.reads
-      → Closes work (reverse so_far.items) now.places new.places result → Ends IsCut work old new (end_of result)
+      → Closes work (reverse so_far.items) now.places new.places result → Stands IsCut work old new (end_of result)
   ends_at_close result new cut reads closes = by_result result closes.2
     where
       by_told : (all : Option (List ℕ)) → IfSome all (λ bytes. IsCut bytes so_far.items None × (new.left ≡ Some [])) → IfSome all (λ bytes. IsCut bytes so_far.items None)
       by_told None cut = tt
       by_told (Some bytes) cut = cut.0
 
-      by_end : (e : RunEnd) → FailsAt closes.0 e now.places new.places → Ends IsCut work old new e
+      by_end : (e : RunEnd) → FailsAt closes.0 e now.places new.places → Stands IsCut work old new e
       by_end Done stops = absurd (place_failed closes.0 Done now.places new.places stops)
       by_end (Refused reason offset) stops = absurd (place_failed closes.0 (Refused reason offset) now.places new.places stops)
       by_end ReadFault stops = absurd (place_failed closes.0 ReadFault now.places new.places stops)
@@ -99,7 +99,7 @@ module _ {I : Type 0} (IsCut : Cutting I) (work : Work I) (Has : List I → Type
       by_end OutputFault stops = put_failed OutputFault new closes.0 (inr (by_told old.left cut, closes.1)) stops reads
       by_end NoteFault stops = put_failed NoteFault new closes.0 (inr (by_told old.left cut, closes.1)) stops reads
 
-      by_result : (r : Result (Unit {0}) RunEnd) → Puts closes.0 now.places new.places r → Ends IsCut work old new (end_of r)
+      by_result : (r : Result (Unit {0}) RunEnd) → Puts closes.0 now.places new.places r → Stands IsCut work old new (end_of r)
       by_result (Ok nothing) puts =
           record {
             items = so_far.items;
@@ -115,7 +115,7 @@ module _ {I : Type 0} (IsCut : Cutting I) (work : Work I) (Has : List I → Type
 
   -- the reading is refused
   pub ends_refused : (reason : Reason) (offset : ℕ) (new : Seen) → IfSome old.left (λ bytes. IsCut bytes so_far.items (Some (reason, offset))) → new.places ≡ now.places → new.reads ≡ now.reads
-      → Ends IsCut work old new (Refused reason offset)
+      → Stands IsCut work old new (Refused reason offset)
   ends_refused reason offset new cut places reads =
       record { items = so_far.items; puts = so_far.puts; first = by_told old.left cut; done = done; places = places ∙ so_far.places; reads = reads ∙ so_far.reads }
     where
@@ -124,7 +124,7 @@ module _ {I : Type 0} (IsCut : Cutting I) (work : Work I) (Has : List I → Type
       by_told (Some bytes) cut = inl cut
 
   -- a read failed
-  pub ends_failed : (new : Seen) → IfSome old.left (λ bytes. HasGivenUp IsCut bytes new.left so_far.items) → new.places ≡ now.places → Rose now.reads new.reads → Ends IsCut work old new ReadFault
+  pub ends_failed : (new : Seen) → IfSome old.left (λ bytes. HasGivenUp IsCut bytes new.left so_far.items) → new.places ≡ now.places → Rose now.reads new.reads → Stands IsCut work old new ReadFault
   ends_failed new given places rose =
       let R : ℕ → Type 0 = λ n. Rose n new.reads in
       record { items = so_far.items; puts = so_far.puts; given = given; done = done; places = places ∙ so_far.places; reads = subst R so_far.reads rose }

@@ -6,12 +6,16 @@ use Rattle.midi_pass.specs.Pass.{Tail, Cutting, CutsOnce, Work, AreAccepted, IsF
 use Rattle.midi_pass.specs.DoneLaws.{accepted_at, none_some}
 use Rattle.midi_pass.specs.declared.ends.Reason.{Reason}
 
--- a front of some bytes is cut as the bytes begin, also where they are refused later
-abbrev pub FrontsBegin : {Item : Type 0} → Cutting Item → Type 0
-FrontsBegin {Item} IsCut = (bytes : List ℕ) (items first : List Item) (tail : Tail) → IsCut bytes items tail → IsFront IsCut bytes first → (rest : List Item) × (items ≡ first ++ rest)
-
 abbrev pub refused_at : Reason → ℕ → Tail
 refused_at reason offset = Some (reason, offset)
+
+-- after items that are accepted the bytes are refused, or the next item is, in one place and for one reason
+abbrev pub HasOneFirstRefusal : {Item : Type 0} → Cutting Item → Work Item → Type 0
+HasOneFirstRefusal {Item} IsCut work =
+    (bytes : List ℕ) (items others : List Item) (reason reason' : Reason) (offset offset' : ℕ)
+    → AreAccepted work (reverse items) → AreAccepted work (reverse others)
+    → IsFirstRefusal IsCut work bytes items reason offset → IsFirstRefusal IsCut work bytes others reason' offset'
+    → (items ≡ others) × (refused_at reason offset ≡ refused_at reason' offset')
 
 -- ---- lists
 
@@ -54,7 +58,7 @@ at_one (x ∷ items) (o ∷ others) rest i j e =
       | inr go ↦ inr (go.0, ap (λ xs. o ∷ xs) go.1 ∙ ap (λ c. c ∷ ((items ++ i ∷ []) ++ go.0)) same)
     ]
 
-module _ {Item : Type 0} (IsCut : Cutting Item) (work : Work Item) (cuts : CutsOnce IsCut) (fronts : FrontsBegin IsCut) where
+module _ {Item : Type 0} (IsCut : Cutting Item) (work : Work Item) (cuts : CutsOnce IsCut) where
   -- an item among others that are accepted isn't refused
   among : (items others more : List Item) (item : Item) → others ≡ (items ++ item ∷ []) ++ more → AreAccepted work (reverse others) → work.refusal (reverse items) item ≡ None
   among items others more item same accepted =
@@ -70,21 +74,20 @@ module _ {Item : Type 0} (IsCut : Cutting Item) (work : Work Item) (cuts : CutsO
     -- the bytes are refused after items, so no item of theirs is
     refused_bytes : (bytes : List ℕ) (item : Item) → IsCut bytes items (Some refusal) → IsFront IsCut bytes (others ++ item ∷ []) → work.refusal (reverse others) item ≡ Some other → ⊥
     refused_bytes bytes item cut front refused =
-        let begin = fronts bytes items (others ++ item ∷ []) (Some refusal) cut front in
+        let begin = cuts.front bytes items (others ++ item ∷ []) (Some refusal) cut front in
         none_some other (sym (among others items begin.0 item begin.1 accepted) ∙ refused)
 
     -- one front goes on after the other
     further : (short long : List ℕ) (i j : Item) → (x : List ℕ) × (long ≡ short ++ x) → IsCut short (items ++ i ∷ []) None → IsCut long (others ++ j ∷ []) None
         → work.refusal (reverse items) i ≡ Some refusal → work.refusal (reverse others) j ≡ Some other → IsOne items others refusal other
     further short long i j more cut cut' refused refused' =
-        let front = cuts.front long (others ++ j ∷ []) (items ++ i ∷ []) cut' (short, more.0, more.1, cut) in
+        let front = cuts.front long (others ++ j ∷ []) (items ++ i ∷ []) None cut' (short, more.0, more.1, cut) in
         elim (at_one items others front.0 i j front.1) [
           | inl one ↦ (one.0, sym refused ∙ ap (λ past. work.refusal (reverse past) i) one.0 ∙ ap (λ item. work.refusal (reverse others) item) one.1 ∙ refused')
           | inr go ↦ absurd (none_some refusal (sym (among items others go.0 i go.1 accepted') ∙ refused))
         ]
 
-  pub one_refusal : (bytes : List ℕ) (items others : List Item) (reason reason' : Reason) (offset offset' : ℕ) → AreAccepted work (reverse items) → AreAccepted work (reverse others)
-      → IsFirstRefusal IsCut work bytes items reason offset → IsFirstRefusal IsCut work bytes others reason' offset' → (items ≡ others) × (refused_at reason offset ≡ refused_at reason' offset')
+  pub one_refusal : HasOneFirstRefusal IsCut work
   one_refusal bytes items others reason reason' offset offset' accepted accepted' (inl cut) (inl cut') = cuts.one bytes items others (Some (reason, offset)) (Some (reason', offset')) cut cut'
   one_refusal bytes items others reason reason' offset offset' accepted accepted' (inl cut) (inr next) = absurd (refused_bytes items others (reason, offset) (reason', offset') accepted accepted' bytes next.0 cut next.1 next.2)
   one_refusal bytes items others reason reason' offset offset' accepted accepted' (inr next) (inl cut) = absurd (refused_bytes others items (reason', offset') (reason, offset) accepted' accepted bytes next.0 cut next.1 next.2)

@@ -4,6 +4,7 @@ use Rattle.midi_edge.specs.Outside.{Rose}
 use Rattle.midi_edge.specs.declared.outside.Lanes as lanes
 use Rattle.midi_edge.specs.declared.outside.Sink as sink
 use Rattle.midi_edge.specs.declared.outside.Source as source
+use Rattle.midi_pass.specs.Named.{Named, SparesOthers}
 use Rattle.midi_pass.specs.Places.{Places, places, after_puts, FailsAt, Puts}
 use Rattle.midi_pass.specs.Put.{Put}
 use Rattle.midi_pass.specs.declared.ends.Reason.{Reason}
@@ -28,9 +29,10 @@ Tail = Option (Reason × ℕ)
 abbrev pub Cutting : Type 0 → Type 1
 Cutting Item = List ℕ → List Item → Tail → Type 0
 
--- What is done with each item and at the end of the input, by the items before it, the newest first: why it is refused, with the
--- offset; what is put for it; what is put at the end; and what all that is put for the items means.
+-- What is done with each item and at the end of the input, by the items before it, the newest first: which places it names; why
+-- an item is refused, with the offset; what is put for it; what is put at the end; and what all that is put for the items means.
 pub record Work (Item : Type 0) : Type 1 where
+  pub names : Named
   pub refusal : List Item → Item → Tail
   pub IsPut : List Item → Item → List Put → Type 0
   pub IsPutAtEnd : List Item → List Put → Type 0
@@ -106,7 +108,7 @@ module _ {Item : Type 0} (IsCut : Cutting Item) (work : Work Item) where
     pub places : new.places ≡ after_puts (puts ++ last) old.places
     pub reads : new.reads ≡ old.reads
 
-  -- behind these items the bytes are refused, or the next item is
+  -- after these items the bytes are refused, or the next item is
   abbrev pub IsFirstRefusal : List ℕ → List Item → Reason → ℕ → Type 0
   IsFirstRefusal bytes items reason offset =
       IsCut bytes items (Some (reason, offset)) ⊎ ((item : Item) × IsFront IsCut bytes (items ++ item ∷ []) × (work.refusal (reverse items) item ≡ Some (reason, offset)))
@@ -146,16 +148,26 @@ module _ {Item : Type 0} (IsCut : Cutting Item) (work : Work Item) where
     pub places : FailsAt next end (after_puts puts old.places) new.places
     pub reads : new.reads ≡ old.reads
 
-  -- what each end says
+  -- what stands at each end
+  abbrev pub Stands : Seen → Seen → RunEnd → Type 0
+  Stands old new Done = IsDone old new
+  Stands old new (Refused reason offset) = IsRefused reason offset old new
+  Stands old new ReadFault = ReadFails old new
+  Stands old new end = PutFails end old new
+
+  -- what each end says: what stands, and that what isn't named stays as it is
   abbrev pub Ends : Seen → Seen → RunEnd → Type 0
-  Ends old new Done = IsDone old new
-  Ends old new (Refused reason offset) = IsRefused reason offset old new
-  Ends old new ReadFault = ReadFails old new
-  Ends old new end = PutFails end old new
+  Ends old new end = Stands old new end × SparesOthers work.names end old.places new.places
 
   -- nothing of these bytes is refused
   abbrev pub HasNoRefusal : List ℕ → Type 0
   HasNoRefusal bytes = (items : List Item) × IsCut bytes items None × AreAccepted work (reverse items)
+
+-- a pass over an input: how it is cut into items, and what is done with them
+pub record Pass : Type 1 where
+  pub Item : Type 0
+  pub IsCut : Cutting Item
+  pub work : Work Item
 
 -- no count of faults rose
 abbrev pub NothingFails : Seen → Seen → Type 0
@@ -167,7 +179,8 @@ NothingFails old new =
 abbrev pub IsDoneUnless : {Item : Type 0} → Cutting Item → Work Item → Seen → Seen → RunEnd → Type 0
 IsDoneUnless IsCut work old new end = IfSome old.left (λ bytes. HasNoRefusal IsCut work bytes → NothingFails old new → end ≡ Done)
 
--- what holds of a way of cutting: bytes are cut in one way only, and a front of them begins as they do
+-- What holds of a way of cutting: bytes are cut in one way only, and a front of them begins as they do, also where they are refused
+-- later.
 pub record CutsOnce {Item : Type 0} (IsCut : Cutting Item) : Type 0 where
   pub one : (bytes : List ℕ) (items others : List Item) (tail other : Tail) → IsCut bytes items tail → IsCut bytes others other → (items ≡ others) × (tail ≡ other)
-  pub front : (bytes : List ℕ) (items first : List Item) → IsCut bytes items None → IsFront IsCut bytes first → (rest : List Item) × (items ≡ first ++ rest)
+  pub front : (bytes : List ℕ) (items first : List Item) (tail : Tail) → IsCut bytes items tail → IsFront IsCut bytes first → (rest : List Item) × (items ≡ first ++ rest)

@@ -33,7 +33,7 @@ places L W N l w n =
       faults = record { lanes = L.faults l; output = W.faults w; notes = N.faults n };
     }
 
--- what is told, with these behind it
+-- what is told, with these after it
 abbrev pub with_more : {A : Type 0} → Option (List A) → List A → Option (List A)
 with_more None items = None
 with_more (Some old) items = Some (old ++ items)

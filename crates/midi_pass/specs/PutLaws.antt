@@ -64,7 +64,7 @@ then_stops ps qs end a b c first stops =
       counts = subst F (ap (λ s. s.faults) first) stops.counts;
     }
 
--- one of these failed, so others behind them aren't put
+-- one of these failed, so others after them aren't put
 pub stops_more : (ps qs : List Put) (end : RunEnd) (a b : Places) → FailsAt ps end a b → FailsAt (ps ++ qs) end a b
 stops_more ps qs end a b stops =
     record {

@@ -2,7 +2,7 @@
 ghost use Rattle.std.specs.Prelude.{◌≡◌, ◌-◌, ℕ, List, Option, length, None, Some};
 ghost use Rattle.midi_edge.specs.Outside.{ahead};
 ghost use Rattle.midi_edge.specs.ByteReader.{new_reading};
-ghost use Rattle.midi_pass.specs.Bytes.{GivenSoFar, is_byte_cut, limit};
+ghost use Rattle.midi_pass.specs.Bytes.{GivenSoFar, byte_cutting, limit};
 ghost use Rattle.midi_pass.specs.Next.{ComesNearer, GivesNext, NextCause};
 ghost use Rattle.midi_pass.specs.Pass.{Cutting};
 ghost use Rattle.midi_pass.specs.Starting.{none_given};
@@ -15,7 +15,7 @@ use midi_edge::{ByteReader, ReadStop, Source};
 pub const LIMIT: u64 = 4_294_967_296;
 
 impl Items<u64, u8> for ByteReader {
-    ghost IsCut = { λ first. is_byte_cut };
+    ghost IsCut = { λ first. byte_cutting };
 
     ghost IsNew = { λ first. first ≡ new_reading limit };
 
@@ -28,7 +28,10 @@ impl Items<u64, u8> for ByteReader {
     #[inline]
     fn next<S: Source>(&mut self, input: &mut S) -> Next<u64, u8> {
         match ByteReader::next(self, input) {
-            Ok(Some((byte, offset))) => Next::Item { at: offset, item: byte },
+            Ok(Some((byte, offset))) => Next::Item {
+                at: offset,
+                item: byte,
+            },
             Ok(None) => Next::End,
             Err(ReadStop::TooLong) => Next::Refused {
                 reason: Reason::InputTooLong,

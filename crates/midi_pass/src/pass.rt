@@ -1,5 +1,6 @@
 // One loop for every pass.
 ghost use Rattle.std.specs.Prelude.{◌≡◌, ◌<◌, ℕ, List, [], ◌∷◌, Option, true};
+ghost use Rattle.midi_pass.specs.Named.{AreNamed};
 ghost use Rattle.midi_pass.specs.Next.{ComesNearer, GivesNext, NextCause};
 ghost use Rattle.midi_pass.specs.Pass.{AreAccepted, ArePut, Closes, Cutting, Ends, Steps, Work, end_of as end_after, seen};
 ghost use Rattle.midi_pass.specs.Places.{places};
@@ -80,6 +81,7 @@ pub trait Engine<A, I> {
         notes: &mut N,
     ) -> Result<(), RunEnd>
         requires item { Asks (at.now, item.now) }
+        requires holds { (first : Self) × (past : List (A × I)) × Holds first self.old past × AsksAfter past (at.now, item.now) }
         requires begun { UsesLanes → L.begun lanes.old ≡ true }
         ensures { (first : Self) (past : List (A × I)) → Holds first self.old past → AsksAfter past (at.now, item.now) →
             Steps (work first) past
@@ -99,6 +101,13 @@ pub trait Engine<A, I> {
             Closes (work first) past
             (places L.Lanes W.Sink N.Sink lanes.old output.old notes.old)
             (places L.Lanes W.Sink N.Sink lanes.new output.new notes.new) result };
+
+    /// What is put for an item, and at the end of the input, goes to the places that the work names.
+    ghost puts_are_named: { (first : Self) (past : List (A × I)) (item : A × I) (puts : List Put) →
+        (work first).IsPut past item puts → AreNamed (work first).names puts };
+
+    ghost last_puts_are_named: { (first : Self) (past : List (A × I)) (puts : List Put) →
+        (work first).IsPutAtEnd past puts → AreNamed (work first).names puts };
 
     /// A ready engine holds what no items leave.
     ghost starts: { (first : Self) → IsReady first → Holds first first [] };

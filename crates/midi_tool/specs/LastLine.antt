@@ -1,8 +1,9 @@
 -- The last line of a run: how it ended, unless it is done.
-use Rattle.std.specs.Prelude.{◌≡◌, ◌⊎◌, ℕ, ◌≤◌, List, ◌++◌, Option, None, Some, codes, decimal}
-use Rattle.midi_edge.specs.Outside.{Gains, GainsPart, Rose}
-use Rattle.midi_tool.specs.declared.status.Reason.{Reason}
-use Rattle.midi_tool.specs.declared.status.Reason.TheVariants.{Truncated, InputTooLong, BadCount, HighBit, DataIncrement, DataDecrement, ExclusiveTooLong}
+use Rattle.std.specs.Prelude.{ℕ, List, ◌++◌, Option, None, Some, codes, decimal}
+use Rattle.std.specs.Option.{option_map, option_to_list}
+use Rattle.midi_pass.specs.Put.{Put, in_notes}
+use Rattle.midi_pass.specs.declared.ends.Reason.{Reason}
+use Rattle.midi_pass.specs.declared.ends.Reason.TheVariants.{Truncated, InputTooLong, BadCount, HighBit, DataIncrement, DataDecrement, ExclusiveTooLong}
 use Rattle.midi_tool.specs.declared.status.Status.{Status}
 use Rattle.midi_tool.specs.declared.status.Status.TheVariants.{Done, Refused, ReadFault, LaneFault, OutputFault, NoteFault, Usage, NoMemory}
 
@@ -26,11 +27,9 @@ last_text NoteFault = None
 last_text Usage = Some (codes "usage: translate, show, endpoint or selftest")
 last_text NoMemory = Some (codes "no memory")
 
--- the notes gain these bytes, or, where the count of their faults rose, a front of them that isn't all of them
-abbrev pub GainsUpTo : Option (List ℕ) → Option (List ℕ) → ℕ → ℕ → List ℕ → Type 0
-GainsUpTo old new before now line = (Gains old new line × (now ≡ before)) ⊎ (GainsPart old new line × (before ≤ now) × Rose before now)
+-- the last line, if there is one, and its put
+abbrev pub last_line_text : Status → Option (List ℕ)
+last_line_text status = option_map (λ text. text ++ codes "\n") (last_text status)
 
--- the notes gain the last line, where there is one
-abbrev pub GainsLine : Option (List ℕ) → Option (List ℕ) → ℕ → ℕ → Option (List ℕ) → Type 0
-GainsLine old new before now None = (new ≡ old) × (now ≡ before)
-GainsLine old new before now (Some text) = GainsUpTo old new before now (text ++ codes "\n")
+abbrev pub last_puts : Status → List Put
+last_puts status = option_to_list (option_map in_notes (last_line_text status))

@@ -1,11 +1,16 @@
 // The last line of a run.
-ghost use Rattle.std.specs.Prelude.{◌≡◌, ◌≤◌, ◌++◌, ◌<◌, length, codes, decimal, IfSome};
-ghost use Rattle.std.specs.Option.{option_map};
-ghost use Rattle.midi_tool.specs.LastLine.{reason_text as text_for, last_text, GainsLine, GainsUpTo};
+ghost use Rattle.std.specs.Prelude.{◌≡◌, ◌≤◌, ◌++◌, ◌<◌, length, codes, decimal, IfSome, Result};
+ghost use Rattle.std.specs.Option.{option_map, option_to_list};
+ghost use Rattle.midi_tool.specs.LastLine.{reason_text as text_for, last_line_text, last_puts};
+ghost use Rattle.midi_pass.specs.Places.{Puts, places};
+ghost use Rattle.midi_pass.specs.Put.{in_notes};
+ghost use Rattle.midi_pass.specs.declared.ends.RunEnd.{RunEnd};
 
-use crate::status::{Reason, Status};
-use midi_edge::Sink;
+use crate::status::Status;
+use midi_edge::{Lanes, Sink};
 use midi_lines::{Line, put_decimal, put_text};
+use midi_pass::places::put_notes;
+use midi_pass::{Reason, RunEnd};
 
 // The name of a reason.
 fn reason_text(reason: Reason) -> &'static str
@@ -49,7 +54,7 @@ fn line_of(text: &str) -> Line
 
 // The last line for a status, or none for `Done` and `NoteFault`.
 fn last_line(status: Status) -> Option<Line>
-    ensures text { result ≡ option_map (λ text. text ++ codes "\n") (last_text status) }
+    ensures text { result ≡ last_line_text status }
     ensures some { IfSome result (λ line. 0 < length line) }
 {
     match status {
@@ -63,20 +68,35 @@ fn last_line(status: Status) -> Option<Line>
     }
 }
 
-// Puts a line, whether that fails or not.
-fn put_whole<N: Sink>(line: &[u8], notes: &mut N)
-    requires { 0 < length line.now }
-    ensures { GainsUpTo (N.held notes.old) (N.held notes.new) (N.faults notes.old) (N.faults notes.new) line.now }
+// Puts a line in the notes, if there is one.
+fn put_line<L: Lanes, W: Sink, N: Sink>(
+    line: Option<Line>,
+    lanes: &mut L,
+    output: &mut W,
+    notes: &mut N,
+) -> Result<(), RunEnd>
+    requires { IfSome line (λ text. 0 < length text) }
+    ensures { Puts (option_to_list (option_map in_notes line))
+        (places L.Lanes W.Sink N.Sink lanes.old output.old notes.old)
+        (places L.Lanes W.Sink N.Sink lanes.new output.new notes.new) result }
 {
-    let _ = notes.put(line);
+    match line {
+        Some(line) => put_notes(line.as_slice(), lanes, output, notes),
+        None => Ok(()),
+    }
 }
 
 /// Puts the last line for a status in the notes, if it has one. Where that fails, a front of the line may stand, and the count
 /// of faults tells it.
-pub fn put_last<N: Sink>(status: Status, notes: &mut N)
-    ensures { GainsLine (N.held notes.old) (N.held notes.new) (N.faults notes.old) (N.faults notes.new) (last_text status) }
+pub fn put_last<L: Lanes, W: Sink, N: Sink>(
+    status: Status,
+    lanes: &mut L,
+    output: &mut W,
+    notes: &mut N,
+)
+    ensures { (answer : Result (Unit {0}) RunEnd) × Puts (last_puts status)
+        (places L.Lanes W.Sink N.Sink lanes.old output.old notes.old)
+        (places L.Lanes W.Sink N.Sink lanes.new output.new notes.new) answer }
 {
-    if let Some(line) = last_line(status) {
-        put_whole(line.as_slice(), notes);
-    }
+    let _ = put_line(last_line(status), lanes, output, notes);
 }

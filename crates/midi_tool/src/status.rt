@@ -2,43 +2,7 @@
 ghost use Rattle.std.specs.Prelude.{◌≡◌, ◌≢◌, OnOk, OnErr};
 
 use midi_edge::Failed;
-
-/// Why a recording or a stream is refused.
-#[derive(Clone, Copy, Debug, PartialEq, Eq)]
-pub enum Reason {
-    /// It ends within a packet (M2-104-UM, message types).
-    Truncated,
-    /// It has more than 4,294,967,296 bytes (own rule).
-    InputTooLong,
-    /// A 7-bit exclusive packet counts more than six bytes (M2-104-UM, 7-bit exclusives).
-    BadCount,
-    /// A byte of a packet that carries seven bits is 128 or more (M2-104-UM).
-    HighBit,
-    /// A data increment, control change 96 of either protocol, is translated (own rule).
-    DataIncrement,
-    /// A data decrement, control change 97 of either protocol, is translated (own rule).
-    DataDecrement,
-    /// An exclusive has more bytes between F0 and F7 than the room (own rule).
-    ExclusiveTooLong,
-}
-
-/// How a pass over a recording or a stream ends.
-#[derive(Clone, Copy, Debug, PartialEq, Eq)]
-pub enum RunEnd {
-    /// The input was read to its end.
-    Done,
-    /// What stands at this offset is refused: a packet, a byte, or the input where it ends too early or passes its limit. The
-    /// offset is the number of input bytes before it.
-    Refused { reason: Reason, offset: u64 },
-    /// A read failed.
-    ReadFault,
-    /// A write to a lane failed.
-    LaneFault,
-    /// A write to the output failed.
-    OutputFault,
-    /// A write to the notes failed.
-    NoteFault,
-}
+use midi_pass::Reason;
 
 /// How a run ends.
 #[derive(Clone, Copy, Debug, PartialEq, Eq)]

@@ -1,3 +1,4 @@
+pub mod Counting
 pub mod Encoded
 pub mod Fitting
 pub mod Marked

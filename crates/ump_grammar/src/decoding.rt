@@ -198,8 +198,9 @@ fn exclusive(words: &Words) -> Result<Packet, Bad>
     })
 }
 
-// The form of this number; `None` exactly where there is none.
-fn form_of(number: u32) -> Option<Form>
+/// The form of this number (M2-104-UM, formats of stream messages and of 7-bit exclusives): 0 complete, 1 start, 2 continue,
+/// 3 end; `None` exactly above 3.
+pub fn form_of(number: u32) -> Option<Form>
     ensures { MatchOption result (3 < number) (λ form. number ≡ form_number form) }
 {
     match number {

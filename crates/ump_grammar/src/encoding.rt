@@ -385,7 +385,8 @@ fn kind_bit(kind: ParamKind) -> u8
     }
 }
 
-fn form_bits(form: Form) -> u8
+/// The number of a form (M2-104-UM, formats of stream messages and of 7-bit exclusives), 0 to 3.
+pub fn form_bits(form: Form) -> u8
     ensures number { result ≡ form_number form }
     ensures below { result < 4 }
 {

@@ -542,3 +542,33 @@ fn refused_words(rt: HostRuntime) {
         assert!(rt; is_refused(&words, bad));
     }
 }
+
+// A ConfigNotice and a Note On, as they stand in worked rows of the stream messages and of a recording.
+#[test]
+fn replies_stand_one_after_the_other(rt: HostRuntime) {
+    let mut replies = Replies::new();
+    let notice = Packet::Stream {
+        format: 0,
+        status: 0x006,
+        low: 0x0200,
+        second: 0,
+        third: 0,
+        fourth: 0,
+    };
+    let note = Packet::Voice2 {
+        group: u4(0),
+        message: Voice2::NoteOn {
+            channel: u4(0),
+            note: u7(60),
+            velocity: 0xC924,
+            attribute_type: 0,
+            attribute: 0,
+        },
+    };
+    replies.push(&notice);
+    replies.push(&note);
+    let words = [0xF006_0200, 0, 0, 0, 0x4090_3C00, 0xC924_0000];
+    assert!(rt; replies.words() == words.as_slice());
+    replies.clear();
+    assert!(rt; replies.words().is_empty());
+}

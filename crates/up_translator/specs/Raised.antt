@@ -1,5 +1,5 @@
 -- What is raised from a byte: its packets and its lines of the listing.
-use Rattle.std.specs.Prelude.{ℕ, List, [], ◌∷◌, ◌++◌, Option, Some, None}
+use Rattle.std.specs.Prelude.{ℕ, Bool, ◌&&◌, is_none, List, [], ◌∷◌, ◌++◌, Option, Some, None}
 use Rattle.std.specs.Option.{option_map, option_to_list}
 use Rattle.ump_grammar.specs.declared.packet.Packet.{Packet}
 use Rattle.voice_state.specs.declared.listed.Kind.{Kind}
@@ -55,3 +55,7 @@ second_in raised = option_map (line_by (group_in raised)) raised.second
 -- the lines, in order
 abbrev pub lines_in : Raised → List Listed
 lines_in raised = option_to_list (first_in raised) ++ option_to_list (second_in raised)
+
+-- nothing comes of the byte
+abbrev pub is_empty_in : Raised → Bool
+is_empty_in raised = is_none (packet_in raised) && is_none (payload_in raised) && is_none (first_in raised) && is_none (second_in raised)

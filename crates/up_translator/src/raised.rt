@@ -29,7 +29,7 @@ impl<'a> Raised<'a> {
     ghost use Rattle.midi1_bytes.specs.Answers.{framed, payload_of};
     ghost use Rattle.voice_state.specs.Raising.{exclusive_packets};
     ghost use Rattle.voice_state.specs.StepListing.{line_up};
-    ghost use Rattle.up_translator.specs.Raised.{group_in, packet_in, payload_in, packets_in, lines_in, told_of, line_by, first_in, second_in, IsApart};
+    ghost use Rattle.up_translator.specs.Raised.{group_in, packet_in, payload_in, packets_in, lines_in, told_of, line_by, first_in, second_in, is_empty_in, IsApart};
 
     fn new(
         group: U4,
@@ -85,6 +85,17 @@ impl<'a> Raised<'a> {
     {
         let payload = &bytes[1..bytes.len() - 1];
         Raised::new(group, None, Some(payload), None, None)
+    }
+
+    /// Whether nothing comes of the byte: no packet, no payload and no line. Most bytes are only held.
+    #[inline(always)]
+    pub fn is_empty(&self) -> bool
+        ensures { result ≡ is_empty_in self.now }
+    {
+        self.packet.is_none()
+            && self.payload.is_none()
+            && self.first.is_none()
+            && self.second.is_none()
     }
 
     /// The group of the packets and of the lines.

@@ -1,7 +1,7 @@
 // Worked rows of the way back: each is a stream of MIDI 1.0 bytes, and what comes back of it.
-use crate::back::{BackRun, run_back};
-use crate::status::{Reason, RunEnd};
-use midi_edge::{MemSink, MemSource, U4};
+use midi_edge::{MemLanes, MemSink, MemSource, U4};
+use midi_engines::{BackRun, run_back};
+use midi_pass::{Reason, RunEnd};
 use std::alloc::{AllocError, Global};
 use std::process::Abort;
 use std::test::Fail;
@@ -57,9 +57,10 @@ fn leaves_by(
         lines,
     } = stream;
     let mut input = MemSource::new(bytes, cuts, reads);
+    let mut lanes = MemLanes::new(alloc, 0, 0, Vec::new(alloc))?;
     let mut output = MemSink::new(alloc, 256, puts)?;
     let mut notes = MemSink::new(alloc, 256, lines)?;
-    let end = run_back(engine, &mut input, &mut output, &mut notes);
+    let end = run_back(engine, &mut input, &mut lanes, &mut output, &mut notes);
     assert_eq!(rt; end, left.end);
     assert_eq!(rt; output.held(), left.output);
     assert_eq!(rt; notes.held(), left.notes.as_bytes());

@@ -1,8 +1,9 @@
 // Worked rows of streams of MIDI 1.0 bytes that are shown.
 use super::{Case, Left, case_of, leaves};
-use crate::show::{ShowRun, run_show};
-use crate::status::{Reason, RunEnd, Status};
-use midi_edge::{MemSink, MemSource};
+use crate::status::Status;
+use midi_edge::{MemLanes, MemSink, MemSource};
+use midi_engines::{ShowRun, run_show};
+use midi_pass::{Reason, RunEnd};
 use std::alloc::{AllocError, Global};
 use std::process::Abort;
 use std::test::Fail;
@@ -98,8 +99,13 @@ fn shows_within_six(
     let mut given = Vec::new(alloc);
     given.extend_from_slice(bytes)?;
     let mut input = MemSource::new(given, Vec::new(alloc), Vec::new(alloc));
+    let mut lanes = MemLanes::new(alloc, 0, 0, Vec::new(alloc))?;
     let mut held = MemSink::new(alloc, 256, Vec::new(alloc))?;
-    assert_eq!(rt; run_show(alloc, engine, &mut input, &mut held), Ok(end));
+    let mut notes = MemSink::new(alloc, 0, Vec::new(alloc))?;
+    assert_eq!(rt;
+        run_show(alloc, engine, &mut input, &mut lanes, &mut held, &mut notes),
+        Ok(end)
+    );
     assert_eq!(rt; held.held(), output.as_bytes());
     Ok(())
 }

@@ -1,6 +1,7 @@
 // Worked rows of the way down: each is a recording, and what it leaves.
 use super::{DOWN, Left, NOTE, carries, case_of, leaves, refused};
-use crate::status::{Reason, Status};
+use crate::status::Status;
+use midi_pass::Reason;
 use std::test::Fail;
 
 const NOTE_BYTES: [u8; 3] = [0x90, 0x3C, 0x64];

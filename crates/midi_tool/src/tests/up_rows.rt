@@ -1,8 +1,8 @@
 // Worked rows of streams of MIDI 1.0 bytes that are raised to packets.
 use super::bytes_of;
-use crate::status::{Reason, RunEnd};
-use crate::up::{UpRun, run_up};
-use midi_edge::{MemSink, MemSource, U4};
+use midi_edge::{MemLanes, MemSink, MemSource, U4};
+use midi_engines::{UpRun, run_up};
+use midi_pass::{Reason, RunEnd};
 use std::alloc::{AllocError, Global};
 use std::process::Abort;
 use std::test::Fail;
@@ -47,9 +47,13 @@ fn leaves(
     } = given;
     let engine = UpRun::new(alloc, U4::low_bits(group), order, room.clamp(6, 1_048_576))?;
     let mut input = MemSource::new(bytes, Vec::new(alloc), Vec::new(alloc));
+    let mut lanes = MemLanes::new(alloc, 0, 0, Vec::new(alloc))?;
     let mut held = MemSink::new(alloc, 256, output_puts)?;
     let mut noted = MemSink::new(alloc, 256, note_puts)?;
-    assert_eq!(rt; run_up(engine, &mut input, &mut held, &mut noted), end);
+    assert_eq!(rt;
+        run_up(engine, &mut input, &mut lanes, &mut held, &mut noted),
+        end
+    );
     assert_eq!(rt; held.held(), output);
     assert_eq!(rt; noted.held(), notes.as_bytes());
     Ok(())

@@ -1,9 +1,10 @@
 // The words of the program: which are commands, and what their options do.
 use super::{Left, case_of, leaves, refused, words_of};
 use crate::run::run;
-use crate::show::{ShowRun, run_show};
-use crate::status::{Reason, RunEnd, Status};
+use crate::status::Status;
 use midi_edge::{FolderLanes, MemLanes, MemShelf, MemSink, MemSource, Sink};
+use midi_engines::{ShowRun, run_show};
+use midi_pass::{Reason, RunEnd};
 use std::alloc::Global;
 use std::fs;
 use std::process::Abort;
@@ -186,8 +187,13 @@ fn shows_within_six(
         Vec::new(alloc),
         Vec::new(alloc),
     );
+    let mut lanes = MemLanes::new(alloc, 0, 0, Vec::new(alloc))?;
     let mut held = MemSink::new(alloc, 256, Vec::new(alloc))?;
-    assert_eq!(rt; run_show(alloc, engine, &mut input, &mut held), Ok(end));
+    let mut notes = MemSink::new(alloc, 0, Vec::new(alloc))?;
+    assert_eq!(rt;
+        run_show(alloc, engine, &mut input, &mut lanes, &mut held, &mut notes),
+        Ok(end)
+    );
     assert_eq!(rt; held.held(), output.as_bytes());
     Ok(())
 }

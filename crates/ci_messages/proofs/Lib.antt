@@ -1,0 +1,5 @@
+pub mod DataLaws
+pub mod PlaceLaws
+pub mod FieldLaws
+pub mod WrittenLaws
+pub mod ReadLaws

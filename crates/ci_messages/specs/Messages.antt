@@ -1,0 +1,86 @@
+-- The messages of MIDI-CI (M2-101-UM), a row for each.
+use Rattle.std.specs.Prelude.{ℕ, ◌==◌, nat_le, nat_lt, ◌&&◌, if◌then◌else◌, List, [], ◌∷◌}
+use Rattle.ci_messages.specs.declared.kind.Kind.{Kind}
+use Rattle.ci_messages.specs.declared.kind.Kind.TheVariants as kind
+use Rattle.ci_messages.specs.declared.view.Body.{Body}
+use Rattle.ci_messages.specs.declared.view.Body.TheVariants as body
+use Rattle.ci_messages.specs.Fields.{Field, Value, byte, number2, number4, bytes, counted, reserved, unread, number, list, nothing}
+
+-- The kind of a message, by its sub-id and version. Versions above 02 are read as 02; 00 and 01 are left
+-- unread (own rule).
+abbrev pub kind_of : ℕ → ℕ → Kind
+kind_of sub version =
+    if nat_lt version 2 then kind.Other
+    else if sub == 0x70 then kind.Discovery
+    else if sub == 0x71 then kind.DiscoveryReply
+    else if sub == 0x72 then kind.EndpointInquiry
+    else if sub == 0x73 then kind.EndpointReply
+    else if sub == 0x7E then kind.Invalidate
+    else if sub == 0x7F then kind.Nak
+    else if sub == 0x20 then kind.ProfileInquiry
+    else if sub == 0x21 then kind.ProfileReply
+    else if sub == 0x22 then kind.SetOn
+    else if sub == 0x23 then kind.SetOff
+    else if sub == 0x24 then kind.EnabledReport
+    else if sub == 0x25 then kind.DisabledReport
+    else if nat_le 0x30 sub && nat_le sub 0x3F then kind.Property
+    else kind.Other
+
+-- The fields of a body of version 02, in their order. This is the one table of places: it decides which
+-- messages are too short, what is read, which values fit, and what is written.
+abbrev pub fields_of : Kind → List Field
+fields_of kind.Discovery = bytes 3 ∷ bytes 2 ∷ bytes 2 ∷ bytes 4 ∷ byte ∷ number4 ∷ byte ∷ []
+fields_of kind.DiscoveryReply =
+    bytes 3 ∷ bytes 2 ∷ bytes 2 ∷ bytes 4 ∷ byte ∷ number4 ∷ byte ∷ byte ∷ []
+fields_of kind.EndpointInquiry = byte ∷ []
+fields_of kind.EndpointReply = byte ∷ counted 1 ∷ []
+fields_of kind.Invalidate = number4 ∷ []
+fields_of kind.Nak = byte ∷ byte ∷ byte ∷ bytes 5 ∷ counted 1 ∷ []
+fields_of kind.ProfileInquiry = []
+fields_of kind.ProfileReply = counted 5 ∷ counted 5 ∷ []
+fields_of kind.SetOn = bytes 5 ∷ number2 ∷ []
+fields_of kind.SetOff = bytes 5 ∷ reserved 2 ∷ []
+fields_of kind.EnabledReport = bytes 5 ∷ number2 ∷ []
+fields_of kind.DisabledReport = bytes 5 ∷ number2 ∷ []
+fields_of kind.Property = unread ∷ []
+fields_of kind.Other = unread ∷ []
+
+-- what a body says for each of its fields
+abbrev pub values_of : Body → List Value
+values_of (body.Discovery manufacturer family model revision category size path) =
+    list manufacturer ∷ list family ∷ list model ∷ list revision
+    ∷ number category ∷ number size ∷ number path ∷ []
+values_of (body.DiscoveryReply manufacturer family model revision category size path block) =
+    list manufacturer ∷ list family ∷ list model ∷ list revision
+    ∷ number category ∷ number size ∷ number path ∷ number block ∷ []
+values_of (body.EndpointInquiry status) = number status ∷ []
+values_of (body.EndpointReply status text) = number status ∷ list text.now ∷ []
+values_of (body.Invalidate target) = number target ∷ []
+values_of (body.Nak original code value details text) =
+    number original ∷ number code ∷ number value ∷ list details ∷ list text.now ∷ []
+values_of body.ProfileInquiry = []
+values_of (body.ProfileReply on off) = list on.now ∷ list off.now ∷ []
+values_of (body.SetOn id channels) = list id.bytes ∷ number channels ∷ []
+values_of (body.SetOff id) = list id.bytes ∷ nothing ∷ []
+values_of (body.EnabledReport id channels) = list id.bytes ∷ number channels ∷ []
+values_of (body.DisabledReport id channels) = list id.bytes ∷ number channels ∷ []
+values_of (body.Property lent) = list lent.now ∷ []
+values_of (body.Other lent) = list lent.now ∷ []
+
+-- the kind of the message that has a body
+abbrev pub body_kind : Body → Kind
+body_kind (body.Discovery manufacturer family model revision category size path) = kind.Discovery
+body_kind (body.DiscoveryReply manufacturer family model revision category size path block) =
+    kind.DiscoveryReply
+body_kind (body.EndpointInquiry status) = kind.EndpointInquiry
+body_kind (body.EndpointReply status text) = kind.EndpointReply
+body_kind (body.Invalidate target) = kind.Invalidate
+body_kind (body.Nak original code value details text) = kind.Nak
+body_kind body.ProfileInquiry = kind.ProfileInquiry
+body_kind (body.ProfileReply on off) = kind.ProfileReply
+body_kind (body.SetOn id channels) = kind.SetOn
+body_kind (body.SetOff id) = kind.SetOff
+body_kind (body.EnabledReport id channels) = kind.EnabledReport
+body_kind (body.DisabledReport id channels) = kind.DisabledReport
+body_kind (body.Property lent) = kind.Property
+body_kind (body.Other lent) = kind.Other

@@ -1,0 +1,30 @@
+// Laws over the definitions alone.
+ghost use Rattle.std.specs.Prelude.{◌≡◌, ◌<◌, ◌≤◌, ℕ, List, length, None, Result, IsOkAnd};
+ghost use Rattle.ci_messages.specs.declared.view.CiFault.{CiFault};
+ghost use Rattle.ci_messages.specs.declared.view.CiView.{CiView};
+ghost use Rattle.ci_messages.specs.Reading.{CiSpells, IsExclusive, Reads, ci_fault};
+ghost use Rattle.ci_messages.specs.Writing.{IsView, SameView, message_bytes};
+
+/// A message that is written is an exclusive. Where its source is below 0FFFFF00, it is read again as the same
+/// view.
+pub fn written_messages_are_read_again()
+    ensures exclusive { (view : CiView) → IsView view → length (message_bytes view) ≤ 512 →
+        IsExclusive (message_bytes view) }
+    ensures again { (view : CiView) → IsView view → length (message_bytes view) ≤ 512 →
+        view.source < 0x0FFFFF00 → (answer : Result CiView CiFault) → Reads (message_bytes view) answer →
+        IsOkAnd answer (SameView view) }
+{
+    messages_spell_one_view();
+}
+
+/// The bytes of a message spell one view.
+pub fn messages_spell_one_view()
+    ensures { (message : List ℕ) (one other : CiView) → CiSpells one message → CiSpells other message →
+        SameView one other }
+{}
+
+/// The numbers of a view that is read fit their bytes, and what it lends are data bytes.
+pub fn views_that_are_read_fit()
+    ensures { (message : List ℕ) (view : CiView) → IsExclusive message → ci_fault message ≡ None →
+        CiSpells view message → IsView view }
+{}

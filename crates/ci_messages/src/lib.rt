@@ -1,0 +1,16 @@
+//! Messages of MIDI-CI, read from an exclusive and written as one.
+#![tactic(auto)]
+
+mod kind;
+pub mod laws;
+mod places;
+pub mod reading;
+pub mod view;
+pub mod writing;
+
+pub use crate::reading::read;
+pub use crate::view::{Address, Body, CiFault, CiView, ProfileId};
+pub use crate::writing::write;
+
+#[cfg(test)]
+mod tests;

@@ -1,0 +1,245 @@
+// From the bytes of a message to its view.
+ghost use Rattle.std.specs.Prelude.{◌≡◌, ◌≤◌, ◌<◌, ◌+◌, ◌*◌, length, not, IfSome, MatchOption};
+ghost use Rattle.ci_messages.specs.declared.kind.Kind.TheVariants as kind;
+ghost use Rattle.ci_messages.specs.Places.{part_at, number2_at};
+ghost use Rattle.ci_messages.specs.Fields.{IsData};
+ghost use Rattle.ci_messages.specs.Reading.{IsExclusive, Reads, ReadsBody, address_of, body_of, is_not_ci};
+
+use crate::kind::Kind;
+use crate::places::{array, number_of_four, number_of_two, part, profile_id};
+use crate::view::{Address, Body, CiFault, CiView, ProfileId};
+use voice_messages::U4;
+
+/// The first of the MUIDs that no device may have as its own.
+const FIRST_RESERVED_MUID: u32 = 0x0FFF_FF00;
+
+/// Where the body begins.
+const BODY: usize = 14;
+
+/// The bytes of a message without a body: those before it, and F7.
+const SHORTEST: usize = 15;
+
+// The address of a number; `None` exactly where there is none.
+fn address(number: u8) -> Option<Address>
+    ensures { result ≡ address_of number }
+{
+    match number {
+        0x7E => Some(Address::Group),
+        0x7F => Some(Address::Block),
+        _ => U4::new(number).map(Address::Channel),
+    }
+}
+
+fn discovery<'a>(body: &'a [u8]) -> Option<Body<'a>>
+    ensures { ReadsBody kind.Discovery body.now result }
+{
+    if body.len() < 17 {
+        return None;
+    }
+    Some(Body::Discovery {
+        manufacturer: array(body, 0),
+        family: array(body, 3),
+        model: array(body, 5),
+        revision: array(body, 7),
+        category: body[11],
+        size: number_of_four(body, 12),
+        path: body[16],
+    })
+}
+
+fn discovery_reply<'a>(body: &'a [u8]) -> Option<Body<'a>>
+    ensures { ReadsBody kind.DiscoveryReply body.now result }
+{
+    if body.len() < 18 {
+        return None;
+    }
+    Some(Body::DiscoveryReply {
+        manufacturer: array(body, 0),
+        family: array(body, 3),
+        model: array(body, 5),
+        revision: array(body, 7),
+        category: body[11],
+        size: number_of_four(body, 12),
+        path: body[16],
+        block: body[17],
+    })
+}
+
+fn endpoint_inquiry<'a>(body: &'a [u8]) -> Option<Body<'a>>
+    ensures { ReadsBody kind.EndpointInquiry body.now result }
+{
+    let status = *body.first()?;
+    Some(Body::EndpointInquiry { status })
+}
+
+// The items of `size` bytes each that follow their count at a place; `None` exactly where the bytes end too early.
+fn counted<'a>(body: &'a [u8], at: usize, size: usize) -> Option<&'a [u8]>
+    requires place { at ≤ length body.now }
+    requires size { size ≤ 5 }
+    ensures { MatchOption result
+        (length body.now < 2 + size * number2_at body.now at + at)
+        (λ items. (2 + size * number2_at body.now at + at ≤ length body.now)
+        × (items.now ≡ part_at body.now (at + 2) (size * number2_at body.now at))) }
+{
+    if body.len() - at < 2 {
+        return None;
+    }
+    let length = size * number_of_two(body, at) as usize;
+    if body.len() - at < 2 + length {
+        return None;
+    }
+    Some(part(body, at + 2, length))
+}
+
+fn endpoint_reply<'a>(body: &'a [u8]) -> Option<Body<'a>>
+    ensures { ReadsBody kind.EndpointReply body.now result }
+{
+    let status = *body.first()?;
+    let text = counted(body, 1, 1)?;
+    Some(Body::EndpointReply { status, text })
+}
+
+fn invalidate<'a>(body: &'a [u8]) -> Option<Body<'a>>
+    ensures { ReadsBody kind.Invalidate body.now result }
+{
+    if body.len() < 4 {
+        return None;
+    }
+    Some(Body::Invalidate {
+        target: number_of_four(body, 0),
+    })
+}
+
+fn nak<'a>(body: &'a [u8]) -> Option<Body<'a>>
+    ensures { ReadsBody kind.Nak body.now result }
+{
+    if body.len() < 8 {
+        return None;
+    }
+    let text = counted(body, 8, 1)?;
+    Some(Body::Nak {
+        original: body[0],
+        code: body[1],
+        value: body[2],
+        details: array(body, 3),
+        text,
+    })
+}
+
+fn profile_reply<'a>(body: &'a [u8]) -> Option<Body<'a>>
+    ensures { ReadsBody kind.ProfileReply body.now result }
+{
+    let on = counted(body, 0, 5)?;
+    let off = counted(body, 2 + on.len(), 5)?;
+    Some(Body::ProfileReply { on, off })
+}
+
+// A profile's id, and the two bytes that follow it.
+fn switch(body: &[u8]) -> Option<(ProfileId, u16)>
+    requires { IsData body.now }
+    ensures { MatchOption result
+        (length body.now < 7)
+        (λ switch. (7 ≤ length body.now)
+        × (switch.0.bytes ≡ part_at body.now 0 5)
+        × (switch.1 ≡ number2_at body.now 5)) }
+{
+    if body.len() < 7 {
+        return None;
+    }
+    Some((profile_id(body, 0), number_of_two(body, 5) as u16))
+}
+
+// The body of a message of a kind; `None` exactly where it is shorter than its fields.
+fn body_of_kind<'a>(kind: Kind, body: &'a [u8]) -> Option<Body<'a>>
+    requires { IsData body.now }
+    ensures { ReadsBody kind body.now result }
+{
+    match kind {
+        Kind::Discovery => discovery(body),
+        Kind::DiscoveryReply => discovery_reply(body),
+        Kind::EndpointInquiry => endpoint_inquiry(body),
+        Kind::EndpointReply => endpoint_reply(body),
+        Kind::Invalidate => invalidate(body),
+        Kind::Nak => nak(body),
+        Kind::ProfileInquiry => Some(Body::ProfileInquiry),
+        Kind::ProfileReply => profile_reply(body),
+        Kind::SetOn => {
+            let (id, channels) = switch(body)?;
+            Some(Body::SetOn { id, channels })
+        }
+        Kind::SetOff => {
+            let (id, _) = switch(body)?;
+            Some(Body::SetOff { id })
+        }
+        Kind::EnabledReport => {
+            let (id, channels) = switch(body)?;
+            Some(Body::EnabledReport { id, channels })
+        }
+        Kind::DisabledReport => {
+            let (id, channels) = switch(body)?;
+            Some(Body::DisabledReport { id, channels })
+        }
+        Kind::Property => Some(Body::Property(body)),
+        Kind::Other => Some(Body::Other(body)),
+    }
+}
+
+// Whether an exclusive is universal, non-realtime and of MIDI-CI.
+fn is_ci(message: &[u8]) -> bool
+    ensures { result ≡ not (is_not_ci message.now) }
+{
+    message.len() >= 6 && message[1] == 0x7E && message[3] == 0x0D
+}
+
+// What stands between the destination and F7.
+fn body_bytes(message: &[u8]) -> &[u8]
+    requires exclusive { IsExclusive message.now }
+    requires long_enough { 15 ≤ length message.now }
+    ensures bytes { result.now ≡ body_of message.now }
+    ensures data_bytes { IsData result.now }
+{
+    part(message, BODY, message.len() - SHORTEST)
+}
+
+/// Reads a message (M2-101-UM) from its exclusive, which has data bytes between F0 and F7. The view lends the texts,
+/// lists and unread bytes of the exclusive. Bytes that follow the fields of a body are ignored.
+///
+/// A fault is the first of these that applies:
+/// - `NotCi`: there are fewer than 6 bytes, or byte 2 (F0 is byte 1) isn't 7E, or byte 4 isn't 0D;
+/// - `Short`: there are fewer than 15 bytes, or the version is 2 or more and the body ends before its fields do;
+/// - `BadAddress`: the address is none of 00 to 0F, 7E and 7F;
+/// - `ReservedMuid`: the source is 0FFFFF00 or above.
+///
+/// A version above 02 is kept, and its messages are read as those of version 02. The body of a message of version
+/// 00 or 01 is `Other` (own rule).
+pub fn read<'a>(message: &'a [u8]) -> Result<CiView<'a>, CiFault>
+    requires { IsExclusive message.now }
+    ensures { Reads message.now result }
+{
+    if !is_ci(message) {
+        return Err(CiFault::NotCi);
+    }
+    if message.len() < SHORTEST {
+        return Err(CiFault::Short);
+    }
+    let sub = message[4];
+    let version = message[5];
+    let Some(body) = body_of_kind(Kind::of(sub, version), body_bytes(message)) else {
+        return Err(CiFault::Short);
+    };
+    let Some(address) = address(message[2]) else {
+        return Err(CiFault::BadAddress);
+    };
+    let source = number_of_four(message, 6);
+    if source >= FIRST_RESERVED_MUID {
+        return Err(CiFault::ReservedMuid);
+    }
+    Ok(CiView {
+        address,
+        sub,
+        version,
+        source,
+        destination: number_of_four(message, 10),
+        body,
+    })
+}

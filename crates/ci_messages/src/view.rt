@@ -1,0 +1,170 @@
+// What a message says.
+use thiserror::Error;
+use voice_messages::{U4, U7};
+
+/// What a message is about (M2-101-UM, device id).
+#[derive(Clone, Copy, Debug, PartialEq, Eq)]
+pub enum Address {
+    /// 00 to 0F: a channel of the group on which the message goes.
+    Channel(U4),
+    /// 7E: the group.
+    Group,
+    /// 7F: the function block.
+    Block,
+}
+
+/// The id of a profile, five data bytes.
+#[derive(Clone, Copy, Debug, PartialEq, Eq)]
+pub struct ProfileId {
+    pub bytes: [U7; 5],
+}
+
+impl ProfileId {
+    ghost use Rattle.std.specs.Prelude.{◌≡◌};
+    ghost use Rattle.ci_messages.specs.Fields.{IsData};
+
+    /// The id as it stands in a message.
+    pub fn data_bytes(&self) -> [u8; 5]
+        ensures value { result ≡ self.now.bytes }
+        ensures data_bytes { IsData self.now.bytes }
+    {
+        let [first, second, third, fourth, fifth] = self.bytes;
+        [
+            first.get(),
+            second.get(),
+            third.get(),
+            fourth.get(),
+            fifth.get(),
+        ]
+    }
+}
+
+/// A MIDI-CI message (M2-101-UM). It lends its texts, lists and unread bytes from the bytes that were read.
+#[derive(Clone, Copy, Debug, PartialEq, Eq)]
+pub struct CiView<'a> {
+    pub address: Address,
+    /// Sub-ID 2, 00 to 7F, which tells what the message is.
+    pub sub: u8,
+    /// The version of the message format, 00 to 7F.
+    pub version: u8,
+    /// The sender's MUID, of 28 bits.
+    pub source: u32,
+    /// The receiver's MUID, of 28 bits; 0FFFFFFF is broadcast.
+    pub destination: u32,
+    pub body: Body<'a>,
+}
+
+/// What stands between the destination and F7, by sub-id. A message of version 02 or above has the fields of version
+/// 02; of version 00 and 01 it is `Other`, whatever its sub-id (own rule).
+///
+/// A `u8` is a data byte, 0 to 127. A `u16` has 14 bits and a `u32` 28. Arrays and lent bytes are data bytes.
+#[derive(Clone, Copy, Debug, PartialEq, Eq)]
+pub enum Body<'a> {
+    /// 70: Discovery.
+    Discovery {
+        /// The System Exclusive id of the manufacturer.
+        manufacturer: [u8; 3],
+        /// The device's family, the low byte first.
+        family: [u8; 2],
+        /// The device's model within its family, the low byte first.
+        model: [u8; 2],
+        /// The revision of its software.
+        revision: [u8; 4],
+        /// The categories of MIDI-CI that it supports, a bit for each.
+        category: u8,
+        /// The most bytes of a System Exclusive message that it takes.
+        size: u32,
+        /// The output path of the initiator.
+        path: u8,
+    },
+    /// 71: Reply to Discovery.
+    DiscoveryReply {
+        manufacturer: [u8; 3],
+        family: [u8; 2],
+        model: [u8; 2],
+        revision: [u8; 4],
+        category: u8,
+        size: u32,
+        path: u8,
+        /// The number of the function block, or 7F where there is none.
+        block: u8,
+    },
+    /// 72: Inquiry: Endpoint.
+    EndpointInquiry {
+        /// What is asked for; 00 is the product instance id.
+        status: u8,
+    },
+    /// 73: Reply to Endpoint Inquiry.
+    EndpointReply {
+        status: u8,
+        text: &'a [u8],
+    },
+    /// 7E: Invalidate MUID.
+    Invalidate {
+        /// The MUID that no longer holds.
+        target: u32,
+    },
+    /// 7F: MIDI-CI NAK.
+    Nak {
+        /// The sub-id of the message that is refused.
+        original: u8,
+        /// The status code.
+        code: u8,
+        /// The status value.
+        value: u8,
+        details: [u8; 5],
+        text: &'a [u8],
+    },
+    /// 20: Profile Inquiry.
+    ProfileInquiry,
+    /// 21: Reply to Profile Inquiry. Both lists are ids of five bytes each.
+    ProfileReply {
+        /// The profiles that are on.
+        on: &'a [u8],
+        /// The profiles that are off.
+        off: &'a [u8],
+    },
+    /// 22: Set Profile On.
+    SetOn {
+        id: ProfileId,
+        /// The number of channels that is asked for.
+        channels: u16,
+    },
+    /// 23: Set Profile Off.
+    SetOff {
+        id: ProfileId,
+    },
+    /// 24: Profile Enabled Report.
+    EnabledReport {
+        id: ProfileId,
+        /// The number of channels that are on.
+        channels: u16,
+    },
+    /// 25: Profile Disabled Report.
+    DisabledReport {
+        id: ProfileId,
+        /// The number of channels that were on.
+        channels: u16,
+    },
+    /// 30 to 3F: Property Exchange, unread.
+    Property(&'a [u8]),
+    /// Any other sub-id, and every message of version 00 or 01, unread.
+    Other(&'a [u8]),
+}
+
+/// Why an exclusive is not read as a message.
+#[derive(Clone, Copy, Debug, PartialEq, Eq, Error)]
+pub enum CiFault {
+    /// It isn't universal and non-realtime (7E) and of MIDI-CI (0D), or has fewer than 6 bytes.
+    #[error("the exclusive is not MIDI-CI")]
+    NotCi,
+    /// It ends before its destination does, or before a field of its body does.
+    #[error("the message is shorter than its fields")]
+    Short,
+    /// Its address is none of 00 to 0F, 7E and 7F.
+    #[error("the address is neither a channel, the group nor the function block")]
+    BadAddress,
+    /// Its source is 0FFFFF00 or above: reserved, or broadcast.
+    #[error("the source is a reserved MUID")]
+    ReservedMuid,
+}

@@ -1,0 +1,156 @@
+-- A recording is cut into packets in one way.
+use Rattle.std.proofs.Common.{◌≡◌, ◌+◌, ℕ, List, [], ◌∷◌, ◌++◌, length, None, Some, refl, ap, sym, ◌∙◌, subst, arith, inl, inr}
+use Rattle.std.specs.List.{concat}
+use Rattle.std.proofs.lemmas.List.{length-append}
+use Rattle.ump_words.specs.Cut.{Cuts, IsCutInto, framed_from, words_of}
+use Rattle.ump_words.specs.declared.words.Framed.{Framed}
+use Rattle.ump_words.specs.declared.words.Order.{Order}
+use Rattle.ump_words.specs.declared.words.Tail as tails
+use Rattle.ump_words.specs.declared.words.Tail.TheVariants as tail
+use Rattle.ump_words.specs.Laws.{FrontsAreCutAsTheStream, StreamsAreCutInOneWay}
+use Rattle.ump_grammar.specs.declared.packet.Bad.{Bad}
+use Rattle.ump_grammar.specs.declared.packet.Packet.{Packet}
+use Rattle.ump_grammar.specs.Reason.{reason as reason_of}
+use Rattle.ump_grammar.specs.Spelling.{Spells}
+use Rattle.midi_pass.specs.Bytes.{limit}
+use Rattle.midi_pass.specs.Pass.{CutsOnce, IsFront, Tail}
+use Rattle.midi_engines.specs.Packets.{AreRead, EndsAt, framed_of, packet_cutting, reason_for, refusal_at}
+
+abbrev head_or : {A : Type 0} → A → List A → A
+head_or a [] = a
+head_or a (x ∷ xs) = x
+
+abbrev tail_of : {A : Type 0} → List A → List A
+tail_of [] = []
+tail_of (x ∷ xs) = xs
+
+framed-then : (order : Order) (at : ℕ) (ds more : List (List ℕ)) → framed_from order at (ds ++ more) ≡ framed_from order at ds ++ framed_from order (at + length (concat ds)) more
+framed-then order at [] more = let e : at ≡ at + 0 = omega arith in ap (λ n. framed_from order n more) e
+framed-then order at (d ∷ ds) more =
+    let e : (at + length d) + length (concat ds) ≡ at + length (concat (d ∷ ds)) = omega (arith, length-append d (concat ds)) in
+    ap (λ fs. record { offset = at; words = words_of order d } ∷ fs) (framed-then order (at + length d) ds more ∙ ap (λ n. framed_from order (at + length d) ds ++ framed_from order n more) e)
+
+at_end : (t : tails.Tail) → None ≡ refusal_at t → t ≡ tail.End
+at_end tail.End e = refl
+at_end (tail.Truncated offset) e = let f : None ≡ refusal_at (tail.Truncated offset) = e in cc
+at_end tail.TooLong e = let f : None ≡ refusal_at tail.TooLong = e in cc
+
+module _ (one_cutting : StreamsAreCutInOneWay) (fronts : FrontsAreCutAsTheStream) (one_packet : (p q : Packet) (words : List ℕ) → Spells p words → Spells q words → p ≡ q) where
+  one_framed : (order : Order) (bytes : List ℕ) (fs gs : List Framed) (t u : tails.Tail) → IsCutInto order limit bytes fs t → IsCutInto order limit bytes gs u → (fs ≡ gs) × (t ≡ u)
+  one_framed order bytes fs gs t u p q =
+      let one = one_cutting order limit bytes p.chunks q.chunks t u p.cuts q.cuts in
+      (p.same ∙ ap (framed_from order 0) one.0 ∙ sym q.same, one.1)
+
+  one_item : (i j : Framed × Packet) (items others : List (Framed × Packet)) → AreRead (i ∷ items) → AreRead (j ∷ others) → framed_of (i ∷ items) ≡ framed_of (j ∷ others) → i ≡ j
+  one_item i j items others are are' same =
+      let f : i.0 ≡ j.0 = ap (head_or i.0) same in
+      let S : Framed → Type 0 = λ g. Spells i.1 g.words in
+      ap (λ g. (g, i.1)) f ∙ ap (λ p. (j.0, p)) (one_packet i.1 j.1 j.0.words (subst S f are.0.spells) are'.0.spells)
+
+  -- packets of the same words are the same
+  one_items : (items others : List (Framed × Packet)) → AreRead items → AreRead others → framed_of items ≡ framed_of others → items ≡ others
+  one_items [] [] are are' same = refl
+  one_items [] (j ∷ others) are are' same = let f : [] ≡ j.0 ∷ framed_of others = same in cc
+  one_items (i ∷ items) [] are are' same = let f : i.0 ∷ framed_of items ≡ [] = same in cc
+  one_items (i ∷ items) (j ∷ others) are are' same =
+      ap (λ x. x ∷ items) (one_item i j items others are are' same) ∙ ap (λ xs. j ∷ xs) (one_items items others are.1 are'.1 (ap tail_of same))
+
+  -- the words of a packet that is read aren't refused
+  fine_at : (items : List (Framed × Packet)) (before : List Framed) (f : Framed) (after : List Framed) → AreRead items → framed_of items ≡ before ++ f ∷ after → reason_of f.words ≡ None
+  fine_at [] [] f after are same = let e : [] ≡ f ∷ after = same in cc
+  fine_at [] (b ∷ before) f after are same = let e : [] ≡ b ∷ (before ++ f ∷ after) = same in cc
+  fine_at (i ∷ items) [] f after are same =
+      let R : Framed → Type 0 = λ g. reason_of g.words ≡ None in
+      subst R (ap (head_or i.0) same) are.0.fine
+  fine_at (i ∷ items) (b ∷ before) f after are same = fine_at items before f after are.1 (ap tail_of same)
+
+  not_refused : (items : List (Framed × Packet)) (before : List Framed) (f : Framed) (after : List Framed) (cause : Bad) → AreRead items → framed_of items ≡ before ++ f ∷ after → reason_of f.words ≡ Some cause → ⊥
+  not_refused items before f after cause are same is = let e : None ≡ Some cause = sym (fine_at items before f after are same) ∙ is in cc
+
+  -- the first words that are refused stand in one place
+  one_refused : (items others : List (Framed × Packet)) (f g : Framed) (after after' : List Framed) (cause cause' : Bad) → AreRead items → AreRead others → reason_of f.words ≡ Some cause → reason_of g.words ≡ Some cause'
+      → framed_of items ++ f ∷ after ≡ framed_of others ++ g ∷ after' → (items ≡ others) × (f ≡ g)
+  one_refused [] [] f g after after' cause cause' are are' is is' same = (refl, ap (head_or f) same)
+  one_refused [] (j ∷ others) f g after after' cause cause' are are' is is' same =
+      let R : Framed → Type 0 = λ x. reason_of x.words ≡ None in
+      let e : None ≡ Some cause = sym (subst R (sym (ap (head_or f) same)) are'.0.fine) ∙ is in
+      cc
+  one_refused (i ∷ items) [] f g after after' cause cause' are are' is is' same =
+      let R : Framed → Type 0 = λ x. reason_of x.words ≡ None in
+      let e : None ≡ Some cause' = sym (subst R (ap (head_or i.0) same) are.0.fine) ∙ is' in
+      cc
+  one_refused (i ∷ items) (j ∷ others) f g after after' cause cause' are are' is is' same =
+      let more = one_refused items others f g after after' cause cause' are.1 are'.1 is is' (ap tail_of same) in
+      let first : i.0 ≡ j.0 = ap (head_or i.0) same in (
+        ap (λ x. x ∷ items) (one_item i j [] [] (are.0, tt) (are'.0, tt) (ap (λ x. x ∷ []) first)) ∙ ap (λ xs. j ∷ xs) more.0,
+        more.1,
+      )
+
+  one_end : (order : Order) (bytes : List ℕ) (items others : List (Framed × Packet)) (end end' : Tail) → packet_cutting order bytes items end → packet_cutting order bytes others end' → (items ≡ others) × (end ≡ end')
+  one_end order bytes items others end end' (are, inl p) (are', inl q) =
+      let one = one_framed order bytes (framed_of items) (framed_of others) p.tail q.tail p.cut q.cut in
+      (one_items items others are are' one.0, p.end_is ∙ ap refusal_at one.1 ∙ sym q.end_is)
+  one_end order bytes items others end end' (are, inl p) (are', inr q) =
+      let one = one_framed order bytes (framed_of items) (framed_of others ++ q.refused ∷ q.after) p.tail q.tail p.cut q.cut in
+      absurd (not_refused items (framed_of others) q.refused q.after q.cause are one.0 q.cause_is)
+  one_end order bytes items others end end' (are, inr p) (are', inl q) =
+      let one = one_framed order bytes (framed_of others) (framed_of items ++ p.refused ∷ p.after) q.tail p.tail q.cut p.cut in
+      absurd (not_refused others (framed_of items) p.refused p.after p.cause are' one.0 p.cause_is)
+  one_end order bytes items others end end' (are, inr p) (are', inr q) =
+      let one = one_framed order bytes (framed_of items ++ p.refused ∷ p.after) (framed_of others ++ q.refused ∷ q.after) p.tail q.tail p.cut q.cut in
+      let same = one_refused items others p.refused q.refused p.after q.after p.cause q.cause are are' p.cause_is q.cause_is one.0 in
+      let R : Framed → Type 0 = λ f. reason_of f.words ≡ Some p.cause in
+      let both : Some p.cause ≡ Some q.cause = sym (subst R same.1 p.cause_is) ∙ q.cause_is in
+      let cause : p.cause ≡ q.cause = cc in
+      (same.0, p.end_is ∙ ap (λ c. Some (reason_for c, p.refused.offset)) cause ∙ ap (λ f. Some (reason_for q.cause, f.offset)) same.1 ∙ sym q.end_is)
+
+  -- ---- what stands at the front of a recording stands at the front of its packets
+
+  items_front : (items first : List (Framed × Packet)) (more : List Framed) → AreRead items → AreRead first → framed_of items ≡ framed_of first ++ more → (rest : List (Framed × Packet)) × (items ≡ first ++ rest)
+  items_front items [] more are are' same = (items, refl)
+  items_front [] (j ∷ first) more are are' same = let f : [] ≡ j.0 ∷ (framed_of first ++ more) = same in absurd cc
+  items_front (i ∷ items) (j ∷ first) more are are' same =
+      let front = items_front items first more are.1 are'.1 (ap tail_of same) in
+      let one : i.0 ≡ j.0 = ap (head_or i.0) same in (
+        front.0,
+        ap (λ x. x ∷ items) (one_item i j [] [] (are.0, tt) (are'.0, tt) (ap (λ x. x ∷ []) one)) ∙ ap (λ xs. j ∷ xs) front.1,
+      )
+
+  -- the same before words that are refused
+  items_before : (items first : List (Framed × Packet)) (refused : Framed) (after more : List Framed) (cause : Bad) → AreRead items → AreRead first → reason_of refused.words ≡ Some cause
+      → framed_of items ++ refused ∷ after ≡ framed_of first ++ more → (rest : List (Framed × Packet)) × (items ≡ first ++ rest)
+  items_before items [] refused after more cause are are' is same = (items, refl)
+  items_before [] (j ∷ first) refused after more cause are are' is same =
+      let R : Framed → Type 0 = λ f. reason_of f.words ≡ None in
+      let e : None ≡ Some cause = sym (subst R (sym (ap (head_or refused) same)) are'.0.fine) ∙ is in
+      absurd cc
+  items_before (i ∷ items) (j ∷ first) refused after more cause are are' is same =
+      let front = items_before items first refused after more cause are.1 are'.1 is (ap tail_of same) in
+      let one : i.0 ≡ j.0 = ap (head_or i.0) same in (
+        front.0,
+        ap (λ x. x ∷ items) (one_item i j [] [] (are.0, tt) (are'.0, tt) (ap (λ x. x ∷ []) one)) ∙ ap (λ xs. j ∷ xs) front.1,
+      )
+
+  -- what is cut begins with what is cut of a front
+  framed_front : (order : Order) (bytes start rest : List ℕ) (framed : List Framed) (first : List (Framed × Packet)) (end : tails.Tail) → bytes ≡ start ++ rest → IsCutInto order limit bytes framed end
+      → EndsAt order start first None → (more : List Framed) × (framed ≡ framed_of first ++ more)
+  framed_front order bytes start rest framed first end parts cut ends =
+      let B : List ℕ → Type 0 = λ xs. Cuts order limit xs cut.chunks end in
+      let T : tails.Tail → Type 0 = λ t. Cuts order limit start ends.cut.chunks t in
+      let chunks = fronts order limit start rest cut.chunks ends.cut.chunks end (subst B parts cut.cuts) (subst T (at_end ends.tail ends.end_is) ends.cut.cuts) in
+      let at : ℕ = 0 + length (concat ends.cut.chunks) in (
+        framed_from order at chunks.0,
+        cut.same ∙ ap (framed_from order 0) chunks.1 ∙ framed-then order 0 ends.cut.chunks chunks.0 ∙ ap (λ fs. fs ++ framed_from order at chunks.0) (sym ends.cut.same),
+      )
+
+  front : (order : Order) (bytes : List ℕ) (items first : List (Framed × Packet)) (end : Tail) → packet_cutting order bytes items end → IsFront (packet_cutting order) bytes first → (rest : List (Framed × Packet)) × (items ≡ first ++ rest)
+  front order bytes items first end cut (start, rest, parts, (are', inr q)) = absurd (let e : None ≡ Some (reason_for q.cause, q.refused.offset) = q.end_is in cc)
+  front order bytes items first end (are, inl p) (start, rest, parts, (are', inl q)) =
+      let more = framed_front order bytes start rest (framed_of items) first p.tail parts p.cut q in
+      items_front items first more.0 are are' more.1
+  front order bytes items first end (are, inr p) (start, rest, parts, (are', inl q)) =
+      let more = framed_front order bytes start rest (framed_of items ++ p.refused ∷ p.after) first p.tail parts p.cut q in
+      items_before items first p.refused p.after more.0 p.cause are are' p.cause_is more.1
+
+  pub packets_once : (order : Order) → CutsOnce (packet_cutting order)
+  packets_once order = record { one = one_end order; front = front order }

@@ -1,0 +1,20 @@
+use Rattle.std.proofs.Common.{[], refl}
+use Rattle.midi_pass.specs.Bytes.{byte_cutting}
+use Rattle.midi_pass.specs.DoneLaws.{is_done_unless}
+use Rattle.midi_engines.specs.Back.{options_of, returning}
+use Rattle.midi_engines.proofs.BackLaws.{returned_bytes_mean}
+use Rattle.midi_engines.proofs.back.translate.Goals as goal
+
+pub drive-requires-clause-ready : goal.drive-requires-clause-ready
+drive-requires-clause-ready g c =
+    record {
+      few = c.requires.few;
+      least = c.requires.least;
+      law = returned_bytes_mean c.args.up.parsing.room c.args.up.group c.requires.few c.bytes_that_come_back_mean_the_same.ensures c.rooms_that_are_not_reached_do_not_matter_in_bytes.ensures;
+      accepted = tt;
+      holds_up = c.requires.new;
+      holds_down = record { placed = []; are = refl; range = tt; down_is = c.requires.empty };
+    }
+
+pub returns-clause-complete : goal.returns-clause-complete
+returns-clause-complete g c = is_done_unless byte_cutting (returning (options_of c.args.up)) c.bytes_are_cut_once.ensures _ _ c.drive.result c.drive.ensures

@@ -1,0 +1,17 @@
+use Rattle.midi_pass.specs.Bytes.{byte_cutting}
+use Rattle.midi_pass.specs.DoneLaws.{is_done_unless}
+use Rattle.midi_engines.specs.Up.{options_of, raising}
+use Rattle.midi_engines.proofs.UpLaws.{raised_bytes_mean}
+use Rattle.midi_engines.proofs.up.translate.Goals as goal
+
+pub drive-requires-clause-ready : goal.drive-requires-clause-ready
+drive-requires-clause-ready g c =
+    record {
+      few = c.requires.few;
+      law = raised_bytes_mean c.args.up.parsing.room c.args.up.group c.raised_packets_mean_the_bytes.ensures c.rooms_that_are_not_reached_do_not_matter_in_bytes.ensures;
+      accepted = tt;
+      holds = c.requires.new;
+    }
+
+pub returns-clause-complete : goal.returns-clause-complete
+returns-clause-complete g c = is_done_unless byte_cutting (raising (options_of c.args.up c.args.order)) c.bytes_are_cut_once.ensures _ _ c.drive.result c.drive.ensures

@@ -1,0 +1,88 @@
+-- A stream of bytes whose packets come down again: the pieces of the packets of each byte, and its lines; at the end the line of what
+-- is open.
+use Rattle.std.specs.Prelude.{◌≡◌, ℕ, ◌<◌, ◌≤◌, List, [], ◌∷◌, ◌++◌, reverse, take, None, Some}
+use Rattle.ump_grammar.specs.declared.packet.Packet.{Packet}
+use Rattle.ump_grammar.specs.Ranges.{IsPacket}
+use Rattle.voice_state.specs.Back.{SameState, back, back_of_bytes}
+use Rattle.voice_state.specs.Messages.{mean1}
+use Rattle.voice_state.specs.Parts.{Placed, whole_of}
+use Rattle.voice_state.specs.Plain.{plain_piece}
+use Rattle.voice_state.specs.Raising.{packets_up}
+use Rattle.voice_state.specs.UpRefusal.{AreAcceptedUp}
+use Rattle.up_translator.specs.Held.{UpState}
+use Rattle.up_translator.specs.Recording.{HoldsUp}
+use Rattle.down_translator.specs.Held.{DownState, down_after, refusal_in, whole_in}
+use Rattle.down_translator.specs.Recording.{AreInRange, packets_of, state_of}
+use Rattle.midi_pass.specs.Bytes.{bytes_of}
+use Rattle.midi_pass.specs.Pass.{Work}
+use Rattle.midi_pass.specs.Put.{Put, in_output, output_in}
+use Rattle.midi_engines.specs.Options.{BackOptions}
+use Rattle.midi_engines.specs.Raised.{byte_lines, byte_packets, last_lines, output_and_notes, refusal_at}
+
+-- a piece is put in the output, unless it is empty
+abbrev pub piece_puts : List ℕ → List Put
+piece_puts [] = []
+piece_puts (byte ∷ bytes) = in_output (byte ∷ bytes) ∷ []
+
+-- the plain pieces of packets, in the order in which they come after others, which are the newest first
+abbrev pub plain_puts : List Packet → List Packet → List Put
+plain_puts past [] = []
+plain_puts past (packet ∷ packets) = piece_puts (plain_piece (whole_of past packet) packet) ++ plain_puts (packet ∷ past) packets
+
+-- the pieces of the packets of a byte
+abbrev pub byte_pieces : ℕ → ℕ → List (ℕ × ℕ) → ℕ × ℕ → List Put
+byte_pieces room group past item = plain_puts (reverse (packets_up (Some room) group (bytes_of past))) (byte_packets room group past item)
+
+-- after each of these bytes, the newest first, the pieces so far leave a receiver in the state in which the bytes so far leave it,
+-- registers aside
+abbrev pub ReturnedMean : ℕ → ℕ → List ℕ → Type 0
+ReturnedMean room group past =
+    (count : ℕ) → SameState (mean1 (back_of_bytes (Some room) group (take count (reverse past)))) (mean1 (take count (reverse past)))
+
+-- What is done with a stream whose packets come down again. What is put in the output is the plain pieces of all packets; after each
+-- byte the pieces so far mean what the bytes so far mean.
+abbrev pub returning : BackOptions → Work (ℕ × ℕ)
+returning options =
+    record {
+      names = output_and_notes;
+      refusal = λ past item. refusal_at options.room past item;
+      IsPut = λ past item puts. puts ≡ byte_pieces options.room options.group past item ++ byte_lines options.room options.group past item;
+      IsPutAtEnd = λ past puts. puts ≡ last_lines options.room options.group past;
+      Means = λ past puts. (output_in puts ≡ back (Some options.room) options.group (bytes_of past)) × ReturnedMean options.room options.group (bytes_of past);
+    }
+
+-- ---- by what the translator down holds
+
+-- a packet that some words spell, and that isn't refused
+abbrev pub comes_down : DownState → Packet → Type 0
+comes_down from packet = IsPacket packet × (refusal_in from packet ≡ None)
+
+-- its piece is put
+abbrev pub puts_down : ℕ → DownState → Packet → DownState → List Put → Type 0
+puts_down offset from packet to puts = (to ≡ down_after offset packet from) × (puts ≡ piece_puts (plain_piece (whole_in from packet) packet))
+
+-- ---- from the first to the last
+
+-- the options of an engine
+abbrev pub options_of : UpState → BackOptions
+options_of up = record { group = up.group; room = up.parsing.room }
+
+-- what accepted bytes mean, which is a law of the state of voices
+abbrev pub ReturnedBytesMean : ℕ → ℕ → Type 0
+ReturnedBytesMean room group = (past : List ℕ) → AreAcceptedUp (Some room) past → ReturnedMean room group past
+
+-- the translator down holds what all packets of these bytes leave, whatever their offsets
+pub record HoldsReturned (room group : ℕ) (past : List ℕ) (down : DownState) : Type 0 where
+  pub placed : List Placed
+  pub are : packets_of placed ≡ reverse (packets_up (Some room) group past)
+  pub range : AreInRange placed
+  pub down_is : down ≡ state_of room placed
+
+-- both translators hold what these bytes leave, which are accepted
+pub record HoldsBack (options : BackOptions) (up : UpState) (down : DownState) (past : List (ℕ × ℕ)) : Type 0 where
+  pub few : options.group < 16
+  pub least : 6 ≤ options.room
+  pub law : ReturnedBytesMean options.room options.group
+  pub accepted : AreAcceptedUp (Some options.room) (bytes_of past)
+  pub holds_up : HoldsUp options.room options.group (bytes_of past) up
+  pub holds_down : HoldsReturned options.room options.group (bytes_of past) down

@@ -1,0 +1,87 @@
+-- What is put for bytes that come back means what they mean.
+use Rattle.std.proofs.Common.{◌≡◌, ℕ, List, [], ◌∷◌, ◌++◌, refl, ap, sym, ◌∙◌, subst}
+use Rattle.std.specs.Prelude.{Some, reverse}
+use Rattle.std.proofs.lemmas.List.{append-nil}
+use Rattle.std.proofs.lemmas.List.Concat.{flat_map-append}
+use Rattle.ump_grammar.specs.declared.packet.Packet.{Packet}
+use Rattle.voice_state.specs.declared.listed.Listed.{Listed}
+use Rattle.voice_state.specs.Back.{back, back_at, pieces_of}
+use Rattle.voice_state.specs.Parts.{whole_of}
+use Rattle.voice_state.specs.Plain.{plain_piece}
+use Rattle.voice_state.specs.Raising.{packets_up}
+use Rattle.voice_state.specs.StepListing.{lines_at}
+use Rattle.up_translator.specs.Held.{UpState}
+use Rattle.down_translator.specs.Held.{DownState}
+use Rattle.midi_pass.specs.Bytes.{bytes_of}
+use Rattle.midi_pass.specs.Named.{AreNamed}
+use Rattle.midi_pass.specs.Pass.{ArePut}
+use Rattle.midi_pass.specs.Put.{Put, output_in, output_of}
+use Rattle.midi_engines.specs.Back.{HoldsBack, byte_pieces, piece_puts, plain_puts, returning}
+use Rattle.midi_engines.specs.Down.{line_puts}
+use Rattle.midi_engines.specs.Options.{BackOptions}
+use Rattle.midi_engines.specs.Raised.{byte_lines, byte_packets, output_and_notes}
+use Rattle.midi_engines.specs.RaisedMeans.{lines_named, named-then}
+
+-- ---- the places of puts
+
+piece_named : (piece : List ℕ) → AreNamed output_and_notes (piece_puts piece)
+piece_named [] = tt
+piece_named (byte ∷ bytes) = (refl, tt)
+
+plain_named : (past packets : List Packet) → AreNamed output_and_notes (plain_puts past packets)
+plain_named past [] = tt
+plain_named past (packet ∷ packets) =
+    let piece : List ℕ = plain_piece (whole_of past packet) packet in
+    named-then (piece_puts piece) (plain_puts (packet ∷ past) packets) (piece_named piece) (plain_named (packet ∷ past) packets)
+
+pub returns_named : (options : BackOptions) (past : List (ℕ × ℕ)) (item : ℕ × ℕ) (puts : List Put) → (returning options).IsPut past item puts → AreNamed output_and_notes puts
+returns_named options past item puts put =
+    let A : List Put → Type 0 = λ ps. AreNamed output_and_notes ps in
+    let before : List Packet = reverse (packets_up (Some options.room) options.group (bytes_of past)) in
+    let lines : List Listed = lines_at (Some options.room) options.group (bytes_of past) item.1 in
+    subst A (sym put)
+    (named-then (byte_pieces options.room options.group past item) (line_puts lines) (plain_named before (byte_packets options.room options.group past item)) (lines_named lines))
+
+-- ---- the bytes in the output
+
+output-piece : (piece : List ℕ) → output_in (piece_puts piece) ≡ piece
+output-piece [] = refl
+output-piece (byte ∷ bytes) = append-nil (byte ∷ bytes)
+
+output-plain : (past packets : List Packet) → output_in (plain_puts past packets) ≡ pieces_of past packets
+output-plain past [] = refl
+output-plain past (packet ∷ packets) =
+    let piece : List ℕ = plain_piece (whole_of past packet) packet in
+    flat_map-append output_of (piece_puts piece) (plain_puts (packet ∷ past) packets)
+    ∙ ap (λ xs. xs ++ output_in (plain_puts (packet ∷ past) packets)) (output-piece piece)
+    ∙ ap (λ xs. piece ++ xs) (output-plain (packet ∷ past) packets)
+
+output-lines : (lines : List Listed) → output_in (line_puts lines) ≡ []
+output-lines [] = refl
+output-lines (line ∷ lines) = output-lines lines
+
+output-byte : (options : BackOptions) (past : List (ℕ × ℕ)) (item : ℕ × ℕ) (puts : List Put) → (returning options).IsPut past item puts
+    → output_in puts ≡ back_at (Some options.room) options.group (bytes_of past) item.1
+output-byte options past item puts put =
+    let before : List Packet = reverse (packets_up (Some options.room) options.group (bytes_of past)) in
+    let packets : List Packet = byte_packets options.room options.group past item in
+    let pieces : List Put = byte_pieces options.room options.group past item in
+    let lines : List Put = byte_lines options.room options.group past item in
+    ap output_in put
+    ∙ flat_map-append output_of pieces lines
+    ∙ ap (λ xs. output_in pieces ++ xs) (output-lines (lines_at (Some options.room) options.group (bytes_of past) item.1))
+    ∙ append-nil (output_in pieces)
+    ∙ output-plain before packets
+
+output-all : (options : BackOptions) (past : List (ℕ × ℕ)) (puts : List Put) → ArePut (returning options) past puts
+    → output_in puts ≡ back (Some options.room) options.group (bytes_of past)
+output-all options [] puts put = ap output_in put
+output-all options (item ∷ past) puts put =
+    ap output_in put.4
+    ∙ flat_map-append output_of put.0 put.1
+    ∙ ap (λ xs. xs ++ output_in put.1) (output-all options past put.0 put.2)
+    ∙ ap (λ xs. back (Some options.room) options.group (bytes_of past) ++ xs) (output-byte options past item put.1 put.3)
+
+pub returned_means : (options : BackOptions) (up : UpState) (down : DownState) (past : List (ℕ × ℕ)) (puts : List Put) → HoldsBack options up down past → ArePut (returning options) past puts
+    → (returning options).Means past puts
+returned_means options up down past puts holds put = (output-all options past puts put, holds.law (bytes_of past) holds.accepted)

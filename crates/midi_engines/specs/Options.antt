@@ -1,0 +1,38 @@
+-- What the passes may be asked for. `room` is the most bytes that an exclusive may have between F0 and F7.
+use Rattle.std.specs.Prelude.{ℕ, Bool, true, false}
+use Rattle.ump_words.specs.declared.words.Order.{Order}
+
+-- a recording that is carried down
+pub record DownOptions : Type 0 where
+  pub order : Order
+  pub room : ℕ
+
+-- a stream of MIDI 1.0 bytes that is raised to packets of a group, whose words have an order
+pub record UpOptions : Type 0 where
+  pub group : ℕ
+  pub order : Order
+  pub room : ℕ
+
+-- such a stream whose packets come down again, and so have no words
+pub record BackOptions : Type 0 where
+  pub group : ℕ
+  pub room : ℕ
+
+-- a recording whose packets are shown
+pub record PacketLineOptions : Type 0 where
+  pub order : Order
+  pub room : ℕ
+
+-- a stream of MIDI 1.0 bytes whose messages are shown
+pub record ByteLineOptions : Type 0 where
+  pub room : ℕ
+
+-- lines of packets, or of bytes
+pub data ShowOptions : Type 0 where
+  of_packets : PacketLineOptions → ShowOptions
+  of_bytes : ByteLineOptions → ShowOptions
+
+-- lines of bytes, which have no order of words, or of packets
+abbrev pub show_options : Bool → Order → ℕ → ShowOptions
+show_options true order room = of_bytes (record { room = room })
+show_options false order room = of_packets (record { order = order; room = room })

@@ -1,0 +1,72 @@
+-- What is put for raised bytes means what they mean.
+use Rattle.std.proofs.Common.{◌≡◌, ℕ, List, [], ◌∷◌, ◌++◌, refl, ap, sym, ◌∙◌, subst}
+use Rattle.std.specs.Prelude.{Some}
+use Rattle.std.proofs.lemmas.List.{append_assoc}
+use Rattle.ump_words.specs.declared.words.Order.{Order}
+use Rattle.ump_grammar.specs.declared.packet.Packet.{Packet}
+use Rattle.voice_state.specs.declared.listed.Listed.{Listed}
+use Rattle.voice_state.specs.Raising.{packets_at, packets_up}
+use Rattle.voice_state.specs.StepListing.{lines_at}
+use Rattle.up_translator.specs.Held.{UpState}
+use Rattle.midi_pass.specs.Bytes.{bytes_of}
+use Rattle.midi_pass.specs.Named.{AreNamed}
+use Rattle.midi_pass.specs.Pass.{ArePut}
+use Rattle.midi_pass.specs.Put.{Put}
+use Rattle.midi_engines.specs.Down.{line_puts}
+use Rattle.midi_engines.specs.Options.{UpOptions}
+use Rattle.midi_engines.specs.Raised.{output_and_notes, output_puts}
+use Rattle.midi_engines.specs.RaisedMeans.{lines_named, named-then, output-listed, output-then}
+use Rattle.midi_engines.specs.Up.{AreWritten, HoldsRaised, raising}
+
+-- ---- written packets
+
+written_named : (order : Order) (packets : List Packet) (puts : List Put) → AreWritten order packets puts → AreNamed output_and_notes puts
+written_named order [] puts written =
+    let A : List Put → Type 0 = λ ps. AreNamed output_and_notes ps in subst A (sym written) tt
+written_named order (packet ∷ packets) puts written =
+    let A : List Put → Type 0 = λ ps. AreNamed output_and_notes ps in
+    subst A (sym written.4) (named-then written.0 written.1 (subst A (sym written.2.2) (refl, tt)) (written_named order packets written.1 written.3))
+
+pub raises_named : (options : UpOptions) (past : List (ℕ × ℕ)) (item : ℕ × ℕ) (puts : List Put) → (raising options).IsPut past item puts → AreNamed output_and_notes puts
+raises_named options past item puts put =
+    let A : List Put → Type 0 = λ ps. AreNamed output_and_notes ps in
+    let packets : List Packet = packets_at (Some options.room) options.group (bytes_of past) item.1 in
+    let lines : List Listed = lines_at (Some options.room) options.group (bytes_of past) item.1 in
+    subst A (sym put.2) (named-then put.0 (line_puts lines) (written_named options.order packets put.0 put.1) (lines_named lines))
+
+output-written : (order : Order) (packets : List Packet) (puts : List Put) → AreWritten order packets puts → output_puts puts ≡ puts
+output-written order [] puts written = ap output_puts written ∙ sym written
+output-written order (packet ∷ packets) puts written =
+    let one : output_puts written.0 ≡ written.0 = ap output_puts written.2.2 ∙ sym written.2.2 in
+    ap output_puts written.4
+    ∙ output-then written.0 written.1
+    ∙ ap (λ xs. xs ++ output_puts written.1) one
+    ∙ ap (λ xs. written.0 ++ xs) (output-written order packets written.1 written.3)
+    ∙ sym written.4
+
+written-then : (order : Order) (packets others : List Packet) (ps qs : List Put) → AreWritten order packets ps → AreWritten order others qs → AreWritten order (packets ++ others) (ps ++ qs)
+written-then order [] others ps qs first second =
+    let W : List Put → Type 0 = λ xs. AreWritten order others xs in subst W (sym (ap (λ xs. xs ++ qs) first)) second
+written-then order (packet ∷ packets) others ps qs first second = (
+  first.0,
+  first.1 ++ qs,
+  first.2,
+  written-then order packets others first.1 qs first.3 second,
+  ap (λ xs. xs ++ qs) first.4 ∙ append_assoc first.0 first.1 qs,
+)
+
+written-all : (options : UpOptions) (past : List (ℕ × ℕ)) (puts : List Put) → ArePut (raising options) past puts
+    → AreWritten options.order (packets_up (Some options.room) options.group (bytes_of past)) (output_puts puts)
+written-all options [] puts put = ap output_puts put
+written-all options (item ∷ past) puts put =
+    let bytes : List ℕ = bytes_of past in
+    let packets : List Packet = packets_at (Some options.room) options.group bytes item.1 in
+    let lines : List Listed = lines_at (Some options.room) options.group bytes item.1 in
+    let W : List Put → Type 0 = λ xs. AreWritten options.order (packets_up (Some options.room) options.group bytes ++ packets) xs in
+    let now : output_puts put.1 ≡ put.3.0 = output-listed put.3.0 put.1 lines put.3.2 ∙ output-written options.order packets put.3.0 put.3.1 in
+    let all : output_puts puts ≡ output_puts put.0 ++ put.3.0 = ap output_puts put.4 ∙ output-then put.0 put.1 ∙ ap (λ xs. output_puts put.0 ++ xs) now in
+    subst W (sym all)
+    (written-then options.order (packets_up (Some options.room) options.group bytes) packets (output_puts put.0) put.3.0 (written-all options past put.0 put.2) put.3.1)
+
+pub raised_means : (options : UpOptions) (up : UpState) (past : List (ℕ × ℕ)) (puts : List Put) → HoldsRaised options up past → ArePut (raising options) past puts → (raising options).Means past puts
+raised_means options up past puts holds put = (written-all options past puts put, holds.law (bytes_of past) holds.accepted)

@@ -1,0 +1,236 @@
+// From a stream of MIDI 1.0 bytes to packets, and from these to MIDI 1.0 bytes again.
+ghost use Rattle.std.specs.Prelude.{◌≡◌, ◌<◌, ◌≤◌, ℕ, List, [], IfOk, length};
+ghost use Rattle.ump_grammar.specs.Ranges.{IsPacket};
+ghost use Rattle.up_translator.specs.Recording.{HoldsUp};
+ghost use Rattle.down_translator.specs.Held.{new_down};
+ghost use Rattle.midi_pass.specs.Bytes.{byte_cutting};
+ghost use Rattle.midi_pass.specs.Pass.{Ends, IsDoneUnless, seen};
+ghost use Rattle.midi_pass.specs.Places.{Puts, places};
+ghost use Rattle.midi_engines.specs.Back.{HoldsBack, comes_down, options_of, piece_puts, puts_down, returning};
+ghost use Rattle.midi_engines.specs.BackMeans.{returned_means, returns_named};
+ghost use Rattle.midi_engines.specs.RaisedMeans.{last_named};
+
+use crate::raised::{PacketWork, put_byte, put_open};
+use down_translator::laws::what_is_held_is_the_definition;
+use down_translator::{Down, Style};
+use midi_edge::{ByteReader, Lanes, NoMemory, Sink, Source, U4};
+use midi_pass::laws::bytes_are_cut_once;
+use midi_pass::places::put_output;
+use midi_pass::{Engine, LIMIT, RunEnd, drive};
+use midi1_bytes::laws::parsed_bytes_are_the_definition;
+use std::alloc::Global;
+use std::marker::Model;
+use ump_grammar::Packet;
+use up_translator::Up;
+use up_translator::laws::raised_bytes_are_the_definition;
+use voice_state::up_laws::{
+    bytes_that_come_back_mean_the_same, raised_packets_are_in_range,
+    raised_packets_come_back_in_silence, rooms_that_are_not_reached_do_not_matter_in_bytes,
+};
+
+/// A translation up and down again that is ready to begin, with all its memory. A contract sees its options.
+#[derive(Drop)]
+pub struct BackRun {
+    up: Up,
+    down: Down,
+}
+
+impl Model for BackRun {
+    ghost use Rattle.std.specs.Prelude.{◌≡◌, ◌<◌, ◌≤◌, []};
+    ghost use Rattle.up_translator.specs.Recording.{HoldsUp};
+    ghost use Rattle.down_translator.specs.Held.{new_down};
+    ghost use Rattle.midi_engines.specs.Back.{options_of};
+    ghost use Rattle.midi_engines.specs.Options.{BackOptions};
+
+    ghost Value = { BackOptions };
+
+    ghost view = { λ r. options_of r.up };
+
+    ghost invariant = { λ r. HoldsUp r.up.parsing.room r.up.group [] r.up
+        × (r.down ≡ new_down r.up.parsing.room) × (6 ≤ r.up.parsing.room) × (r.up.group < 16) };
+}
+
+impl BackRun {
+    /// A translation into this group and down again in plain style. `room` is the most bytes of an exclusive between F0 and F7, 6 to
+    /// 1,048,576, for which both ways reserve memory; `NoMemory` where there isn't so much. No other call takes any.
+    pub fn new(alloc: Global, group: U4, room: u32) -> Result<BackRun, NoMemory>
+        requires least { 6 ≤ room }
+        requires most { room ≤ 1048576 }
+        ensures { IfOk result (λ run. run ≡ record { group = group; room = room }) }
+    {
+        let up = match Up::new(alloc, group, room) {
+            Ok(up) => up,
+            Err(no_memory) => return Err(no_memory),
+        };
+        match Down::new(alloc, room, Style::Plain) {
+            Ok(down) => Ok(BackRun { up, down }),
+            Err(no_memory) => Err(no_memory),
+        }
+    }
+}
+
+// Puts a piece in the output, unless it is empty.
+fn put_piece<L: Lanes, W: Sink, N: Sink>(
+    piece: &[u8],
+    lanes: &mut L,
+    output: &mut W,
+    notes: &mut N,
+) -> Result<(), RunEnd>
+    ensures { Puts (piece_puts piece.now)
+        (places L.Lanes W.Sink N.Sink lanes.old output.old notes.old)
+        (places L.Lanes W.Sink N.Sink lanes.new output.new notes.new) result }
+{
+    if piece.is_empty() {
+        Ok(())
+    } else {
+        put_output(piece, lanes, output, notes)
+    }
+}
+
+// Takes packets down, and puts their pieces. What bytes are raised to is neither refused nor listed there.
+impl PacketWork for Down {
+    ghost Accepts = { λ from packet. comes_down from packet };
+
+    ghost IsDone = { λ offset. puts_down offset };
+
+    fn put<L: Lanes, W: Sink, N: Sink>(
+        &mut self,
+        packet: &Packet,
+        offset: u64,
+        lanes: &mut L,
+        output: &mut W,
+        notes: &mut N,
+    ) -> Result<(), RunEnd> {
+        match self.packet(packet, offset) {
+            Ok(carried) => put_piece(carried.piece, lanes, output, notes),
+            Err(_) => unreachable!(),
+        }
+    }
+}
+
+// Puts the pieces of the packets of each byte in the output and its lines in the notes, at the end the line of what is still open.
+#[derive(Drop)]
+struct BackEngine {
+    up: Up,
+    down: Down,
+}
+
+impl Engine<u64, u8> for BackEngine {
+    ghost work = { λ first. returning (options_of first.up) };
+
+    ghost IsReady = { λ first. HoldsBack (options_of first.up) first.up first.down [] };
+
+    ghost UsesLanes = { ⊥ };
+
+    ghost Holds = { λ first now past. HoldsBack (options_of first.up) now.up now.down past };
+
+    ghost Asks = { λ item. Unit {0} };
+
+    ghost AsksAfter = { λ past item. item.0 ≡ length past };
+
+    #[inline(always)]
+    fn step<L: Lanes, W: Sink, N: Sink>(
+        &mut self,
+        at: &u64,
+        item: &u8,
+        lanes: &mut L,
+        output: &mut W,
+        notes: &mut N,
+    ) -> Result<(), RunEnd> {
+        parsed_bytes_are_the_definition();
+        raised_bytes_are_the_definition();
+        raised_packets_are_in_range();
+        raised_packets_come_back_in_silence();
+        rooms_that_are_not_reached_do_not_matter_in_bytes();
+        what_is_held_is_the_definition();
+        put_byte(
+            &mut self.up,
+            &mut self.down,
+            *item,
+            *at,
+            lanes,
+            output,
+            notes,
+        )
+    }
+
+    fn close<L: Lanes, W: Sink, N: Sink>(
+        &self,
+        lanes: &mut L,
+        output: &mut W,
+        notes: &mut N,
+    ) -> Result<(), RunEnd> {
+        raised_bytes_are_the_definition();
+        put_open(&self.up, lanes, output, notes)
+    }
+
+    ghost puts_are_named = { λ first past item puts put.
+        returns_named (options_of first.up) past item puts put };
+
+    ghost last_puts_are_named = { λ first past puts put.
+        last_named first.up.parsing.room first.up.group past puts put };
+
+    ghost starts = { λ first ready. ready };
+
+    ghost means = { λ first now past puts holds accepted put.
+        returned_means (options_of first.up) now.up now.down past puts holds put };
+}
+
+/// Translates a stream up, and each packet down again in plain style, to its end or to the first byte that is refused (M2-104-UM,
+/// translation from MIDI 1.0 and default translation): puts the piece of each packet that has one in the output, and after
+/// those of a byte its lines in the notes, at the end the line of what is still open. Takes no memory.
+///
+/// `Refused` comes for `InputTooLong`, `DataIncrement`, `DataDecrement` and `ExclusiveTooLong`, with the number of bytes before what
+/// is refused. `ReadFault`, `OutputFault` and `NoteFault` come only where the count of that object rose. The lanes stay as they are.
+pub fn run_back<S: Source, L: Lanes, W: Sink, N: Sink>(
+    engine: BackRun,
+    input: &mut S,
+    lanes: &mut L,
+    output: &mut W,
+    notes: &mut N,
+) -> RunEnd
+    ensures ends { Ends byte_cutting (returning engine)
+        (seen S.Source L.Lanes W.Sink N.Sink input.old lanes.old output.old notes.old)
+        (seen S.Source L.Lanes W.Sink N.Sink input.new lanes.new output.new notes.new) result }
+    ensures complete { IsDoneUnless byte_cutting (returning engine)
+        (seen S.Source L.Lanes W.Sink N.Sink input.old lanes.old output.old notes.old)
+        (seen S.Source L.Lanes W.Sink N.Sink input.new lanes.new output.new notes.new) result }
+{
+    let BackRun { up, down } = engine;
+    translate(up, down, input, lanes, output, notes)
+}
+
+// Translates a stream by translators of which one has had no byte and in the other nothing is open. It stays a function of its
+// own, so that the loops of the other passes keep their registers.
+#[inline(never)]
+fn translate<S: Source, L: Lanes, W: Sink, N: Sink>(
+    up: Up,
+    down: Down,
+    input: &mut S,
+    lanes: &mut L,
+    output: &mut W,
+    notes: &mut N,
+) -> RunEnd
+    requires new { HoldsUp up.parsing.room up.group [] up }
+    requires empty { down ≡ new_down up.parsing.room }
+    requires least { 6 ≤ up.parsing.room }
+    requires few { up.group < 16 }
+    ensures ends { Ends byte_cutting (returning (options_of up))
+        (seen S.Source L.Lanes W.Sink N.Sink input.old lanes.old output.old notes.old)
+        (seen S.Source L.Lanes W.Sink N.Sink input.new lanes.new output.new notes.new) result }
+    ensures complete { IsDoneUnless byte_cutting (returning (options_of up))
+        (seen S.Source L.Lanes W.Sink N.Sink input.old lanes.old output.old notes.old)
+        (seen S.Source L.Lanes W.Sink N.Sink input.new lanes.new output.new notes.new) result }
+{
+    bytes_are_cut_once();
+    bytes_that_come_back_mean_the_same();
+    rooms_that_are_not_reached_do_not_matter_in_bytes();
+    drive(
+        ByteReader::new(LIMIT),
+        BackEngine { up, down },
+        input,
+        lanes,
+        output,
+        notes,
+    )
+}

@@ -1,0 +1,2 @@
+// Tests over the objects in memory.
+mod stream_faults;

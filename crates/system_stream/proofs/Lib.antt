@@ -1,0 +1,5 @@
+pub mod CutLaws
+pub mod CutPackets
+pub mod LayoutLaws
+pub mod PartLaws
+pub mod Utf8

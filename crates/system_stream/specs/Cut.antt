@@ -1,0 +1,43 @@
+-- A text cut into packets, each of which has as many bytes as its kind says; zeros fill the last one.
+use Rattle.std.specs.Prelude.{ℕ, ◌+◌, ◌-◌, ◌==◌, nat_lt, if◌then◌else◌, List, ◌∷◌, ◌++◌, length, replicate, Option, Some, None}
+use Rattle.std.proofs.Common.{zero, suc}
+use Rattle.std.specs.Int.{div_ceil}
+use Rattle.std.specs.Fork.{slice_chunk}
+use Rattle.voice_messages.specs.declared.voice2.Form.{Form}
+use Rattle.voice_messages.specs.declared.voice2.Form.TheVariants as form
+use Rattle.ump_grammar.specs.declared.packet.Packet.{Packet}
+use Rattle.system_stream.specs.declared.texts.TextKind.{TextKind}
+use Rattle.system_stream.specs.Layout.{packet_of}
+use Rattle.system_stream.specs.Parts.{Part}
+use Rattle.system_stream.specs.Texts.{part_size, part_message}
+
+-- how many packets
+abbrev pub part_count : TextKind → List ℕ → ℕ
+part_count kind text = div_ceil (length text) (part_size kind)
+
+-- the form of packet k of so many
+abbrev pub form_at : ℕ → ℕ → Form
+form_at count k = if count == 1 then form.Complete else (if k == 0 then form.Start else (if k + 1 == count then form.End else form.Continue))
+
+-- these bytes, and zeros after them
+abbrev pub filled : ℕ → List ℕ → List ℕ
+filled size bytes = bytes ++ replicate (size - length bytes) 0
+
+-- the bytes of packet k, counted from 0
+abbrev pub part_bytes : ℕ → List ℕ → ℕ → List ℕ
+part_bytes size text k = filled size (slice_chunk text size k)
+
+-- the packet k of a text; the block is that of a function block's name
+abbrev pub packet_at : TextKind → ℕ → List ℕ → ℕ → Option Packet
+packet_at kind block text k =
+    if nat_lt k (part_count kind text) then Some (packet_of (part_message kind (form_at (part_count kind text) k) block (part_bytes (part_size kind) text k)))
+    else None
+
+-- packet k of a text as a part
+abbrev pub sent_part : TextKind → ℕ → List ℕ → ℕ → Part
+sent_part kind block text k = record { form = form_at (part_count kind text) k; block = block; bytes = part_bytes (part_size kind) text k }
+
+-- the parts of a kind once the first k packets of a text have come after others, the newest first
+abbrev pub sent : TextKind → ℕ → List ℕ → List Part → ℕ → List Part
+sent kind block text past zero = past
+sent kind block text past (suc k) = sent_part kind block text k ∷ sent kind block text past k

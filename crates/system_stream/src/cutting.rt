@@ -1,0 +1,81 @@
+// A text cut into packets.
+ghost use Rattle.std.specs.Prelude.{◌≡◌, ◌<◌, ◌≤◌, length, IfSome};
+ghost use Rattle.std.specs.Fork.{slice_chunk};
+ghost use Rattle.ump_grammar.specs.Ranges.{IsPacket};
+ghost use Rattle.system_stream.specs.Cut.{form_at, packet_at, part_bytes as bytes_at};
+ghost use Rattle.system_stream.specs.Texts.{limit_of};
+
+use crate::message::StreamMessage;
+use crate::texts::TextKind;
+use crate::writing::write;
+use ump_grammar::Packet;
+use voice_messages::Form;
+
+/// Packet `k` (counted from 0) of a text, which has at least one byte and is within the limit of its kind (M2-104-UM, UMP
+/// stream messages). A text is cut every 14 bytes, a block's name every 13, and zeros fill the last packet; a cut may fall
+/// inside a character (own rule). `block` is the number of the function block, for a block's name alone. `None` exactly past
+/// the last packet.
+pub fn cut_text(kind: TextKind, block: u8, text: &[u8], k: usize) -> Option<Packet>
+    requires some { 0 < length text.now }
+    requires limit { length text.now ≤ limit_of kind }
+    ensures packet { result ≡ packet_at kind block text.now k }
+    ensures fits { IfSome result IsPacket }
+{
+    let count = text.len().div_ceil(kind.part_size());
+    if k >= count {
+        return None;
+    }
+    let form = form_of(count, k);
+    let message = match kind {
+        TextKind::EndpointName => StreamMessage::Name {
+            form,
+            text: part_bytes(text, k),
+        },
+        TextKind::ProductId => StreamMessage::ProductId {
+            form,
+            text: part_bytes(text, k),
+        },
+        TextKind::BlockName => StreamMessage::BlockName {
+            form,
+            block,
+            text: part_bytes(text, k),
+        },
+    };
+    Some(write(&message))
+}
+
+// The form of packet `k` of `count`.
+fn form_of(count: usize, k: usize) -> Form
+    requires { k < count }
+    ensures { result ≡ form_at count k }
+{
+    if count == 1 {
+        Form::Complete
+    } else if k == 0 {
+        Form::Start
+    } else if k + 1 == count {
+        Form::End
+    } else {
+        Form::Continue
+    }
+}
+
+// The bytes that are cut off for packet `k`.
+fn chunk<const N: usize>(text: &[u8], k: usize) -> &[u8]
+    ensures chunk { result.now ≡ slice_chunk text.now N k }
+    ensures few { length result.now ≤ N }
+{
+    let start = k.saturating_mul(N).min(text.len());
+    let count = (text.len() - start).min(N);
+    &text[start..start + count]
+}
+
+// The bytes of packet `k`, filled with zeros.
+fn part_bytes<const N: usize>(text: &[u8], k: usize) -> [u8; N]
+    ensures { result ≡ bytes_at N text.now k }
+{
+    let chunk = chunk::<N>(text, k);
+    let mut bytes = [0; N];
+    bytes[..chunk.len()].copy_from_slice(chunk);
+    bytes
+}

@@ -1,0 +1,108 @@
+// The parts of a text joined again.
+ghost use Rattle.std.specs.Prelude.{◌≡◌, IsTrue, is_some};
+
+use crate::joined::Joined;
+use crate::texts::{TextKind, without_trailing_zeros};
+use midi_edge::ShortList;
+use std::marker::Model;
+use voice_messages::Form;
+
+/// The texts of one kind, joined from the parts in their packets without memory of its own. To a contract it is the kind, and
+/// nothing or the block that the open text's parts name with the bytes that are joined.
+#[derive(Drop)]
+pub struct TextJoin {
+    kind: TextKind,
+    block: Option<u8>,
+    bytes: ShortList<u8, 98>,
+}
+
+impl Model for TextJoin {
+    ghost use Rattle.std.specs.Option.{option_map};
+    ghost use Rattle.system_stream.specs.Joining.{State};
+
+    ghost Value = { State };
+
+    ghost view = { λ j. record {
+      kind = j.kind;
+      text = option_map (λ block. record { block = block; bytes = j.bytes }) j.block;
+    } };
+}
+
+impl TextJoin {
+    ghost use Rattle.std.specs.Borrow.{sem};
+    ghost use Rattle.std.specs.Option.{option_map};
+    ghost use Rattle.system_stream.specs.Joined.{joined_view};
+    ghost use Rattle.system_stream.specs.Joining.{after_part, answer_of, answer_to, idle, text_with};
+    ghost use Rattle.system_stream.specs.Lend.{KeepsJoining};
+    ghost use Rattle.voice_messages.specs.declared.voice2.Form.TheVariants as form;
+
+    /// Nothing is open.
+    pub fn new(kind: TextKind) -> TextJoin
+        ensures { result ≡ idle kind }
+    {
+        TextJoin {
+            kind,
+            block: None,
+            bytes: ShortList::new(),
+        }
+    }
+
+    /// Takes one more part: its bytes, the zeros that fill it among them, and the number of the block that it names, one and
+    /// the same for a kind whose packets name none. A `Complete` or `Start` begins anew, and gives no answer for what it
+    /// replaces. After `Whole` and `Bad` nothing is open.
+    pub fn part(&mut self, form: Form, block: u8, bytes: &[u8]) -> Joined<'_>
+        ensures answer { joined_view result ≡
+            answer_to self.old (record { form = form; block = block; bytes = bytes.now }) }
+        ensures* after { sem 𝓛 (KeepsJoining self.entry
+            (after_part self.old (record { form = form; block = block; bytes = bytes.now }))) }
+    {
+        if !self.append(form, block, bytes) {
+            return Joined::Bad;
+        }
+        match form {
+            Form::Start | Form::Continue => Joined::Held,
+            Form::Complete | Form::End => self.finish(),
+        }
+    }
+
+    /// Joins a part to the text that it belongs to, and says whether there is one and it stays within the limit. If not,
+    /// nothing is open.
+    fn append(&mut self, form: Form, block: u8, bytes: &[u8]) -> bool
+        ensures joined { result ≡
+            is_some (text_with self.old (record { form = form; block = block; bytes = bytes.now })) }
+        ensures state { self.new ≡ record {
+          kind = self.old.kind;
+          text = option_map (λ joined. record { block = block; bytes = joined })
+              (text_with self.old (record { form = form; block = block; bytes = bytes.now }));
+        } }
+    {
+        let begins = matches!(form, Form::Complete | Form::Start);
+        if begins {
+            self.bytes.clear();
+        }
+        let goes_on = begins || self.block == Some(block);
+        if !goes_on || self.bytes.len() + bytes.len() > self.kind.limit() {
+            self.block = None;
+            return false;
+        }
+        self.block = Some(block);
+        self.bytes.extend(bytes);
+        true
+    }
+
+    /// Ends the text that is open.
+    fn finish(&mut self) -> Joined<'_>
+        requires { IsTrue (is_some self.old.text) }
+        ensures answer { joined_view result ≡
+            answer_of self.old.kind form.End (option_map (λ text. text.bytes) self.old.text) }
+        ensures* after { sem 𝓛 (KeepsJoining self.entry (idle self.old.kind)) }
+    {
+        self.block = None;
+        let text = without_trailing_zeros(self.bytes.as_slice());
+        if self.kind.is_text(text) {
+            Joined::Whole(text)
+        } else {
+            Joined::Bad
+        }
+    }
+}

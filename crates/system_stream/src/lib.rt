@@ -1,0 +1,26 @@
+//! Stream messages and their texts.
+#![tactic(auto)]
+
+pub mod cutting;
+pub mod joined;
+pub mod joining;
+pub mod laws;
+pub mod message;
+pub mod reading;
+pub mod texts;
+pub mod writing;
+
+pub use crate::cutting::cut_text;
+pub use crate::joined::Joined;
+pub use crate::joining::TextJoin;
+pub use crate::laws::{
+    cut_packets_are_read, cut_text_is_joined, joined_parts_are_the_definition,
+    written_messages_are_read,
+};
+pub use crate::message::{BadFormat, StreamMessage};
+pub use crate::reading::read;
+pub use crate::texts::TextKind;
+pub use crate::writing::write;
+
+#[cfg(test)]
+mod tests;
