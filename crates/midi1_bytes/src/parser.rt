@@ -101,7 +101,7 @@ impl Parser {
         match self.begun {
             Begun::Nothing => None,
             Begun::Only { start, .. } | Begun::First { start, .. } | Begun::Second { start, .. } =>
-                { Some((start, CutKind::Message)) }
+                Some((start, CutKind::Message)),
             Begun::Exclusive { start } => Some((start, CutKind::Exclusive)),
         }
     }
@@ -310,13 +310,11 @@ impl Parser {
         match begun {
             Begun::Nothing => Step::Stray,
             Begun::Only { start, .. } | Begun::First { start, .. } | Begun::Second { start, .. } =>
-                {
-                    Step::Cut {
-                        start,
-                        what: CutKind::Message,
-                        after: AfterCut::Stray,
-                    }
-                }
+                Step::Cut {
+                    start,
+                    what: CutKind::Message,
+                    after: AfterCut::Stray,
+                },
             Begun::Exclusive { .. } => {
                 append(&mut self.bytes, END_OF_EXCLUSIVE);
                 Step::Exclusive(self.bytes.as_slice())

@@ -1,20 +1,20 @@
 -- A recording is cut into packets in one way.
-use Rattle.std.proofs.Common.{◌≡◌, ◌+◌, ◌≤◌, ℕ, List, [], ◌∷◌, ◌++◌, length, Option, None, Some, refl, ap, sym, ◌∙◌, subst, arith, inl, inr}
-use Rattle.std.specs.List.{AllByRecursion, concat}
-use Rattle.std.proofs.lemmas.List.{append_assoc, append-nil, length-append}
-use Rattle.ump_words.specs.Cut.{Cuts, Ends, IsCutInto, IsPacket, framed_from, words_of}
+use Rattle.std.proofs.Common.{◌≡◌, ◌+◌, ℕ, List, [], ◌∷◌, ◌++◌, length, None, Some, refl, ap, sym, ◌∙◌, subst, arith, inl, inr}
+use Rattle.std.specs.List.{concat}
+use Rattle.std.proofs.lemmas.List.{length-append}
+use Rattle.ump_words.specs.Cut.{Cuts, IsCutInto, framed_from, words_of}
 use Rattle.ump_words.specs.declared.words.Framed.{Framed}
 use Rattle.ump_words.specs.declared.words.Order.{Order}
 use Rattle.ump_words.specs.declared.words.Tail as tails
 use Rattle.ump_words.specs.declared.words.Tail.TheVariants as tail
-use Rattle.ump_words.specs.Laws.{BytesBeginWithOnePacket, StreamsAreCutInOneWay}
+use Rattle.ump_words.specs.Laws.{FrontsAreCutAsTheStream, StreamsAreCutInOneWay}
 use Rattle.ump_grammar.specs.declared.packet.Bad.{Bad}
 use Rattle.ump_grammar.specs.declared.packet.Packet.{Packet}
 use Rattle.ump_grammar.specs.Reason.{reason as reason_of}
 use Rattle.ump_grammar.specs.Spelling.{Spells}
 use Rattle.midi_pass.specs.Bytes.{limit}
 use Rattle.midi_pass.specs.Pass.{CutsOnce, IsFront, Tail}
-use Rattle.midi_engines.specs.Packets.{AreRead, EndsAt, RefusesWords, framed_of, packet_cutting, reason_for, refusal_at}
+use Rattle.midi_engines.specs.Packets.{AreRead, EndsAt, framed_of, packet_cutting, reason_for, refusal_at}
 
 abbrev head_or : {A : Type 0} → A → List A → A
 head_or a [] = a
@@ -24,30 +24,18 @@ abbrev tail_of : {A : Type 0} → List A → List A
 tail_of [] = []
 tail_of (x ∷ xs) = xs
 
--- chunks at the front of the bytes of chunks
-chunks_front : (begins : BytesBeginWithOnePacket) (order : Order) (cs ds : List (List ℕ)) (rest : List ℕ) → AllByRecursion (IsPacket order) cs → AllByRecursion (IsPacket order) ds → concat cs ≡ concat ds ++ rest → (more : List (List ℕ)) × (cs ≡ ds ++ more)
-chunks_front begins order cs [] rest each each' same = (cs, refl)
-chunks_front begins order [] (d ∷ ds) rest each each' same =
-    absurd (omega (arith, begins.size order d each'.0, ap length same, length-append (concat (d ∷ ds)) rest, length-append d (concat ds)))
-chunks_front begins order (c ∷ cs) (d ∷ ds) rest each each' same =
-    let one = begins.one order c d (concat cs) (concat ds ++ rest) each.0 each'.0 (same ∙ append_assoc d (concat ds) rest) in
-    let more = chunks_front begins order cs ds rest each.1 each'.1 one.1 in
-    (more.0, ap (λ x. x ∷ cs) one.0 ∙ ap (λ xs. d ∷ xs) more.1)
-
 framed-then : (order : Order) (at : ℕ) (ds more : List (List ℕ)) → framed_from order at (ds ++ more) ≡ framed_from order at ds ++ framed_from order (at + length (concat ds)) more
 framed-then order at [] more = let e : at ≡ at + 0 = omega arith in ap (λ n. framed_from order n more) e
 framed-then order at (d ∷ ds) more =
     let e : (at + length d) + length (concat ds) ≡ at + length (concat (d ∷ ds)) = omega (arith, length-append d (concat ds)) in
     ap (λ fs. record { offset = at; words = words_of order d } ∷ fs) (framed-then order (at + length d) ds more ∙ ap (λ n. framed_from order (at + length d) ds ++ framed_from order n more) e)
 
--- where nothing is left the chunks are all of the bytes
-whole_at : (order : Order) (bytes : List ℕ) (fs : List Framed) (t : tails.Tail) (cut : IsCutInto order limit bytes fs t) → t ≡ tail.End → concat cut.chunks ≡ bytes
-whole_at order bytes fs t cut is =
-    let E : tails.Tail → Type 0 = λ u. Ends order limit (0 + length (concat cut.chunks)) cut.cuts.rest u in
-    let none = subst E is cut.cuts.ends in
-    sym (cut.cuts.whole ∙ ap (λ xs. concat cut.chunks ++ xs) none.0 ∙ append-nil (concat cut.chunks))
+at_end : (t : tails.Tail) → None ≡ refusal_at t → t ≡ tail.End
+at_end tail.End e = refl
+at_end (tail.Truncated offset) e = let f : None ≡ refusal_at (tail.Truncated offset) = e in cc
+at_end tail.TooLong e = let f : None ≡ refusal_at tail.TooLong = e in cc
 
-module _ (one_cutting : StreamsAreCutInOneWay) (begins : BytesBeginWithOnePacket) (one_packet : (p q : Packet) (words : List ℕ) → Spells p words → Spells q words → p ≡ q) where
+module _ (one_cutting : StreamsAreCutInOneWay) (fronts : FrontsAreCutAsTheStream) (one_packet : (p q : Packet) (words : List ℕ) → Spells p words → Spells q words → p ≡ q) where
   one_framed : (order : Order) (bytes : List ℕ) (fs gs : List Framed) (t u : tails.Tail) → IsCutInto order limit bytes fs t → IsCutInto order limit bytes gs u → (fs ≡ gs) × (t ≡ u)
   one_framed order bytes fs gs t u p q =
       let one = one_cutting order limit bytes p.chunks q.chunks t u p.cuts q.cuts in
@@ -128,20 +116,41 @@ module _ (one_cutting : StreamsAreCutInOneWay) (begins : BytesBeginWithOnePacket
         ap (λ x. x ∷ items) (one_item i j [] [] (are.0, tt) (are'.0, tt) (ap (λ x. x ∷ []) one)) ∙ ap (λ xs. j ∷ xs) front.1,
       )
 
-  front : (order : Order) (bytes : List ℕ) (items first : List (Framed × Packet)) → packet_cutting order bytes items None → IsFront (packet_cutting order) bytes first → (rest : List (Framed × Packet)) × (items ≡ first ++ rest)
-  front order bytes items first (are, inr p) is_front = absurd (let e : None ≡ Some (reason_for p.cause, p.refused.offset) = p.end_is in cc)
-  front order bytes items first (are, inl p) (start, rest, parts, (are', inr q)) = absurd (let e : None ≡ Some (reason_for q.cause, q.refused.offset) = q.end_is in cc)
-  front order bytes items first (are, inl p) (start, rest, parts, (are', inl q)) =
-      let all : concat p.cut.chunks ≡ bytes = whole_at order bytes (framed_of items) p.tail p.cut (at_end p.tail p.end_is) in
-      let some : concat q.cut.chunks ≡ start = whole_at order start (framed_of first) q.tail q.cut (at_end q.tail q.end_is) in
-      let chunks = chunks_front begins order p.cut.chunks q.cut.chunks rest p.cut.cuts.each q.cut.cuts.each (all ∙ parts ∙ ap (λ xs. xs ++ rest) (sym some)) in
-      items_front items first (framed_from order (0 + length (concat q.cut.chunks)) chunks.0) are are'
-      (p.cut.same ∙ ap (framed_from order 0) chunks.1 ∙ framed-then order 0 q.cut.chunks chunks.0 ∙ ap (λ fs. fs ++ framed_from order (0 + length (concat q.cut.chunks)) chunks.0) (sym q.cut.same))
-    where
-      at_end : (t : tails.Tail) → None ≡ refusal_at t → t ≡ tail.End
-      at_end tail.End e = refl
-      at_end (tail.Truncated offset) e = let f : None ≡ refusal_at (tail.Truncated offset) = e in cc
-      at_end tail.TooLong e = let f : None ≡ refusal_at tail.TooLong = e in cc
+  -- the same before words that are refused
+  items_before : (items first : List (Framed × Packet)) (refused : Framed) (after more : List Framed) (cause : Bad) → AreRead items → AreRead first → reason_of refused.words ≡ Some cause
+      → framed_of items ++ refused ∷ after ≡ framed_of first ++ more → (rest : List (Framed × Packet)) × (items ≡ first ++ rest)
+  items_before items [] refused after more cause are are' is same = (items, refl)
+  items_before [] (j ∷ first) refused after more cause are are' is same =
+      let R : Framed → Type 0 = λ f. reason_of f.words ≡ None in
+      let e : None ≡ Some cause = sym (subst R (sym (ap (head_or refused) same)) are'.0.fine) ∙ is in
+      absurd cc
+  items_before (i ∷ items) (j ∷ first) refused after more cause are are' is same =
+      let front = items_before items first refused after more cause are.1 are'.1 is (ap tail_of same) in
+      let one : i.0 ≡ j.0 = ap (head_or i.0) same in (
+        front.0,
+        ap (λ x. x ∷ items) (one_item i j [] [] (are.0, tt) (are'.0, tt) (ap (λ x. x ∷ []) one)) ∙ ap (λ xs. j ∷ xs) front.1,
+      )
+
+  -- what is cut begins with what is cut of a front
+  framed_front : (order : Order) (bytes start rest : List ℕ) (framed : List Framed) (first : List (Framed × Packet)) (end : tails.Tail) → bytes ≡ start ++ rest → IsCutInto order limit bytes framed end
+      → EndsAt order start first None → (more : List Framed) × (framed ≡ framed_of first ++ more)
+  framed_front order bytes start rest framed first end parts cut ends =
+      let B : List ℕ → Type 0 = λ xs. Cuts order limit xs cut.chunks end in
+      let T : tails.Tail → Type 0 = λ t. Cuts order limit start ends.cut.chunks t in
+      let chunks = fronts order limit start rest cut.chunks ends.cut.chunks end (subst B parts cut.cuts) (subst T (at_end ends.tail ends.end_is) ends.cut.cuts) in
+      let at : ℕ = 0 + length (concat ends.cut.chunks) in (
+        framed_from order at chunks.0,
+        cut.same ∙ ap (framed_from order 0) chunks.1 ∙ framed-then order 0 ends.cut.chunks chunks.0 ∙ ap (λ fs. fs ++ framed_from order at chunks.0) (sym ends.cut.same),
+      )
+
+  front : (order : Order) (bytes : List ℕ) (items first : List (Framed × Packet)) (end : Tail) → packet_cutting order bytes items end → IsFront (packet_cutting order) bytes first → (rest : List (Framed × Packet)) × (items ≡ first ++ rest)
+  front order bytes items first end cut (start, rest, parts, (are', inr q)) = absurd (let e : None ≡ Some (reason_for q.cause, q.refused.offset) = q.end_is in cc)
+  front order bytes items first end (are, inl p) (start, rest, parts, (are', inl q)) =
+      let more = framed_front order bytes start rest (framed_of items) first p.tail parts p.cut q in
+      items_front items first more.0 are are' more.1
+  front order bytes items first end (are, inr p) (start, rest, parts, (are', inl q)) =
+      let more = framed_front order bytes start rest (framed_of items ++ p.refused ∷ p.after) first p.tail parts p.cut q in
+      items_before items first p.refused p.after more.0 p.cause are are' p.cause_is more.1
 
   pub packets_once : (order : Order) → CutsOnce (packet_cutting order)
   packets_once order = record { one = one_end order; front = front order }

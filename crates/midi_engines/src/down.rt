@@ -27,7 +27,7 @@ use std::alloc::Global;
 use std::marker::Model;
 use ump_grammar::Packet;
 use ump_grammar::laws::words_spell_one_packet;
-use ump_words::{Framed, Order, bytes_begin_with_one_packet, one_cutting};
+use ump_words::{Framed, Order, fronts_are_cut_as_the_stream, one_cutting};
 use voice_state::laws::plain_pairs_are_a_translation;
 
 /// A translation down that is ready to begin, with all its memory. A contract sees its options.
@@ -164,7 +164,7 @@ fn translate<S: Source, L: Lanes, W: Sink, N: Sink>(
 {
     plain_pairs_are_a_translation();
     one_cutting();
-    bytes_begin_with_one_packet();
+    fronts_are_cut_as_the_stream();
     words_spell_one_packet();
     let reader = PacketReader::new(order);
     drive(reader, DownEngine { down }, input, lanes, output, notes)

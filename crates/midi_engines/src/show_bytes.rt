@@ -100,7 +100,6 @@ pub(crate) fn show_bytes<S: Source, L: Lanes, W: Sink, N: Sink>(
         (seen S.Source L.Lanes W.Sink N.Sink input.new lanes.new output.new notes.new) result }
 {
     bytes_are_cut_once();
-    bytes_are_cut_once();
     let engine = ShowBytes {
         parser,
         line: Line::new(),

@@ -22,7 +22,7 @@ use midi_pass::{Engine, Reason, RunEnd, drive};
 use sysex_groups::{Fed, Groups};
 use ump_grammar::Packet;
 use ump_grammar::laws::words_spell_one_packet;
-use ump_words::{Framed, Order, bytes_begin_with_one_packet, one_cutting};
+use ump_words::{Framed, Order, fronts_are_cut_as_the_stream, one_cutting};
 use voice_state::BadStep;
 
 // Puts a line for each packet of a recording.
@@ -105,7 +105,7 @@ pub(crate) fn show_packets<S: Source, L: Lanes, W: Sink, N: Sink>(
         (seen S.Source L.Lanes W.Sink N.Sink input.new lanes.new output.new notes.new) result }
 {
     one_cutting();
-    bytes_begin_with_one_packet();
+    fronts_are_cut_as_the_stream();
     words_spell_one_packet();
     let reader = PacketReader::new(order);
     let engine = ShowPackets {

@@ -179,7 +179,8 @@ NothingFails old new =
 abbrev pub IsDoneUnless : {Item : Type 0} → Cutting Item → Work Item → Seen → Seen → RunEnd → Type 0
 IsDoneUnless IsCut work old new end = IfSome old.left (λ bytes. HasNoRefusal IsCut work bytes → NothingFails old new → end ≡ Done)
 
--- what holds of a way of cutting: bytes are cut in one way only, and a front of them begins as they do
+-- What holds of a way of cutting: bytes are cut in one way only, and a front of them begins as they do, also where they are refused
+-- later.
 pub record CutsOnce {Item : Type 0} (IsCut : Cutting Item) : Type 0 where
   pub one : (bytes : List ℕ) (items others : List Item) (tail other : Tail) → IsCut bytes items tail → IsCut bytes others other → (items ≡ others) × (tail ≡ other)
-  pub front : (bytes : List ℕ) (items first : List Item) → IsCut bytes items None → IsFront IsCut bytes first → (rest : List Item) × (items ≡ first ++ rest)
+  pub front : (bytes : List ℕ) (items first : List Item) (tail : Tail) → IsCut bytes items tail → IsFront IsCut bytes first → (rest : List Item) × (items ≡ first ++ rest)

@@ -1,7 +1,7 @@
 -- What holds of all streams.
-use Rattle.std.specs.Prelude.{◌≡◌, ◌≤◌, ℕ, List, [], ◌∷◌, ◌++◌, length, Option, Some, IfSome}
+use Rattle.std.specs.Prelude.{◌≡◌, ℕ, List, [], ◌∷◌, ◌++◌, Option, Some, IfSome}
 use Rattle.midi_edge.specs.Outside.{ahead}
-use Rattle.ump_words.specs.Cut.{Cuts, IsCutInto, IsPacket}
+use Rattle.ump_words.specs.Cut.{Cuts, IsCutInto}
 use Rattle.ump_words.specs.Reader.{Reading, GivesPacket, Finishes}
 use Rattle.ump_words.specs.SoFar.{ReadSoFar, StandsBehind}
 use Rattle.ump_words.specs.declared.words.Framed.{Framed}
@@ -39,8 +39,8 @@ StreamsAreCutInOneWay =
     (order : Order) (limit : ℕ) (bytes : List ℕ) (cs ds : List (List ℕ)) (t u : Tail) →
     Cuts order limit bytes cs t → Cuts order limit bytes ds u → (cs ≡ ds) × (t ≡ u)
 
--- A packet has at least one word, and two packets that stand at one front are one.
-pub record BytesBeginWithOnePacket : Type 0 where
-  pub size : (order : Order) (packet : List ℕ) → IsPacket order packet → 4 ≤ length packet
-  pub one : (order : Order) (packet other more rest : List ℕ) → IsPacket order packet → IsPacket order other →
-      packet ++ more ≡ other ++ rest → (packet ≡ other) × (more ≡ rest)
+abbrev pub FrontsAreCutAsTheStream : Type 0
+FrontsAreCutAsTheStream =
+    (order : Order) (limit : ℕ) (front more : List ℕ) (chunks first : List (List ℕ)) (tail : Tail) →
+    Cuts order limit (front ++ more) chunks tail → Cuts order limit front first End →
+    (rest : List (List ℕ)) × (chunks ≡ first ++ rest)

@@ -18,5 +18,5 @@ returns-clause-ends g c =
 
 pub returns-clause-complete : goal.returns-clause-complete
 returns-clause-complete g c =
-    is_done_unless (packet_cutting c.args.order) (carrying (record { order = c.args.order; room = limit_of c.args.down })) (packets_once c.one_cutting.ensures c.bytes_begin_with_one_packet.ensures c.words_spell_one_packet.ensures c.args.order) _ _ c.drive.result
+    is_done_unless (packet_cutting c.args.order) (carrying (record { order = c.args.order; room = limit_of c.args.down })) (packets_once c.one_cutting.ensures c.fronts_are_cut_as_the_stream.ensures c.words_spell_one_packet.ensures c.args.order) _ _ c.drive.result
     (returns-clause-ends g c)

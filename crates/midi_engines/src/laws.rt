@@ -1,0 +1,34 @@
+// What holds of all inputs.
+ghost use Rattle.midi_pass.specs.Bytes.{byte_cutting};
+ghost use Rattle.midi_pass.specs.FirstRefusal.{HasOneFirstRefusal};
+ghost use Rattle.midi_engines.specs.Back.{returning};
+ghost use Rattle.midi_engines.specs.Down.{carrying};
+ghost use Rattle.midi_engines.specs.Options.{BackOptions, ByteLineOptions, DownOptions, PacketLineOptions, UpOptions};
+ghost use Rattle.midi_engines.specs.Packets.{packet_cutting};
+ghost use Rattle.midi_engines.specs.ShowBytes.{showing_bytes};
+ghost use Rattle.midi_engines.specs.ShowPackets.{showing};
+ghost use Rattle.midi_engines.specs.Up.{raising};
+
+use midi_pass::laws::bytes_are_cut_once;
+use ump_grammar::laws::words_spell_one_packet;
+use ump_words::{fronts_are_cut_as_the_stream, one_cutting};
+
+/// A recording has one first refusal: after packets that are accepted it is refused at one offset and for one reason, whichever
+/// cutting tells it.
+pub fn a_recording_has_one_first_refusal()
+    ensures carried { (options : DownOptions) → HasOneFirstRefusal (packet_cutting options.order) (carrying options) }
+    ensures shown { (options : PacketLineOptions) → HasOneFirstRefusal (packet_cutting options.order) (showing options) }
+{
+    one_cutting();
+    fronts_are_cut_as_the_stream();
+    words_spell_one_packet();
+}
+
+/// So has a stream of bytes.
+pub fn a_stream_has_one_first_refusal()
+    ensures shown { (options : ByteLineOptions) → HasOneFirstRefusal byte_cutting (showing_bytes options) }
+    ensures raised { (options : UpOptions) → HasOneFirstRefusal byte_cutting (raising options) }
+    ensures returned { (options : BackOptions) → HasOneFirstRefusal byte_cutting (returning options) }
+{
+    bytes_are_cut_once();
+}
