@@ -143,7 +143,7 @@ pub fn run_down<S: Source, L: Lanes, W: Sink, N: Sink>(
 }
 
 // Translates a recording by a translator in which nothing is open.
-#[inline(never)]
+#[inline(always)]
 fn translate<S: Source, L: Lanes, W: Sink, N: Sink>(
     down: Down,
     order: Order,

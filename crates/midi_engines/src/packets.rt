@@ -38,7 +38,7 @@ impl Items<Framed, Packet> for PacketReader {
 
     ghost to_go = { λ reader. reader.words.limit - reader.words.offset };
 
-    #[inline]
+    #[inline(always)]
     fn next<S: Source>(&mut self, input: &mut S) -> Next<Framed, Packet> {
         packets_are_read_in_order();
         match self.words.next(input) {
