@@ -2,7 +2,7 @@
 use Rattle.std.proofs.Common.{◌≡◌, ◌<◌, ◌≤◌, ℕ, List, [], ◌∷◌, ◌++◌, take, refl, ap, sym, ◌∙◌, subst}
 use Rattle.std.specs.Prelude.{Some, reverse}
 use Rattle.std.specs.List.{AllByRecursion}
-use Rattle.std.proofs.lemmas.List.{append_assoc, append-nil}
+use Rattle.std.proofs.lemmas.List.{append_assoc, append-nil, reverse-append}
 use Rattle.ump_grammar.specs.declared.packet.Packet.{Packet}
 use Rattle.ump_grammar.specs.Ranges.{IsPacket}
 use Rattle.voice_state.specs.Back.{SameState}
@@ -17,21 +17,20 @@ use Rattle.down_translator.specs.Laws.{WhatIsHeldIsTheDefinition}
 use Rattle.down_translator.specs.Recording.{AreInRange, packets_of, state_of}
 use Rattle.midi_pass.specs.Bytes.{bytes_of}
 use Rattle.midi_pass.specs.Put.{Put}
-use Rattle.std.proofs.lemmas.List.{reverse-append}
-use Rattle.midi_engines.specs.Back.{HoldsReturned, ReturnedBytesMean, byte_pieces, comes_down, piece_puts, plain_puts, puts_down}
+use Rattle.midi_engines.specs.Back.{HoldsReturned, ReturnedBytesMean, byte_pieces, ComesDown, piece_puts, plain_puts, PutsDown}
 use Rattle.midi_engines.specs.Raised.{AreDone, AreTaken, CanBeDone, byte_packets}
 use Rattle.midi_engines.proofs.StreamLaws.{front_accepted}
 
-pub piece_is_put : (offset : ℕ) → CanBeDone comes_down (puts_down offset)
+pub piece_is_put : (offset : ℕ) → CanBeDone ComesDown (PutsDown offset)
 piece_is_put offset from group form bytes accepted = (_, _, (refl, refl))
 
 -- what comes of packets that come after others
 record ComesDownAfter (room offset : ℕ) (earlier ps : List Packet) (placed : List Placed) : Type 0 where
-  taken : AreTaken comes_down (puts_down offset) (state_of room placed) ps
+  taken : AreTaken ComesDown (PutsDown offset) (state_of room placed) ps
   now : List Placed
   are : packets_of now ≡ reverse (earlier ++ ps)
   range : AreInRange now
-  done : (to : DownState) (puts : List Put) → AreDone (puts_down offset) (state_of room placed) ps to puts → (puts ≡ plain_puts (reverse earlier) ps) × (to ≡ state_of room now)
+  done : (to : DownState) (puts : List Put) → AreDone (PutsDown offset) (state_of room placed) ps to puts → (puts ≡ plain_puts (reverse earlier) ps) × (to ≡ state_of room now)
 
 module _ (silence : RaisedPacketsComeBackInSilence) (held : WhatIsHeldIsTheDefinition) (room group : ℕ) (least : 6 ≤ room) (past : List ℕ) (offset : ℕ) where
   come_down : (ps earlier : List Packet) (placed : List Placed) → earlier ++ ps ≡ packets_up (Some room) group past → AllByRecursion IsPacket ps → AllByRecursion IsInRange ps
@@ -50,14 +49,14 @@ module _ (silence : RaisedPacketsComeBackInSilence) (held : WhatIsHeldIsTheDefin
       let rest = come_down ps upto (here ∷ placed) (moved ∙ e) spelled.1 fit.1 are' (fit.0, range) in
       let whole : whole_in state p ≡ whole_of (reverse earlier) p = held.whole room placed least range p ∙ back.whole ∙ ap (λ q. whole_of q p) are in
       let piece : List Put = piece_puts (plain_piece (whole_of (reverse earlier) p) p) in
-      let A : DownState → Type 0 = λ s. AreTaken comes_down (puts_down offset) s ps in
+      let A : DownState → Type 0 = λ s. AreTaken ComesDown (PutsDown offset) s ps in
       record {
         taken = ((spelled.0, held.refusal room placed least range p ∙ back.accepted), λ between puts one. subst A (sym (one.0 ∙ after)) rest.taken);
         now = rest.now;
         are = rest.are ∙ ap reverse moved;
         range = rest.range;
         done = λ to puts done.
-            let D : DownState → Type 0 = λ s. AreDone (puts_down offset) s ps to done.2 in
+            let D : DownState → Type 0 = λ s. AreDone (PutsDown offset) s ps to done.2 in
             let others = rest.done to done.2 (subst D (done.3.0 ∙ after) done.4) in (
               done.5
                   ∙ ap (λ xs. xs ++ done.2) (done.3.1 ∙ ap (λ w. piece_puts (plain_piece w p)) whole)
@@ -68,8 +67,8 @@ module _ (silence : RaisedPacketsComeBackInSilence) (held : WhatIsHeldIsTheDefin
 
 -- what comes of the packets of one more byte
 pub record ByteComesDown (room group : ℕ) (past : List (ℕ × ℕ)) (item : ℕ × ℕ) (from : DownState) : Type 0 where
-  pub taken : AreTaken comes_down (puts_down item.0) from (byte_packets room group past item)
-  pub done : (to : DownState) (puts : List Put) → AreDone (puts_down item.0) from (byte_packets room group past item) to puts
+  pub taken : AreTaken ComesDown (PutsDown item.0) from (byte_packets room group past item)
+  pub done : (to : DownState) (puts : List Put) → AreDone (PutsDown item.0) from (byte_packets room group past item) to puts
       → (puts ≡ byte_pieces room group past item) × HoldsReturned room group (item.1 ∷ bytes_of past) to
 
 pub byte_comes_down : RaisedPacketsComeBackInSilence → WhatIsHeldIsTheDefinition → RaisedPacketsAreInRange → (room group : ℕ) → 6 ≤ room → group < 16 → (past : List (ℕ × ℕ)) (item : ℕ × ℕ) (from : DownState)

@@ -54,12 +54,12 @@ returning options =
 -- ---- by what the translator down holds
 
 -- a packet that some words spell, and that isn't refused
-abbrev pub comes_down : DownState → Packet → Type 0
-comes_down from packet = IsPacket packet × (refusal_in from packet ≡ None)
+abbrev pub ComesDown : DownState → Packet → Type 0
+ComesDown from packet = IsPacket packet × (refusal_in from packet ≡ None)
 
 -- its piece is put
-abbrev pub puts_down : ℕ → DownState → Packet → DownState → List Put → Type 0
-puts_down offset from packet to puts = (to ≡ down_after offset packet from) × (puts ≡ piece_puts (plain_piece (whole_in from packet) packet))
+abbrev pub PutsDown : ℕ → DownState → Packet → DownState → List Put → Type 0
+PutsDown offset from packet to puts = (to ≡ down_after offset packet from) × (puts ≡ piece_puts (plain_piece (whole_in from packet) packet))
 
 -- ---- from the first to the last
 

@@ -21,7 +21,7 @@ use Rattle.midi_pass.specs.declared.ends.RunEnd.{RunEnd}
 use Rattle.midi_pass.specs.declared.ends.RunEnd.TheVariants.{Refused}
 use Rattle.midi_engines.specs.Down.{line_puts, refusal_by}
 
--- such a pass writes to the output and the notes
+-- such a pass names the output and the notes
 abbrev pub output_and_notes : Named
 output_and_notes = record { lanes = false; output = true; notes = true }
 

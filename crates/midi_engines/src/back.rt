@@ -6,7 +6,7 @@ ghost use Rattle.down_translator.specs.Held.{new_down};
 ghost use Rattle.midi_pass.specs.Bytes.{byte_cutting};
 ghost use Rattle.midi_pass.specs.Pass.{Ends, IsDoneUnless, seen};
 ghost use Rattle.midi_pass.specs.Places.{Puts, places};
-ghost use Rattle.midi_engines.specs.Back.{HoldsBack, comes_down, options_of, piece_puts, puts_down, returning};
+ghost use Rattle.midi_engines.specs.Back.{HoldsBack, ComesDown, options_of, piece_puts, PutsDown, returning};
 ghost use Rattle.midi_engines.specs.BackMeans.{returned_means, returns_named};
 ghost use Rattle.midi_engines.specs.RaisedMeans.{last_named};
 
@@ -89,9 +89,9 @@ fn put_piece<L: Lanes, W: Sink, N: Sink>(
 
 // Takes packets down, and puts their pieces. What bytes are raised to is neither refused nor listed there.
 impl PacketWork for Down {
-    ghost Accepts = { λ from packet. comes_down from packet };
+    ghost Accepts = { λ from packet. ComesDown from packet };
 
-    ghost IsDone = { λ offset. puts_down offset };
+    ghost IsDone = { λ offset. PutsDown offset };
 
     fn put<L: Lanes, W: Sink, N: Sink>(
         &mut self,

@@ -15,6 +15,7 @@ use midi_pass::{Engine, LIMIT, RunEnd, drive};
 use midi1_bytes::laws::parsed_bytes_are_the_definition;
 use std::alloc::Global;
 use std::marker::Model;
+use ump_grammar::laws::exclusives_have_words;
 use ump_grammar::{Packet, encode};
 use ump_words::{Order, put_words};
 use up_translator::Up;
@@ -116,6 +117,7 @@ impl Engine<u64, u8> for UpEngine {
         output: &mut W,
         notes: &mut N,
     ) -> Result<(), RunEnd> {
+        exclusives_have_words();
         parsed_bytes_are_the_definition();
         raised_bytes_are_the_definition();
         raised_packets_are_in_range();

@@ -2,9 +2,12 @@
 use Rattle.std.specs.Prelude.{◌≡◌, ℕ, true, false, List, Result, MatchResult, Option, None, Some, MatchOption}
 use Rattle.voice_messages.specs.declared.voice1.Voice1.{Voice1}
 use Rattle.voice_messages.specs.declared.voice1.System.{System}
+use Rattle.voice_messages.specs.declared.voice2.Form.{Form}
 use Rattle.voice_messages.specs.declared.voice2.Voice2.{Voice2}
 use Rattle.ump_grammar.specs.declared.packet.Bad.{Bad}
 use Rattle.ump_grammar.specs.declared.packet.Packet.{Packet}
+use Rattle.ump_grammar.specs.declared.packet.Packet.TheVariants.{Exclusive}
+use Rattle.ump_grammar.specs.Ranges.{IsPacket}
 use Rattle.ump_grammar.specs.Spelling.{Spells, SpellsSystem, SpellsVoice1, SpellsVoice2}
 use Rattle.ump_grammar.specs.Zeros.{HasZeros}
 use Rattle.ump_grammar.specs.Reason.{reason, has_high, marked_in_system, marked_in_voice1, marked_in_voice2}
@@ -32,3 +35,8 @@ pub record Encodes (p : Packet) (words : List ℕ) : Type 0 where
   pub spelled : Spells p words
   pub accepted : reason words ≡ None
   pub zeros : HasZeros p words
+
+-- each 7-bit exclusive whose fields fit is encoded by some words
+abbrev pub ExclusivesHaveWords : Type 0
+ExclusivesHaveWords =
+    (group : ℕ) (form : Form) (bytes : List ℕ) → IsPacket (Exclusive group form bytes) → (words : List ℕ) × Encodes (Exclusive group form bytes) words

@@ -2,6 +2,7 @@
 ghost use Rattle.std.specs.Prelude.{◌≡◌, ℕ, List, true, None};
 ghost use Rattle.ump_grammar.specs.declared.packet.Packet.{Packet};
 ghost use Rattle.ump_grammar.specs.Ranges.{IsPacket};
+ghost use Rattle.ump_grammar.specs.Reading.{ExclusivesHaveWords};
 ghost use Rattle.ump_grammar.specs.Reason.{reason};
 ghost use Rattle.ump_grammar.specs.Spelling.{HasRow, IsRead, Spells, has_row};
 
@@ -18,4 +19,9 @@ pub fn spelled_packets_fit()
 /// Words that the row of a packet gives aren't reserved.
 pub fn rows_are_not_reserved()
     ensures { (p : Packet) (words : List ℕ) → IsRead p → HasRow p words → has_row words ≡ true }
+{}
+
+/// Each 7-bit exclusive packet whose fields fit their places has words (M2-104-UM, system exclusive 7-bit messages).
+pub fn exclusives_have_words()
+    ensures { ExclusivesHaveWords }
 {}

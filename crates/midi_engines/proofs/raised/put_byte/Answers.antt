@@ -1,10 +1,6 @@
-use Rattle.std.proofs.Common.{List, Option, sym, subst}
-use Rattle.std.specs.Prelude.{Ok}
+use Rattle.std.proofs.Common.{Option, sym, subst}
 use Rattle.voice_state.specs.declared.listed.BadStep.{BadStep}
-use Rattle.up_translator.specs.declared.raised.Raised.{Raised}
-use Rattle.up_translator.specs.Step.{Raises}
 use Rattle.midi_pass.specs.Places.{places}
-use Rattle.midi_pass.specs.Put.{Put}
 use Rattle.midi_engines.specs.Down.{refusal_by}
 use Rattle.midi_engines.specs.Raised.{Answers, ByteIsDone, RaisedIsDone}
 use Rattle.midi_engines.proofs.RaisedLaws.{carries_as}

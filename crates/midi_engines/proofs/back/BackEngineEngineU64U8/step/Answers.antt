@@ -1,16 +1,14 @@
 use Rattle.std.proofs.Common.{ℕ, List, ◌∷◌, ◌++◌, ap, sym, ◌∙◌, subst}
-use Rattle.std.specs.Prelude.{Some, Ok}
+use Rattle.std.specs.Prelude.{Some}
 use Rattle.ump_grammar.specs.declared.packet.Packet.{Packet}
 use Rattle.voice_state.specs.UpRefusal.{AreAcceptedUp}
-use Rattle.up_translator.specs.declared.raised.Raised.{Raised}
 use Rattle.up_translator.specs.Held.{UpState}
-use Rattle.up_translator.specs.Step.{Raises}
 use Rattle.down_translator.specs.Held.{DownState}
 use Rattle.midi_pass.specs.Bytes.{bytes_of}
 use Rattle.midi_pass.specs.Pass.{Tail}
 use Rattle.midi_pass.specs.Places.{places}
 use Rattle.midi_pass.specs.Put.{Put}
-use Rattle.midi_engines.specs.Back.{comes_down, options_of, puts_down, returning}
+use Rattle.midi_engines.specs.Back.{ComesDown, options_of, PutsDown, returning}
 use Rattle.midi_engines.specs.Down.{line_puts}
 use Rattle.midi_engines.specs.Raised.{Answers, AreDone, AreTaken, RaisedIsDone, byte_lines}
 use Rattle.midi_engines.proofs.BackLaws.{byte_comes_down, piece_is_put}
@@ -25,7 +23,7 @@ put_byte-requires-clause-taken g c = λ raised raises.
     let held = c.requires.holds.2 in
     let item : ℕ × ℕ = (c.args.at.now, c.args.item.now) in
     let down : DownState = c.args.self.now.down in
-    let T : List Packet → Type 0 = λ ps. AreTaken comes_down (puts_down item.0) down ps in
+    let T : List Packet → Type 0 = λ ps. AreTaken ComesDown (PutsDown item.0) down ps in
     let answer = answered c.raised_bytes_are_the_definition.ensures first.up.parsing.room first.up.group past c.args.self.now.up held.holds_up item.0 item.1 c.requires.holds.3 raised raises in
     let comes = byte_comes_down c.raised_packets_come_back_in_silence.ensures c.what_is_held_is_the_definition.ensures c.raised_packets_are_in_range.ensures first.up.parsing.room first.up.group held.least held.few past item down held.holds_down in
     subst T (sym answer.packets) comes.taken
@@ -46,9 +44,9 @@ returns g c = λ first past held place.
     let down : DownState = c.args.self.now.down in
     let law = c.raised_bytes_are_the_definition.ensures in
     let comes = byte_comes_down c.raised_packets_come_back_in_silence.ensures c.what_is_held_is_the_definition.ensures c.raised_packets_are_in_range.ensures room group held.least held.few past item down held.holds_down in
-    let does = RaisedIsDone (puts_down offset) up (offset, byte) down in
+    let does = RaisedIsDone (PutsDown offset) up (offset, byte) down in
     let A : Tail → Type 0 = λ tail. Answers tail does c.put_byte.new.work old new c.put_byte.result in
-    let D : DownState → List Put → List Packet → Type 0 = λ to puts ps. AreDone (puts_down offset) down ps to puts in
+    let D : DownState → List Put → List Packet → Type 0 = λ to puts ps. AreDone (PutsDown offset) down ps to puts in
     answered_steps (returning (options_of first.up)) past item does c.put_byte.new.work old new _ c.put_byte.result
     (subst A (refused_as law room group past up held.holds_up offset byte place c.parsed_bytes_are_the_definition.ensures) c.put_byte.ensures.answer)
     (λ to puts done.

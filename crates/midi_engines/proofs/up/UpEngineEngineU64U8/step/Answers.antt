@@ -1,22 +1,19 @@
 use Rattle.std.proofs.Common.{ℕ, List, ◌∷◌, ◌++◌, ap, sym, ◌∙◌, subst}
-use Rattle.std.specs.Prelude.{Some, Ok}
+use Rattle.std.specs.Prelude.{Some}
 use Rattle.ump_words.specs.declared.words.Order.{Order}
 use Rattle.ump_grammar.specs.declared.packet.Packet.{Packet}
 use Rattle.voice_state.specs.UpRefusal.{AreAcceptedUp}
-use Rattle.up_translator.specs.declared.raised.Raised.{Raised}
 use Rattle.up_translator.specs.Held.{UpState}
 use Rattle.up_translator.specs.Raised.{packets_in}
-use Rattle.up_translator.specs.Step.{Raises}
 use Rattle.midi_pass.specs.Bytes.{bytes_of}
 use Rattle.midi_pass.specs.Pass.{Tail}
 use Rattle.midi_pass.specs.Places.{places}
-use Rattle.midi_pass.specs.Put.{Put}
 use Rattle.midi_engines.specs.Down.{line_puts}
 use Rattle.midi_engines.specs.Raised.{Answers, AreTaken, RaisedIsDone}
 use Rattle.midi_engines.specs.Up.{AreWritten, options_of, raising}
 use Rattle.midi_engines.proofs.RaisedLaws.{answered_steps}
 use Rattle.midi_engines.proofs.StreamLaws.{answered, holds_more, refused_as}
-use Rattle.midi_engines.proofs.UpLaws.{accepts_words, all_taken, are_written, exclusive_is_written, same_words, writes}
+use Rattle.midi_engines.proofs.UpLaws.{AcceptsWords, all_taken, are_written, exclusive_is_written, same_words, WritesWords}
 use Rattle.midi_engines.proofs.up.UpEngineEngineU64U8.step.Goals as goal
 
 pub put_byte-requires-clause-taken : goal.put_byte-requires-clause-taken
@@ -24,12 +21,12 @@ put_byte-requires-clause-taken g c = λ raised raises.
     let first = c.requires.holds.0 in
     let past : List (ℕ × ℕ) = c.requires.holds.1 in
     let held = c.requires.holds.2.1 in
-    let T : List Packet → Type 0 = λ ps. AreTaken accepts_words writes c.args.self.now.words ps in
+    let T : List Packet → Type 0 = λ ps. AreTaken AcceptsWords WritesWords c.args.self.now.words ps in
     let answer = answered c.raised_bytes_are_the_definition.ensures first.up.parsing.room first.up.group past c.args.self.now.up held.holds c.args.at.now c.args.item.now c.requires.holds.3 raised raises in
     subst T (sym answer.packets) (all_taken _ (c.raised_packets_are_in_range.ensures.packets (Some first.up.parsing.room) first.up.group (bytes_of past) c.args.item.now held.few) c.args.self.now.words)
 
 pub put_byte-requires-clause-done : goal.put_byte-requires-clause-done
-put_byte-requires-clause-done g c = exclusive_is_written
+put_byte-requires-clause-done g c = exclusive_is_written c.exclusives_have_words.ensures
 
 pub returns : goal.returns
 returns g c = λ first past holds place.
@@ -43,7 +40,7 @@ returns g c = λ first past holds place.
     let offset : ℕ = c.args.at.now in
     let up : UpState = c.args.self.now.up in
     let law = c.raised_bytes_are_the_definition.ensures in
-    let does = RaisedIsDone writes up (offset, byte) c.args.self.now.words in
+    let does = RaisedIsDone WritesWords up (offset, byte) c.args.self.now.words in
     let A : Tail → Type 0 = λ tail. Answers tail does c.put_byte.new.work old new c.put_byte.result in
     answered_steps (raising (options_of first.up order)) past (offset, byte) does c.put_byte.new.work old new _ c.put_byte.result
     (subst A (refused_as law room group past up held.holds offset byte place c.parsed_bytes_are_the_definition.ensures) c.put_byte.ensures.answer)
