@@ -1,0 +1,3 @@
+pub mod Endpoints
+pub mod Keys
+pub mod Rules
