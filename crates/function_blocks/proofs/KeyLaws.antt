@@ -1,12 +1,14 @@
 -- Lists of values, read from the front.
-use Rattle.std.proofs.Common.{◌≡◌, ℕ, ◌+◌, Bool, ◌&&◌, List, [], ◌∷◌, ◌++◌, Option, Some, None, option_map, option_and_then, refl, ap, sym, ◌∙◌, append_assoc, length, map, arith, is_some}
+use Rattle.std.proofs.Common.{◌≡◌, ◌<◌, ℕ, ◌+◌, drop, get_or, Bool, ◌&&◌, List, [], ◌∷◌, ◌++◌, Option, Some, None, option_map, option_and_then, refl, ap, sym, ◌∙◌, append_assoc, length, map, arith, is_some}
 use Rattle.std.specs.List.{list_all}
+use Rattle.std.proofs.lemmas.List.{drop_more}
 use Rattle.std.specs.Prelude.{Result, Ok, Err}
-use Rattle.toml.specs.Data.{Data, Items, no_items, item, as_table}
+use Rattle.toml.specs.Data.{Data, Items, no_items, item, Members, as_table}
 use Rattle.toml.specs.View.{view, items_view}
 use Rattle.toml.specs.declared.value.Value.{Value}
-use Rattle.function_blocks.specs.Rules.{Read, in_front}
-use Rattle.function_blocks.specs.Keys.{number_in, numbers_in, count_items, list_of, is_table}
+use Rattle.function_blocks.specs.declared.rules.Rule.{Rule}
+use Rattle.function_blocks.specs.Rules.{Read, after, in_front, needs}
+use Rattle.function_blocks.specs.Keys.{number_in, numbers_in, count_items, list_of, is_table, each}
 
 -- what is read after xs
 abbrev pub joined : List ℕ → Option (List ℕ) → Option (List ℕ)
@@ -56,3 +58,17 @@ read_on xs (Err e) = Err e
 pub read_on_more : {A : Type 0} (xs : List A) (x : A) (rest : Read (List A)) → read_on xs (in_front x rest) ≡ read_on (xs ++ x ∷ []) rest
 read_on_more xs x (Ok ys) = ap Ok (sym (append_assoc xs (x ∷ []) ys))
 read_on_more xs x (Err e) = refl
+
+-- one more entry is read
+pub each_more : {A : Type 0} (r : Rule) (read : Members → Read A) (xs ys : List A) (x : A) (vs : List Value) (i : ℕ) (v : Value) → i < length vs → v ≡ get_or vs i v
+    → Ok x ≡ needs r (as_table (view v)) read → ys ≡ xs ++ x ∷ []
+    → read_on xs (each r read (map view (drop i vs))) ≡ each r read (map view vs)
+    → read_on ys (each r read (map view (drop (i + 1) vs))) ≡ each r read (map view vs)
+each_more r read xs ys x vs i v within is given more before =
+    let rest : List Data = map view (drop (i + 1) vs) in
+    let opened : drop i vs ≡ v ∷ drop (i + 1) vs = drop_more vs i v within ∙ ap (λ w. w ∷ drop (i + 1) vs) (sym is) in
+    ap (λ zs. read_on zs (each r read rest)) more
+    ∙ sym (read_on_more xs x (each r read rest))
+    ∙ ap (λ o. read_on xs (after o (λ y. in_front y (each r read rest)))) given
+    ∙ ap (λ ws. read_on xs (each r read (map view ws))) (sym opened)
+    ∙ before

@@ -1,3 +1,5 @@
+pub mod Blocks
 pub mod Endpoints
 pub mod Keys
+pub mod Profiles
 pub mod Rules

@@ -1,6 +1,6 @@
 // What the keys of a table hold.
 ghost use Rattle.std.specs.Prelude.{◌≡◌, ◌<◌, ◌≤◌, map, length, Some, Ok, Err, IfSome, MatchResult, option_map, is_some};
-ghost use Rattle.std.specs.List.{list_all};
+ghost use Rattle.std.specs.List.{All, list_all};
 ghost use Rattle.std.specs.Option.{option_copied};
 ghost use Rattle.toml.specs.Data.{as_table, get_member};
 ghost use Rattle.toml.specs.View.{array_view, items_view, table_view, view};
@@ -119,6 +119,7 @@ fn small_numbers_in<const N: usize>(values: &[Value], most: u8) -> Option<ShortL
     requires { length values.now ≤ N }
     ensures value { result ≡ numbers_of most (items_view values.now) }
     ensures count { IfSome result (λ numbers. length numbers ≡ length values.now) }
+    ensures most { IfSome result (λ numbers. All (λ n. n ≤ most) numbers) }
 {
     let mut numbers = ShortList::new();
     for value in values {
@@ -134,6 +135,7 @@ fn small_numbers_in<const N: usize>(values: &[Value], most: u8) -> Option<ShortL
 fn exactly<const N: usize>(values: &Vec<Value>, most: u8) -> Option<ShortList<u8, N>>
     ensures value { result ≡ exactly_of N most (array_view values.now) }
     ensures count { IfSome result (λ numbers. length numbers ≡ N) }
+    ensures most { IfSome result (λ numbers. All (λ n. n ≤ most) numbers) }
 {
     if values.len() != N {
         return None;
@@ -149,6 +151,7 @@ pub(crate) fn numbers_at<const N: usize>(
 ) -> Option<ShortList<u8, N>>
     ensures value { result ≡ numbers_of_key N most key.now (table_view table.now) }
     ensures count { IfSome result (λ numbers. length numbers ≡ N) }
+    ensures most { IfSome result (λ numbers. All (λ n. n ≤ most) numbers) }
 {
     match array_at(table, key) {
         Some(values) => exactly(values, most),

@@ -58,7 +58,7 @@ pub enum Place {
 }
 
 /// A profile of a function block.
-#[derive(Clone, Copy, Debug, PartialEq, Eq)]
+#[derive(Debug, PartialEq, Eq, Drop)]
 pub struct Profile {
     /// The number of its block, counted from 0.
     pub block: u8,
