@@ -1,9 +1,9 @@
 -- What the keys of a TOML table hold.
-use Rattle.std.specs.Prelude.{ℕ, ℤ, pos, negsuc, Bool, ◌==◌, ◌&&◌, ◌+◌, List, [], ◌∷◌, length, Option, Some, None, option_map, option_and_then, if◌then◌else◌, nat_le, is_some, Result, Ok, Err}
+use Rattle.std.specs.Prelude.{ℕ, ℤ, pos, negsuc, Bool, ◌==◌, ◌&&◌, ◌+◌, List, [], ◌∷◌, length, Option, Some, None, option_map, option_and_then, if◌then◌else◌, nat_le, is_some, Ok}
 use Rattle.std.specs.List.{list_all}
 use Rattle.toml.specs.Data.{Data, Items, no_items, item, Members, get_member, as_str, as_integer, as_bool, as_array, as_table}
 use Rattle.function_blocks.specs.declared.rules.Rule.{Rule}
-use Rattle.function_blocks.specs.Rules.{Read, broken, holds, needs, after, in_front}
+use Rattle.function_blocks.specs.Rules.{Read, holds, needs, after, in_front}
 
 abbrev pub table_at : List ℕ → Members → Option Members
 table_at key members = option_and_then as_table (get_member key members)

@@ -1,11 +1,16 @@
 //! The setup of an endpoint and its function blocks, and the replies to stream messages.
 #![tactic(auto)]
 
+mod answers;
 mod blocks;
 mod endpoint;
 mod keys;
 mod profiles;
+mod reading;
 pub mod rules;
 pub mod setup;
+pub mod whole;
 
 pub use crate::rules::{Rule, SetupFault};
+pub use crate::setup::{Block, Config, Identity, Place, Profile};
+pub use crate::whole::Setup;
