@@ -16,3 +16,6 @@ pub use crate::laws::replies_are_few;
 pub use crate::rules::{Rule, SetupFault};
 pub use crate::setup::{Block, Config, Identity, Place, Profile};
 pub use crate::whole::Setup;
+
+#[cfg(test)]
+mod tests;
