@@ -1,8 +1,9 @@
 // Laws of the grammar.
-ghost use Rattle.std.specs.Prelude.{◌≡◌, ℕ, List, true, None};
+ghost use Rattle.std.specs.Prelude.{◌≡◌, ◌<◌, ◌^◌, ℕ, List, true, None, length, slice_index};
 ghost use Rattle.ump_grammar.specs.declared.packet.Packet.{Packet};
 ghost use Rattle.ump_grammar.specs.Ranges.{IsPacket};
 ghost use Rattle.ump_grammar.specs.Reason.{reason};
+ghost use Rattle.ump_grammar.specs.Replies.{word_count};
 ghost use Rattle.ump_grammar.specs.Spelling.{HasRow, IsRead, Spells, has_row};
 
 /// Words spell one packet only.
@@ -18,4 +19,10 @@ pub fn spelled_packets_fit()
 /// Words that the row of a packet gives aren't reserved.
 pub fn rows_are_not_reserved()
     ensures { (p : Packet) (words : List ℕ) → IsRead p → HasRow p words → has_row words ≡ true }
+{}
+
+/// The words that spell a packet are as many as its row says.
+pub fn packets_have_their_words()
+    ensures { (p : Packet) (words : List ℕ) → slice_index words 0 < 2 ^ 32 → Spells p words →
+        length words ≡ word_count p }
 {}
