@@ -1,5 +1,5 @@
 -- How many packets of replies there are.
-use Rattle.std.proofs.Common.{Bool, true, false, ℕ, ◌≡◌, ◌<◌, ◌≤◌, ◌+◌, ◌*◌, ◌∙◌, ap, sym, refl, List, [], ◌∷◌, ◌++◌, length, arith, length-append, Option, Some, None, cond, eqb, zero, suc, lit≤}
+use Rattle.std.proofs.Common.{Bool, true, false, ℕ, ◌≤◌, ◌+◌, ◌*◌, List, [], ◌∷◌, ◌++◌, length, arith, length-append, cond, eqb, zero, suc, lit≤}
 use Rattle.std.specs.List.{All, slice_get}
 use Rattle.std.proofs.lemmas.List.Elements.{All-head, All-tail}
 use Rattle.ump_grammar.specs.declared.packet.Packet.{Packet}

@@ -6,9 +6,8 @@ use Rattle.system_stream.specs.declared.message.StreamMessage.{StreamMessage}
 use Rattle.system_stream.specs.declared.message.StreamMessage.TheVariants as stream
 use Rattle.system_stream.specs.declared.texts.TextKind.{TextKind}
 use Rattle.system_stream.specs.declared.texts.TextKind.TheVariants as kind
-use Rattle.system_stream.specs.Cut.{form_at, part_bytes, part_count}
+use Rattle.system_stream.specs.Cut.{message_at, part_count}
 use Rattle.system_stream.specs.Layout.{flag, packet_of}
-use Rattle.system_stream.specs.Texts.{part_message, part_size}
 use Rattle.function_blocks.specs.declared.setup.Block.{Block}
 use Rattle.function_blocks.specs.Endpoints.{is_supported}
 use Rattle.function_blocks.specs.Setups.{Facts, in_two_bytes}
@@ -22,7 +21,7 @@ asked false replies = []
 abbrev pub first_packets : TextKind → ℕ → List ℕ → ℕ → List Packet
 first_packets kind block text zero = []
 first_packets kind block text (suc k) =
-    first_packets kind block text k ++ packet_of (part_message kind (form_at (part_count kind text) k) block (part_bytes (part_size kind) text k)) ∷ []
+    first_packets kind block text k ++ packet_of (message_at kind block text k) ∷ []
 
 abbrev pub text_packets : TextKind → ℕ → List ℕ → List Packet
 text_packets kind block text = first_packets kind block text (part_count kind text)

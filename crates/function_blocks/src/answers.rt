@@ -167,9 +167,12 @@ impl Setup {
         replies: &mut Replies,
     ) -> bool
         requires { replies.old ≡ [] }
-        ensures replies { AddsPackets (stream_replies self.now config.old.protocol message.now) [] replies.new }
-        ensures protocol { config.new.protocol ≡ protocol_after self.now config.old.protocol message.now }
-        ensures some { IsTrue result ↔ (0 < length (stream_replies self.now config.old.protocol message.now)) }
+        ensures replies { AddsPackets (stream_replies self.now config.old.protocol message.now)
+            [] replies.new }
+        ensures protocol { config.new.protocol ≡
+            protocol_after self.now config.old.protocol message.now }
+        ensures some { IsTrue result ↔
+            (0 < length (stream_replies self.now config.old.protocol message.now)) }
     {
         self.push_replies(message, config, replies);
         !replies.words().is_empty()
@@ -177,8 +180,10 @@ impl Setup {
 
     fn push_replies(&self, message: &StreamMessage, config: &mut Config, replies: &mut Replies)
         requires { length replies.old ≡ 0 }
-        ensures replies { Pushes (stream_replies self.now config.old.protocol message.now) replies.old replies.new }
-        ensures protocol { config.new.protocol ≡ protocol_after self.now config.old.protocol message.now }
+        ensures replies { Pushes (stream_replies self.now config.old.protocol message.now)
+            replies.old replies.new }
+        ensures protocol { config.new.protocol ≡
+            protocol_after self.now config.old.protocol message.now }
     {
         match message {
             StreamMessage::Discovery { filter, .. } => {
@@ -267,7 +272,8 @@ impl Setup {
     // Adds what the filter asks of the block of a number, if there is one.
     fn push_one_block(&self, number: u8, filter: u8, replies: &mut Replies)
         requires { length replies.old ≡ 0 }
-        ensures { Pushes (replies_of_named filter number (slice_get self.now.blocks number)) replies.old replies.new }
+        ensures { Pushes (replies_of_named filter number (slice_get self.now.blocks number))
+            replies.old replies.new }
     {
         match self.block(number) {
             Some(block) => push_block(replies, filter, number, block),

@@ -159,8 +159,8 @@ fn add_profile(
     blocks: &[Block],
 ) -> Result<(), SetupFault>
     requires { All IsBlock blocks.now }
-    ensures { AddsRead (profile_of blocks.now (table_view table.now)) (λ p. p.block < length blocks.now)
-        profiles.old.items profiles.new.items result }
+    ensures { AddsRead (profile_of blocks.now (table_view table.now))
+        (λ p. p.block < length blocks.now) profiles.old.items profiles.new.items result }
 {
     let number = number_at(table, "block", 0, 31).ok_or(broken(Rule::ProfileBlockHasCi))?;
     let block = ci_block(blocks, number).ok_or(broken(Rule::ProfileBlockHasCi))?;
@@ -182,8 +182,8 @@ fn add_profile(
 
 fn add_entry(profiles: &mut Vec<Profile>, value: &Value, blocks: &[Block]) -> Result<(), SetupFault>
     requires { All IsBlock blocks.now }
-    ensures { AddsRead (needs rule.ProfilesAreTables (as_table (view value.now)) (profile_of blocks.now)) (λ p. p.block < length blocks.now)
-        profiles.old.items profiles.new.items result }
+    ensures { AddsRead (needs rule.ProfilesAreTables (as_table (view value.now)) (profile_of blocks.now))
+        (λ p. p.block < length blocks.now) profiles.old.items profiles.new.items result }
 {
     match value.as_table() {
         Some(table) => add_profile(profiles, table, blocks),
