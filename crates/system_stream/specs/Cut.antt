@@ -6,6 +6,7 @@ use Rattle.std.specs.Fork.{slice_chunk}
 use Rattle.voice_messages.specs.declared.voice2.Form.{Form}
 use Rattle.voice_messages.specs.declared.voice2.Form.TheVariants as form
 use Rattle.ump_grammar.specs.declared.packet.Packet.{Packet}
+use Rattle.system_stream.specs.declared.message.StreamMessage.{StreamMessage}
 use Rattle.system_stream.specs.declared.texts.TextKind.{TextKind}
 use Rattle.system_stream.specs.Layout.{packet_of}
 use Rattle.system_stream.specs.Parts.{Part}
@@ -27,11 +28,13 @@ filled size bytes = bytes ++ replicate (size - length bytes) 0
 abbrev pub part_bytes : ℕ → List ℕ → ℕ → List ℕ
 part_bytes size text k = filled size (slice_chunk text size k)
 
--- the packet k of a text; the block is that of a function block's name
+-- the message of packet k; the block is that of a function block's name
+abbrev pub message_at : TextKind → ℕ → List ℕ → ℕ → StreamMessage
+message_at kind block text k = part_message kind (form_at (part_count kind text) k) block (part_bytes (part_size kind) text k)
+
+-- packet k, and none past the last
 abbrev pub packet_at : TextKind → ℕ → List ℕ → ℕ → Option Packet
-packet_at kind block text k =
-    if nat_lt k (part_count kind text) then Some (packet_of (part_message kind (form_at (part_count kind text) k) block (part_bytes (part_size kind) text k)))
-    else None
+packet_at kind block text k = if nat_lt k (part_count kind text) then Some (packet_of (message_at kind block text k)) else None
 
 -- packet k of a text as a part
 abbrev pub sent_part : TextKind → ℕ → List ℕ → ℕ → Part

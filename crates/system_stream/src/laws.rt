@@ -1,24 +1,42 @@
 // Laws over the definitions alone.
-ghost use Rattle.std.specs.Prelude.{◌≡◌, ◌≢◌, ◌<◌, ◌≤◌, ◌+◌, ◌-◌, ◌==◌, if◌then◌else◌, ℕ, List, Some, true, false, length, slice_index};
+ghost use Rattle.std.specs.Prelude.{
+  ◌≡◌,
+  ◌≢◌,
+  ◌<◌,
+  ◌≤◌,
+  ◌+◌,
+  ◌-◌,
+  ◌==◌,
+  if◌then◌else◌,
+  ℕ,
+  List,
+  true,
+  false,
+  length,
+  slice_index,
+};
 ghost use Rattle.std.specs.List.{All};
-ghost use Rattle.system_stream.specs.Cut.{form_at, packet_at, part_bytes, part_count, sent, sent_part};
+ghost use Rattle.system_stream.specs.Cut.{message_at, part_count, sent, sent_part};
 ghost use Rattle.system_stream.specs.Joining.{answer_to, opened_text, state_after};
 ghost use Rattle.system_stream.specs.Layout.{IsWritten, has_bad_format, message_in, packet_of};
 ghost use Rattle.system_stream.specs.Parts.{Part, answer_at, held, whole};
-ghost use Rattle.system_stream.specs.Texts.{is_text, limit_of, part_message, part_size};
+ghost use Rattle.system_stream.specs.Texts.{is_text, limit_of};
 ghost use Rattle.system_stream.specs.declared.message.StreamMessage.{StreamMessage};
 ghost use Rattle.system_stream.specs.declared.texts.TextKind.{TextKind};
 
 /// The packet of a message whose fields fit their places is read as this message.
 pub fn written_messages_are_read()
-    ensures format { (message : StreamMessage) → IsWritten message → has_bad_format (packet_of message) ≡ false }
-    ensures message { (message : StreamMessage) → IsWritten message → message_in (packet_of message) ≡ message }
+    ensures format { (message : StreamMessage) → IsWritten message →
+        has_bad_format (packet_of message) ≡ false }
+    ensures message { (message : StreamMessage) → IsWritten message →
+        message_in (packet_of message) ≡ message }
 {}
 
 /// Joining any parts of a kind, one after the other, is the definition that looks back over them: which text is open, and what
 /// is said of one more part.
 pub fn joined_parts_are_the_definition()
-    ensures open_text { (kind : TextKind) (past : List Part) → (state_after kind past).text ≡ opened_text kind past }
+    ensures open_text { (kind : TextKind) (past : List Part) →
+        (state_after kind past).text ≡ opened_text kind past }
     ensures answers { (kind : TextKind) (past : List Part) (part : Part) →
         answer_to (state_after kind past) part ≡ answer_at kind past part }
 {}
@@ -26,8 +44,10 @@ pub fn joined_parts_are_the_definition()
 /// A text is joined again from the packets into which it is cut, where it doesn't end in a zero byte and its bytes are a text
 /// of its kind: the last gives it, and those before are held, whatever came before them.
 pub fn cut_text_is_joined()
-    ensures { (kind : TextKind) (block : ℕ) (text : List ℕ) → 0 < length text → length text ≤ limit_of kind →
-        slice_index text (length text - 1) ≢ 0 → is_text kind text ≡ true → (past : List Part) (k : ℕ) → k < part_count kind text →
+    ensures { (kind : TextKind) (block : ℕ) (text : List ℕ) →
+        0 < length text → length text ≤ limit_of kind →
+        slice_index text (length text - 1) ≢ 0 → is_text kind text ≡ true →
+        (past : List Part) (k : ℕ) → k < part_count kind text →
         answer_at kind (sent kind block text past k) (sent_part kind block text k) ≡
         (if k + 1 == part_count kind text then whole text else held) }
 {}
@@ -36,6 +56,5 @@ pub fn cut_text_is_joined()
 pub fn cut_packets_are_read()
     ensures { (kind : TextKind) (block : ℕ) (text : List ℕ) → block < 256 → All (λ byte. byte < 256) text →
         (k : ℕ) → k < part_count kind text →
-        message_in (packet_of (part_message kind (form_at (part_count kind text) k) block (part_bytes (part_size kind) text k))) ≡
-        part_message kind (form_at (part_count kind text) k) block (part_bytes (part_size kind) text k) }
+        message_in (packet_of (message_at kind block text k)) ≡ message_at kind block text k }
 {}

@@ -117,8 +117,8 @@ fn flag(word: u32, low: u32) -> bool
 }
 
 fn info(low: u32, second: u32) -> StreamMessage
-    ensures { result ≡ stream.Info (field low 8 8) (field low 0 8)
-        (is_flag second 31) (field second 24 7) (is_flag second 9) (is_flag second 8) (is_flag second 1) (is_flag second 0) }
+    ensures { result ≡ stream.Info (field low 8 8) (field low 0 8) (is_flag second 31) (field second 24 7)
+        (is_flag second 9) (is_flag second 8) (is_flag second 1) (is_flag second 0) }
 {
     StreamMessage::Info {
         major: byte(low, 8),
@@ -134,7 +134,8 @@ fn info(low: u32, second: u32) -> StreamMessage
 
 fn identity(second: u32, third: u32, fourth: u32) -> StreamMessage
     ensures { result ≡ stream.Identity (field second 16 8 ∷ field second 8 8 ∷ field second 0 8 ∷ [])
-        (field third 24 8 ∷ field third 16 8 ∷ []) (field third 8 8 ∷ field third 0 8 ∷ []) (word_bytes fourth) }
+        (field third 24 8 ∷ field third 16 8 ∷ []) (field third 8 8 ∷ field third 0 8 ∷ [])
+        (word_bytes fourth) }
 {
     StreamMessage::Identity {
         manufacturer: [byte(second, 16), byte(second, 8), byte(second, 0)],
@@ -150,7 +151,8 @@ fn identity(second: u32, third: u32, fourth: u32) -> StreamMessage
 }
 
 fn block_info(low: u32, second: u32) -> StreamMessage
-    ensures { result ≡ stream.BlockInfo (is_flag low 15) (field low 8 7) (field low 4 2) (field low 2 2) (field low 0 2)
+    ensures { result ≡ stream.BlockInfo (is_flag low 15) (field low 8 7)
+        (field low 4 2) (field low 2 2) (field low 0 2)
         (field second 24 8) (field second 16 8) (field second 8 8) (field second 0 8) }
 {
     StreamMessage::BlockInfo {
@@ -168,7 +170,8 @@ fn block_info(low: u32, second: u32) -> StreamMessage
 
 // The text bytes from byte 3 on.
 fn name_bytes(low: u32, second: u32, third: u32, fourth: u32) -> [u8; 14]
-    ensures { result ≡ field low 8 8 ∷ field low 0 8 ∷ word_bytes second ++ word_bytes third ++ word_bytes fourth }
+    ensures { result ≡
+        field low 8 8 ∷ field low 0 8 ∷ word_bytes second ++ word_bytes third ++ word_bytes fourth }
 {
     [
         byte(low, 8),

@@ -3,7 +3,17 @@ ghost use Rattle.std.specs.Prelude.{◌≡◌, ◌<◌, ◌≤◌, ◌+◌, ◌*
 ghost use Rattle.ump_grammar.specs.Ranges.{IsPacket};
 ghost use Rattle.ump_grammar.specs.Spelling.{form_number};
 ghost use Rattle.ump_grammar.specs.declared.packet.Packet.TheVariants as packet;
-ghost use Rattle.system_stream.specs.Layout.{FitsPlaces, bit as bit_number, half_of, packet_of, text_word as word_at, word_of};
+ghost use Rattle.system_stream.specs.Layout.{
+  FitsPlaces,
+  IsBlockInfo,
+  IsInfo,
+  bit as bit_number,
+  half_of,
+  packet_of,
+  text_word as word_at,
+  word_of,
+};
+ghost use Rattle.system_stream.specs.declared.message.StreamMessage.TheVariants as stream;
 
 use crate::message::StreamMessage;
 use ump_grammar::Packet;
@@ -23,39 +33,13 @@ pub fn write(message: &StreamMessage) -> Packet
             minor,
             filter,
         } => single(0x000, half(*major, *minor), u32::from(*filter), 0, 0),
-        StreamMessage::Info {
-            major,
-            minor,
-            fixed,
-            blocks,
-            midi2,
-            midi1,
-            receives_jr,
-            sends_jr,
-        } => single(
-            0x001,
-            half(*major, *minor),
-            (bit(*fixed) << 31)
-                + (u32::from(*blocks) << 24)
-                + (bit(*midi2) << 9)
-                + (bit(*midi1) << 8)
-                + (bit(*receives_jr) << 1)
-                + bit(*sends_jr),
-            0,
-            0,
-        ),
+        StreamMessage::Info { .. } => info(message),
         StreamMessage::Identity {
             manufacturer,
             family,
             model,
             revision,
-        } => single(
-            0x002,
-            0,
-            word(0, manufacturer[0], manufacturer[1], manufacturer[2]),
-            word(family[0], family[1], model[0], model[1]),
-            text_word(revision, 0),
-        ),
+        } => identity(manufacturer, family, model, revision),
         StreamMessage::Name { form, text } => {
             text_packet(*form, 0x003, half(text[0], text[1]), text, 2)
         }
@@ -71,23 +55,7 @@ pub fn write(message: &StreamMessage) -> Packet
         StreamMessage::BlockDiscovery { block, filter } => {
             single(0x010, half(*block, *filter), 0, 0, 0)
         }
-        StreamMessage::BlockInfo {
-            active,
-            block,
-            hint,
-            midi1,
-            direction,
-            first,
-            count,
-            ci,
-            sysex8,
-        } => single(
-            0x011,
-            block_half(*active, *block, *hint, *midi1, *direction),
-            word(*first, *count, *ci, *sysex8),
-            0,
-            0,
-        ),
+        StreamMessage::BlockInfo { .. } => block_info(message),
         StreamMessage::BlockName { form, block, text } => {
             text_packet(*form, 0x012, half(*block, text[0]), text, 1)
         }
@@ -95,6 +63,70 @@ pub fn write(message: &StreamMessage) -> Packet
         StreamMessage::EndClip => single(0x021, 0, 0, 0, 0),
         StreamMessage::Other => unreachable!(),
     }
+}
+
+// Endpoint Info.
+fn info(message: &StreamMessage) -> Packet
+    requires row { IsInfo message.now }
+    requires fits { FitsPlaces message.now }
+    ensures packet { result ≡ packet_of message.now }
+    ensures fits { IsPacket result }
+{
+    let StreamMessage::Info {
+        major,
+        minor,
+        fixed,
+        blocks,
+        midi2,
+        midi1,
+        receives_jr,
+        sends_jr,
+    } = message
+    else {
+        unreachable!()
+    };
+    let second = (bit(*fixed) << 31)
+        + (u32::from(*blocks) << 24)
+        + (bit(*midi2) << 9)
+        + (bit(*midi1) << 8)
+        + (bit(*receives_jr) << 1)
+        + bit(*sends_jr);
+    single(0x001, half(*major, *minor), second, 0, 0)
+}
+
+// Device Identity.
+fn identity(manufacturer: &[u8; 3], family: &[u8; 2], model: &[u8; 2], revision: &[u8; 4]) -> Packet
+    ensures packet { result ≡ packet_of (stream.Identity manufacturer.now family.now model.now revision.now) }
+    ensures fits { IsPacket result }
+{
+    let second = word(0, manufacturer[0], manufacturer[1], manufacturer[2]);
+    let third = word(family[0], family[1], model[0], model[1]);
+    single(0x002, 0, second, third, text_word(revision, 0))
+}
+
+// Function Block Info.
+fn block_info(message: &StreamMessage) -> Packet
+    requires row { IsBlockInfo message.now }
+    requires fits { FitsPlaces message.now }
+    ensures packet { result ≡ packet_of message.now }
+    ensures fits { IsPacket result }
+{
+    let StreamMessage::BlockInfo {
+        active,
+        block,
+        hint,
+        midi1,
+        direction,
+        first,
+        count,
+        ci,
+        sysex8,
+    } = message
+    else {
+        unreachable!()
+    };
+    let low = block_half(*active, *block, *hint, *midi1, *direction);
+    single(0x011, low, word(*first, *count, *ci, *sysex8), 0, 0)
 }
 
 // A packet of format 0.

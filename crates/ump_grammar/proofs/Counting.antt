@@ -15,7 +15,8 @@ of_type words kind below whole is =
     let top : get_or words 0 0 / 2 ^ 28 ≡ kind = omega arith in
     whole ∙ ap (λ n. get_or word_counts n 4) top
 
-spelled-count : (p : Packet) (words : List ℕ) → get_or words 0 0 < 2 ^ 32 → Spells p words → length words ≡ word_count p
+-- as many as the row of the packet says
+pub spelled-count : (p : Packet) (words : List ℕ) → get_or words 0 0 < 2 ^ 32 → Spells p words → length words ≡ word_count p
 spelled-count (packet.Utility status value) words below s = of_type words 0 below s.whole s.row.0
 spelled-count (packet.System group message) words below s = of_type words 1 below s.whole s.row.0
 spelled-count (packet.Voice1 group message) words below s = of_type words 2 below s.whole s.row.0

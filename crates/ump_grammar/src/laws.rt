@@ -1,9 +1,10 @@
 // Laws of the grammar.
-ghost use Rattle.std.specs.Prelude.{◌≡◌, ℕ, List, true, None};
+ghost use Rattle.std.specs.Prelude.{◌≡◌, ◌<◌, ◌^◌, ℕ, List, true, None, length, slice_index};
 ghost use Rattle.ump_grammar.specs.declared.packet.Packet.{Packet};
 ghost use Rattle.ump_grammar.specs.Ranges.{IsPacket};
 ghost use Rattle.ump_grammar.specs.Reading.{ExclusivesHaveWords};
 ghost use Rattle.ump_grammar.specs.Reason.{reason};
+ghost use Rattle.ump_grammar.specs.Replies.{word_count};
 ghost use Rattle.ump_grammar.specs.Spelling.{HasRow, IsRead, Spells, has_row};
 
 /// Words spell one packet only.
@@ -24,4 +25,10 @@ pub fn rows_are_not_reserved()
 /// Each 7-bit exclusive packet whose fields fit their places has words (M2-104-UM, system exclusive 7-bit messages).
 pub fn exclusives_have_words()
     ensures { ExclusivesHaveWords }
+{}
+
+/// The words that spell a packet are as many as its row says.
+pub fn packets_have_their_words()
+    ensures { (p : Packet) (words : List ℕ) → slice_index words 0 < 2 ^ 32 → Spells p words →
+        length words ≡ word_count p }
 {}

@@ -4,8 +4,8 @@ use crate::{finish, unread_words};
 use midi_edge::{FolderLanes, Lanes, Sink, U4, WriteSink};
 use midi_pass::Reason;
 use std::io::ErrorKind;
-use std::test::Fail;
 use std::os::unix::fs as unix_fs;
+use std::test::Fail;
 use std::{fs, process};
 
 // Where everything can be written, what is gathered is written out whatever the status, which gives its own exit code.

@@ -1,0 +1,4 @@
+pub mod FewLaws
+pub mod KeyLaws
+pub mod Printable
+pub mod PushLaws

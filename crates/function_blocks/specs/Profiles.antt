@@ -1,0 +1,70 @@
+-- The profiles of a setup.
+use Rattle.std.specs.Prelude.{ℕ, ◌+◌, ◌-◌, Bool, true, false, ◌==◌, ◌&&◌, not, List, [], ◌∷◌, codes, Option, Some, None, option_and_then, if◌then◌else◌, slice_get, Ok}
+use Rattle.std.specs.List.{list_any}
+use Rattle.std.specs.Str.{bytes_eq}
+use Rattle.toml.specs.Data.{Members}
+use Rattle.function_blocks.specs.Keys.{text_at, numbers_at, number_at, flag_at, entries_at, each}
+use Rattle.function_blocks.specs.Rules.{Read, needs, after}
+use Rattle.function_blocks.specs.declared.rules.Rule.TheVariants as rule
+use Rattle.function_blocks.specs.declared.setup.Block.{Block}
+use Rattle.function_blocks.specs.declared.setup.Place.{Place}
+use Rattle.function_blocks.specs.declared.setup.Place.TheVariants as place
+use Rattle.function_blocks.specs.declared.setup.Profile.{Profile}
+use Rattle.function_blocks.specs.declared.profiles.PlaceKind.{PlaceKind}
+use Rattle.function_blocks.specs.declared.profiles.PlaceKind.TheVariants as kind
+
+-- the block of a number, where its `ci` isn't 0
+abbrev pub with_ci : Block → Option Block
+with_ci block = if block.ci == 0 then None else Some block
+
+abbrev pub ci_block : List Block → ℕ → Option Block
+ci_block blocks number = option_and_then with_ci (slice_get blocks number)
+
+-- the kind of a place, by its word
+abbrev pub kind_of : List ℕ → Option PlaceKind
+kind_of word =
+    if bytes_eq word (codes "function") then Some kind.Function
+    else if bytes_eq word (codes "group") then Some kind.Group
+    else if bytes_eq word (codes "channel") then Some kind.Channel
+    else None
+
+-- a group of the block
+abbrev pub group_of : Block → Members → Option ℕ
+group_of block table = number_at block.first (block.first + block.count - 1) (codes "group") table
+
+abbrev pub place_of : Block → Members → PlaceKind → Read Place
+place_of block table kind.Function = Ok place.Function
+place_of block table kind.Group = needs rule.GroupIsOfTheBlock (group_of block table) (λ group. Ok (place.Group group))
+place_of block table kind.Channel =
+    needs rule.GroupIsOfTheBlock (group_of block table) (λ group.
+    needs rule.ChannelIsInRange (number_at 0 15 (codes "channel") table) (λ channel.
+    Ok (place.Channel group channel)))
+
+-- there are at most 32 blocks, so no number above 31 is that of a block
+abbrev pub profile_of : List Block → Members → Read Profile
+profile_of blocks table =
+    needs rule.ProfileBlockHasCi (number_at 0 31 (codes "block") table) (λ number.
+    needs rule.ProfileBlockHasCi (ci_block blocks number) (λ block.
+    needs rule.PlaceIsKnown (option_and_then kind_of (text_at (codes "place") table)) (λ kind.
+    after (place_of block table kind) (λ place.
+    needs rule.ProfileIdIsFiveNumbers (numbers_at 5 127 (codes "id") table) (λ id.
+    needs rule.OnIsAFlag (flag_at (codes "on") table) (λ on.
+    Ok (record { block = number; place = place; id = id; on = on })))))))
+
+-- the profiles, one after the other
+abbrev pub profiles_of : List Block → Members → Read (List Profile)
+profiles_of blocks setup = after (entries_at rule.ProfilesAreTables 64 (codes "profile") setup) (each rule.ProfilesAreTables (profile_of blocks))
+
+abbrev pub same_place : Place → Place → Bool
+same_place place.Function place.Function = true
+same_place (place.Group group) (place.Group other) = group == other
+same_place (place.Channel group channel) (place.Channel other_group other_channel) = group == other_group && channel == other_channel
+same_place _ _ = false
+
+-- two profiles of the same block, place and id
+abbrev pub is_same_profile : Profile → Profile → Bool
+is_same_profile one other = one.block == other.block && (same_place one.place other.place && bytes_eq one.id other.id)
+
+abbrev pub profiles_are_distinct : List Profile → Bool
+profiles_are_distinct [] = true
+profiles_are_distinct (profile ∷ profiles) = not (list_any (is_same_profile profile) profiles) && profiles_are_distinct profiles

@@ -1,0 +1,21 @@
+//! The setup of an endpoint and its function blocks, and the replies to stream messages.
+#![tactic(auto)]
+
+mod answers;
+mod blocks;
+mod endpoint;
+mod keys;
+pub mod laws;
+mod profiles;
+mod reading;
+pub mod rules;
+pub mod setup;
+pub mod whole;
+
+pub use crate::laws::replies_are_few;
+pub use crate::rules::{Rule, SetupFault};
+pub use crate::setup::{Block, Config, Identity, Place, Profile};
+pub use crate::whole::Setup;
+
+#[cfg(test)]
+mod tests;

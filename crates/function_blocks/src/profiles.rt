@@ -1,0 +1,284 @@
+// The profiles of a setup.
+ghost use Rattle.std.specs.Prelude.{◌≡◌, ◌<◌, ◌≤◌, codes, map, length, IfOk, IfSome, option_and_then, option_map};
+ghost use Rattle.std.specs.List.{All, list_any};
+ghost use Rattle.std.specs.Str.{bytes_eq};
+ghost use Rattle.toml.specs.Data.{as_table};
+ghost use Rattle.toml.specs.View.{table_view, view};
+ghost use Rattle.function_blocks.specs.Blocks.{AddsRead, Gives, IsBlock};
+ghost use Rattle.function_blocks.specs.Keys.{each, number_at as number_of_key, numbers_at as numbers_of_key, text_at as text_of};
+ghost use Rattle.function_blocks.specs.Profiles.{
+  ci_block as ci_block_of,
+  group_of,
+  is_same_profile as are_same_profiles,
+  kind_of as kind_of_word,
+  place_of,
+  profile_of,
+  profiles_are_distinct,
+  profiles_of,
+  same_place,
+  with_ci as with_ci_of,
+};
+ghost use Rattle.function_blocks.specs.Rules.{needs};
+ghost use Rattle.function_blocks.specs.declared.rules.Rule.TheVariants as rule;
+ghost use Rattle.function_blocks.specs.declared.setup.Place.TheVariants as place_kinds;
+
+use crate::keys::{entries_at, flag_at, number_at, numbers_at, text_at};
+use crate::rules::{Rule, SetupFault, broken};
+use crate::setup::{Block, Place, Profile};
+use midi_edge::ShortList;
+use std::alloc::Global;
+use toml::{Table, Value};
+use voice_messages::{U4, U7};
+
+/// What the word of a place asks for besides.
+#[derive(Clone, Copy)]
+pub enum PlaceKind {
+    Function,
+    Group,
+    Channel,
+}
+
+// The block of a number, where its `ci` isn't 0.
+fn ci_block(blocks: &[Block], number: u32) -> Option<&Block>
+    requires { All IsBlock blocks.now }
+    ensures value { option_map (λ b. b.now) result ≡ ci_block_of blocks.now number }
+    ensures fits { IfSome result (λ b. IsBlock b.now) }
+    ensures within { IfSome result (λ b. number < length blocks.now) }
+{
+    match blocks.get(number as usize) {
+        Some(block) => with_ci(block),
+        None => None,
+    }
+}
+
+fn kind_of(word: &str) -> Option<PlaceKind>
+    ensures { result ≡ kind_of_word word.now }
+{
+    if word == "function" {
+        Some(PlaceKind::Function)
+    } else if word == "group" {
+        Some(PlaceKind::Group)
+    } else if word == "channel" {
+        Some(PlaceKind::Channel)
+    } else {
+        None
+    }
+}
+
+fn kind_at(table: &Table) -> Option<PlaceKind>
+    ensures { result ≡ option_and_then kind_of_word (text_of (codes "place") (table_view table.now)) }
+{
+    match text_at(table, "place") {
+        Some(word) => kind_of(word),
+        None => None,
+    }
+}
+
+// A group of the block.
+fn group_at(table: &Table, block: &Block) -> Option<U4>
+    requires { IsBlock block.now }
+    ensures { result ≡ group_of block.now (table_view table.now) }
+{
+    let first = u32::from(block.first);
+    let last = first + u32::from(block.count) - 1;
+    match number_at(table, "group", first, last) {
+        Some(group) => Some(U4::low_bits(group)),
+        None => None,
+    }
+}
+
+fn channel_at(table: &Table) -> Option<U4>
+    ensures { result ≡ number_of_key 0 15 (codes "channel") (table_view table.now) }
+{
+    match number_at(table, "channel", 0, 15) {
+        Some(channel) => Some(U4::low_bits(channel)),
+        None => None,
+    }
+}
+
+fn read_place(table: &Table, block: &Block, kind: PlaceKind) -> Result<Place, SetupFault>
+    requires { IsBlock block.now }
+    ensures { result ≡ place_of block.now (table_view table.now) kind }
+{
+    if let PlaceKind::Function = kind {
+        return Ok(Place::Function);
+    }
+    let group = group_at(table, block).ok_or(broken(Rule::GroupIsOfTheBlock))?;
+    if let PlaceKind::Group = kind {
+        return Ok(Place::Group(group));
+    }
+    let channel = channel_at(table).ok_or(broken(Rule::ChannelIsInRange))?;
+    Ok(Place::Channel(group, channel))
+}
+
+fn with_ci(block: &Block) -> Option<&Block>
+    ensures { option_map (λ b. b.now) result ≡ with_ci_of block.now }
+{
+    if block.ci == 0 { None } else { Some(block) }
+}
+
+// A number below 128.
+fn seven_bits(number: u8) -> U7
+    requires { number ≤ 127 }
+    ensures { result ≡ number }
+{
+    U7::low_bits(u32::from(number))
+}
+
+// The numbers of a profile's id.
+fn id_of(numbers: &ShortList<u8, 5>) -> [U7; 5]
+    requires count { length numbers.now ≡ 5 }
+    requires small { All (λ n. n ≤ 127) numbers.now }
+    ensures { result ≡ numbers.now }
+{
+    match numbers.as_slice() {
+        [first, second, third, fourth, fifth] => [
+            seven_bits(*first),
+            seven_bits(*second),
+            seven_bits(*third),
+            seven_bits(*fourth),
+            seven_bits(*fifth),
+        ],
+        _ => unreachable!(),
+    }
+}
+
+fn id_at(table: &Table) -> Option<[U7; 5]>
+    ensures { result ≡ numbers_of_key 5 127 (codes "id") (table_view table.now) }
+{
+    match numbers_at(table, "id", 127) {
+        Some(numbers) => Some(id_of(&numbers)),
+        None => None,
+    }
+}
+
+/// The rules of a profile's keys, in their order. The profile is added at the end.
+fn add_profile(
+    profiles: &mut Vec<Profile>,
+    table: &Table,
+    blocks: &[Block],
+) -> Result<(), SetupFault>
+    requires { All IsBlock blocks.now }
+    ensures { AddsRead (profile_of blocks.now (table_view table.now))
+        (λ p. p.block < length blocks.now) profiles.old.items profiles.new.items result }
+{
+    let number = number_at(table, "block", 0, 31).ok_or(broken(Rule::ProfileBlockHasCi))?;
+    let block = ci_block(blocks, number).ok_or(broken(Rule::ProfileBlockHasCi))?;
+    let kind = kind_at(table).ok_or(broken(Rule::PlaceIsKnown))?;
+    let place = read_place(table, block, kind)?;
+    let id = id_at(table).ok_or(broken(Rule::ProfileIdIsFiveNumbers))?;
+    let on = flag_at(table, "on").ok_or(broken(Rule::OnIsAFlag))?;
+    let profile = Profile {
+        block: number as u8,
+        place,
+        id,
+        on,
+    };
+    match profiles.push(profile) {
+        Ok(()) => Ok(()),
+        Err(_) => Err(SetupFault::NoMemory),
+    }
+}
+
+fn add_entry(profiles: &mut Vec<Profile>, value: &Value, blocks: &[Block]) -> Result<(), SetupFault>
+    requires { All IsBlock blocks.now }
+    ensures { AddsRead (needs rule.ProfilesAreTables (as_table (view value.now)) (profile_of blocks.now))
+        (λ p. p.block < length blocks.now) profiles.old.items profiles.new.items result }
+{
+    match value.as_table() {
+        Some(table) => add_profile(profiles, table, blocks),
+        None => Err(broken(Rule::ProfilesAreTables)),
+    }
+}
+
+fn read_each_profile(
+    alloc: Global,
+    values: &[Value],
+    blocks: &[Block],
+) -> Result<Vec<Profile>, SetupFault>
+    requires { All IsBlock blocks.now }
+    ensures value { Gives (each rule.ProfilesAreTables (profile_of blocks.now) (map view values.now)) result }
+    ensures count { IfOk result (λ profiles. length profiles.items ≡ length values.now) }
+    ensures blocks { IfOk result (λ profiles. All (λ p. p.block < length blocks.now) profiles.items) }
+{
+    let mut profiles = Vec::new(alloc);
+    for value in values {
+        add_entry(&mut profiles, value, blocks)?;
+    }
+    Ok(profiles)
+}
+
+/// The rules of the profiles, for one profile after the other.
+pub(crate) fn read_profiles(
+    alloc: Global,
+    setup: &Table,
+    blocks: &[Block],
+) -> Result<Vec<Profile>, SetupFault>
+    requires { All IsBlock blocks.now }
+    ensures value { Gives (profiles_of blocks.now (table_view setup.now)) result }
+    ensures few { IfOk result (λ profiles. length profiles.items ≤ 64) }
+    ensures blocks { IfOk result (λ profiles. All (λ p. p.block < length blocks.now) profiles.items) }
+{
+    let values = entries_at(setup, "profile", 64, Rule::ProfilesAreTables)?;
+    read_each_profile(alloc, values, blocks)
+}
+
+fn is_group(place: &Place, number: u8) -> bool
+    ensures { result ≡ same_place (place_kinds.Group number) place.now }
+{
+    match place {
+        Place::Group(group) => number == group.get(),
+        _ => false,
+    }
+}
+
+fn is_channel(place: &Place, group_number: u8, channel_number: u8) -> bool
+    ensures { result ≡ same_place (place_kinds.Channel group_number channel_number) place.now }
+{
+    match place {
+        Place::Channel(group, channel) => {
+            group_number == group.get() && channel_number == channel.get()
+        }
+        _ => false,
+    }
+}
+
+fn is_same_place(one: &Place, other: &Place) -> bool
+    ensures { result ≡ same_place one.now other.now }
+{
+    match one {
+        Place::Function => matches!(other, Place::Function),
+        Place::Group(group) => is_group(other, group.get()),
+        Place::Channel(group, channel) => is_channel(other, group.get(), channel.get()),
+    }
+}
+
+fn is_same_id(one: &[U7; 5], other: &[U7; 5]) -> bool
+    ensures { result ≡ bytes_eq one.now other.now }
+{
+    one == other
+}
+
+fn is_same_profile(one: &Profile, other: &Profile) -> bool
+    ensures { result ≡ are_same_profiles one.now other.now }
+{
+    one.block == other.block
+        && is_same_place(&one.place, &other.place)
+        && is_same_id(&one.id, &other.id)
+}
+
+fn is_among(profile: &Profile, others: &[Profile]) -> bool
+    ensures { result ≡ list_any (are_same_profiles profile.now) others.now }
+{
+    others.iter().any(|other| is_same_profile(profile, other))
+}
+
+/// Whether no two profiles have the same block, place and id.
+pub(crate) fn are_distinct(profiles: &[Profile]) -> bool
+    ensures { result ≡ profiles_are_distinct profiles.now }
+{
+    match profiles {
+        [] => true,
+        [first, rest @ ..] => !is_among(first, rest) && are_distinct(rest),
+    }
+}

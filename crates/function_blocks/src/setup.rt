@@ -1,0 +1,86 @@
+// What a setup says.
+use midi_edge::ShortList;
+use voice_messages::{U4, U7};
+
+/// The endpoint's own keys, within the ranges of the rules.
+#[derive(Debug, PartialEq, Eq, Drop)]
+pub struct Endpoint {
+    /// 1 to 98 bytes of UTF-8.
+    pub name: ShortList<u8, 98>,
+    /// 1 to 42 bytes of 32 to 126.
+    pub id: ShortList<u8, 42>,
+    pub manufacturer: [u8; 3],
+    /// 0 to 16,383.
+    pub family: u16,
+    /// 0 to 16,383.
+    pub model: u16,
+    pub revision: [u8; 4],
+    pub midi1: bool,
+    pub midi2: bool,
+    /// 1 for MIDI 1.0, 2 for MIDI 2.0.
+    pub protocol: u8,
+    /// Whether the function blocks never change, the key `static`.
+    pub fixed: bool,
+}
+
+/// A function block, with the keys of the setup (own rules; M2-104-UM, Function Block Info).
+#[derive(Debug, PartialEq, Eq, Drop)]
+pub struct Block {
+    pub active: bool,
+    /// 1 to 91 bytes of UTF-8.
+    pub name: ShortList<u8, 91>,
+    /// 0 to 3.
+    pub hint: u8,
+    /// 0 to 2.
+    pub midi1: u8,
+    /// 1 to 3.
+    pub direction: u8,
+    /// The first group, 0 to 15.
+    pub first: u8,
+    /// The number of groups, 1 to 16; `first + count` is at most 16.
+    pub count: u8,
+    /// The version of MIDI-CI, 0 to 2; 0 is none.
+    pub ci: u8,
+    pub sysex8: u8,
+    /// The MUIDs that the block takes one after the other, each at most 268,435,199.
+    pub muids: ShortList<u32, 16>,
+}
+
+/// Where a profile stands (M2-101-UM, profile addresses).
+#[derive(Clone, Copy, Debug, PartialEq, Eq)]
+pub enum Place {
+    /// The whole function block.
+    Function,
+    /// A group of it.
+    Group(U4),
+    /// A group of it, and a channel of that group.
+    Channel(U4, U4),
+}
+
+/// A profile of a function block.
+#[derive(Debug, PartialEq, Eq, Drop)]
+pub struct Profile {
+    /// The number of its block, counted from 0.
+    pub block: u8,
+    pub place: Place,
+    pub id: [U7; 5],
+    /// Whether it is on at first.
+    pub on: bool,
+}
+
+/// The identity of the device, as it stands in Device Identity (M2-104-UM): family and model have seven bits in each byte, the
+/// lowest first.
+#[derive(Clone, Copy, Debug, PartialEq, Eq)]
+pub struct Identity {
+    pub manufacturer: [u8; 3],
+    pub family: [u8; 2],
+    pub model: [u8; 2],
+    pub revision: [u8; 4],
+}
+
+/// The stream configuration in force.
+#[derive(Clone, Copy, Debug, PartialEq, Eq)]
+pub struct Config {
+    /// 1 for MIDI 1.0, 2 for MIDI 2.0.
+    pub protocol: u8,
+}
