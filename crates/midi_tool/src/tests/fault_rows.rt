@@ -26,6 +26,17 @@ fn whole(n: usize) -> usize {
     ENDS.iter().filter(|end| **end <= n).count()
 }
 
+// Where the last of them ends.
+fn end_of(n: usize) -> usize {
+    let mut at = 0;
+    for end in ENDS {
+        if end <= n {
+            at = end;
+        }
+    }
+    at
+}
+
 // The pieces of these packets: the first is listed, and each other one has a piece.
 fn pieces_of(packets: usize) -> &'static [(u8, &'static [u8])] {
     &PIECES[..packets.saturating_sub(1).min(3)]
@@ -42,7 +53,7 @@ fn each_front_of_a_recording(rt: HostRuntime) -> Result<(), Fail> {
     let alloc = rt.alloc();
     for n in 0..29usize {
         let packets = whole(n);
-        let at = if packets > 0 { ENDS[packets - 1] } else { 0 };
+        let at = end_of(n);
         let (status, line) = if at == n {
             (Status::Done, String::new(alloc))
         } else {
