@@ -162,7 +162,6 @@ fn put_raised<P: PacketWork, L: Lanes, W: Sink, N: Sink>(
 }
 
 /// Takes one more byte up, does the work on its packets, and puts its lines in the notes.
-#[inline(always)]
 pub(crate) fn put_byte<P: PacketWork, L: Lanes, W: Sink, N: Sink>(
     up: &mut Up,
     work: &mut P,
