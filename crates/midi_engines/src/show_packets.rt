@@ -1,5 +1,5 @@
 // From packets to lines.
-ghost use Rattle.std.specs.Prelude.{◌≡◌, ◌≤◌, ◌∷◌, [], length};
+ghost use Rattle.std.specs.Prelude.{◌≡◌, ◌≤◌, ◌∷◌, [], Ok, length};
 ghost use Rattle.ump_grammar.specs.Ranges.{IsPacket};
 ghost use Rattle.down_translator.specs.Held.{with_part_of};
 ghost use Rattle.voice_state.specs.Parts.{part_of};
@@ -11,35 +11,39 @@ ghost use Rattle.midi_lines.specs.PacketLines.{packet_text};
 ghost use Rattle.midi_engines.specs.Down.{refusal_by};
 ghost use Rattle.midi_engines.specs.Packets.{packet_cutting};
 ghost use Rattle.midi_engines.specs.ShowPackets.{HoldsShow, IsReadyShow, bad_join, options_of, showing, shows_last_named, shows_named, shows_nothing};
+ghost use Rattle.midi_engines.specs.Texts.{AreOfTheirKinds, line_of_text, text_of, text_puts, texts_after};
 
 use crate::down::refused;
 use crate::packets::PacketReader;
+use crate::texts::{Texts, put_text};
 use down_translator::laws::{spelled_packets_are_in_range, what_is_held_is_the_definition};
 use midi_edge::{Lanes, Sink, Source};
 use midi_lines::{Line, fill_packet_line};
 use midi_pass::places::put_output;
 use midi_pass::{Engine, Reason, RunEnd, drive};
 use sysex_groups::{Fed, Groups};
+use system_stream::joined_parts_are_the_definition;
 use ump_grammar::Packet;
 use ump_grammar::laws::words_spell_one_packet;
 use ump_words::{Framed, Order, fronts_are_cut_as_the_stream, one_cutting};
 use voice_state::BadStep;
 
-// Puts a line for each packet of a recording.
+// Puts a line for each packet of a recording, and one for each text that stream packets carry.
 #[derive(Drop)]
 struct ShowPackets {
     groups: Groups,
+    texts: Texts,
     line: Line,
 }
 
 impl Engine<Framed, Packet> for ShowPackets {
     ghost work = { λ first. showing (options_of first.groups) };
 
-    ghost IsReady = { λ first. IsReadyShow first.groups };
+    ghost IsReady = { λ first. IsReadyShow first.groups first.texts };
 
     ghost UsesLanes = { ⊥ };
 
-    ghost Holds = { λ first now past. HoldsShow first.groups now.groups past };
+    ghost Holds = { λ first now past. HoldsShow first.groups now.groups now.texts past };
 
     ghost Asks = { λ item. IsPacket item.1 };
 
@@ -55,8 +59,10 @@ impl Engine<Framed, Packet> for ShowPackets {
     ) -> Result<(), RunEnd> {
         what_is_held_is_the_definition();
         spelled_packets_are_in_range();
-        put_packet(
+        joined_parts_are_the_definition();
+        put_lines(
             &mut self.groups,
+            &mut self.texts,
             &mut self.line,
             at,
             item,
@@ -79,7 +85,7 @@ impl Engine<Framed, Packet> for ShowPackets {
 
     ghost last_puts_are_named = { λ first past puts put. shows_last_named (options_of first.groups) past puts put };
 
-    ghost starts = { λ first ready. shows_nothing first.groups ready };
+    ghost starts = { λ first ready. shows_nothing first.groups first.texts ready };
 
     ghost means = { λ first now past puts holds accepted put. tt };
 }
@@ -110,6 +116,7 @@ pub(crate) fn show_packets<S: Source, L: Lanes, W: Sink, N: Sink>(
     let reader = PacketReader::new(order);
     let engine = ShowPackets {
         groups,
+        texts: Texts::new(),
         line: Line::new(),
     };
     drive(reader, engine, input, lanes, output, notes)
@@ -155,5 +162,32 @@ fn put_packet<L: Lanes, W: Sink, N: Sink>(
             fill_packet_line(line, packet, framed.words.as_slice(), framed.offset);
             put_output(line.as_slice(), lanes, output, notes)
         }
+    }
+}
+
+// Puts the line of one more packet, and then that of the text that it ends, if it ends one; nothing where it is refused.
+fn put_lines<L: Lanes, W: Sink, N: Sink>(
+    groups: &mut Groups,
+    texts: &mut Texts,
+    line: &mut Line,
+    framed: &Framed,
+    packet: &Packet,
+    lanes: &mut L,
+    output: &mut W,
+    notes: &mut N,
+) -> Result<(), RunEnd>
+    requires packet { IsPacket packet.now }
+    requires kinds { AreOfTheirKinds texts.old }
+    ensures behind { groups.new ≡ with_part_of (part_of framed.now.offset packet.now) groups.old }
+    ensures after { result ≡ Ok tt → texts.new ≡ texts_after (text_of packet.now) texts.old }
+    ensures takes { Takes (refusal_by (bad_join groups.old packet.now) framed.now.offset)
+        (in_output (packet_text packet.now framed.now.words framed.now.offset)
+        ∷ text_puts (line_of_text (text_of packet.now) texts.old))
+        (places L.Lanes W.Sink N.Sink lanes.old output.old notes.old)
+        (places L.Lanes W.Sink N.Sink lanes.new output.new notes.new) result }
+{
+    match put_packet(groups, line, framed, packet, lanes, output, notes) {
+        Ok(()) => put_text(texts, line, packet, lanes, output, notes),
+        Err(end) => Err(end),
     }
 }
