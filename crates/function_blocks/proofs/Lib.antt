@@ -1,4 +1,5 @@
 pub mod FewLaws
+pub mod FourLaws
 pub mod KeyLaws
 pub mod Printable
 pub mod PushLaws

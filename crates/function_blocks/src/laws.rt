@@ -1,5 +1,7 @@
 // Laws over the definitions alone.
-ghost use Rattle.std.specs.Prelude.{ℕ, ◌≡◌, ◌≤◌, ◌*◌, List, Ok, length};
+ghost use Rattle.std.specs.Prelude.{ℕ, ◌≡◌, ◌≤◌, ◌*◌, length};
+ghost use Rattle.std.specs.List.{All};
+ghost use Rattle.ump_grammar.specs.Replies.{word_count};
 ghost use Rattle.system_stream.specs.declared.message.StreamMessage.{StreamMessage};
 ghost use Rattle.function_blocks.specs.Replies.{stream_replies};
 ghost use Rattle.function_blocks.specs.Setups.{Facts, IsSetup};
@@ -9,4 +11,10 @@ ghost use Rattle.function_blocks.specs.Setups.{Facts, IsSetup};
 pub fn replies_are_few()
     ensures { (setup : Facts) (protocol : ℕ) (message : StreamMessage) → IsSetup setup →
         4 * length (stream_replies setup protocol message) ≤ 1024 }
+{}
+
+/// Each reply is a packet of four words.
+pub fn replies_have_four_words()
+    ensures { (setup : Facts) (protocol : ℕ) (message : StreamMessage) →
+        All (λ packet. word_count packet ≡ 4) (stream_replies setup protocol message) }
 {}
