@@ -1,5 +1,5 @@
 -- The protocol in force, kept message by message.
-use Rattle.std.proofs.Common.{Bool, true, false, ℕ, ◌≡◌, ◌∙◌, ap, sym, refl, List, [], ◌∷◌, Option, Some, None, cond, option_and_then}
+use Rattle.std.proofs.Common.{Bool, true, false, ℕ, ◌≡◌, ◌∙◌, ap, sym, refl, List, [], ◌∷◌, Some, None, cond, option_and_then}
 use Rattle.std.specs.Prelude.{unwrap_or}
 use Rattle.std.specs.Option.{option_map_or}
 use Rattle.ump_grammar.specs.declared.packet.Packet.{Packet}
