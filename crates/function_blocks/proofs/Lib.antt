@@ -1,4 +1,6 @@
 pub mod FewLaws
+pub mod FourLaws
+pub mod InForceLaws
 pub mod KeyLaws
 pub mod Printable
 pub mod PushLaws

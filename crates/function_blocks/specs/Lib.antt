@@ -1,5 +1,6 @@
 pub mod Blocks
 pub mod Endpoints
+pub mod InForce
 pub mod Keys
 pub mod Profiles
 pub mod Pushing

@@ -1,7 +1,7 @@
 // The setup of a text.
 ghost use Rattle.std.specs.Prelude.{◌≡◌, ◌⊎◌, None, Some, IfErr, IfOk};
 ghost use Rattle.toml.specs.View.{table_view};
-ghost use Rattle.function_blocks.specs.Setups.{MeetsRead, setup_in, setup_of, tree_of};
+ghost use Rattle.function_blocks.specs.Setups.{IsSetup, MeetsRead, setup_in, setup_of, tree_of};
 
 use crate::blocks::{are_apart, muids_are_distinct, read_blocks};
 use crate::endpoint::read_endpoint;
@@ -18,7 +18,8 @@ impl Setup {
     /// ignored. `Field` comes exactly where the rule of that number is the first that is broken; `Syntax` exactly where the
     /// text is short enough and isn't UTF-8, or `toml` states no tree for it. `NoMemory` where there was no memory.
     pub fn read(alloc: Global, text: &[u8]) -> Result<Setup, SetupFault>
-        ensures { MeetsRead (setup_of text.now) result }
+        ensures setup { MeetsRead (setup_of text.now) result }
+        ensures fits { IfOk result IsSetup }
     {
         if text.len() > MOST_BYTES {
             return Err(broken(Rule::TextIsShort));
@@ -47,7 +48,8 @@ fn tree(alloc: Global, text: &[u8]) -> Result<Table, SetupFault>
 
 // The rules from the second on.
 fn read_table(alloc: Global, table: &Table) -> Result<Setup, SetupFault>
-    ensures { MeetsRead (setup_in (table_view table.now)) result }
+    ensures setup { MeetsRead (setup_in (table_view table.now)) result }
+    ensures fits { IfOk result IsSetup }
 {
     let endpoint = read_endpoint(table)?;
     let blocks = read_blocks(alloc, table)?;

@@ -88,7 +88,7 @@ fn with_line(alloc: Global, index: usize, line: &str) -> Result<(), SetupFault> 
     }
 }
 
-// What the whole setup is read as with more lines behind it.
+// What the whole setup is read as with more lines after it.
 fn with_more(alloc: Global, more: &[&str]) -> Result<(), SetupFault> {
     match text_of(alloc, LINES.len(), LINES.len(), "", more) {
         Ok(text) => read_only(alloc, text.as_slice()),
@@ -96,7 +96,7 @@ fn with_more(alloc: Global, more: &[&str]) -> Result<(), SetupFault> {
     }
 }
 
-// Each front lacks all that comes behind it, so it breaks all later rules too: the first is told.
+// Each front lacks all that comes after it, so it breaks all later rules too: the first is told.
 #[test]
 fn the_first_missing_key_is_told(rt: HostRuntime) {
     let rules: [u8; 29] = [
