@@ -150,10 +150,10 @@ fn shown<'a>(alloc: Global, words: &'a [&'a str], bytes: &[u8]) -> Result<Case<'
 }
 
 // Each read of this input fails in turn, and then each put, of which no byte stands, and then one.
-fn fails_in_turn(
+fn fails_in_turn<'a>(
     rt: &impl Abort,
     alloc: Global,
-    words: &[&str],
+    words: &'a [&'a str],
     bytes: &[u8],
     lines: &[Line],
 ) -> Result<(), Fail> {

@@ -242,7 +242,7 @@ fn an_empty_folder_cannot_be_opened(rt: HostRuntime) -> Result<(), Fail> {
 }
 
 // What the words make of a stream: the output and the notes, with no piece in a lane.
-fn gives(
+pub(super) fn gives(
     rt: &impl Abort,
     alloc: Global,
     words: &[&str],
