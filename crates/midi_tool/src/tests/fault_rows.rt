@@ -129,15 +129,17 @@ fn each_put_of_a_recording_fails_in_turn(rt: HostRuntime) -> Result<(), Fail> {
     Ok(())
 }
 
-// A line, and the number of input bytes after which it is put; those of the end of the input have one more than there are.
-type Line = (usize, &'static str);
+// The number of input bytes after which a line is put, which is one more than there are at the end of the input; the first character of
+// the line, and the rest of it.
+type Line = (usize, &'static str, &'static str);
 
 // The lines that are put once this many bytes are there.
 fn lines_within(alloc: Global, lines: &[Line], n: usize) -> Result<String, AllocError> {
     let mut text = String::new(alloc);
-    for (after, line) in lines {
+    for (after, first, rest) in lines {
         if *after <= n {
-            text.push_str(line)?;
+            text.push_str(first)?;
+            text.push_str(rest)?;
         }
     }
     Ok(text)
@@ -172,8 +174,8 @@ fn fails_in_turn<'a>(
     }
     for kept in 0..2usize {
         let mut before = String::new(alloc);
-        for (n, (_, line)) in lines.iter().enumerate() {
-            let part = &line[..kept];
+        for (n, (_, first, rest)) in lines.iter().enumerate() {
+            let part = if kept > 0 { *first } else { "" };
             let output = format!(in alloc; "{before}{part}")?;
             let mut given = shown(alloc, words, bytes)?;
             given.output_puts = vec![in alloc; (n as u64, kept)]?;
@@ -184,7 +186,8 @@ fn fails_in_turn<'a>(
                 notes: "output write failed\n",
             };
             leaves(rt, alloc, given, left)?;
-            before.push_str(line)?;
+            before.push_str(first)?;
+            before.push_str(rest)?;
         }
     }
     Ok(())
@@ -194,18 +197,21 @@ fn fails_in_turn<'a>(
 fn each_read_and_put_of_shown_packets_fails_in_turn(rt: HostRuntime) -> Result<(), Fail> {
     let alloc = rt.alloc();
     let lines: [Line; 4] = [
-        (4, "0 00200010 utility status=2 value=16\n"),
+        (4, "0", " 00200010 utility status=2 value=16\n"),
         (
             12,
-            "4 40903C00 C9240000 note-on group=0 channel=0 note=60 velocity=51492 type=0 attribute=0\n",
+            "4",
+            " 40903C00 C9240000 note-on group=0 channel=0 note=60 velocity=51492 type=0 attribute=0\n",
         ),
         (
             20,
-            "12 40E00000 A0000000 bend group=0 channel=0 value=2684354560\n",
+            "1",
+            "2 40E00000 A0000000 bend group=0 channel=0 value=2684354560\n",
         ),
         (
             28,
-            "20 40803C00 80000000 note-off group=0 channel=0 note=60 velocity=32768 type=0 attribute=0\n",
+            "2",
+            "0 40803C00 80000000 note-off group=0 channel=0 note=60 velocity=32768 type=0 attribute=0\n",
         ),
     ];
     let bytes = super::bytes_of(alloc, &KEYBOARD)?;
@@ -216,13 +222,13 @@ fn each_read_and_put_of_shown_packets_fails_in_turn(rt: HostRuntime) -> Result<(
 fn each_read_and_put_of_shown_bytes_fails_in_turn(rt: HostRuntime) -> Result<(), Fail> {
     let alloc = rt.alloc();
     let lines: [Line; 7] = [
-        (1, "0 stray\n"),
-        (4, "1 cut-message\n"),
-        (6, "3 cut-exclusive\n"),
-        (6, "5 system status=F6\n"),
-        (7, "6 stray\n"),
-        (10, "9 m1-note-on channel=0 note=60 velocity=100\n"),
-        (12, "10 open-message\n"),
+        (1, "0", " stray\n"),
+        (4, "1", " cut-message\n"),
+        (6, "3", " cut-exclusive\n"),
+        (6, "5", " system status=F6\n"),
+        (7, "6", " stray\n"),
+        (10, "9", " m1-note-on channel=0 note=60 velocity=100\n"),
+        (12, "1", "0 open-message\n"),
     ];
     let bytes = [
         0x05, 0x90, 0x3C, 0xF0, 0x01, 0xF6, 0xF7, 0x90, 0x3C, 0x64, 0x3E,
