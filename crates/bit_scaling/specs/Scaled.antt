@@ -6,7 +6,7 @@ use Rattle.std.proofs.lemmas.Nat.{div-mul-add}
 use Rattle.std.proofs.Math.Nat.{add-zero, div-lt_iff_lt-mul, le-max_left, le-pred_of_lt, lt_of_le_of_lt, max-eq_right, max-le, min-le_left}
 use Rattle.bit_scaling.specs.Scaling.{up, down7, down14, release_down, velocity_down}
 
--- a raised value is the value times a power of two, and less than that more
+-- a raised value is the value times a power of two, plus less than that power
 whole : (value size : ℕ) → 0 < size → value * size / size ≡ value
 whole value size above = ap (λ n. n / size) (sym (add-zero (value * size))) ∙ div-mul-add value size 0 above
 

@@ -23,7 +23,7 @@ down14 value = value / 2 ^ 18
 unfoldable pub release_down : ℕ → ℕ
 release_down velocity = velocity / 512
 
--- a velocity of 16 bits as one of 7, which stays a note on: never 0
+-- a velocity of 16 bits as one of 7 that is never 0, so that a note on stays one
 unfoldable pub velocity_down : ℕ → ℕ
 velocity_down velocity = max 1 (velocity / 512)
 

@@ -1,14 +1,23 @@
 // What holds of all values that are raised and lowered.
 ghost use Rattle.std.specs.Prelude.{ℕ, ◌≡◌, ◌<◌};
-ghost use Rattle.bit_scaling.specs.Scaling.{up, down7, down14, release_down, velocity_down, IsIncreasing, KeepsEnds};
+ghost use Rattle.bit_scaling.specs.Scaling.{
+  up,
+  down7,
+  down14,
+  release_down,
+  velocity_down,
+  IsIncreasing,
+  KeepsEnds,
+};
 
-/// A value that is raised and lowered again is the value; the velocity of a note on from 1 on.
+/// A value that is raised and then lowered is unchanged; the velocity of a note on only from 1 up.
 #[tactic(auto, using(crate::proofs::ScalingLaws::lowered_again))]
 pub fn lowering_undoes_raising()
     ensures seven { (value : ℕ) → value < 128 → down7 (up value 7 32) ≡ value }
     ensures fourteen { (value : ℕ) → value < 16384 → down14 (up value 14 32) ≡ value }
     ensures release { (velocity : ℕ) → velocity < 128 → release_down (up velocity 7 16) ≡ velocity }
-    ensures velocity { (velocity : ℕ) → 0 < velocity → velocity < 128 → velocity_down (up velocity 7 16) ≡ velocity }
+    ensures velocity { (velocity : ℕ) → 0 < velocity → velocity < 128 →
+        velocity_down (up velocity 7 16) ≡ velocity }
 {}
 
 /// A greater value is raised to a greater one.

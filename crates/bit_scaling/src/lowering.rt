@@ -20,7 +20,7 @@ pub fn down14(value: u32) -> U14
     U14::low_bits(value >> 18)
 }
 
-/// The upper 7 bits of a note off's velocity of 16 (M2-115-U).
+/// The upper 7 bits of the 16-bit velocity of a note off (M2-115-U).
 #[tactic(auto, unfolding(crate::specs::Scaling::release_down))]
 pub fn release_down(velocity: u16) -> U7
     ensures { result ≡ release_down velocity }
@@ -28,7 +28,7 @@ pub fn release_down(velocity: u16) -> U7
     U7::low_bits((velocity >> 9) as u32)
 }
 
-/// The upper 7 bits of a note on's velocity of 16, and 1 where they are 0: a MIDI 1.0 note on of velocity 0 would be a note
+/// The upper 7 bits of the 16-bit velocity of a note on, or 1 where they are 0: a MIDI 1.0 note on of velocity 0 would be a note
 /// off (M2-104-UM, translation of note on).
 #[tactic(auto, unfolding(crate::specs::Scaling::velocity_down))]
 pub fn velocity_down(velocity: u16) -> U7

@@ -23,7 +23,7 @@ address_of number =
     else if number == 0x7F then Some address.Block
     else None
 
--- what stands between the destination and F7
+-- what is between the destination and F7
 abbrev pub body_of : List ℕ → List ℕ
 body_of message = part_at message 14 (length message - 15)
 

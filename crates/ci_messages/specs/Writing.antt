@@ -22,7 +22,7 @@ IsAddress _ = Unit {0}
 abbrev pub FitsBody : Body → Type 0
 FitsBody body = FitsFields (fields_of (body_kind body)) (values_of body)
 
--- a view's body is of the kind that its sub-id tells, and its numbers fit their bytes
+-- a view's body is of the kind that its sub-id names, and its numbers fit their bytes
 pub record IsView (view : CiView) : Type 0 where
   pub address : IsAddress view.address
   pub sub : view.sub < 128
@@ -35,7 +35,7 @@ pub record IsView (view : CiView) : Type 0 where
 abbrev pub body_bytes : Body → List ℕ
 body_bytes body = bytes_of_fields (fields_of (body_kind body)) (values_of body)
 
--- what stands before the body
+-- what comes before the body
 abbrev pub head_bytes : CiView → List ℕ
 head_bytes view =
     0xF0 ∷ 0x7E ∷ address_number view.address ∷ 0x0D ∷ view.sub ∷ view.version
@@ -44,7 +44,7 @@ head_bytes view =
 abbrev pub message_bytes : CiView → List ℕ
 message_bytes view = head_bytes view ++ (body_bytes view.body ++ 0xF7 ∷ [])
 
--- two views say the same, wherever the bytes stand that they lend
+-- two views say the same, wherever the bytes that they borrow are
 pub record SameView (one other : CiView) : Type 0 where
   pub address : one.address ≡ other.address
   pub sub : one.sub ≡ other.sub

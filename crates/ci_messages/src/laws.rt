@@ -5,8 +5,7 @@ ghost use Rattle.ci_messages.specs.declared.view.CiView.{CiView};
 ghost use Rattle.ci_messages.specs.Reading.{CiSpells, IsExclusive, Reads, ci_fault};
 ghost use Rattle.ci_messages.specs.Writing.{IsView, SameView, message_bytes};
 
-/// A message that is written is an exclusive. Where its source is below 0FFFFF00, it is read again as the same
-/// view.
+/// A message that is written is an exclusive. If its source is below 0FFFFF00, it is read back as the same view.
 pub fn written_messages_are_read_again()
     ensures exclusive { (view : CiView) → IsView view → length (message_bytes view) ≤ 512 →
         IsExclusive (message_bytes view) }
@@ -17,13 +16,13 @@ pub fn written_messages_are_read_again()
     messages_spell_one_view();
 }
 
-/// The bytes of a message spell one view.
+/// The bytes of a message spell at most one view.
 pub fn messages_spell_one_view()
     ensures { (message : List ℕ) (one other : CiView) → CiSpells one message → CiSpells other message →
         SameView one other }
 {}
 
-/// The numbers of a view that is read fit their bytes, and what it lends are data bytes.
+/// The numbers of a view that is read fit their bytes, and the bytes that it borrows are data bytes.
 pub fn views_that_are_read_fit()
     ensures { (message : List ℕ) (view : CiView) → IsExclusive message → ci_fault message ≡ None →
         CiSpells view message → IsView view }

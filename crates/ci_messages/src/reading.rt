@@ -19,7 +19,7 @@ const BODY: usize = 14;
 /// The bytes of a message without a body: those before it, and F7.
 const SHORTEST: usize = 15;
 
-// The address of a number; `None` exactly where there is none.
+// The address of a number; `None` exactly when there is none.
 fn address(number: u8) -> Option<Address>
     ensures { result ≡ address_of number }
 {
@@ -72,7 +72,7 @@ fn endpoint_inquiry<'a>(body: &'a [u8]) -> Option<Body<'a>>
     Some(Body::EndpointInquiry { status })
 }
 
-// The items of `size` bytes each that follow their count at a place; `None` exactly where the bytes end too early.
+// The items of `size` bytes each that follow their count at a place; `None` exactly when the bytes end too early.
 fn counted<'a>(body: &'a [u8], at: usize, size: usize) -> Option<&'a [u8]>
     requires place { at ≤ length body.now }
     requires size { size ≤ 5 }
@@ -149,7 +149,7 @@ fn switch(body: &[u8]) -> Option<(ProfileId, u16)>
     Some((profile_id(body, 0), number_of_two(body, 5) as u16))
 }
 
-// The body of a message of a kind; `None` exactly where it is shorter than its fields.
+// The body of a message of a kind; `None` exactly when it is shorter than its fields.
 fn body_of_kind<'a>(kind: Kind, body: &'a [u8]) -> Option<Body<'a>>
     requires { IsData body.now }
     ensures { ReadsBody kind body.now result }
@@ -191,7 +191,7 @@ fn is_ci(message: &[u8]) -> bool
     message.len() >= 6 && message[1] == 0x7E && message[3] == 0x0D
 }
 
-// What stands between the destination and F7.
+// What is between the destination and F7.
 fn body_bytes(message: &[u8]) -> &[u8]
     requires exclusive { IsExclusive message.now }
     requires long_enough { 15 ≤ length message.now }
@@ -201,8 +201,8 @@ fn body_bytes(message: &[u8]) -> &[u8]
     part(message, BODY, message.len() - SHORTEST)
 }
 
-/// Reads a message (M2-101-UM) from its exclusive, which has data bytes between F0 and F7. The view lends the texts,
-/// lists and unread bytes of the exclusive. Bytes that follow the fields of a body are ignored.
+/// Reads a message (M2-101-UM) from its exclusive, which has data bytes between F0 and F7. The view borrows the texts, lists and
+/// unread bytes of the exclusive. Bytes that follow the fields of a body are ignored.
 ///
 /// A fault is the first of these that applies:
 /// - `NotCi`: there are fewer than 6 bytes, or byte 2 (F0 is byte 1) isn't 7E, or byte 4 isn't 0D;

@@ -8,7 +8,7 @@ use super::*;
 use midi_edge::ShortList;
 use voice_messages::{U4, U7};
 
-// What stands before the sub-id and after the version: from MUID 5 to 19088743, at channel 2.
+// What comes before the sub-id and after the version: from MUID 5 to 19088743, at channel 2.
 const BEFORE_SUB: [u8; 3] = [0x7E, 0x02, 0x0D];
 
 const AFTER_VERSION: [u8; 8] = [0x05, 0x00, 0x00, 0x00, 0x67, 0x0A, 0x0D, 0x09];

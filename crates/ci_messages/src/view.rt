@@ -5,7 +5,7 @@ use voice_messages::{U4, U7};
 /// What a message is about (M2-101-UM, device id).
 #[derive(Clone, Copy, Debug, PartialEq, Eq)]
 pub enum Address {
-    /// 00 to 0F: a channel of the group on which the message goes.
+    /// 00 to 0F: a channel of the group on which the message is sent.
     Channel(U4),
     /// 7E: the group.
     Group,
@@ -39,7 +39,7 @@ impl ProfileId {
     }
 }
 
-/// A MIDI-CI message (M2-101-UM). It lends its texts, lists and unread bytes from the bytes that were read.
+/// A MIDI-CI message (M2-101-UM). It borrows its texts, lists and unread bytes from the bytes that were read.
 #[derive(Clone, Copy, Debug, PartialEq, Eq)]
 pub struct CiView<'a> {
     pub address: Address,
@@ -54,10 +54,10 @@ pub struct CiView<'a> {
     pub body: Body<'a>,
 }
 
-/// What stands between the destination and F7, by sub-id. A message of version 02 or above has the fields of version
-/// 02; of version 00 and 01 it is `Other`, whatever its sub-id (own rule).
+/// What is between the destination and F7, by sub-id. A message of version 02 or above has the fields of version 02; of version
+/// 00 and 01 it is `Other`, whatever its sub-id (own rule).
 ///
-/// A `u8` is a data byte, 0 to 127. A `u16` has 14 bits and a `u32` 28. Arrays and lent bytes are data bytes.
+/// A `u8` is a data byte, 0 to 127. A `u16` has 14 bits and a `u32` 28. Arrays and borrowed bytes are data bytes.
 #[derive(Clone, Copy, Debug, PartialEq, Eq)]
 pub enum Body<'a> {
     /// 70: Discovery.
@@ -101,7 +101,7 @@ pub enum Body<'a> {
     },
     /// 7E: Invalidate MUID.
     Invalidate {
-        /// The MUID that no longer holds.
+        /// The MUID that is no longer valid.
         target: u32,
     },
     /// 7F: MIDI-CI NAK.
@@ -127,7 +127,7 @@ pub enum Body<'a> {
     /// 22: Set Profile On.
     SetOn {
         id: ProfileId,
-        /// The number of channels that is asked for.
+        /// The number of channels asked for.
         channels: u16,
     },
     /// 23: Set Profile Off.

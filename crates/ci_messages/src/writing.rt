@@ -145,9 +145,9 @@ fn number_of(address: Address) -> u8
 
 /// Writes the bytes of a message (M2-101-UM), from F0 to F7, into an empty list. Reserved bytes are zeros.
 ///
-/// The version is 2 to 127, the body is the one that the sub-id tells, each number fits its bytes, lent bytes are data
-/// bytes, a list of profiles has five bytes for each, and the message has at most 512 bytes. Where its source is below
-/// 0FFFFF00, it is read again as the same view.
+/// The version is 2 to 127, the body is the one that the sub-id names, each number fits its bytes, borrowed bytes are data bytes,
+/// a list of profiles has five bytes for each, and the message has at most 512 bytes. If its source is below 0FFFFF00, it is read
+/// back as the same view.
 pub fn write(view: &CiView<'_>, into: &mut ShortList<u8, 512>)
     requires view { IsView view.now }
     requires version { 2 ≤ view.now.version }

@@ -1,7 +1,7 @@
 -- What a command line asks for.
 use Rattle.std.specs.Prelude.{◌≤◌, ◌<◌, ℕ, Bool, List}
 use Rattle.command_line.specs.declared.command.Command.{Command}
-use Rattle.command_line.specs.declared.command.Command.TheVariants.{Down, Up, Back, Show, ShowBytes}
+use Rattle.command_line.specs.declared.command.Command.TheVariants.{Down, Up, Back, Show, ShowBytes, Endpoint}
 
 -- `translate down`: the folder, little endian or not, and the most bytes of an exclusive
 pub record DownWords : Type 0 where
@@ -29,12 +29,19 @@ pub record ShowWords : Type 0 where
 pub record ShowBytesWords : Type 0 where
   pub room : ℕ
 
+-- `endpoint`: the name of the setup, little endian or not, and the most bytes of an exclusive
+pub record EndpointWords : Type 0 where
+  pub setup : List ℕ
+  pub little : Bool
+  pub room : ℕ
+
 pub data Asked : Type 0 where
   down : DownWords → Asked
   up : UpWords → Asked
   back : BackWords → Asked
   show : ShowWords → Asked
   show_bytes : ShowBytesWords → Asked
+  endpoint : EndpointWords → Asked
 
 -- what a command asks for
 abbrev pub asked_of : Command → Asked
@@ -43,6 +50,7 @@ asked_of (Up group little room) = up (record { group = group; little = little; r
 asked_of (Back group room) = back (record { group = group; room = room })
 asked_of (Show little room) = show (record { little = little; room = room })
 asked_of (ShowBytes room) = show_bytes (record { room = room })
+asked_of (Endpoint setup little room) = endpoint (record { setup = setup.now; little = little; room = room })
 
 -- the room for an exclusive, 6 to 1,048,576 bytes
 abbrev pub IsRoom : ℕ → Type 0
@@ -55,3 +63,4 @@ IsInRange (up words) = (words.group < 16) × IsRoom words.room
 IsInRange (back words) = (words.group < 16) × IsRoom words.room
 IsInRange (show words) = IsRoom words.room
 IsInRange (show_bytes words) = IsRoom words.room
+IsInRange (endpoint words) = IsRoom words.room

@@ -6,7 +6,7 @@ use Rattle.std.specs.Str.Parse.{digits_value}
 use Rattle.std.specs.Char.{is_ascii_digit}
 use Rattle.clap.specs.Walk.{Text, Row, first_of}
 use Rattle.clap.specs.Simple.{subcommand_of}
-use Rattle.command_line.specs.Asked.{Asked, down, up, back, show, show_bytes}
+use Rattle.command_line.specs.Asked.{Asked, down, up, back, show, show_bytes, endpoint}
 use Rattle.command_line.specs.Words.{cli, is_taken, is_set}
 
 -- one to ten decimal digits
@@ -61,6 +61,10 @@ show_of true true room = None
 show_of true false room = option_map (λ r. show_bytes (record { room = r })) (room_in room)
 show_of false little room = option_map (λ r. show (record { little = little; room = r })) (room_in room)
 
+-- setup, little, room: a setup may have any name
+abbrev pub endpoint_of : Text → Bool → Option Text → Option Asked
+endpoint_of setup little room = option_map (λ r. endpoint (record { setup = setup; little = little; room = r })) (room_in room)
+
 -- what a subcommand with its rows asks for
 abbrev pub asked_in : Text → List Row → Option Asked
 asked_in name rows =
@@ -68,7 +72,9 @@ asked_in name rows =
     if bytes_eq name (codes "translate") then option_and_then (λ d. translate_of d (at (codes "folder")) (at (codes "group"))
     (is_set (codes "little") rows) (at (codes "room"))) (at (codes "direction"))
     else (if bytes_eq name (codes "show") then show_of (is_set (codes "bytes") rows) (is_set (codes "little") rows) (at (codes "room"))
-    else None)
+    else (if bytes_eq name (codes "endpoint") then option_and_then (λ s. endpoint_of s (is_set (codes "little") rows) (at (codes "room")))
+    (at (codes "setup"))
+    else None))
 
 -- what the matches of the words ask for
 abbrev pub asked_by : List Text → Option Asked

@@ -31,6 +31,13 @@ pub enum Command<'a> {
     ShowBytes {
         room: u32,
     },
+    /// `endpoint`: the exclusives and stream messages in words are answered by the endpoint of this setup. The name of the
+    /// setup may be any text, also the empty one.
+    Endpoint {
+        setup: &'a str,
+        little: bool,
+        room: u32,
+    },
 }
 
 /// Why words give no command.

@@ -1,6 +1,6 @@
 // Laws of the command line: words of each command, and a request for help.
 ghost use Rattle.std.specs.Prelude.{◌≡◌, Some, None, true, false, codes, [], ◌∷◌};
-ghost use Rattle.command_line.specs.Asked.{down, up, back, show, show_bytes};
+ghost use Rattle.command_line.specs.Asked.{down, up, back, show, show_bytes, endpoint};
 ghost use Rattle.command_line.specs.Rules.{command_of};
 
 /// `translate down` with its folder, alone and with all that may be left out.
@@ -39,6 +39,14 @@ pub fn show_is_taken()
         ≡ Some (show_bytes (record { room = 1048576 })) }
     ensures most_bytes { command_of (codes "show" ∷ codes "--bytes" ∷ codes "--room" ∷ codes "6" ∷ [])
         ≡ Some (show_bytes (record { room = 6 })) }
+{}
+
+/// `endpoint` with its setup, alone and with all that may be left out.
+pub fn endpoint_is_taken()
+    ensures least { command_of (codes "endpoint" ∷ codes "S" ∷ [])
+        ≡ Some (endpoint (record { setup = codes "S"; little = false; room = 1048576 })) }
+    ensures most { command_of (codes "endpoint" ∷ codes "S" ∷ codes "--little" ∷ codes "--room" ∷ codes "6" ∷ [])
+        ≡ Some (endpoint (record { setup = codes "S"; little = true; room = 6 })) }
 {}
 
 /// Requests for help, and no words at all, aren't commands.

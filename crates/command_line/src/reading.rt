@@ -4,7 +4,7 @@ ghost use Rattle.std.specs.Option.{option_copied};
 ghost use Rattle.clap.specs.Words.{found_of, rows_of};
 ghost use Rattle.clap.specs.Simple.{subcommand_rows_of};
 ghost use Rattle.command_line.specs.Asked.{asked_of, IsInRange};
-ghost use Rattle.command_line.specs.Rules.{down_of, up_of, back_of, translate_of, show_of, asked_in, command_of};
+ghost use Rattle.command_line.specs.Rules.{down_of, up_of, back_of, translate_of, show_of, endpoint_of, asked_in, command_of};
 
 use crate::command::{Command, WordsFault};
 use crate::matches::{is_flag_set, matches_of, text};
@@ -111,6 +111,18 @@ fn show<'a>(bytes: bool, little: bool, room_text: Option<&str>) -> Option<Comman
     }
 }
 
+fn endpoint<'a>(setup: &'a str, little: bool, room_text: Option<&str>) -> Option<Command<'a>>
+    ensures command { option_map asked_of result ≡ endpoint_of setup.now little (option_copied room_text.entry) }
+    ensures range { IfSome result (λ c. IsInRange (asked_of c)) }
+{
+    let room = room(room_text)?;
+    Some(Command::Endpoint {
+        setup,
+        little,
+        room,
+    })
+}
+
 // The command of a subcommand's name and matches.
 fn command_in<'a>(name: &str, matches: &ArgMatches<'a>) -> Option<Command<'a>>
     ensures command { option_map asked_of result ≡ asked_in name.now (rows_of (found_of matches.now)) }
@@ -131,6 +143,9 @@ fn command_in<'a>(name: &str, matches: &ArgMatches<'a>) -> Option<Command<'a>>
             is_flag_set(matches, "little"),
             text(matches, "room"),
         )
+    } else if name == "endpoint" {
+        let setup = text(matches, "setup")?;
+        endpoint(setup, is_flag_set(matches, "little"), text(matches, "room"))
     } else {
         None
     }
@@ -147,13 +162,14 @@ fn command_below<'a>(matches: &ArgMatches<'a>) -> Option<Command<'a>>
     }
 }
 
-/// The command of the words, which come without the program's name (own rule). A folder is borrowed from the words.
+/// The command of the words, which come without the program's name (own rule). A folder and the name of a setup
+/// are borrowed from the words.
 ///
 /// `Usage` only where `clap` doesn't take the words, as with a request for help, or a rule of ours is broken, and such words
 /// never give a command: the direction is `down`, `up` or `back`; `--folder`, which may be empty, is given with `down` and
 /// with no other direction; `--group` isn't given with `down`; `--little` isn't given with `back`, nor with `--bytes`; a
 /// number has 1 to 10 digits and lies in its range, a group 0 to 15 (at first 0), a room 6 to 1,048,576 (at first the
-/// greatest). `NoMemory` where `clap` finds no memory.
+/// greatest). The name of a setup may be any text. `NoMemory` where `clap` finds no memory.
 #[tactic(auto, unfolding(crate::specs::Rules::command_of))]
 pub fn command_line<'a>(alloc: Global, words: &'a [String]) -> Result<Command<'a>, WordsFault>
     ensures ok { IfOk result (λ c. command_of (map string_bytes words.entry.now) ≡ Some (asked_of c)) }

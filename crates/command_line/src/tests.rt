@@ -150,6 +150,32 @@ fn words_of_show(rt: HostRuntime) -> Result<(), Fail> {
     Ok(())
 }
 
+#[test]
+fn words_of_endpoint(rt: HostRuntime) -> Result<(), Fail> {
+    let alloc = rt.alloc();
+    for (line, setup, little, room) in [
+        ("endpoint S", "S", false, MOST),
+        ("endpoint S --little", "S", true, MOST),
+        ("endpoint S --room 6", "S", false, 6),
+        ("endpoint S --little --room 8", "S", true, 8),
+        ("endpoint S --room 8 --little", "S", true, 8),
+        ("endpoint a/b.toml --room 1048576", "a/b.toml", false, MOST),
+        ("endpoint ", "", false, MOST),
+        ("endpoint  --little", "", true, MOST),
+        ("endpoint --room 7 S", "S", false, 7),
+        ("endpoint -- -x", "-x", false, MOST),
+    ] {
+        let words = words_of(alloc, line)?;
+        let command = Command::Endpoint {
+            setup,
+            little,
+            room,
+        };
+        assert_eq!(rt; command_line(alloc, &words), Ok(command));
+    }
+    Ok(())
+}
+
 // Words that aren't canonical, and yet are a command by what `clap` states and by the rules.
 #[test]
 fn other_words(rt: HostRuntime) -> Result<(), Fail> {
@@ -175,7 +201,7 @@ fn other_words(rt: HostRuntime) -> Result<(), Fail> {
     asks_back(&rt, alloc, "translate -- back", 0, MOST)
 }
 
-const NO_COMMAND: [&str; 52] = [
+const NO_COMMAND: [&str; 63] = [
     "",
     "--help",
     "-h",
@@ -198,7 +224,18 @@ const NO_COMMAND: [&str; 52] = [
     "play",
     "sho",
     "show show",
-    "endpoint F",
+    "endpoint",
+    "endpoint --little",
+    "endpoint S T",
+    "endpoint -x",
+    "endpoint S --folder F",
+    "endpoint S --group 3",
+    "endpoint S --bytes",
+    "endpoint S --room 5",
+    "endpoint S --room 1048577",
+    "endpoint S --room",
+    "endpoint S --little --little",
+    "endpoint --help",
     "selftest 1",
     "show --state",
     "translate down --folder F --compact",

@@ -46,7 +46,7 @@ pub parts_in_range : (past : List Placed) → AreInRange past → AreParts (part
 parts_in_range [] a = tt
 parts_in_range (placed ∷ past) a = more_parts placed.offset placed.packet past a.0 (parts_in_range past a.1)
 
--- ---- what is begun
+-- ---- what is open
 
 table_room : (room : ℕ) (parts : List Part) → (table_after room parts).room ≡ room
 table_room room [] = refl
@@ -89,7 +89,7 @@ held-begun fed room past least a (packet.Reserved w) = refl
 
 -- ---- what is refused
 
--- an answer is that the exclusive is too long exactly where the part passes the room
+-- an answer is that the exclusive is too long exactly when the part exceeds the limit
 bad-answer : (room : Room) (f : Form) (start : Option ℕ) (before : Option (List ℕ)) (bytes : List ℕ) (stray : Bool) →
     bad_answer (answer_from (cond (goes_on f) None start) (ended_by room f before bytes) (cond (goes_on f) (passes_by room before bytes) false) (cond (goes_on f) stray false)) ≡
     cond (cond (goes_on f) (passes_by room before bytes) false) (Some bad.ExclusiveTooLong) None
@@ -125,7 +125,7 @@ held-refusal fed room past least a (packet.Flex g w) = refl
 held-refusal fed room past least a (packet.Stream f s l w x y) = refl
 held-refusal fed room past least a (packet.Reserved w) = refl
 
--- ---- what stands behind a packet
+-- ---- what comes after a packet
 
 pub held-behind : (room : ℕ) (past : List Placed) (placed : Placed) → down_after placed.offset placed.packet (state_of room past) ≡ state_of room (placed ∷ past)
 held-behind room past placed = go placed.offset placed.packet

@@ -26,7 +26,7 @@ use Rattle.down_translator.specs.Step.{lane_of, IsPlainStep}
 use Rattle.down_translator.specs.Recording.{packets_of, AreInRange, state_of, AreAccepted, AreSteps, pair_put, pairs_put, lines_put}
 use Rattle.down_translator.proofs.HeldLaws.{held-whole, held-begun, held-refusal}
 
--- ---- a room that isn't passed
+-- ---- a limit that isn't exceeded
 
 not-passed : (t : Bool) → cond t (Some bad.ExclusiveTooLong) None ≡ None → t ≡ false
 not-passed true e = cc
@@ -47,7 +47,7 @@ pub accepted-within : (room : ℕ) (past : List Placed) → 6 ≤ room → AreIn
 accepted-within room [] least a b = tt
 accepted-within room (placed ∷ past) least a b = more_within room placed.offset placed.packet past least a.0 b.0 (accepted-within room past least a.1 b.1)
 
--- the exclusive that a packet ends is that without a room
+-- the exclusive that a packet ends is that without a limit
 pub whole-without_room : RoomsThatAreNotPassedDoNotMatter → JoinedBytesKnowNoOffsets → (room : ℕ) (past : List Placed) (p : Packet) → AreWithinRoom room (parts_of past) → bad_step (Some room) (parts_of past) p ≡ None → whole_by (Some room) (parts_of past) p ≡ whole_of (packets_of past) p
 whole-without_room rooms offsets room past (packet.Exclusive g f bytes) w b =
     let part : Part = record { group = g; form = f; bytes = bytes; offset = 0 } in

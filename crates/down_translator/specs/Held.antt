@@ -30,7 +30,7 @@ whole_with table part = ended_by (Some table.room) part.form (option_map (λ beg
 abbrev pub whole_in : DownState → Packet → Option (List ℕ)
 whole_in state packet = option_and_then (whole_with state.exclusives) (part_of 0 packet)
 
--- where the exclusive started that the packet's group has begun; only packets of exclusives ask for it
+-- where the exclusive that the packet's group has open started; only packets of exclusives ask for it
 abbrev pub begun_at_in : DownState → Packet → Option ℕ
 begun_at_in state (packet.Exclusive group form bytes) = option_map (λ begun. begun.start) (begun_in state.exclusives group)
 begun_at_in state _ = None

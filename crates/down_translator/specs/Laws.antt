@@ -1,4 +1,4 @@
--- What holds of all recordings. Packets are listed the newest first.
+-- What holds of all recordings. Packets are listed newest first.
 use Rattle.std.specs.Prelude.{◌≡◌, ◌≤◌, ℕ, List, ◌∷◌, Some, None}
 use Rattle.ump_grammar.specs.declared.packet.Packet.{Packet}
 use Rattle.ump_grammar.specs.Ranges.{IsPacket}

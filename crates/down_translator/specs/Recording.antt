@@ -1,5 +1,4 @@
--- What the translator answers to the packets of a recording, one after the other. Packets and answers are listed the newest
--- first.
+-- What the translator answers to the packets of a recording, one after the other. Packets and answers are listed newest first.
 use Rattle.std.specs.Prelude.{◌≡◌, ℕ, ◌==◌, if◌then◌else◌, List, [], ◌∷◌, ◌++◌, length, map, Some, None}
 use Rattle.std.specs.List.{AllByRecursion}
 use Rattle.std.specs.Option.{option_to_list}
@@ -25,12 +24,12 @@ AreInRange past = AllByRecursion (λ placed. IsInRange placed.packet) past
 abbrev pub state_of : ℕ → List Placed → DownState
 state_of room past = record { exclusives = table_after room (parts_of past) }
 
--- no packet is refused behind those before it
+-- no packet is refused after those before it
 abbrev pub AreAccepted : ℕ → List Placed → Type 0
 AreAccepted room [] = Unit {0}
 AreAccepted room (placed ∷ past) = (bad_step (Some room) (parts_of past) placed.packet ≡ None) × AreAccepted room past
 
--- each answer is that of its packet behind those before it
+-- each answer is that of its packet after those before it
 abbrev pub AreSteps : ℕ → List Placed → List Carried → Type 0
 AreSteps room [] [] = Unit {0}
 AreSteps room (placed ∷ past) (carried ∷ before) =

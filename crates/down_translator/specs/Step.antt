@@ -9,7 +9,7 @@ use Rattle.down_translator.specs.declared.carried.Carried.{Carried}
 use Rattle.down_translator.specs.Carried.{lane_in, line_in}
 use Rattle.down_translator.specs.Held.{DownState, whole_in, begun_at_in, refusal_in}
 
--- the lane of a packet is its group where it is carried, and else 0
+-- the lane of a packet is its group where it is carried, and otherwise 0
 abbrev pub lane_of : Option ℕ → Bool → ℕ
 lane_of (Some group) true = group
 lane_of _ _ = 0
@@ -21,7 +21,7 @@ pub record IsPlainStep (state : DownState) (offset : ℕ) (packet : Packet) (car
   pub lane : lane_in carried ≡ lane_of (group_of packet) (is_carried (whole_in state packet) packet)
   pub line : line_in carried ≡ listed (begun_at_in state packet) offset packet
 
--- It is refused exactly where there is a reason to refuse it, and for that reason.
+-- It is refused exactly when there is a reason to refuse it, and for that reason.
 abbrev pub Translates : DownState → ℕ → Packet → Result Carried BadStep → Type 0
 Translates state offset packet (Ok carried) = IsPlainStep state offset packet carried
 Translates state offset packet (Err bad) = refusal_in state packet ≡ Some bad

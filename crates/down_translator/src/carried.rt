@@ -54,7 +54,7 @@ impl Line {
 /// What comes of a packet.
 #[derive(Clone, Copy, Debug)]
 pub struct Carried<'a> {
-    /// The MIDI 1.0 bytes of the packet, empty exactly where it isn't carried.
+    /// The MIDI 1.0 bytes of the packet, empty exactly when it isn't carried.
     pub piece: &'a [u8],
     lane: LentU4,
     line: Option<Line>,
@@ -118,7 +118,7 @@ impl<'a> Carried<'a> {
         Carried::new(U4::low_bits(0), &[], Some(listed))
     }
 
-    /// The lane: the packet's group where it is carried, and else 0.
+    /// The lane: the packet's group where it is carried, and otherwise 0.
     pub fn lane(&self) -> U4
         ensures { result ≡ lane_in self.now }
     {

@@ -18,8 +18,8 @@ use voice_messages::{Form, Voice1, Voice2};
 use voice_state::laws::carried_packets_have_a_piece;
 use voice_state::{BadStep, Kind, Listed};
 
-/// The translator of packets to the MIDI 1.0 bytes of sixteen lanes, a lane for each group. To a contract it is what it
-/// holds: the exclusives that the groups have open.
+/// Translates packets to the MIDI 1.0 bytes of sixteen lanes, a lane for each group. A contract sees what it holds: the
+/// exclusives that the groups have open.
 #[derive(Drop)]
 pub struct Down {
     groups: Groups,
@@ -43,7 +43,7 @@ impl Down {
     ghost use Rattle.down_translator.specs.Step.{Translates};
 
     /// A translator in which nothing is open. Reserves memory for exclusives of `room` bytes between F0 and F7 in each group, 6
-    /// to 1,048,576; no other call takes any. `NoMemory` where there isn't so much.
+    /// to 1,048,576; no other call takes any. `NoMemory` when there isn't that much.
     pub fn new(alloc: Global, room: u32, _style: Style) -> Result<Down, NoMemory>
         requires least { 6 ≤ room }
         requires most { room ≤ 1048576 }
@@ -121,9 +121,9 @@ impl Down {
     /// The MIDI 1.0 bytes of one more packet, its lane, and its line of the listing (M2-104-UM, default translation; what that
     /// leaves out is listed by own rule). The offset is the number of input bytes before the packet.
     ///
-    /// `DataIncrement` and `DataDecrement` come exactly for a control change 96 and 97 of either protocol, and leave the
-    /// translator as it was. `ExclusiveTooLong` comes exactly where the packet goes on with an exclusive that then has more
-    /// bytes than the room; that group has nothing begun afterwards, and all else stays (own rules).
+    /// `DataIncrement` and `DataDecrement` are returned exactly for a control change 96 and 97, respectively, of either protocol,
+    /// and leave the translator as it was. `ExclusiveTooLong` is returned exactly when the packet adds to an exclusive that then
+    /// has more bytes than the limit; that group has nothing open afterwards, and all else stays as it is (own rules).
     #[inline(always)]
     pub fn packet(&mut self, packet: &Packet, offset: u64) -> Result<Carried<'_>, BadStep>
         requires { IsPacket packet.now }
@@ -138,7 +138,7 @@ impl Down {
             }
             Packet::Voice1 { group, message } => self.voice1(*group, message, offset),
             Packet::Exclusive { group, form, bytes } => {
-                // A copy, since a packet of which a call sees a part would not stay in registers.
+                // A copy, since a packet that a call sees a part of would not stay in registers.
                 let bytes = bytes.copied();
                 self.exclusive(*group, *form, bytes.as_slice(), offset)
             }
@@ -154,7 +154,7 @@ impl Down {
         }
     }
 
-    /// The offset of the packet that began the group's exclusive; `None` exactly where nothing is begun.
+    /// The offset of the packet that began the group's exclusive; `None` exactly when nothing is open.
     pub fn begun_at(&self, group: U4) -> Option<u64>
         ensures { result ≡ option_map (λ begun. begun.start) (begun_in self.now.exclusives group) }
     {

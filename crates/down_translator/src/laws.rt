@@ -1,4 +1,4 @@
-// What holds of all recordings. Packets and answers are listed the newest first.
+// What holds of all recordings. Packets and answers are listed newest first.
 ghost use Rattle.std.specs.Prelude.{◌≡◌, ◌↔◌, ◌<◌, ◌≤◌, ℕ, List, [], length, reverse, Some, IsTrue};
 ghost use Rattle.ump_grammar.specs.declared.packet.Packet.{Packet};
 ghost use Rattle.voice_state.specs.Parts.{Placed};
@@ -8,9 +8,20 @@ ghost use Rattle.voice_state.specs.Translation.{IsTranslation};
 ghost use Rattle.down_translator.specs.declared.carried.Carried.{Carried};
 ghost use Rattle.down_translator.specs.Carried.{lane_in};
 ghost use Rattle.down_translator.specs.Held.{DownState, whole_in};
-ghost use Rattle.down_translator.specs.Laws.{OneMoreAcceptedPacketAddsItsPairAndLine, SpelledPacketsAreInRange, WhatIsHeldIsTheDefinition};
+ghost use Rattle.down_translator.specs.Laws.{
+  OneMoreAcceptedPacketAddsItsPairAndLine,
+  SpelledPacketsAreInRange,
+  WhatIsHeldIsTheDefinition,
+};
 ghost use Rattle.down_translator.specs.Step.{IsPlainStep};
-ghost use Rattle.down_translator.specs.Recording.{packets_of, AreInRange, AreAccepted, AreSteps, pairs_put, lines_put};
+ghost use Rattle.down_translator.specs.Recording.{
+  packets_of,
+  AreInRange,
+  AreAccepted,
+  AreSteps,
+  pairs_put,
+  lines_put,
+};
 
 use sysex_groups::laws::fed_parts_are_the_definition;
 use voice_state::laws::{
@@ -23,16 +34,16 @@ pub fn spelled_packets_are_in_range()
     ensures { SpelledPacketsAreInRange }
 {}
 
-/// What the translator holds behind any packets tells of one more what the definitions tell that look back over the packets:
-/// the exclusive that it ends, where the exclusive started that its group has begun, and why it is refused. Behind it the same
-/// is held as behind all of them.
+/// What the translator holds after any packets tells of one more packet what the definitions tell, which look back over the
+/// packets: the exclusive that it ends, where the exclusive that its group has open started, and why it is refused. What is held
+/// after it is what is held after all of them.
 pub fn what_is_held_is_the_definition()
     ensures { WhatIsHeldIsTheDefinition }
 {
     fed_parts_are_the_definition();
 }
 
-/// An answer's piece is empty exactly where its packet isn't carried, and the lane is then 0.
+/// An answer's piece is empty exactly when its packet isn't carried, and the lane is then 0.
 pub fn empty_pieces_are_not_carried()
     ensures carried { (state : DownState) (offset : ℕ) (packet : Packet) (carried : Carried) →
         IsPlainStep state offset packet carried →
@@ -43,8 +54,8 @@ pub fn empty_pieces_are_not_carried()
     carried_packets_have_a_piece();
 }
 
-/// One more packet that the translator accepts, behind packets that it accepted: what is put for the answer is the plain pair
-/// of the packet, and what is listed is its line, which a room that isn't passed doesn't change.
+/// One more packet that the translator accepts, after packets that it accepted: what is put for the answer is the plain pair of
+/// the packet, and what is listed is its line, which a limit that isn't exceeded doesn't change.
 pub fn one_more_accepted_packet_adds_its_pair_and_line()
     ensures { OneMoreAcceptedPacketAddsItsPairAndLine }
 {
@@ -57,11 +68,14 @@ pub fn one_more_accepted_packet_adds_its_pair_and_line()
 /// The answers to the packets of a recording, one after the other: no packet is refused, what is put is the plain pairs of the
 /// packets, and what is listed is their lines.
 pub fn answers_are_the_plain_translation()
-    ensures accepted { (room : ℕ) (past : List Placed) (answers : List Carried) → 6 ≤ room → AreInRange past → AreSteps room past answers →
+    ensures accepted { (room : ℕ) (past : List Placed) (answers : List Carried) →
+        6 ≤ room → AreInRange past → AreSteps room past answers →
         AreAccepted room past }
-    ensures pairs { (room : ℕ) (past : List Placed) (answers : List Carried) → 6 ≤ room → AreInRange past → AreSteps room past answers →
+    ensures pairs { (room : ℕ) (past : List Placed) (answers : List Carried) →
+        6 ≤ room → AreInRange past → AreSteps room past answers →
         pairs_put answers ≡ pairs_behind (packets_of past) }
-    ensures lines { (room : ℕ) (past : List Placed) (answers : List Carried) → 6 ≤ room → AreInRange past → AreSteps room past answers →
+    ensures lines { (room : ℕ) (past : List Placed) (answers : List Carried) →
+        6 ≤ room → AreInRange past → AreSteps room past answers →
         lines_put answers ≡ lines_behind (Some room) past }
 {
     fed_parts_are_the_definition();
@@ -71,12 +85,14 @@ pub fn answers_are_the_plain_translation()
 }
 
 /// For a recording in the order in which its packets come, what is put for the answers is its plain pairs, which are its
-/// translation: one pair for each packet that is carried, in its group's lane, and behind each packet the bytes so far of each
+/// translation: one pair for each packet that is carried, in its group's lane, and after each packet the bytes so far of each
 /// lane mean what the packets so far of its group mean.
 pub fn answers_mean_the_packets()
-    ensures pairs { (room : ℕ) (packets : List Placed) (answers : List Carried) → 6 ≤ room → AreInRange packets → AreSteps room (reverse packets) answers →
+    ensures pairs { (room : ℕ) (packets : List Placed) (answers : List Carried) →
+        6 ≤ room → AreInRange packets → AreSteps room (reverse packets) answers →
         pairs_put answers ≡ plain_pairs (packets_of packets) }
-    ensures translation { (room : ℕ) (packets : List Placed) (answers : List Carried) → 6 ≤ room → AreInRange packets → AreSteps room (reverse packets) answers →
+    ensures translation { (room : ℕ) (packets : List Placed) (answers : List Carried) →
+        6 ≤ room → AreInRange packets → AreSteps room (reverse packets) answers →
         IsTranslation (packets_of packets) (pairs_put answers) }
 {
     fed_parts_are_the_definition();

@@ -1,4 +1,4 @@
-//! Packets of the Universal MIDI Packet format as the bytes of MIDI 1.0 streams, a lane for each group.
+//! Turns packets of the Universal MIDI Packet format into the bytes of MIDI 1.0 streams, a lane for each group.
 #![tactic(auto)]
 
 pub mod carried;

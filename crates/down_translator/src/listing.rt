@@ -1,4 +1,4 @@
-// The kinds of line of MIDI 2.0 voice messages.
+// The kinds of the lines of MIDI 2.0 voice messages.
 ghost use Rattle.std.specs.Prelude.{◌≡◌, if◌then◌else◌, Some, None};
 ghost use Rattle.std.specs.Option.{option_map};
 ghost use Rattle.voice_state.specs.declared.listed.Kind.TheVariants as kinds;
@@ -21,7 +21,7 @@ fn attribute_kind(attribute_type: u8) -> Option<Kind>
     }
 }
 
-/// Whether a control change has an index for which MIDI 2.0 has packets of their own; the refused ones aside.
+/// Whether a control change has an index that has packets of its own in MIDI 2.0, apart from the refused ones.
 #[tactic(auto, unfolding(voice_state::specs::Controllers::role_of))]
 fn is_misplaced(index: U7) -> bool
     ensures { result ≡ is_misplaced (role_of index) }

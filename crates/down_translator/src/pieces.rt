@@ -42,7 +42,7 @@ fn control(channel: U4, index: u32, value: U7) -> Voice1
     }
 }
 
-/// Makes the piece that of one message.
+/// Fills the piece with the bytes of one message.
 #[inline(always)]
 pub fn fill_voice1(piece: &mut Piece, message: &Voice1)
     ensures { piece.new ≡ flat_map spelled (voice message.now ∷ []) }
@@ -51,7 +51,7 @@ pub fn fill_voice1(piece: &mut Piece, message: &Voice1)
     add(piece, message);
 }
 
-/// Makes the piece that of a system message.
+/// Fills the piece with the bytes of a system message.
 #[tactic(auto, using(crate::proofs::Spelling::spelled_message_of))]
 pub fn fill_system(piece: &mut Piece, message: &System)
     ensures { piece.new ≡ flat_map spelled (message_of message.now ∷ []) }
@@ -78,7 +78,7 @@ fn is_carried_index(index: U7) -> bool
     !(index == 0 || index == 6 || index == 32 || index == 38 || (96 <= index && index <= 101))
 }
 
-/// The four control changes that set a parameter.
+/// Adds the four control changes that set a parameter.
 fn add_set(piece: &mut Piece, channel: U4, param: &Param, value: U14)
     requires { piece.old ≡ [] }
     ensures { piece.new ≡ flat_map spelled (set_messages channel param.now value) }
@@ -94,7 +94,7 @@ fn add_set(piece: &mut Piece, channel: U4, param: &Param, value: U14)
     add(piece, &control(channel, 38, U7::low_bits(value)));
 }
 
-/// A program change, behind its bank.
+/// Adds a program change, after its bank.
 fn add_program(piece: &mut Piece, channel: U4, program: U7, bank: Bank)
     requires { piece.old ≡ [] }
     ensures { piece.new ≡ flat_map spelled (program_messages channel program (Some bank)) }
@@ -104,7 +104,7 @@ fn add_program(piece: &mut Piece, channel: U4, program: U7, bank: Bank)
     add(piece, &Voice1::Program { channel, program });
 }
 
-/// The message of a MIDI 2.0 voice message whose plain piece is just one; `None` exactly where it has none or several.
+/// The one message that is the plain piece of a MIDI 2.0 voice message; `None` exactly when the piece has none or several.
 #[inline(always)]
 fn single_message(message: &Voice2) -> Option<Voice1>
     ensures { MatchOption result (length (voice_messages message.now) ≢ 1)
@@ -144,8 +144,9 @@ fn single_message(message: &Voice2) -> Option<Voice1>
     })
 }
 
-/// Makes the piece the plain one of a MIDI 2.0 voice message, empty where that isn't carried (M2-104-UM, default translation).
-/// A message that stands alone is chosen first and written in one place, so that the calls of the loops are inlined.
+/// Fills the piece with the plain piece of a MIDI 2.0 voice message, empty where that isn't carried (M2-104-UM, default
+/// translation). A message that stands alone is chosen first and written in one place, so that the calls of the loops are
+/// inlined.
 #[inline(always)]
 pub fn fill_voice2(piece: &mut Piece, message: &Voice2)
     ensures { piece.new ≡ flat_map spelled (voice_messages message.now) }

@@ -1,7 +1,7 @@
 -- The function blocks of a setup.
 use Rattle.std.specs.Prelude.{ℕ, ◌≡◌, ◌⊎◌, ◌+◌, ◌<◌, ◌≤◌, Bool, true, ◌==◌, ◌&&◌, ◌||◌, not, nat_le, nat_lt, List, [], ◌∷◌, ◌++◌, length, codes, Result, Ok, Err, MatchResult, Vec}
 use Rattle.std.specs.declared.alloc.Global.{Global}
-use Rattle.std.specs.List.{list_all, list_any, flat_map}
+use Rattle.std.specs.List.{All, list_all, list_any, flat_map}
 use Rattle.toml.specs.Data.{Members}
 use Rattle.function_blocks.specs.Keys.{limited_text_at, short_numbers_at, number_at, flag_at, entries_at, each}
 use Rattle.function_blocks.specs.Rules.{Read, needs, holds, after}
@@ -61,7 +61,7 @@ abbrev pub are_distinct : List ℕ → Bool
 are_distinct [] = true
 are_distinct (n ∷ ns) = not (list_any (λ m. m == n) ns) && are_distinct ns
 
--- what the rules leave of a block's keys
+-- what the rules guarantee of a block's keys
 pub record IsBlock (b : Block) : Type 0 where
   pub named : (0 < length b.name) × (length b.name ≤ 91)
   pub hint : b.hint ≤ 3
@@ -69,6 +69,7 @@ pub record IsBlock (b : Block) : Type 0 where
   pub direction : b.direction ≤ 3
   pub groups : (0 < b.count) × (b.first + b.count ≤ 16)
   pub ci : b.ci ≤ 2
+  pub muids : All (λ muid. muid ≤ 268435199) b.muids
 
 -- the items or the fault that was read, unless memory ran out
 abbrev pub Gives : {A : Type 0} → Read (List A) → Result (Vec A Global) SetupFault → Type 0

@@ -1,6 +1,6 @@
 -- The endpoint's own keys.
 use Rattle.std.specs.Prelude.{ℕ, ◌≡◌, ◌<◌, ◌≤◌, ◌^◌, Bool, true, ◌==◌, ◌&&◌, ◌||◌, length, codes, Ok}
-use Rattle.std.specs.List.{list_all}
+use Rattle.std.specs.List.{All, list_all}
 use Rattle.toml.specs.Data.{Members}
 use Rattle.system_stream.specs.Texts.{is_printable}
 use Rattle.function_blocks.specs.Keys.{table_at, limited_text_at, numbers_at, number_at, flag_at}
@@ -41,11 +41,13 @@ endpoint_of setup =
       fixed = fixed;
     })))))))))))))))
 
--- what the rules leave of an endpoint's keys
+-- what the rules guarantee of an endpoint's keys
 pub record IsEndpoint (e : Endpoint) : Type 0 where
   pub named : (0 < length e.name) × (length e.name ≤ 98)
   pub identified : (0 < length e.id) × (length e.id ≤ 42)
   pub printable : list_all is_printable e.id ≡ true
+  pub manufacturer : All (λ byte. byte ≤ 127) e.manufacturer
   pub family : e.family < 2 ^ 14
   pub model : e.model < 2 ^ 14
+  pub revision : All (λ byte. byte ≤ 127) e.revision
   pub supported : is_supported e.midi1 e.midi2 e.protocol ≡ true

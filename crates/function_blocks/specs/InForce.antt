@@ -21,7 +21,7 @@ abbrev pub protocol_requested : Facts → StreamMessage → Option ℕ
 protocol_requested setup (stream.ConfigRequest wanted jr) = if is_supported setup.endpoint.midi1 setup.endpoint.midi2 wanted then Some wanted else None
 protocol_requested setup _ = None
 
--- the protocol in force after packets, the newest first: that of the last request for one that is supported, else the setup's
+-- the protocol in force after packets, newest first: that of the last request for one that is supported, else the setup's
 abbrev pub protocol_at : Facts → List Packet → ℕ
 protocol_at setup [] = setup.endpoint.protocol
 protocol_at setup (packet ∷ past) = unwrap_or (option_and_then (protocol_requested setup) (message_read packet)) (protocol_at setup past)

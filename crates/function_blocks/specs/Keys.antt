@@ -44,14 +44,14 @@ abbrev pub count_items : Items → ℕ
 count_items no_items = 0
 count_items (item value values) = count_items values + 1
 
--- a list of exactly so many numbers from 0 to `most`
+-- a list of exactly this many numbers from 0 to `most`
 abbrev pub exactly : ℕ → ℕ → Items → Option (List ℕ)
 exactly count most values = if count_items values == count then numbers_in most values else None
 
 abbrev pub numbers_at : ℕ → ℕ → List ℕ → Members → Option (List ℕ)
 numbers_at count most key members = option_and_then (exactly count most) (array_at key members)
 
--- a list of at most so many numbers from 0 to `most`
+-- a list of at most this many numbers from 0 to `most`
 abbrev pub at_most : ℕ → ℕ → Items → Option (List ℕ)
 at_most count most values = if nat_le (count_items values) count then numbers_in most values else None
 
@@ -69,11 +69,11 @@ entries_in value = option_map list_of (as_array value)
 abbrev pub is_table : Data → Bool
 is_table value = is_some (as_table value)
 
--- at most so many tables
+-- at most this many tables
 abbrev pub are_tables : ℕ → List Data → Bool
 are_tables most values = nat_le (length values) most && list_all is_table values
 
--- The entries of a list of tables, which may be absent: the rule asks for at most so many.
+-- The entries of a list of tables, which may be absent: the rule asks for at most this many.
 abbrev pub entries_of : Rule → ℕ → Option Data → Read (List Data)
 entries_of rule most None = Ok []
 entries_of rule most (Some value) = needs rule (entries_in value) (λ values. holds rule (are_tables most values) (Ok values))

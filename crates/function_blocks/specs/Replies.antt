@@ -17,7 +17,7 @@ abbrev pub asked : Bool → List Packet → List Packet
 asked true replies = replies
 asked false replies = []
 
--- the packets of a text: the first so many, and all
+-- the packets of a text: the first ones, by their number, and all
 abbrev pub first_packets : TextKind → ℕ → List ℕ → ℕ → List Packet
 first_packets kind block text zero = []
 first_packets kind block text (suc k) =

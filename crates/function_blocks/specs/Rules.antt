@@ -1,4 +1,4 @@
--- The numbers of the rules, and reading by rules, of which the first broken one is told.
+-- The numbers of the rules, and reading by rules, of which the first broken one is reported.
 use Rattle.std.specs.Prelude.{ℕ, Bool, true, false, List, ◌∷◌, Option, Some, None, Result, Ok, Err}
 use Rattle.function_blocks.specs.declared.rules.Rule.{Rule}
 use Rattle.function_blocks.specs.declared.rules.Rule.TheVariants as rule

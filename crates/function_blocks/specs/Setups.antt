@@ -1,5 +1,5 @@
 -- The setup of a text.
-use Rattle.std.specs.Prelude.{◌≡◌, ◌⊎◌, ◌<◌, ◌≤◌, ℕ, List, [], ◌∷◌, length, Option, Some, None, Result, Ok, Err, MatchResult, if◌then◌else◌, nat_le, ◌/◌, ◌%◌}
+use Rattle.std.specs.Prelude.{◌≡◌, ◌⊎◌, ◌<◌, ◌≤◌, ℕ, true, List, [], ◌∷◌, length, Option, Some, None, Result, Ok, Err, MatchResult, if◌then◌else◌, nat_le, ◌/◌, ◌%◌}
 use Rattle.std.specs.List.{All}
 use Rattle.std.specs.Str.{is_utf8}
 use Rattle.toml.specs.Data.{Members}
@@ -33,7 +33,7 @@ setup_in members =
     holds rule.ProfilesAreDistinct (profiles_are_distinct profiles) (
     Ok (record { endpoint = endpoint; blocks = blocks; profiles = profiles })))))))
 
--- the tree of a text, where it is UTF-8 and `toml` states one
+-- the tree of a text, where it is UTF-8 and `toml` gives one
 abbrev pub tree_of : List ℕ → Option Members
 tree_of text = if is_utf8 text then parse_document text else None
 
@@ -48,13 +48,14 @@ setup_of text = holds rule.TextIsShort (nat_le (length text) 65536) (setup_at (t
 abbrev pub MeetsRead : Read Facts → Result Facts SetupFault → Type 0
 MeetsRead read result = MatchResult result (λ setup. read ≡ Ok setup) (λ e. (e ≡ NoMemory) ⊎ (read ≡ Err e))
 
--- what the rules leave of a setup
+-- what the rules guarantee of a setup
 pub record IsSetup (facts : Facts) : Type 0 where
   pub endpoint : IsEndpoint facts.endpoint
   pub few_blocks : length facts.blocks ≤ 32
   pub blocks : All IsBlock facts.blocks
   pub few_profiles : length facts.profiles ≤ 64
   pub profiles : All (λ profile. profile.block < length facts.blocks) facts.profiles
+  pub distinct : profiles_are_distinct facts.profiles ≡ true
 
 -- two bytes of seven bits, the lowest first
 abbrev pub in_two_bytes : ℕ → List ℕ

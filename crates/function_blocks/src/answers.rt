@@ -23,7 +23,7 @@ use system_stream::{StreamMessage, TextKind, cut_text, write};
 use ump_grammar::Replies;
 use ump_grammar::fields::bits;
 
-// The number of a block that stands for all of them.
+// The block number that stands for all blocks.
 const ALL_BLOCKS: u8 = 255;
 
 // Whether the bit of a filter is set.
@@ -44,7 +44,7 @@ pub(crate) fn push_message(replies: &mut Replies, message: &StreamMessage)
     replies.push(&write(message));
 }
 
-/// Adds the packet of a message, where it is asked for.
+/// Adds the packet of a message, if it is asked for.
 pub(crate) fn push_asked(replies: &mut Replies, is_asked: bool, message: &StreamMessage)
     requires message { FitsPlaces message.now }
     requires room { length replies.old + 4 ≤ 1024 }
@@ -72,7 +72,7 @@ fn push_text(replies: &mut Replies, kind: TextKind, block: u8, text: &[u8])
     }
 }
 
-/// Adds the packets of a text, where it is asked for.
+/// Adds the packets of a text, if it is asked for.
 fn push_asked_text(replies: &mut Replies, is_asked: bool, kind: TextKind, block: u8, text: &[u8])
     requires some { 0 < length text.now }
     requires limit { length text.now ≤ limit_of kind }
@@ -104,7 +104,7 @@ fn block_info(number: u8, block: &Block) -> StreamMessage
     }
 }
 
-/// Adds what the filter asks of one block: bit 0 the info, bit 1 the name.
+/// Adds what the filter asks for about one block: bit 0 the info, bit 1 the name.
 fn push_block(replies: &mut Replies, filter: u8, number: u8, block: &Block)
     requires block { IsBlock block.now }
     requires number { number < 2 ^ 7 }
@@ -122,7 +122,7 @@ fn push_block(replies: &mut Replies, filter: u8, number: u8, block: &Block)
     );
 }
 
-/// Adds what the filter asks of each block, in order of number.
+/// Adds what the filter asks for about each block, in order of number.
 fn push_blocks(replies: &mut Replies, filter: u8, blocks: &[Block])
     requires blocks { All IsBlock blocks.now }
     requires few { length blocks.now ≤ 32 }
@@ -153,13 +153,14 @@ impl Setup {
       stream_replies,
     };
 
-    /// The replies to a stream message (M2-104-UM, UMP stream messages), added to `replies`, which is empty; whether there are any.
-    /// They take no memory, and are at most 1,024 words: 32 blocks of one info and seven packets of a name.
+    /// Adds the replies to a stream message (M2-104-UM, UMP stream messages) to `replies`, which is empty, and returns whether
+    /// there are any. They take no memory, and are at most 1,024 words: for each of 32 blocks, one info and seven packets of a
+    /// name.
     ///
     /// Discovery is answered with what its filter asks for: the info, the identity, the name, the product id, and a notice of the
     /// protocol in force. A request for a protocol that the setup supports puts it in force; each request is answered with a
     /// notice of the one in force then. A discovery of blocks is answered with the info and the name of the named block, or of
-    /// all for the number 255. Nothing else is answered.
+    /// all blocks for the number 255. Nothing else is answered.
     pub fn answer(
         &self,
         message: &StreamMessage,
@@ -269,7 +270,7 @@ impl Setup {
         }
     }
 
-    // Adds what the filter asks of the block of a number, if there is one.
+    // Adds what the filter asks for about the block of this number, if there is one.
     fn push_one_block(&self, number: u8, filter: u8, replies: &mut Replies)
         requires { length replies.old ≡ 0 }
         ensures { Pushes (replies_of_named filter number (slice_get self.now.blocks number))

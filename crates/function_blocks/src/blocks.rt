@@ -24,7 +24,7 @@ use midi_edge::ShortList;
 use std::alloc::Global;
 use toml::{Table, Value};
 
-/// The rules of a block's keys, in their order.
+/// Reads a block by the rules of its keys, in their order.
 fn read_block(table: &Table) -> Result<Block, SetupFault>
     ensures value { result ≡ block_of (table_view table.now) }
     ensures fits { IfOk result IsBlock }
@@ -85,7 +85,7 @@ fn read_each_block(alloc: Global, values: &[Value]) -> Result<Vec<Block>, SetupF
     Ok(blocks)
 }
 
-/// The rules of the blocks, for one block after the other.
+/// Reads the blocks by their rules, one block after the other.
 pub(crate) fn read_blocks(alloc: Global, setup: &Table) -> Result<Vec<Block>, SetupFault>
     ensures value { Gives (blocks_of (table_view setup.now)) result }
     ensures few { IfOk result (λ blocks. length blocks.items ≤ 32) }
@@ -99,7 +99,7 @@ pub(crate) fn read_blocks(alloc: Global, setup: &Table) -> Result<Vec<Block>, Se
 fn shares_group(one: &Block, other: &Block) -> bool
     ensures { result ≡ has_group_of one.now other.now }
 {
-    let have_ci = one.active && one.ci != 0 && other.active && other.ci != 0;
+    let have_ci = one.has_ci() && other.has_ci();
     let one_first = u32::from(one.first);
     let other_first = u32::from(other.first);
     have_ci
@@ -144,7 +144,7 @@ fn are_distinct(numbers: &[u32]) -> bool
     }
 }
 
-/// Whether no MUID stands twice, in one block or in two.
+/// Whether no MUID appears twice, in one block or in two.
 pub(crate) fn muids_are_distinct(blocks: &[Block]) -> bool
     requires { length blocks.now ≤ 32 }
     ensures { result ≡ are_all_distinct (muids_of blocks.now) }

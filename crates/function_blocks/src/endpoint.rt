@@ -18,7 +18,7 @@ fn is_printable(bytes: &[u8]) -> bool
     bytes.iter().all(|byte| *byte >= 32 && *byte <= 126)
 }
 
-/// Whether this is a protocol, 1 or 2, and it is there.
+/// Whether this is a protocol, 1 or 2, that the endpoint supports.
 pub(crate) fn is_supported(midi1: bool, midi2: bool, protocol: u32) -> bool
     ensures { result ≡ is_protocol_of midi1 midi2 protocol }
 {
@@ -35,7 +35,7 @@ fn array<const N: usize>(numbers: &ShortList<u8, N>) -> [u8; N]
     array
 }
 
-/// The rules of the endpoint's own keys, in their order.
+/// Reads the endpoint's own keys by their rules, in order.
 pub(crate) fn read_endpoint(setup: &Table) -> Result<Endpoint, SetupFault>
     ensures value { result ≡ endpoint_of (table_view setup.now) }
     ensures fits { IfOk result IsEndpoint }

@@ -1,5 +1,18 @@
 // What the keys of a table hold.
-ghost use Rattle.std.specs.Prelude.{◌≡◌, ◌<◌, ◌≤◌, map, length, Some, Ok, Err, IfSome, MatchResult, option_map, is_some};
+ghost use Rattle.std.specs.Prelude.{
+  ◌≡◌,
+  ◌<◌,
+  ◌≤◌,
+  map,
+  length,
+  Some,
+  Ok,
+  Err,
+  IfSome,
+  MatchResult,
+  option_map,
+  is_some,
+};
 ghost use Rattle.std.specs.List.{All, list_all};
 ghost use Rattle.std.specs.Option.{option_copied};
 ghost use Rattle.toml.specs.Data.{as_table, get_member};
@@ -162,7 +175,8 @@ pub(crate) fn numbers_at<const N: usize>(
 // The numbers of a list of at most `N`, each from 0 to `most`.
 fn wide_numbers_in<const N: usize>(values: &[Value], most: u32) -> Option<ShortList<u32, N>>
     requires { length values.now ≤ N }
-    ensures { result ≡ numbers_of most (items_view values.now) }
+    ensures value { result ≡ numbers_of most (items_view values.now) }
+    ensures most { IfSome result (λ numbers. All (λ n. n ≤ most) numbers) }
 {
     let mut numbers = ShortList::new();
     for value in values {
@@ -176,7 +190,8 @@ fn wide_numbers_in<const N: usize>(values: &[Value], most: u32) -> Option<ShortL
 
 #[tactic(auto, using(crate::proofs::KeyLaws::count_items_of_view))]
 fn at_most<const N: usize>(values: &Vec<Value>, most: u32) -> Option<ShortList<u32, N>>
-    ensures { result ≡ at_most_of N most (array_view values.now) }
+    ensures value { result ≡ at_most_of N most (array_view values.now) }
+    ensures most { IfSome result (λ numbers. All (λ n. n ≤ most) numbers) }
 {
     if values.len() > N {
         return None;
@@ -190,7 +205,8 @@ pub(crate) fn short_numbers_at<const N: usize>(
     key: &str,
     most: u32,
 ) -> Option<ShortList<u32, N>>
-    ensures { result ≡ short_numbers_of N most key.now (table_view table.now) }
+    ensures value { result ≡ short_numbers_of N most key.now (table_view table.now) }
+    ensures most { IfSome result (λ numbers. All (λ n. n ≤ most) numbers) }
 {
     match array_at(table, key) {
         Some(values) => at_most(values, most),
@@ -220,7 +236,7 @@ fn are_tables(values: &[Value], most: usize) -> bool
     values.len() <= most && are_each_tables(values)
 }
 
-/// The entries of a list of at most `most` tables, for which the rule asks; none where the key is absent.
+/// The entries of a list of at most `most` tables, which is what the rule asks for; none where the key is absent.
 pub(crate) fn entries_at<'a>(
     table: &'a Table,
     key: &str,

@@ -8,8 +8,8 @@ ghost use Rattle.function_blocks.specs.InForce.{message_read, protocol_at, repli
 ghost use Rattle.function_blocks.specs.Replies.{protocol_after, stream_replies};
 ghost use Rattle.function_blocks.specs.Setups.{Facts, IsSetup};
 
-/// No setup has more than 1,024 words of replies to one message, four for each packet: 32 blocks of one info and seven packets
-/// of a name.
+/// No setup has more than 1,024 words of replies to one message, four for each packet: for each of 32 blocks, one info and seven
+/// packets of a name.
 pub fn replies_are_few()
     ensures { (setup : Facts) (protocol : ℕ) (message : StreamMessage) → IsSetup setup →
         4 * length (stream_replies setup protocol message) ≤ 1024 }
@@ -22,7 +22,7 @@ pub fn replies_have_four_words()
 {}
 
 /// Answering the messages of any packets, one after the other, keeps the protocol that the definition finds by looking back over
-/// them, and gives its replies. A packet without a message, as one of a bad format, changes nothing and has no reply.
+/// them, and gives its replies. A packet without a message, such as one of a bad format, changes nothing and has no reply.
 pub fn protocol_follows_the_requests()
     ensures protocol { (setup : Facts) (past : List Packet) (packet : Packet) (message : StreamMessage) →
         message_read packet ≡ Some message →

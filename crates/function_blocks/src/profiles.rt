@@ -1,11 +1,27 @@
 // The profiles of a setup.
-ghost use Rattle.std.specs.Prelude.{◌≡◌, ◌<◌, ◌≤◌, codes, map, length, IfOk, IfSome, option_and_then, option_map};
+ghost use Rattle.std.specs.Prelude.{
+  ◌≡◌,
+  ◌<◌,
+  ◌≤◌,
+  codes,
+  map,
+  length,
+  IfOk,
+  IfSome,
+  option_and_then,
+  option_map,
+};
 ghost use Rattle.std.specs.List.{All, list_any};
 ghost use Rattle.std.specs.Str.{bytes_eq};
 ghost use Rattle.toml.specs.Data.{as_table};
 ghost use Rattle.toml.specs.View.{table_view, view};
 ghost use Rattle.function_blocks.specs.Blocks.{AddsRead, Gives, IsBlock};
-ghost use Rattle.function_blocks.specs.Keys.{each, number_at as number_of_key, numbers_at as numbers_of_key, text_at as text_of};
+ghost use Rattle.function_blocks.specs.Keys.{
+  each,
+  number_at as number_of_key,
+  numbers_at as numbers_of_key,
+  text_at as text_of,
+};
 ghost use Rattle.function_blocks.specs.Profiles.{
   ci_block as ci_block_of,
   group_of,
@@ -30,7 +46,7 @@ use std::alloc::Global;
 use toml::{Table, Value};
 use voice_messages::{U4, U7};
 
-/// What the word of a place asks for besides.
+/// What else the word of a place asks for.
 #[derive(Clone, Copy)]
 pub enum PlaceKind {
     Function,
@@ -38,7 +54,7 @@ pub enum PlaceKind {
     Channel,
 }
 
-// The block of a number, where its `ci` isn't 0.
+// The block of this number, if its `ci` isn't 0.
 fn ci_block(blocks: &[Block], number: u32) -> Option<&Block>
     requires { All IsBlock blocks.now }
     ensures value { option_map (λ b. b.now) result ≡ ci_block_of blocks.now number }
@@ -152,7 +168,7 @@ fn id_at(table: &Table) -> Option<[U7; 5]>
     }
 }
 
-/// The rules of a profile's keys, in their order. The profile is added at the end.
+/// Reads a profile by the rules of its keys, in their order, and adds it at the end.
 fn add_profile(
     profiles: &mut Vec<Profile>,
     table: &Table,
@@ -208,7 +224,7 @@ fn read_each_profile(
     Ok(profiles)
 }
 
-/// The rules of the profiles, for one profile after the other.
+/// Reads the profiles by their rules, one profile after the other.
 pub(crate) fn read_profiles(
     alloc: Global,
     setup: &Table,

@@ -14,9 +14,9 @@ use toml::Table;
 const MOST_BYTES: usize = 65_536;
 
 impl Setup {
-    /// Reads the setup of a TOML text, by the rules in their order (`Rule`). A number is a TOML integer, and unknown keys are
-    /// ignored. `Field` comes exactly where the rule of that number is the first that is broken; `Syntax` exactly where the
-    /// text is short enough and isn't UTF-8, or `toml` states no tree for it. `NoMemory` where there was no memory.
+    /// Reads the setup from a TOML text, by the rules in their order (`Rule`). A number is a TOML integer, and unknown keys are
+    /// ignored. `Field` is returned exactly when the rule of that number is the first that is broken; `Syntax` exactly when the
+    /// text is short enough and isn't UTF-8, or `toml` gives no tree for it; `NoMemory` when there was no memory.
     pub fn read(alloc: Global, text: &[u8]) -> Result<Setup, SetupFault>
         ensures setup { MeetsRead (setup_of text.now) result }
         ensures fits { IfOk result IsSetup }
@@ -46,7 +46,7 @@ fn tree(alloc: Global, text: &[u8]) -> Result<Table, SetupFault>
     }
 }
 
-// The rules from the second on.
+// Reads a setup by the rules from the second on.
 fn read_table(alloc: Global, table: &Table) -> Result<Setup, SetupFault>
     ensures setup { MeetsRead (setup_in (table_view table.now)) result }
     ensures fits { IfOk result IsSetup }

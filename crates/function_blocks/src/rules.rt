@@ -1,11 +1,11 @@
-// What a setup must keep.
+// The rules that a setup must keep.
 ghost use Rattle.std.specs.Prelude.{◌≡◌};
 ghost use Rattle.function_blocks.specs.Rules.{broken as broken_rule, number_of};
 
 use thiserror::Error;
 
-/// A rule of the setup (own rules), named for what it asks. They are tested in this order, those of blocks for one block after
-/// the other, and those of profiles likewise. A key that is missing breaks its rule, but for `block` and `profile`.
+/// A rule of the setup (own rules), named for what it asks for. The rules are tested in this order, those of blocks for one block
+/// after the other, and those of profiles likewise. A missing key breaks its rule, except for `block` and `profile`.
 #[derive(Clone, Copy, Debug, PartialEq, Eq)]
 pub enum Rule {
     /// The text has at most 65,536 bytes.
@@ -24,15 +24,15 @@ pub enum Rule {
     ModelIsInRange,
     /// `endpoint.revision` is a list of four numbers 0 to 127.
     RevisionIsFourNumbers,
-    /// `endpoint.midi1` and `endpoint.midi2` are truth values, not both false.
+    /// `endpoint.midi1` and `endpoint.midi2` are booleans, not both false.
     SomeProtocolIsThere,
     /// `endpoint.protocol` is 1 or 2, and `midi1` or `midi2` of that number is true.
     ProtocolIsThere,
-    /// `endpoint.static` is a truth value.
+    /// `endpoint.static` is a boolean.
     StaticIsAFlag,
     /// `block` is absent, or a list of at most 32 tables.
     BlocksAreTables,
-    /// `active` is a truth value.
+    /// `active` is a boolean.
     ActiveIsAFlag,
     /// `name` is a text of 1 to 91 bytes.
     BlockNameIsShort,
@@ -54,7 +54,7 @@ pub enum Rule {
     MuidsAreInRange,
     /// No two active blocks whose `ci` isn't 0 share a group.
     BlocksWithCiShareNoGroup,
-    /// No number stands twice in all `muids` together.
+    /// No number appears twice in all `muids` together.
     MuidsAreDistinct,
     /// `profile` is absent, or a list of at most 64 tables.
     ProfilesAreTables,
@@ -68,14 +68,14 @@ pub enum Rule {
     ChannelIsInRange,
     /// `id` is a list of five numbers 0 to 127.
     ProfileIdIsFiveNumbers,
-    /// `on` is a truth value.
+    /// `on` is a boolean.
     OnIsAFlag,
     /// No two profiles have the same block, place and id.
     ProfilesAreDistinct,
 }
 
 impl Rule {
-    /// The number of the rule, 0 to 31, by which `SetupFault::Field` tells it.
+    /// The number of the rule, 0 to 31, which `SetupFault::Field` carries.
     pub fn number(self) -> u8
         ensures { result ≡ number_of self }
     {
@@ -83,10 +83,10 @@ impl Rule {
     }
 }
 
-/// Why a text is no setup.
+/// Why a text is not a setup.
 #[derive(Clone, Copy, Debug, PartialEq, Eq, Error)]
 pub enum SetupFault {
-    /// The text isn't UTF-8, or no TOML.
+    /// The text isn't UTF-8, or isn't TOML.
     #[error("the setup is not TOML")]
     Syntax,
     /// The rule of this number is the first that is broken.

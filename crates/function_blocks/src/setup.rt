@@ -1,4 +1,6 @@
 // What a setup says.
+ghost use Rattle.std.specs.Prelude.{◌≡◌};
+
 use midi_edge::ShortList;
 use voice_messages::{U4, U7};
 
@@ -19,7 +21,7 @@ pub struct Endpoint {
     pub midi2: bool,
     /// 1 for MIDI 1.0, 2 for MIDI 2.0.
     pub protocol: u8,
-    /// Whether the function blocks never change, the key `static`.
+    /// Whether the function blocks never change: the key `static`.
     pub fixed: bool,
 }
 
@@ -46,14 +48,25 @@ pub struct Block {
     pub muids: ShortList<u32, 16>,
 }
 
-/// Where a profile stands (M2-101-UM, profile addresses).
+impl Block {
+    ghost use Rattle.function_blocks.specs.Blocks.{has_ci as has_midi_ci};
+
+    /// Whether the block has MIDI-CI: it is active, and its `ci` isn't 0 (M2-101-UM; own rule).
+    pub fn has_ci(&self) -> bool
+        ensures { result ≡ has_midi_ci self.now }
+    {
+        self.active && self.ci != 0
+    }
+}
+
+/// Where a profile applies (M2-101-UM, profile addresses).
 #[derive(Clone, Copy, Debug, PartialEq, Eq)]
 pub enum Place {
     /// The whole function block.
     Function,
-    /// A group of it.
+    /// One group of the block.
     Group(U4),
-    /// A group of it, and a channel of that group.
+    /// One group of the block, and one channel of that group.
     Channel(U4, U4),
 }
 
@@ -64,7 +77,7 @@ pub struct Profile {
     pub block: u8,
     pub place: Place,
     pub id: [U7; 5],
-    /// Whether it is on at first.
+    /// Whether it is on at the start.
     pub on: bool,
 }
 
@@ -78,7 +91,7 @@ pub struct Identity {
     pub revision: [u8; 4],
 }
 
-/// The stream configuration in force.
+/// The stream configuration that is in force.
 #[derive(Clone, Copy, Debug, PartialEq, Eq)]
 pub struct Config {
     /// 1 for MIDI 1.0, 2 for MIDI 2.0.

@@ -6,7 +6,7 @@ use std::test::Fail;
 use system_stream::StreamMessage;
 use ump_grammar::Replies;
 
-// A setup that keeps all rules. The front of so many lines is a text too.
+// A setup that keeps all rules. Its first lines alone are a text too.
 const LINES: [&str; 29] = [
     "[endpoint]",
     "name = \"Demo Endpoint X\"",
@@ -72,7 +72,7 @@ fn read_only(alloc: Global, text: &[u8]) -> Result<(), SetupFault> {
     }
 }
 
-// What the front of so many lines is read as.
+// What the first `count` lines are read as.
 fn front(alloc: Global, count: usize) -> Result<(), SetupFault> {
     match text_of(alloc, count, LINES.len(), "", &[]) {
         Ok(text) => read_only(alloc, text.as_slice()),
@@ -96,7 +96,7 @@ fn with_more(alloc: Global, more: &[&str]) -> Result<(), SetupFault> {
     }
 }
 
-// Each front lacks all that comes after it, so it breaks all later rules too: the first is told.
+// Each front lacks all that comes after it, so it breaks all later rules too: the first is reported.
 #[test]
 fn the_first_missing_key_is_told(rt: HostRuntime) {
     let rules: [u8; 29] = [
@@ -315,7 +315,7 @@ fn blocks_and_profiles_together(rt: HostRuntime) {
     assert_eq!(rt; with_more(alloc, &two), Err(SetupFault::Field(31)));
 }
 
-// The endpoint of the setup and so many blocks without MIDI-CI, each with a name of 91 bytes, and profiles that aren't read.
+// The endpoint of the setup and this many blocks without MIDI-CI, each with a name of 91 bytes, and profiles that aren't read.
 fn many_blocks(alloc: Global, blocks: usize) -> Result<Vec<u8>, AllocError> {
     let mut text = text_of(alloc, 11, LINES.len(), "", &[])?;
     for _ in 0..blocks {

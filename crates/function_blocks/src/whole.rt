@@ -1,11 +1,13 @@
 // The whole setup.
-ghost use Rattle.std.specs.Prelude.{◌≡◌, ◌<◌, ◌≤◌, length, slice_get, IfSome, option_map};
+ghost use Rattle.std.specs.Prelude.{◌≡◌, ◌<◌, ◌≤◌, ◌^◌, true, length, slice_get, IfSome, option_map};
+ghost use Rattle.std.specs.List.{All, list_all};
+ghost use Rattle.system_stream.specs.Texts.{is_printable};
 ghost use Rattle.function_blocks.specs.Setups.{in_two_bytes as two_bytes_of};
 
 use crate::setup::{Block, Config, Endpoint, Identity, Profile};
 use std::marker::Model;
 
-/// The setup of an endpoint, which keeps all rules. To a contract it is the record of the endpoint's own keys, the blocks and
+/// The setup of an endpoint, which keeps all rules. A contract sees it as the record of the endpoint's own keys, the blocks and
 /// the profiles, each in the order of the text.
 #[derive(Drop)]
 pub struct Setup {
@@ -42,6 +44,7 @@ fn in_two_bytes(number: u16) -> [u8; 2]
 
 impl Setup {
     ghost use Rattle.function_blocks.specs.Blocks.{IsBlock};
+    ghost use Rattle.function_blocks.specs.Profiles.{profiles_are_distinct};
     ghost use Rattle.function_blocks.specs.Setups.{identity_of};
 
     /// The number of function blocks, at most 32.
@@ -52,7 +55,7 @@ impl Setup {
         self.blocks.len() as u8
     }
 
-    /// The block of a number, counted from 0; `None` exactly past the last.
+    /// The block of number `n`, counted from 0; `None` exactly when `n` is past the last one.
     pub fn block(&self, n: u8) -> Option<&Block>
         ensures value { option_map (λ b. b.now) result ≡ slice_get self.now.blocks n }
         ensures fits { IfSome result (λ b. IsBlock b.now) }
@@ -62,15 +65,17 @@ impl Setup {
         self.blocks.get(n as usize)
     }
 
-    /// The number of profiles, at most 64.
+    /// The number of profiles, at most 64. No two have the same block, place and id.
     pub fn profile_count(&self) -> usize
         ensures value { result ≡ length self.now.profiles }
         ensures few { length self.now.profiles ≤ 64 }
+        ensures distinct { profiles_are_distinct self.now.profiles ≡ true }
     {
         self.profiles.len()
     }
 
-    /// Profile `k` in the order of the setup, counted from 0; `None` exactly past the last. Its block is one of the setup.
+    /// Profile `k` in the order of the setup, counted from 0; `None` exactly when `k` is past the last one. Its block is one of
+    /// the setup's blocks.
     pub fn profile(&self, k: usize) -> Option<&Profile>
         ensures value { option_map (λ p. p.now) result ≡ slice_get self.now.profiles k }
         ensures block { IfSome result (λ p. p.now.block < length self.now.blocks) }
@@ -79,9 +84,13 @@ impl Setup {
     }
 
     /// The identity as it stands in Device Identity (M2-104-UM), `family` and `model` with seven bits in each byte, the lowest
-    /// first.
+    /// first. Each byte is below 128.
     pub fn identity(&self) -> Identity
-        ensures { result ≡ identity_of self.now }
+        ensures value { result ≡ identity_of self.now }
+        ensures manufacturer { All (λ byte. byte ≤ 127) result.manufacturer }
+        ensures family { self.now.endpoint.family < 2 ^ 14 }
+        ensures model { self.now.endpoint.model < 2 ^ 14 }
+        ensures revision { All (λ byte. byte ≤ 127) result.revision }
     {
         Identity {
             manufacturer: self.endpoint.manufacturer,
@@ -93,7 +102,9 @@ impl Setup {
 
     /// The product instance id, 1 to 42 bytes of 32 to 126.
     pub fn product_id(&self) -> &str
-        ensures { result.now ≡ self.now.endpoint.id }
+        ensures value { result.now ≡ self.now.endpoint.id }
+        ensures few { length self.now.endpoint.id ≤ 42 }
+        ensures printable { list_all is_printable self.now.endpoint.id ≡ true }
     {
         match str::from_utf8(self.endpoint.id.as_slice()) {
             Ok(id) => id,
@@ -101,7 +112,7 @@ impl Setup {
         }
     }
 
-    /// The configuration with which an endpoint of this setup begins.
+    /// The configuration with which an endpoint of this setup starts.
     pub fn config(&self) -> Config
         ensures { result.protocol ≡ self.now.endpoint.protocol }
     {

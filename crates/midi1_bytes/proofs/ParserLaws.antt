@@ -1,4 +1,4 @@
--- What a parser holds behind a list of bytes says what each byte does.
+-- What a parser holds after a list of bytes says what each byte does.
 use Rattle.std.proofs.Common.{ℕ, ◌%◌, ◌-◌, ◌≡◌, ◌∙◌, ap, sym, refl, List, [], ◌∷◌, ◌++◌, length, reverse, suc, Option, Some, None, Bool, true, false, cond, arith}
 use Rattle.std.proofs.lemmas.Bool.{leb-false, lt-leb, lt-ltb, le-ltb, le-leb, eq-eqb, ne_eqb, eqb-true, eqb-false}
 use Rattle.std.proofs.lemmas.List.{reverse-append, length-reverse}
@@ -15,16 +15,16 @@ use Rattle.midi1_bytes.specs.Stream.{Open, fits, without_real_time, last_status,
 use Rattle.midi1_bytes.specs.Steps.{Step, held, completes, undefined, cut_or, end_by, data_by, data_under, step_under, step_of}
 use Rattle.midi1_bytes.specs.Parsing.{Begun, begun_exclusive, open_begun, open_of, cut_by, ended_by, begun_by, parse_data, parse_under, parse, held_behind}
 
--- ---- what is open is what is begun
+-- ---- what is open is what the parser holds
 
 abbrev opened : ℕ → Option CutKind → Option Open
 opened start what = option_map (λ k. record { start = start; kind = k }) what
 
--- what is begun, by what is open
+-- what the parser holds of what is open
 abbrev begun_of : ℕ → List ℕ → ℕ → Option CutKind → Option Begun
 begun_of start ds s what = option_and_then (λ k. Some (begun_by k start ds s)) what
 
--- what is begun behind this status and these data bytes
+-- what the parser holds open after this status and these data bytes
 abbrev begun_on : ℕ → Option ℕ → ℕ → List ℕ → Option Begun
 begun_on room status start ds = option_and_then (λ k. option_map (begun_by k start ds) status) (open_by (Some room) status (length ds))
 
@@ -58,7 +58,7 @@ ended-on room (Some s) start ds = ended-begun start ds s (open_under (Some room)
 
 -- ---- a data byte
 
--- the offset before so many bytes with one more data byte, at this offset
+-- the offset before this many bytes with one more data byte, at this offset
 abbrev before_more : ℕ → (ℕ → ℕ) → ℕ → ℕ
 before_more offset before size = cond (eqb size 0) offset (before (size - 1))
 

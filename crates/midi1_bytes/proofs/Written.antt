@@ -67,7 +67,7 @@ all_reverse : (xs acc : List ℕ) → AreData xs → AreData acc → AreData (re
 all_reverse [] acc h k = k
 all_reverse (x ∷ xs) acc h k = all_reverse xs (x ∷ acc) h.1 (h.0, k)
 
--- behind F0 and data bytes
+-- after F0 and data bytes
 record Inside (past ds : List ℕ) : Type 0 where
   status : last_status (without_real_time (ds ++ 0xf0 ∷ past)) ≡ Some 0xf0
   behind : last_data (without_real_time (ds ++ 0xf0 ∷ past)) ≡ ds

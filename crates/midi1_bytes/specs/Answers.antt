@@ -31,7 +31,7 @@ abbrev pub LendsFramed : Step → Type 0
 LendsFramed (step.Exclusive bytes) = bytes.now ≡ framed (payload_of bytes.now)
 LendsFramed _ = Unit {0}
 
--- what a status byte does that does this besides where it cuts off what is open, and that where it stands alone
+-- what a status byte does: where something is open it cuts that off and does `besides`, and else it does `alone`
 abbrev pub cut_off_by : Option (ℕ × CutKind) → AfterCut → steps.Step → steps.Step
 cut_off_by None besides alone = alone
 cut_off_by (Some open_one) besides alone = steps.cut open_one.0 open_one.1 besides

@@ -1,4 +1,4 @@
--- How the parser holds what is begun, and its running status.
+-- How the parser holds what is open, and its running status.
 use Rattle.std.specs.Prelude.{◌≡◌, ℕ, ◌+◌, ◌<◌, ◌≤◌, List, [], drop, Option, Some, None}
 use Rattle.midi1_bytes.specs.declared.begun.Begun.{Begun}
 use Rattle.midi1_bytes.specs.declared.begun.Begun.TheVariants as begun
@@ -7,7 +7,7 @@ use Rattle.midi1_bytes.specs.declared.begun.Running.TheVariants as running
 use Rattle.midi1_bytes.specs.Parsing as parsing
 use Rattle.midi1_bytes.specs.Sorts.{one, two, voice_status, count_of, sort_of}
 
--- what is begun, with the bytes of the exclusive behind its F0
+-- what is open, with the bytes of the exclusive after its F0
 abbrev pub begun_view : Begun → List ℕ → Option parsing.Begun
 begun_view begun.Nothing bytes = None
 begun_view (begun.Only start status) bytes = Some (parsing.begun_message start status None)
@@ -20,8 +20,8 @@ running_view running.Unset = None
 running_view (running.One status) = Some status
 running_view (running.Two status) = Some status
 
--- A message has as many data bytes as its status says, and its first data byte is one; an exclusive that is begun keeps to its
--- room, F0 aside.
+-- A message has as many data bytes as its status says, and its first data byte is one; an open exclusive keeps to its limit, F0
+-- aside.
 abbrev pub IsKept : ℕ → Begun → ℕ → Type 0
 IsKept room begun.Nothing size = Unit {0}
 IsKept room (begun.Only start status) size = count_of (sort_of status) ≡ Some one
@@ -40,6 +40,6 @@ bytes_in None = []
 bytes_in (Some (parsing.begun_message start status first)) = []
 bytes_in (Some (parsing.begun_exclusive start bytes)) = bytes
 
--- the bytes of the exclusive that is begun
+-- the bytes of the exclusive that is open
 abbrev pub bytes_begun : parsing.Parsing → List ℕ
 bytes_begun held = bytes_in held.begun

@@ -1,4 +1,4 @@
--- What holds of all streams of bytes, which are listed the newest first.
+-- What holds of all streams of bytes, which are listed newest first.
 use Rattle.std.specs.Prelude.{◌≡◌, ℕ, List, [], ◌∷◌, length, Some, None, IfSome}
 use Rattle.std.specs.List.{AllByRecursion, flat_map}
 use Rattle.midi1_bytes.specs.Messages.{Message, IsMessage, spelled}

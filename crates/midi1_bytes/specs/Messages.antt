@@ -32,7 +32,7 @@ voice_of_two opcode channel first second =
 abbrev pub voice_of_one : ℕ → ℕ → ℕ → Voice1
 voice_of_one opcode channel only = if opcode == 12 then voice1.Program channel only else voice1.Pressure channel only
 
--- the voice message of a status byte, its last data byte, and those before it, the newest first
+-- the voice message of a status byte, its last data byte, and those before it, newest first
 abbrev pub voice_of : Count → ℕ → ℕ → List ℕ → Voice1
 voice_of one status last before = voice_of_one (status / 16) (status % 16) last
 voice_of two status last before = voice_of_two (status / 16) (status % 16) (slice_index before 0) last

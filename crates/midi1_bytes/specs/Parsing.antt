@@ -12,8 +12,8 @@ use Rattle.midi1_bytes.specs.Messages.{voice, common, exclusive, real_time, voic
 use Rattle.midi1_bytes.specs.Stream.{Open, fits, without_real_time, last_status, last_data, open_in, start_in, running}
 use Rattle.midi1_bytes.specs.Steps.{Step, held, completes, stray, undefined, cut, too_long}
 
--- What is begun: a message by its start, its status byte, and its first data byte where one came; an exclusive by its start
--- and the bytes behind its F0, in order.
+-- What is open: a message by its start, its status byte, and its first data byte where one came; an exclusive by its start and
+-- the bytes after its F0, in order.
 pub data Begun : Type 0 where
   begun_message : ℕ → ℕ → Option ℕ → Begun
   begun_exclusive : ℕ → List ℕ → Begun
@@ -24,11 +24,11 @@ pub record Parsing : Type 0 where
   pub running : Option ℕ
   pub begun : Option Begun
 
--- nothing is begun, and there is no running status
+-- nothing is open, and there is no running status
 abbrev pub idle : ℕ → Parsing
 idle room = record { room = room; running = None; begun = None }
 
--- something is begun, under this running status
+-- something is open, under this running status
 abbrev pub beginning : ℕ → Option ℕ → Begun → Parsing
 beginning room running begun = record { room = room; running = running; begun = Some begun }
 
@@ -64,17 +64,17 @@ message_step (common_status two) status None byte = held
 message_step (common_status two) status (Some first) byte = completes (common (common_of two status byte (first ∷ [])))
 message_step _ status first byte = stray
 
--- a data byte of what is begun; an exclusive takes what its room takes
+-- a data byte of what is open; an exclusive takes what its limit allows
 abbrev pub data_step : ℕ → Begun → ℕ → Step
 data_step room (begun_message start status first) byte = message_step (sort_of status) status first byte
 data_step room (begun_exclusive start bytes) byte = if fits (Some room) (suc (length bytes)) then held else too_long
 
--- what is begun with one more data byte
+-- what is open with one more data byte
 abbrev pub grown : Begun → ℕ → Begun
 grown (begun_message start status first) byte = begun_message start status (Some byte)
 grown (begun_exclusive start bytes) byte = begun_exclusive start (bytes ++ byte ∷ [])
 
--- a data byte that is held leaves it begun, any other ends it
+-- a data byte that is held leaves it open, any other ends it
 abbrev pub begun_after : Step → Begun → Option Begun
 begun_after held begun = Some begun
 begun_after _ begun = None
@@ -91,7 +91,7 @@ with_data room running begun byte =
     let step = data_step room begun byte in
     record { step = step; after = record { room = room; running = running; begun = begun_after step (grown begun byte) } }
 
--- a data byte goes on with what is begun, begins a message under running status, or is stray
+-- a data byte continues what is open, begins a message under running status, or is stray
 abbrev pub parse_data : ℕ → Option ℕ → Option Begun → ℕ → ℕ → Parsed
 parse_data room running (Some begun) offset byte = with_data room running begun byte
 parse_data room (Some status) None offset byte = with_data room (Some status) (begun_message offset status None) byte
@@ -112,9 +112,9 @@ parse_under undefined_real_time parsing offset byte = record { step = undefined;
 abbrev pub parse : Parsing → ℕ → ℕ → Parsed
 parse parsing offset byte = parse_under (sort_of byte) parsing offset byte
 
--- ---- what a parser holds behind these bytes, the newest first
+-- ---- what a parser holds after these bytes, newest first
 
--- the first data byte of an open message, by the data bytes behind its status: it is the last of them
+-- the first data byte of an open message, by the data bytes after its status: it is the last of them
 abbrev pub first_of : List ℕ → Option ℕ
 first_of [] = None
 first_of (byte ∷ before) = Some byte

@@ -1,5 +1,5 @@
 -- What a byte of a MIDI 1.0 stream does, from the bytes before it (MIDI 1.0 Detailed Specification). `past` is those bytes,
--- the newest first. Own rules: what is cut off is dropped and told, and so is a byte that belongs to nothing.
+-- newest first. Own rules: what is cut off is dropped and reported, and so is a byte that belongs to nothing.
 use Rattle.std.specs.Prelude.{◌≡◌, ℕ, ◌%◌, nat_lt, ◌==◌, if◌then◌else◌, List, [], ◌∷◌, ◌++◌, reverse, length, suc, Option, Some, None}
 use Rattle.std.specs.Option.{option_to_list}
 use Rattle.voice_messages.specs.declared.voice1.System.TheVariants as system
@@ -19,8 +19,8 @@ pub data Step : Type 0 where
   cut : ℕ → CutKind → AfterCut → Step
   too_long : Step
 
--- A data byte behind a status of this sort and the data bytes behind that one. Voice messages follow one another under
--- running status; a common message is one alone; an exclusive takes what its room takes.
+-- A data byte after a status of this sort and the data bytes that follow it. Voice messages follow one another under running
+-- status; a common status is for a single message; an exclusive takes what its limit allows.
 abbrev pub data_under : Room → Sort → ℕ → List ℕ → ℕ → Step
 data_under room (voice_status count) status before byte =
     if suc (length before) % data_count count == 0 then completes (voice (voice_of count status byte before))
@@ -72,12 +72,12 @@ completed_by (completes message) = Some message
 completed_by (cut start what after.Tune) = Some (common system.Tune)
 completed_by _ = None
 
--- the messages that the bytes complete, in order, with a room that isn't reached
+-- the messages that the bytes complete, in order, with a limit that isn't reached
 abbrev pub completed : List ℕ → List Message
 completed [] = []
 completed (byte ∷ past) = completed past ++ option_to_list (completed_by (step_of None past byte))
 
--- Behind these bytes a piece is read as these messages, and nothing is open after it.
+-- After these bytes a piece is read as these messages, and nothing is open after it.
 pub record ReadsAs (past piece : List ℕ) (messages : List Message) : Type 0 where
   pub completes : completed (reverse piece ++ past) ≡ completed past ++ messages
   pub closed : open_in None (reverse piece ++ past) ≡ None

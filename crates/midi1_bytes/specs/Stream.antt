@@ -1,12 +1,12 @@
--- What stands open in a MIDI 1.0 stream, counted back from its end (MIDI 1.0 Detailed Specification, running status,
--- system common, system exclusive and system Real Time messages). `past` is the bytes so far, the newest first.
+-- What is open in a MIDI 1.0 stream, counted back from its end (MIDI 1.0 Detailed Specification, running status, system common,
+-- system exclusive and system Real Time messages). `past` is the bytes so far, newest first.
 use Rattle.std.specs.Prelude.{ℕ, ◌-◌, ◌%◌, nat_lt, nat_le, ◌==◌, Bool, true, if◌then◌else◌, List, [], ◌∷◌, length, Option, Some, None}
 use Rattle.std.specs.Option.{option_map}
 use Rattle.midi1_bytes.specs.declared.step.CutKind.{CutKind}
 use Rattle.midi1_bytes.specs.declared.step.CutKind.TheVariants as kind
 use Rattle.midi1_bytes.specs.Sorts.{data_count, Sort, voice_status, exclusive_start, common_status, sort_of, is_data, is_real_time}
 
--- Real Time may stand anywhere and changes nothing else
+-- Real Time may come anywhere and changes nothing else
 abbrev pub without_real_time : List ℕ → List ℕ
 without_real_time [] = []
 without_real_time (byte ∷ past) =
@@ -18,12 +18,12 @@ abbrev pub last_status : List ℕ → Option ℕ
 last_status [] = None
 last_status (byte ∷ past) = if is_data (sort_of byte) then last_status past else Some byte
 
--- the data bytes behind it, the newest first
+-- the data bytes after it, newest first
 abbrev pub last_data : List ℕ → List ℕ
 last_data [] = []
 last_data (byte ∷ past) = if is_data (sort_of byte) then byte ∷ last_data past else []
 
--- how many bytes an exclusive may have between F0 and F7, or none where that isn't reached
+-- how many bytes an exclusive may have between F0 and F7, or none where there is no limit
 abbrev pub Room : Type 0
 Room = Option ℕ
 
@@ -31,8 +31,8 @@ abbrev pub fits : Room → ℕ → Bool
 fits None size = true
 fits (Some room) size = nat_le size room
 
--- What is open where so many data bytes stand behind a status of this sort. A voice status is one for all the messages that
--- follow it under running status; a common one is for a single message.
+-- What is open after a status of this sort and this many data bytes. A voice status is one for all the messages that follow it
+-- under running status; a common one is for a single message.
 abbrev pub open_under : Room → Sort → ℕ → Option CutKind
 open_under room (voice_status count) size =
     if size == 0 then Some kind.Message
@@ -51,7 +51,7 @@ open_in room past = let bytes = without_real_time past in open_by room (last_sta
 
 -- ---- where it starts
 
--- the offset of the byte behind which so many bytes stand that aren't Real Time
+-- the offset of the byte that is followed by this many bytes other than Real Time
 abbrev pub offset_before : ℕ → List ℕ → ℕ
 offset_before size [] = 0
 offset_before size (byte ∷ past) =
@@ -59,8 +59,8 @@ offset_before size (byte ∷ past) =
     else if size == 0 then length past
     else offset_before (size - 1) past
 
--- How many bytes stand behind the start, Real Time left out: it is the status byte, or under running status the first data
--- byte of the message.
+-- How many bytes follow the start, Real Time left out: it is the status byte, or under running status the first data byte of the
+-- message.
 abbrev pub size_behind_start : Sort → ℕ → ℕ
 size_behind_start (voice_status count) size = if nat_lt (data_count count) size then size % data_count count - 1 else size
 size_behind_start _ size = size

@@ -1,10 +1,10 @@
-// What a parser has begun, and its running status.
+// What a parser has open, and its running status.
 
-/// A message or an exclusive that is begun, by the data byte that it awaits, with the offset at which it starts: that of its status
-/// byte, or under running status (MIDI 1.0 Detailed Specification) that of its first data byte.
+/// An open message or exclusive, by the data byte that it awaits, with the offset at which it starts: that of its status byte, or
+/// under running status (MIDI 1.0 Detailed Specification) that of its first data byte.
 #[derive(Clone, Copy, Debug)]
 pub(crate) enum Begun {
-    /// Nothing is begun.
+    /// Nothing is open.
     Nothing,
     /// A message of one data byte, which it awaits; its status byte is C0 to DF, F1 or F3.
     Only { start: u64, status: u8 },

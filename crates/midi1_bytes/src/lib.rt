@@ -1,4 +1,4 @@
-//! What the bytes of a MIDI 1.0 stream say, and the bytes of each message.
+//! Turns the bytes of a MIDI 1.0 stream into messages, and each message into its bytes.
 #![tactic(auto)]
 
 mod begun;

@@ -27,7 +27,7 @@ fn append(bytes: &mut Vec<u8>, byte: u8)
     }
 }
 
-// What a status byte does that does this besides where it cuts off what is begun, and that where it stands alone.
+// What a status byte does: where something is open it cuts that off and does `besides`, and else it does `alone`.
 #[inline(always)]
 fn cut_off<'a>(begun: Option<(u64, CutKind)>, besides: AfterCut, alone: Step<'a>) -> Step<'a>
     requires { LendsFramed alone }
@@ -44,9 +44,9 @@ fn cut_off<'a>(begun: Option<(u64, CutKind)>, besides: AfterCut, alone: Step<'a>
     }
 }
 
-/// A parser of the bytes of a MIDI 1.0 stream (MIDI 1.0 Detailed Specification: running status, system exclusive messages). To a
-/// contract it is the running status, 80 to EF where there is one, what is begun with its start and its bytes, and the room: the
-/// number of bytes that an exclusive may have between F0 and F7, 6 to 1,048,576 (own rule).
+/// A parser of the bytes of a MIDI 1.0 stream (MIDI 1.0 Detailed Specification: running status, system exclusive messages). A
+/// contract sees the running status, 80 to EF where there is one, what is open with its start and its bytes, and the limit,
+/// `room`: how many bytes an exclusive may have between F0 and F7, 6 to 1,048,576 (own rule).
 #[derive(Drop)]
 pub struct Parser {
     running: Running,
@@ -62,19 +62,38 @@ impl Model for Parser {
 
     ghost Value = { Parsing };
 
-    ghost view = { λ p. record { room = p.room; running = running_view p.running; begun = begun_view p.begun p.bytes.items } };
+    ghost view = { λ p. record {
+      room = p.room;
+      running = running_view p.running;
+      begun = begun_view p.begun p.bytes.items;
+    } };
 
-    ghost invariant = { λ p. (p.room + 2 ≤ vec_capacity p.bytes) × (take 1 p.bytes.items ≡ 240 ∷ []) × IsKept p.room p.begun (length p.bytes.items) × IsCounted p.running };
+    ghost invariant = { λ p. (p.room + 2 ≤ vec_capacity p.bytes)
+        × (take 1 p.bytes.items ≡ 240 ∷ [])
+        × IsKept p.room p.begun (length p.bytes.items)
+        × IsCounted p.running };
 }
 
 impl Parser {
     ghost use Rattle.std.specs.Borrow.{sem};
     ghost use Rattle.midi1_bytes.specs.Held.{bytes_begun};
     ghost use Rattle.midi1_bytes.specs.Lend.{KeepsParser};
-    ghost use Rattle.midi1_bytes.specs.Parsing.{begun_message, begun_exclusive, idle, beginning, open_of, ended_by, message_step, data_step, begun_after, parse, parse_under};
+    ghost use Rattle.midi1_bytes.specs.Parsing.{
+      begun_message,
+      begun_exclusive,
+      idle,
+      beginning,
+      open_of,
+      ended_by,
+      message_step,
+      data_step,
+      begun_after,
+      parse,
+      parse_under,
+    };
 
-    /// A parser with nothing begun and no running status. Reserves memory for exclusives of `room` bytes between F0 and F7, 6 to
-    /// 1,048,576 (own rule); no other call takes any. `NoMemory` where there isn't so much.
+    /// A parser with nothing open and no running status. Reserves memory for exclusives of `room` bytes between F0 and F7, 6 to
+    /// 1,048,576 (own rule); no other call takes any. `NoMemory` when there isn't that much.
     pub fn new(alloc: Global, room: u32) -> Result<Parser, NoMemory>
         requires least { 6 ≤ room }
         requires most { room ≤ 1048576 }
@@ -92,8 +111,8 @@ impl Parser {
         })
     }
 
-    /// What is begun, message or exclusive, and the offset at which it starts, as `byte` was given it: that of its status byte, or
-    /// under running status that of its first data byte. `None` exactly where nothing is begun (own rule).
+    /// What is open, a message or an exclusive, and the offset at which it starts, as it was given to `byte`: that of its status
+    /// byte, or under running status that of its first data byte. `None` exactly when nothing is open (own rule).
     #[inline(always)]
     pub fn end(&self) -> Option<(u64, CutKind)>
         ensures { result ≡ option_map (λ begun. (begun.start, begun.kind)) (open_of self.now) }
@@ -106,7 +125,7 @@ impl Parser {
         }
     }
 
-    // Ends what is begun and running status.
+    // Ends what is open, and running status.
     #[inline(always)]
     fn leave(&mut self)
         ensures { self.new ≡ idle self.old.room }
@@ -161,13 +180,16 @@ impl Parser {
     #[inline(always)]
     fn exclusive_data<'a>(&mut self, start: u64, byte: u8) -> Step<'a>
         requires { self.old.begun ≡ Some (begun_exclusive start (bytes_begun self.old)) }
-        ensures step { step_view result ≡ data_step self.old.room (begun_exclusive start (bytes_begun self.old)) byte }
+        ensures step { step_view result ≡
+            data_step self.old.room (begun_exclusive start (bytes_begun self.old)) byte }
         ensures framed { LendsFramed result }
         ensures after { self.new ≡ record self.old {
-          begun = begun_after (data_step self.old.room (begun_exclusive start (bytes_begun self.old)) byte) (begun_exclusive start (bytes_begun self.old ++ byte ∷ []));
+          begun = begun_after
+              (data_step self.old.room (begun_exclusive start (bytes_begun self.old)) byte)
+              (begun_exclusive start (bytes_begun self.old ++ byte ∷ []));
         } }
     {
-        // F0 is held too.
+        // F0 is in the buffer too.
         if self.bytes.len() > self.room as usize {
             self.begun = Begun::Nothing;
             return Step::TooLong;
@@ -213,7 +235,7 @@ impl Parser {
         }
     }
 
-    // A data byte where nothing is begun: the first of a message under running status, or stray.
+    // A data byte where nothing is open: the first of a message under running status, or stray.
     #[tactic(auto, using(crate::proofs::CountLaws::counted_data))]
     #[inline(always)]
     fn data_under_running<'a>(&mut self, byte: u8, offset: u64) -> Step<'a>
@@ -323,12 +345,12 @@ impl Parser {
     }
 
     /// Takes one more byte of the stream, 0 to FF (MIDI 1.0 Detailed Specification: summary of status bytes, running status,
-    /// system messages). The offset, in bytes from the start of the stream, is only kept, and told as the start of what the byte
-    /// begins; any number is taken. It takes no memory, and no byte is an error.
+    /// system messages). The offset, in bytes from the start of the stream, is only kept, and given back as the start of what the
+    /// byte begins; any number will do. The call takes no memory, and no byte is an error.
     ///
-    /// `Exclusive` lends the exclusive from F0 to F7. `TooLong` comes exactly at the data byte that would make the bytes between
-    /// F0 and F7 more than the room; the exclusive is then dropped, and there is no running status. What a status byte cuts off
-    /// is dropped and told, and a byte that belongs to nothing is `Stray` (own rules).
+    /// `Exclusive` lends the exclusive from F0 to F7. `TooLong` is returned exactly at the data byte that would make the bytes
+    /// between F0 and F7 more than the limit; the exclusive is then dropped, and there is no running status. What a status byte
+    /// cuts off is dropped and reported, and a byte that belongs to nothing is `Stray` (own rules).
     #[tactic(auto, unfolding(crate::specs::Sorts::sort_of))]
     #[inline(always)]
     pub fn byte(&mut self, byte: u8, offset: u64) -> Step<'_>

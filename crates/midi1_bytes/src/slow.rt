@@ -1,15 +1,22 @@
-// A plain, slow program that looks back over all the bytes before at each byte, to be compared with others.
+// A plain, slow program that at each byte looks back over all the bytes before it, to be compared with others.
 ghost use Rattle.std.specs.Prelude.{◌≡◌, ◌<◌, ◌≤◌, ◌↔◌, ◌+◌, ◌*◌, length, slice_index, [], ◌∷◌, Some, IsTrue};
 ghost use Rattle.midi1_bytes.specs.Slow.{told};
 ghost use Rattle.midi1_bytes.specs.Sorts.{data_byte, exclusive_end, sort_of, is_data, is_real_time};
 ghost use Rattle.midi1_bytes.specs.Steps.{step_of, step_under};
-ghost use Rattle.midi1_bytes.specs.Stream.{last_status, last_data, without_real_time, offset_before, open_in, start_in};
+ghost use Rattle.midi1_bytes.specs.Stream.{
+  last_status,
+  last_data,
+  without_real_time,
+  offset_before,
+  open_in,
+  start_in,
+};
 
 use crate::messages::{fourteen_bits, real_time, seven_bits, voice_of_one, voice_of_two};
 use crate::step::{AfterCut, CutKind};
 use voice_messages::{System, Voice1};
 
-/// What a byte does, in the eyes of the slow program.
+/// What a byte does, as the slow program sees it.
 #[derive(Clone, Copy, Debug, PartialEq, Eq)]
 pub enum SlowStep {
     /// It belongs to what is open or begins.
@@ -18,7 +25,7 @@ pub enum SlowStep {
     Voice(Voice1),
     /// It completes a system common message.
     Common(System),
-    /// It ends an exclusive of so many bytes between F0 and F7.
+    /// It ends an exclusive of this many bytes between F0 and F7.
     Exclusive(usize),
     /// It is a Real Time message.
     RealTime(System),
@@ -32,7 +39,7 @@ pub enum SlowStep {
         what: CutKind,
         after: AfterCut,
     },
-    /// It passes the room of the exclusive.
+    /// It exceeds the limit of the exclusive.
     TooLong,
 }
 
@@ -63,7 +70,7 @@ fn last_status(past: &[u8]) -> Option<u8>
     None
 }
 
-// How many data bytes stand behind it.
+// How many data bytes follow it.
 fn data_size(past: &[u8]) -> usize
     ensures { result ≡ length (last_data (without_real_time past.now)) }
 {
@@ -91,7 +98,7 @@ fn previous_data(past: &[u8]) -> u8
     0
 }
 
-// The offset of the byte behind which so many bytes stand that aren't Real Time.
+// The offset of the byte that is followed by this many bytes other than Real Time.
 fn offset_before(size: usize, past: &[u8]) -> usize
     ensures { result ≡ offset_before size past.now }
 {
@@ -190,7 +197,7 @@ fn end_step(past: &[u8], room: usize) -> SlowStep
     }
 }
 
-/// What a byte does behind the bytes before it, which are given the newest first, in exclusives of at most `room` bytes.
+/// What a byte does after the bytes before it, which are given newest first, where exclusives have at most `room` bytes.
 #[tactic(auto, unfolding(crate::specs::Sorts::sort_of))]
 pub fn slow_step(past: &[u8], byte: u8, room: usize) -> SlowStep
     ensures { result ≡ told (step_of (Some room) past.now byte) }

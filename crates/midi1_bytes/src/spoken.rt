@@ -1,5 +1,5 @@
-// The messages that a parser completes, by their bytes. What is lent holds no type that contracts see as another value, so
-// these stand there for the messages, which they give.
+// The messages that a parser completes, by their bytes. What is lent holds no type that contracts see as another value, so these
+// stand in for the messages, which they give.
 ghost use Rattle.std.specs.Prelude.{◌<◌};
 
 use crate::messages::{fourteen_bits, real_time, seven_bits, voice_of_one, voice_of_two};
@@ -16,8 +16,8 @@ pub struct VoiceBytes {
     ghost second_below: { second < 128 },
 }
 
-/// The bytes of a system common message: a status byte F1, F2, F3 or F6 and no, one or two data bytes, 0 to 7F (MIDI 1.0 Detailed
-/// Specification, system common messages).
+/// The bytes of a system common message: a status byte F1, F2, F3 or F6 and zero, one or two data bytes, 0 to 7F (MIDI 1.0
+/// Detailed Specification, system common messages).
 #[derive(Clone, Copy, Debug)]
 pub struct CommonBytes {
     status: u8,
@@ -69,8 +69,8 @@ impl VoiceBytes {
         }
     }
 
-    /// The message, its channel 0 to 15 and its values 0 to 127, of a bend 0 to 16,383 with the low seven bits first (MIDI 1.0
-    /// Detailed Specification, channel voice messages).
+    /// The message, with its channel 0 to 15 and its values 0 to 127, or for a bend 0 to 16,383 with the low seven bits first
+    /// (MIDI 1.0 Detailed Specification, channel voice messages).
     #[tactic(auto, unfolding(crate::specs::Sorts::sort_of))]
     #[inline(always)]
     pub fn message(&self) -> Voice1
@@ -129,8 +129,8 @@ impl CommonBytes {
         }
     }
 
-    /// The message, its value, where it has one, 0 to 127, of a song position 0 to 16,383 with the low seven bits first (MIDI 1.0
-    /// Detailed Specification, system common messages).
+    /// The message, with its value, where it has one, 0 to 127, or for a song position 0 to 16,383 with the low seven bits first
+    /// (MIDI 1.0 Detailed Specification, system common messages).
     #[tactic(auto, unfolding(crate::specs::Sorts::sort_of))]
     #[inline(always)]
     pub fn message(&self) -> System

@@ -1,7 +1,7 @@
 // What a byte does to what came before it.
 use crate::spoken::{CommonBytes, RealTimeByte, VoiceBytes};
 
-/// What a byte can cut off; it is dropped and told (own rule).
+/// What a byte can cut off; it is dropped and reported (own rule).
 #[derive(Clone, Copy, Debug, PartialEq, Eq)]
 pub enum CutKind {
     /// A voice or common message that has fewer data bytes than its one or two.
@@ -10,8 +10,8 @@ pub enum CutKind {
     Exclusive,
 }
 
-/// What the byte that cuts something off does besides, a status byte 80 to F7 (MIDI 1.0 Detailed Specification, summary of status
-/// bytes).
+/// What else is done by the byte that cuts something off, a status byte 80 to F7 (MIDI 1.0 Detailed Specification, summary of
+/// status bytes).
 #[derive(Clone, Copy, Debug, PartialEq, Eq)]
 pub enum AfterCut {
     /// It begins a message, as 80 to EF and F1 to F3 do, or an exclusive, as F0 does.
@@ -28,26 +28,26 @@ pub enum AfterCut {
 /// was given with the bytes.
 #[derive(Clone, Copy, Debug)]
 pub enum Step<'a> {
-    /// It belongs to what is begun, or begins it.
+    /// It belongs to what is open, or opens it.
     Held,
     /// It completes a channel voice message, also under running status.
     Voice(VoiceBytes),
-    /// It completes a system common message: F6, or the last data byte behind F1, F2 or F3.
+    /// It completes a system common message: F6, or the last data byte after F1, F2 or F3.
     Common(CommonBytes),
     /// It is a system Real Time message: F8, FA, FB, FC, FE or FF.
     RealTime(RealTimeByte),
     /// It is F7 and ends this exclusive, of at least two bytes: F0, the data bytes, and F7.
     Exclusive(&'a [u8]),
-    /// It belongs to nothing: a data byte with no status to stand under, or F7 where nothing is begun (own rule).
+    /// It belongs to nothing: a data byte with no status to belong to, or F7 where nothing is open (own rule).
     Stray,
-    /// It is a status that no message has: F4 or F5 where nothing is begun, F9 or FD anywhere.
+    /// It is a status that no message has: F4 or F5 where nothing is open, F9 or FD anywhere.
     Undefined,
-    /// It cuts off what was begun at this offset, which is dropped (own rule).
+    /// It cuts off what started at this offset, which is dropped (own rule).
     Cut {
         start: u64,
         what: CutKind,
         after: AfterCut,
     },
-    /// It is the data byte that passes the room of the exclusive, which is dropped (own rule).
+    /// It is the data byte that exceeds the limit of the exclusive, which is dropped (own rule).
     TooLong,
 }

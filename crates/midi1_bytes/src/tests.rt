@@ -5,7 +5,7 @@ use std::alloc::{AllocError, Global};
 use std::process::Abort;
 use std::test::Fail;
 
-// Runs the slow program over the bytes with a room of two bytes.
+// Runs the slow program over the bytes with a limit of two bytes.
 fn check_row(
     rt: &impl Abort,
     alloc: Global,
@@ -29,7 +29,7 @@ fn note_on(note: u8, velocity: u8) -> SlowStep {
     })
 }
 
-// What a status cuts off, and what comes of it besides.
+// What a status byte cuts off, and what else comes of it.
 fn cut(start: usize, what: CutKind, after: AfterCut) -> SlowStep {
     SlowStep::Cut { start, what, after }
 }
@@ -122,7 +122,7 @@ fn told(step: &Step<'_>) -> SlowStep {
     }
 }
 
-// Gives a parser with a room of six bytes these bytes, and tells what is begun behind them.
+// Gives these bytes to a parser with a limit of six bytes, and tells what is open after them.
 fn parse_row(
     rt: &impl Abort,
     alloc: Global,
@@ -180,7 +180,7 @@ fn the_parser_keeps_running_status(rt: HostRuntime) {
     );
 }
 
-// A status byte that does this behind a note leaves no running status.
+// A status byte that does this after a note leaves no running status.
 fn clears_running_status(rt: &impl Abort, alloc: Global, status: u8, step: SlowStep) {
     let bytes = [0x90, 1, 2, status, 3];
     let steps = [held(), held(), note_on(1, 2), step, SlowStep::Stray];
@@ -195,7 +195,7 @@ fn common_statuses_end_running_status(rt: HostRuntime) {
     clears_running_status(&rt, rt.alloc(), 0xf7, SlowStep::Stray);
 }
 
-// A message or an exclusive of two bytes that ends so behind a note leaves no running status.
+// A message or an exclusive of two bytes that ends like this after a note leaves no running status.
 fn ends_running_status(rt: &impl Abort, alloc: Global, status: u8, last: u8, step: SlowStep) {
     let bytes = [0x90, 1, 2, status, last, 4];
     let steps = [held(), held(), note_on(1, 2), held(), step, SlowStep::Stray];
@@ -285,7 +285,7 @@ fn exclusives_are_lent_whole(rt: HostRuntime) {
     assert_eq!(rt; parse_row(&rt, rt.alloc(), &bytes, &steps), None);
 }
 
-// The next of a row of numbers that look random.
+// The next of a series of numbers that look random.
 fn next(number: u32) -> u32 {
     number.wrapping_mul(1_664_525).wrapping_add(1_013_904_223)
 }

@@ -52,7 +52,7 @@ fn voice_status(first: u8, channel: U4) -> u8
 }
 
 /// The bytes of a channel voice message: its status byte, 80 to EF with the channel in the low four bits, and its one or two data
-/// bytes, 0 to 7F; of a bend the low seven bits first (MIDI 1.0 Detailed Specification, channel voice messages).
+/// bytes, 0 to 7F; a bend has its low seven bits first (MIDI 1.0 Detailed Specification, channel voice messages).
 #[inline(always)]
 pub fn write_voice(message: &Voice1) -> ShortList<u8, 3>
     ensures { result ≡ spelled_voice message.now }

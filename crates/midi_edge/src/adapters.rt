@@ -1,20 +1,30 @@
-// The objects of the outside over real readers, writers and folders. They tell no content.
-ghost use Rattle.std.specs.Prelude.{◌≡◌, Ok, IsErr, MatchResult};
-ghost use Rattle.midi_edge.specs.Outside.{HasCause};
+// The objects of the outside over real readers, writers, folders and files. They tell no content.
+ghost use Rattle.std.specs.Prelude.{◌≡◌, ◌≤◌, Ok, IsErr, MatchResult};
+ghost use Rattle.midi_edge.specs.Outside.{HasCause, HasOpenCause, Rose};
 
+mod file_shelf;
 mod folder_lanes;
 mod read_source;
 #[cfg(test)]
 mod tests;
 mod write_sink;
 
+pub use crate::adapters::file_shelf::FileShelf;
 pub use crate::adapters::folder_lanes::FolderLanes;
 pub use crate::adapters::read_source::ReadSource;
 pub use crate::adapters::write_sink::WriteSink;
-use crate::outside::Failed;
+use crate::outside::{Failed, OpenFault};
 
 // How many bytes are gathered in a buffer.
 const CAPACITY: usize = 8192;
+
+// The count stops at the last `u64`.
+fn count_fault(faults: &mut u64)
+    ensures later { faults.old ≤ faults.new }
+    ensures rose { Rose faults.old faults.new }
+{
+    *faults = faults.saturating_add(1);
+}
 
 // The answer of a call, whose fault is counted.
 fn counted<T, E: Drop>(answer: Result<T, E>, faults: &mut u64) -> Result<T, Failed>
@@ -24,8 +34,19 @@ fn counted<T, E: Drop>(answer: Result<T, E>, faults: &mut u64) -> Result<T, Fail
     match answer {
         Ok(value) => Ok(value),
         Err(_) => {
-            *faults = faults.saturating_add(1);
+            count_fault(faults);
             Err(Failed)
         }
     }
+}
+
+// The answer of an opening, which is counted as a fault where it failed, and not for want of memory.
+fn counted_opening<T>(answer: Result<T, OpenFault>, faults: &mut u64) -> Result<T, OpenFault>
+    ensures answer { result ≡ answer }
+    ensures cause { HasOpenCause faults.old faults.new result }
+{
+    if let Err(OpenFault::Failed) = &answer {
+        count_fault(faults);
+    }
+    answer
 }

@@ -17,7 +17,7 @@ mod script;
 pub mod short_list;
 pub mod window;
 
-pub use crate::adapters::{FolderLanes, ReadSource, WriteSink};
+pub use crate::adapters::{FileShelf, FolderLanes, ReadSource, WriteSink};
 pub use crate::byte_reader::ByteReader;
 pub use crate::few_bits::U4;
 pub use crate::lent::LentU4;

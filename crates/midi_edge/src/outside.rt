@@ -2,6 +2,9 @@
 ghost use Rattle.std.specs.Prelude.{◌≡◌, ℕ, ◌≤◌, ◌<◌, Bool, true, List, ◌++◌, length, OnOk, OnErr, IfOk, None, Some, Option};
 ghost use Rattle.midi_edge.specs.Outside.{HasCause, HasOpenCause, Takes, Puts, PutsPair, Fetches, kept_bytes};
 
+#[cfg(test)]
+mod tests;
+
 use crate::few_bits::U4;
 use thiserror::Error;
 

@@ -1,6 +1,7 @@
 -- What the passes may be asked for. `room` is the most bytes that an exclusive may have between F0 and F7.
 use Rattle.std.specs.Prelude.{ℕ, Bool, true, false}
 use Rattle.ump_words.specs.declared.words.Order.{Order}
+use Rattle.function_blocks.specs.Setups.{Facts}
 
 -- a recording that is carried down
 pub record DownOptions : Type 0 where
@@ -25,6 +26,12 @@ pub record PacketLineOptions : Type 0 where
 
 -- a stream of MIDI 1.0 bytes whose messages are shown
 pub record ByteLineOptions : Type 0 where
+  pub room : ℕ
+
+-- a recording of a peer that is answered by an endpoint of this setup
+pub record EndpointOptions : Type 0 where
+  pub setup : Facts
+  pub order : Order
   pub room : ℕ
 
 -- lines of packets, or of bytes

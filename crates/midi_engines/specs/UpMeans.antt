@@ -20,7 +20,7 @@ use Rattle.midi_engines.specs.Up.{AreWritten, HoldsRaised, raising}
 
 -- ---- written packets
 
-written_named : (order : Order) (packets : List Packet) (puts : List Put) → AreWritten order packets puts → AreNamed output_and_notes puts
+pub written_named : (order : Order) (packets : List Packet) (puts : List Put) → AreWritten order packets puts → AreNamed output_and_notes puts
 written_named order [] puts written =
     let A : List Put → Type 0 = λ ps. AreNamed output_and_notes ps in subst A (sym written) tt
 written_named order (packet ∷ packets) puts written =
@@ -44,7 +44,7 @@ output-written order (packet ∷ packets) puts written =
     ∙ ap (λ xs. written.0 ++ xs) (output-written order packets written.1 written.3)
     ∙ sym written.4
 
-written-then : (order : Order) (packets others : List Packet) (ps qs : List Put) → AreWritten order packets ps → AreWritten order others qs → AreWritten order (packets ++ others) (ps ++ qs)
+pub written-then : (order : Order) (packets others : List Packet) (ps qs : List Put) → AreWritten order packets ps → AreWritten order others qs → AreWritten order (packets ++ others) (ps ++ qs)
 written-then order [] others ps qs first second =
     let W : List Put → Type 0 = λ xs. AreWritten order others xs in subst W (sym (ap (λ xs. xs ++ qs) first)) second
 written-then order (packet ∷ packets) others ps qs first second = (

@@ -3,7 +3,8 @@ ghost use Rattle.midi_pass.specs.Bytes.{byte_cutting};
 ghost use Rattle.midi_pass.specs.FirstRefusal.{HasOneFirstRefusal};
 ghost use Rattle.midi_engines.specs.Back.{returning};
 ghost use Rattle.midi_engines.specs.Down.{carrying};
-ghost use Rattle.midi_engines.specs.Options.{BackOptions, ByteLineOptions, DownOptions, PacketLineOptions, UpOptions};
+ghost use Rattle.midi_engines.specs.Endpoint.{answering};
+ghost use Rattle.midi_engines.specs.Options.{BackOptions, ByteLineOptions, DownOptions, EndpointOptions, PacketLineOptions, UpOptions};
 ghost use Rattle.midi_engines.specs.Packets.{packet_cutting};
 ghost use Rattle.midi_engines.specs.ShowBytes.{showing_bytes};
 ghost use Rattle.midi_engines.specs.ShowPackets.{showing};
@@ -18,6 +19,7 @@ use ump_words::{fronts_are_cut_as_the_stream, one_cutting};
 pub fn a_recording_has_one_first_refusal()
     ensures carried { (options : DownOptions) → HasOneFirstRefusal (packet_cutting options.order) (carrying options) }
     ensures shown { (options : PacketLineOptions) → HasOneFirstRefusal (packet_cutting options.order) (showing options) }
+    ensures answered { (options : EndpointOptions) → HasOneFirstRefusal (packet_cutting options.order) (answering options) }
 {
     one_cutting();
     fronts_are_cut_as_the_stream();

@@ -1,3 +1,4 @@
+pub mod EndpointLines
 pub mod Fields
 pub mod ListingLines
 pub mod PacketLines

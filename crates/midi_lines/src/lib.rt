@@ -1,6 +1,7 @@
 //! The lines of text that the program writes.
 #![tactic(auto)]
 
+mod endpoint;
 mod line;
 mod listing;
 mod packets;
@@ -11,6 +12,10 @@ mod voice;
 mod voice1;
 mod voice2;
 
+pub use crate::endpoint::{
+    Name, block_line, endpoint_line, fill_block_line, fill_endpoint_line, fill_profile_line,
+    fill_protocol_line, profile_line, protocol_line,
+};
 pub use crate::line::Line;
 pub use crate::listing::{byte_listing, fill_byte_listing, fill_listing_line, listing_line};
 pub use crate::packets::{fill_packet_line, packet_line};

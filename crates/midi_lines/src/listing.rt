@@ -26,7 +26,7 @@ pub fn fill_listing_line(line: &mut Line, listed: &Listed)
     line.clear();
     put_decimal(line, listed.offset);
     put_text(line, " ");
-    put_listed_group(line, listed.group);
+    put_group_or_hyphen(line, listed.group);
     put_kind(line, listed.kind);
 }
 
@@ -52,7 +52,7 @@ pub fn fill_byte_listing(line: &mut Line, kind: Kind, offset: u64)
 }
 
 // A group, or a hyphen for none.
-fn put_listed_group(line: &mut Line, group: Option<U4>)
+pub(crate) fn put_group_or_hyphen(line: &mut Line, group: Option<U4>)
     requires { length line.old ≤ 60 }
     ensures text { line.new ≡ line.old ++ group_text group }
     ensures room { length line.new ≤ length line.old + 20 }

@@ -3,13 +3,14 @@ use Rattle.std.proofs.Common.{◌≡◌, ℕ, List, Option, None, Some, sym, sub
 use Rattle.std.specs.Prelude.{◌⊎◌, IfSome, Result, Ok, Err}
 use Rattle.midi_edge.specs.Outside.{Rose}
 use Rattle.command_line.specs.Asked.{Asked}
-use Rattle.midi_pass.specs.Pass.{HasNoRefusal, NothingFails, Seen}
+use Rattle.function_blocks.specs.Setups.{Facts, setup_of}
+use Rattle.midi_pass.specs.Pass.{HasNoRefusal, NothingFails, Pass, Seen}
 use Rattle.midi_pass.specs.Places.{Counts, Places, Fails, Puts}
 use Rattle.midi_pass.specs.Put.{Put}
 use Rattle.midi_pass.specs.declared.ends.RunEnd.{RunEnd}
 use Rattle.midi_pass.specs.declared.ends.RunEnd.TheVariants as end
-use Rattle.midi_tool.specs.Command.{pass_of}
-use Rattle.midi_tool.specs.Run.{IsDoneOrNoMemory}
+use Rattle.midi_tool.specs.Command.{Plan, by_pass, into_folder, with_setup, plan_of}
+use Rattle.midi_tool.specs.Run.{IsDoneOrNoMemory, IsDonePass, IsDonePlan, Objects, ShelfSeen}
 use Rattle.midi_tool.specs.declared.status.Status.{Status}
 use Rattle.midi_tool.specs.declared.status.Status.TheVariants.{Done, NoMemory}
 
@@ -54,13 +55,33 @@ fails_before puts old unended new answer reads put well =
       λ rose. well.3 ((puts_rise puts unended.places new.places answer put old.places.faults.notes).2 rose),
     )
 
-pub done_with_more : (puts : List Put) (asked : Option Asked) (old unended new : Seen) (status : Status) (answer : Result (Unit {0}) RunEnd) → unended.reads ≡ new.reads → Puts puts unended.places new.places answer
-    → IsDoneOrNoMemory asked old unended status → IsDoneOrNoMemory asked old new status
-done_with_more puts None old unended new status answer reads put done = tt
-done_with_more puts (Some asked) old unended new status answer reads put done = by_told old.left done
+done_pass : (puts : List Put) (pass : Pass) (old unended new : Seen) (status : Status) (answer : Result (Unit {0}) RunEnd) → unended.reads ≡ new.reads → Puts puts unended.places new.places answer
+    → IsDonePass pass old unended status → IsDonePass pass old new status
+done_pass puts pass old unended new status answer reads put done = by_told old.left done
   where
     by_told : (left : Option (List ℕ))
-        → IfSome left (λ bytes. HasNoRefusal (pass_of asked).IsCut (pass_of asked).work bytes → NothingFails old unended → (status ≡ Done) ⊎ (status ≡ NoMemory))
-        → IfSome left (λ bytes. HasNoRefusal (pass_of asked).IsCut (pass_of asked).work bytes → NothingFails old new → (status ≡ Done) ⊎ (status ≡ NoMemory))
+        → IfSome left (λ bytes. HasNoRefusal pass.IsCut pass.work bytes → NothingFails old unended → (status ≡ Done) ⊎ (status ≡ NoMemory))
+        → IfSome left (λ bytes. HasNoRefusal pass.IsCut pass.work bytes → NothingFails old new → (status ≡ Done) ⊎ (status ≡ NoMemory))
     by_told None done = tt
     by_told (Some bytes) done = λ none well. done none (fails_before puts old unended new answer reads put well)
+
+done_plan : (puts : List Put) (plan : Plan) (old unended new : Objects) (status : Status) (answer : Result (Unit {0}) RunEnd) → unended.seen.reads ≡ new.seen.reads → unended.shelf ≡ new.shelf → Puts puts unended.seen.places new.seen.places answer
+    → IsDonePlan plan old unended status → IsDonePlan plan old new status
+done_plan puts (by_pass pass) old unended new status answer reads shelf put done = done_pass puts pass old.seen unended.seen new.seen status answer reads put done
+done_plan puts (into_folder folder pass) old unended new status answer reads shelf put done = done_pass puts pass old.seen unended.seen new.seen status answer reads put done
+done_plan puts (with_setup name pass) old unended new status answer reads shelf put done = by_told old.shelf.texts done
+  where
+    Done : ShelfSeen → Seen → Option (List ℕ → Option (List ℕ)) → Type 0
+    Done shelf seen told =
+        IfSome told (λ texts. (text : List ℕ) (setup : Facts) → texts name ≡ Some text → setup_of text ≡ Ok setup → (Rose old.shelf.faults shelf.faults → ⊥) → IsDonePass (pass setup) old.seen seen status)
+
+    by_told : (told : Option (List ℕ → Option (List ℕ))) → Done unended.shelf unended.seen told → Done new.shelf new.seen told
+    by_told None done = tt
+    by_told (Some texts) done = λ text setup named is well.
+        let R : ShelfSeen → Type 0 = λ s. Rose old.shelf.faults s.faults in
+        done_pass puts (pass setup) old.seen unended.seen new.seen status answer reads put (done text setup named is (λ rose. well (subst R shelf rose)))
+
+pub done_with_more : (puts : List Put) (asked : Option Asked) (old unended new : Objects) (status : Status) (answer : Result (Unit {0}) RunEnd) → unended.seen.reads ≡ new.seen.reads → unended.shelf ≡ new.shelf
+    → Puts puts unended.seen.places new.seen.places answer → IsDoneOrNoMemory asked old unended status → IsDoneOrNoMemory asked old new status
+done_with_more puts None old unended new status answer reads shelf put done = tt
+done_with_more puts (Some asked) old unended new status answer reads shelf put done = done_plan puts (plan_of asked) old unended new status answer reads shelf put done

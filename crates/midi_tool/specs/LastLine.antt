@@ -3,9 +3,9 @@ use Rattle.std.specs.Prelude.{ℕ, List, ◌++◌, Option, None, Some, codes, de
 use Rattle.std.specs.Option.{option_map, option_to_list}
 use Rattle.midi_pass.specs.Put.{Put, in_notes}
 use Rattle.midi_pass.specs.declared.ends.Reason.{Reason}
-use Rattle.midi_pass.specs.declared.ends.Reason.TheVariants.{Truncated, InputTooLong, BadCount, HighBit, DataIncrement, DataDecrement, ExclusiveTooLong}
+use Rattle.midi_pass.specs.declared.ends.Reason.TheVariants.{Truncated, InputTooLong, BadCount, HighBit, DataIncrement, DataDecrement, ExclusiveTooLong, NotBuilt}
 use Rattle.midi_tool.specs.declared.status.Status.{Status}
-use Rattle.midi_tool.specs.declared.status.Status.TheVariants.{Done, Refused, ReadFault, LaneFault, OutputFault, NoteFault, Usage, NoMemory}
+use Rattle.midi_tool.specs.declared.status.Status.TheVariants.{Done, Refused, ReadFault, LaneFault, OutputFault, NoteFault, ShelfFault, Usage, SetupSyntax, SetupField, NoMemory}
 
 abbrev pub reason_text : Reason → List ℕ
 reason_text Truncated = codes "Truncated"
@@ -15,6 +15,7 @@ reason_text HighBit = codes "HighBit"
 reason_text DataIncrement = codes "DataIncrement"
 reason_text DataDecrement = codes "DataDecrement"
 reason_text ExclusiveTooLong = codes "ExclusiveTooLong"
+reason_text NotBuilt = codes "NotBuilt"
 
 -- the text for a status, without its line feed, or none where there is no last line
 abbrev pub last_text : Status → Option (List ℕ)
@@ -24,7 +25,10 @@ last_text ReadFault = Some (codes "read failed")
 last_text LaneFault = Some (codes "lane write failed")
 last_text OutputFault = Some (codes "output write failed")
 last_text NoteFault = None
+last_text ShelfFault = Some (codes "setup read failed")
 last_text Usage = Some (codes "usage: translate, show, endpoint or selftest")
+last_text SetupSyntax = Some (codes "setup is not TOML")
+last_text (SetupField rule) = Some (codes "setup field " ++ decimal rule)
 last_text NoMemory = Some (codes "no memory")
 
 -- the last line, if there is one, and its put

@@ -25,6 +25,7 @@ fn reason_text(reason: Reason) -> &'static str
         Reason::DataIncrement => "DataIncrement",
         Reason::DataDecrement => "DataDecrement",
         Reason::ExclusiveTooLong => "ExclusiveTooLong",
+        Reason::NotBuilt => "NotBuilt",
     }
 }
 
@@ -37,6 +38,17 @@ fn refusal_line(reason: Reason, offset: u64) -> Line
     put_text(&mut line, reason_text(reason));
     put_text(&mut line, " at ");
     put_decimal(&mut line, offset);
+    put_text(&mut line, "\n");
+    line
+}
+
+// The line of the first rule that a setup breaks.
+fn rule_line(rule: u8) -> Line
+    ensures text { result ≡ codes "setup field " ++ decimal rule ++ codes "\n" }
+{
+    let mut line = Line::new();
+    put_text(&mut line, "setup field ");
+    put_decimal(&mut line, u64::from(rule));
     put_text(&mut line, "\n");
     line
 }
@@ -63,6 +75,9 @@ fn last_line(status: Status) -> Option<Line>
         Status::ReadFault => Some(line_of("read failed")),
         Status::LaneFault => Some(line_of("lane write failed")),
         Status::OutputFault => Some(line_of("output write failed")),
+        Status::ShelfFault => Some(line_of("setup read failed")),
+        Status::SetupSyntax => Some(line_of("setup is not TOML")),
+        Status::SetupField(rule) => Some(rule_line(rule)),
         Status::Usage => Some(line_of("usage: translate, show, endpoint or selftest")),
         Status::NoMemory => Some(line_of("no memory")),
     }

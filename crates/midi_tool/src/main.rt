@@ -10,7 +10,7 @@ mod tests;
 use crate::last_line::put_last;
 use crate::run::run;
 use crate::status::Status;
-use midi_edge::{FolderLanes, MemShelf, ReadSource, WriteSink};
+use midi_edge::{FileShelf, FolderLanes, ReadSource, WriteSink};
 use std::io::Write;
 use std::process::ExitCode;
 use std::rt::Files;
@@ -22,7 +22,7 @@ fn main(rt: HostRuntime) -> io::Result<ExitCode> {
     let mut lanes = FolderLanes::new(rt.clone()?);
     let mut output = WriteSink::new(rt.stdout());
     let mut notes = WriteSink::new(rt.stderr());
-    let mut shelf = MemShelf::new(Vec::new(alloc), Vec::new(alloc));
+    let mut shelf = FileShelf::new(rt.clone()?);
     let status = match env::args(&rt) {
         Ok(words) => {
             let words: Vec<String> = words.skip(1).collect(alloc)?;

@@ -1,17 +1,41 @@
 // The program over the objects that it is handed.
 ghost use Rattle.std.specs.Prelude.{◌≡◌, ◌≤◌, ◌<◌, None, Some, false, map, string_bytes};
-ghost use Rattle.command_line.specs.Asked.{IsInRange, IsRoom, asked_of, back, down, show, show_bytes, up};
+ghost use Rattle.command_line.specs.Asked.{IsInRange, IsRoom, asked_of};
 ghost use Rattle.command_line.specs.Rules.{command_of};
-ghost use Rattle.midi_pass.specs.Pass.{Seen, seen};
-ghost use Rattle.midi_tool.specs.Command.{order_of as order_in, pass_of};
-ghost use Rattle.midi_tool.specs.Run.{Does, HasLastLine, IsDoneOrNoMemory, RunSays, status_after};
+ghost use Rattle.midi_engines.specs.Back.{returning};
+ghost use Rattle.midi_engines.specs.Down.{carrying};
+ghost use Rattle.midi_engines.specs.Endpoint.{answering};
+ghost use Rattle.midi_engines.specs.ShowBytes.{showing_bytes};
+ghost use Rattle.midi_engines.specs.ShowPackets.{showing};
+ghost use Rattle.midi_engines.specs.Up.{raising};
+ghost use Rattle.midi_pass.specs.Pass.{seen};
+ghost use Rattle.midi_tool.specs.Command.{byte_pass, order_of as order_in, packet_pass, plan_of};
+ghost use Rattle.midi_tool.specs.Run.{
+  Does,
+  FindsSetup,
+  HasLastLine,
+  IsDoneOrNoMemory,
+  IsDonePass,
+  IsDonePlan,
+  Objects,
+  RunSays,
+  Runs,
+  RunsInto,
+  objects,
+  shelf_seen,
+  status_after,
+};
 
 use crate::last_line::put_last;
 use crate::status::Status;
 use command_line::{Command, WordsFault, command_line};
 use down_translator::Style;
+use function_blocks::{Setup, SetupFault};
 use midi_edge::{Lanes, OpenFault, Shelf, Sink, Source, U4};
-use midi_engines::{BackRun, DownRun, ShowRun, UpRun, run_back, run_down, run_show, run_up};
+use midi_engines::{
+    BackRun, DownRun, EndpointRun, ShowRun, UpRun, run_back, run_down, run_endpoint, run_show,
+    run_up,
+};
 use midi_pass::RunEnd;
 use std::alloc::Global;
 use ump_words::Order;
@@ -22,15 +46,18 @@ use ump_words::Order;
 /// `lanes`, and lists in `notes` what has no counterpart. `translate up` turns the MIDI 1.0 stream in `input` into the words of
 /// packets of one group, in `output`, and `translate back` into the stream that these packets give on the way down; both list in
 /// `notes` what gave no packet. `show` puts a line for each packet of a recording in `output`, `show --bytes` the lines of a stream.
+/// `endpoint SETUP` reads the setup of that name from the shelf and answers the packets of a peer in `input`: the words of the replies
+/// come in `output`, and a line for each message in `notes`.
 /// `--group` is 0 to 15, at first 0; `--room`, the most bytes of an exclusive between F0 and F7, is 6 to 1,048,576, at first
 /// 1,048,576; with `--little` each word has its least significant byte first.
 ///
 /// `Done` says that the input was read to its end. `Refused` comes at the first packet or byte that is refused, with its reason and
-/// its offset, the number of input bytes before it. `ReadFault`, `LaneFault`, `OutputFault` and `NoteFault` come only for an object
-/// that the command names and whose count of faults rose in this call. `Usage` comes where the words are no command. `NoMemory` is
-/// free in its cause, and comes before the first read. What stands in the lanes, the output and the notes after each of these is
-/// told by the clauses; docs/ends.md has it as a table. Whatever the status but `Done` and `NoteFault`, a last line in the notes
-/// tells it. No command names the shelf.
+/// its offset, the number of input bytes before it. `ReadFault`, `LaneFault`, `OutputFault`, `NoteFault` and `ShelfFault` come only for
+/// an object that the command names and whose count of faults rose in this call. `Usage` comes where the words are no command,
+/// `SetupSyntax` where the text of the setup isn't UTF-8 or no TOML, `SetupField` with the number of the first rule that it breaks
+/// (`function_blocks::Rule`). `NoMemory` is free in its cause, and comes before the first read. What stands in the lanes, the output
+/// and the notes after each of these is told by the clauses; docs/passes.md has it as a table. Whatever the status but `Done` and
+/// `NoteFault`, a last line in the notes tells it.
 pub fn run<S: Source, L: Lanes, W: Sink, N: Sink, K: Shelf>(
     alloc: Global,
     words: &[String],
@@ -47,73 +74,77 @@ pub fn run<S: Source, L: Lanes, W: Sink, N: Sink, K: Shelf>(
     // What the words ask for is done, as far as the status says; then comes the last line. `Done`: the input was read to its end,
     // none of its items is refused, exactly their puts stand, and these mean what the items mean. `Refused`: the first refusal, and
     // exactly the puts of the items before it. A read failed: exactly the puts of the items that lie wholly in what the source
-    // gave. A place failed: the puts before the one that failed, and of that one a front that isn't all of it. An object that the
-    // command doesn't name stays as it is. `pass_of` tells how each command cuts its input, and what it refuses, puts and means.
-    ensures says { (unended : Seen)
+    // gave. A place failed: the puts before the one that failed, and of that one a front that isn't all of it. The setup can't be
+    // had, or is none: nothing is read or put. An object that the command doesn't name stays as it is. `plan_of` tells how each
+    // command cuts its input, and what it refuses, puts and means.
+    ensures says { (unended : Objects)
         × RunSays (command_of (map string_bytes words.now))
-        (seen S.Source L.Lanes W.Sink N.Sink input.old lanes.old output.old notes.old) unended result
+        (objects S.Source L.Lanes W.Sink N.Sink K.Shelf input.old lanes.old output.old notes.old shelf.old) unended result
         × HasLastLine unended
-        (seen S.Source L.Lanes W.Sink N.Sink input.new lanes.new output.new notes.new) result }
+        (objects S.Source L.Lanes W.Sink N.Sink K.Shelf input.new lanes.new output.new notes.new shelf.new) result }
 
     // Where nothing is refused and nothing fails it is done, unless there is no memory.
     ensures complete { IsDoneOrNoMemory (command_of (map string_bytes words.now))
-        (seen S.Source L.Lanes W.Sink N.Sink input.old lanes.old output.old notes.old)
-        (seen S.Source L.Lanes W.Sink N.Sink input.new lanes.new output.new notes.new) result }
-    ensures shelf { shelf.new ≡ shelf.old }
+        (objects S.Source L.Lanes W.Sink N.Sink K.Shelf input.old lanes.old output.old notes.old shelf.old)
+        (objects S.Source L.Lanes W.Sink N.Sink K.Shelf input.new lanes.new output.new notes.new shelf.new) result }
 {
-    let status = answer(alloc, words, input, lanes, output, notes);
+    let status = answer(alloc, words, input, lanes, output, notes, shelf);
     put_last(status, lanes, output, notes);
     status
 }
 
 // What the words ask for, but for the last line.
-fn answer<S: Source, L: Lanes, W: Sink, N: Sink>(
+fn answer<S: Source, L: Lanes, W: Sink, N: Sink, K: Shelf>(
     alloc: Global,
     words: &[String],
     input: &mut S,
     lanes: &mut L,
     output: &mut W,
     notes: &mut N,
+    shelf: &mut K,
 ) -> Status
     requires folder { L.folder lanes.old ≡ None }
+    requires asked { K.asked shelf.old ≡ None }
     ensures says { RunSays (command_of (map string_bytes words.now))
-        (seen S.Source L.Lanes W.Sink N.Sink input.old lanes.old output.old notes.old)
-        (seen S.Source L.Lanes W.Sink N.Sink input.new lanes.new output.new notes.new) result }
+        (objects S.Source L.Lanes W.Sink N.Sink K.Shelf input.old lanes.old output.old notes.old shelf.old)
+        (objects S.Source L.Lanes W.Sink N.Sink K.Shelf input.new lanes.new output.new notes.new shelf.new) result }
     ensures complete { IsDoneOrNoMemory (command_of (map string_bytes words.now))
-        (seen S.Source L.Lanes W.Sink N.Sink input.old lanes.old output.old notes.old)
-        (seen S.Source L.Lanes W.Sink N.Sink input.new lanes.new output.new notes.new) result }
+        (objects S.Source L.Lanes W.Sink N.Sink K.Shelf input.old lanes.old output.old notes.old shelf.old)
+        (objects S.Source L.Lanes W.Sink N.Sink K.Shelf input.new lanes.new output.new notes.new shelf.new) result }
 {
     match command_line(alloc, words) {
-        Ok(command) => perform(alloc, &command, input, lanes, output, notes),
+        Ok(command) => perform(alloc, &command, input, lanes, output, notes, shelf),
         Err(WordsFault::Usage) => Status::Usage,
         Err(WordsFault::NoMemory) => Status::NoMemory,
     }
 }
 
 // What a command asks for.
-fn perform<S: Source, L: Lanes, W: Sink, N: Sink>(
+fn perform<S: Source, L: Lanes, W: Sink, N: Sink, K: Shelf>(
     alloc: Global,
     command: &Command<'_>,
     input: &mut S,
     lanes: &mut L,
     output: &mut W,
     notes: &mut N,
+    shelf: &mut K,
 ) -> Status
     requires range { IsInRange (asked_of command.now) }
     requires folder { L.folder lanes.old ≡ None }
-    ensures says { Does (asked_of command.now)
-        (seen S.Source L.Lanes W.Sink N.Sink input.old lanes.old output.old notes.old)
-        (seen S.Source L.Lanes W.Sink N.Sink input.new lanes.new output.new notes.new) result }
-    ensures complete { IsDoneOrNoMemory (Some (asked_of command.now))
-        (seen S.Source L.Lanes W.Sink N.Sink input.old lanes.old output.old notes.old)
-        (seen S.Source L.Lanes W.Sink N.Sink input.new lanes.new output.new notes.new) result }
+    requires asked { K.asked shelf.old ≡ None }
+    ensures says { Does (plan_of (asked_of command.now))
+        (objects S.Source L.Lanes W.Sink N.Sink K.Shelf input.old lanes.old output.old notes.old shelf.old)
+        (objects S.Source L.Lanes W.Sink N.Sink K.Shelf input.new lanes.new output.new notes.new shelf.new) result }
+    ensures complete { IsDonePlan (plan_of (asked_of command.now))
+        (objects S.Source L.Lanes W.Sink N.Sink K.Shelf input.old lanes.old output.old notes.old shelf.old)
+        (objects S.Source L.Lanes W.Sink N.Sink K.Shelf input.new lanes.new output.new notes.new shelf.new) result }
 {
     match command {
         Command::Down {
             folder,
             little,
             room,
-        } => into_folder(alloc, folder, *little, *room, input, lanes, output, notes),
+        } => translate_down(alloc, folder, *little, *room, input, lanes, output, notes),
         Command::Show { little, room } => {
             put_packet_lines(alloc, *little, *room, input, lanes, output, notes)
         }
@@ -126,6 +157,14 @@ fn perform<S: Source, L: Lanes, W: Sink, N: Sink>(
         Command::Back { group, room } => {
             bring_back(alloc, *group, *room, input, lanes, output, notes)
         }
+        Command::Endpoint {
+            setup,
+            little,
+            room,
+        } => match setup_named(alloc, setup, shelf) {
+            Ok(setup) => answer_peer(alloc, setup, *little, *room, input, lanes, output, notes),
+            Err(status) => status,
+        },
     }
 }
 
@@ -151,7 +190,7 @@ fn status_of(end: RunEnd) -> Status
 }
 
 // Translates a recording down into a folder. The lanes are opened once all memory is there.
-fn into_folder<S: Source, L: Lanes, W: Sink, N: Sink>(
+fn translate_down<S: Source, L: Lanes, W: Sink, N: Sink>(
     alloc: Global,
     folder: &str,
     little: bool,
@@ -163,10 +202,12 @@ fn into_folder<S: Source, L: Lanes, W: Sink, N: Sink>(
 ) -> Status
     requires room { IsRoom room }
     requires folder { L.folder lanes.old ≡ None }
-    ensures says { Does (down (record { folder = folder.now; little = little; room = room }))
+    ensures says { RunsInto folder.now
+        (packet_pass (order_in little) (carrying (record { order = order_in little; room = room })))
         (seen S.Source L.Lanes W.Sink N.Sink input.old lanes.old output.old notes.old)
         (seen S.Source L.Lanes W.Sink N.Sink input.new lanes.new output.new notes.new) result }
-    ensures complete { IsDoneOrNoMemory (Some (down (record { folder = folder.now; little = little; room = room })))
+    ensures complete { IsDonePass
+        (packet_pass (order_in little) (carrying (record { order = order_in little; room = room })))
         (seen S.Source L.Lanes W.Sink N.Sink input.old lanes.old output.old notes.old)
         (seen S.Source L.Lanes W.Sink N.Sink input.new lanes.new output.new notes.new) result }
 {
@@ -192,10 +233,12 @@ fn raise<S: Source, L: Lanes, W: Sink, N: Sink>(
     notes: &mut N,
 ) -> Status
     requires room { IsRoom room }
-    ensures says { Does (up (record { group = group; little = little; room = room }))
+    ensures says { Runs
+        (byte_pass (raising (record { group = group; order = order_in little; room = room })))
         (seen S.Source L.Lanes W.Sink N.Sink input.old lanes.old output.old notes.old)
         (seen S.Source L.Lanes W.Sink N.Sink input.new lanes.new output.new notes.new) result }
-    ensures complete { IsDoneOrNoMemory (Some (up (record { group = group; little = little; room = room })))
+    ensures complete { IsDonePass
+        (byte_pass (raising (record { group = group; order = order_in little; room = room })))
         (seen S.Source L.Lanes W.Sink N.Sink input.old lanes.old output.old notes.old)
         (seen S.Source L.Lanes W.Sink N.Sink input.new lanes.new output.new notes.new) result }
 {
@@ -216,10 +259,12 @@ fn bring_back<S: Source, L: Lanes, W: Sink, N: Sink>(
     notes: &mut N,
 ) -> Status
     requires room { IsRoom room }
-    ensures says { Does (back (record { group = group; room = room }))
+    ensures says { Runs
+        (byte_pass (returning (record { group = group; room = room })))
         (seen S.Source L.Lanes W.Sink N.Sink input.old lanes.old output.old notes.old)
         (seen S.Source L.Lanes W.Sink N.Sink input.new lanes.new output.new notes.new) result }
-    ensures complete { IsDoneOrNoMemory (Some (back (record { group = group; room = room })))
+    ensures complete { IsDonePass
+        (byte_pass (returning (record { group = group; room = room })))
         (seen S.Source L.Lanes W.Sink N.Sink input.old lanes.old output.old notes.old)
         (seen S.Source L.Lanes W.Sink N.Sink input.new lanes.new output.new notes.new) result }
 {
@@ -240,10 +285,12 @@ fn put_packet_lines<S: Source, L: Lanes, W: Sink, N: Sink>(
     notes: &mut N,
 ) -> Status
     requires room { IsRoom room }
-    ensures says { Does (show (record { little = little; room = room }))
+    ensures says { Runs
+        (packet_pass (order_in little) (showing (record { order = order_in little; room = room })))
         (seen S.Source L.Lanes W.Sink N.Sink input.old lanes.old output.old notes.old)
         (seen S.Source L.Lanes W.Sink N.Sink input.new lanes.new output.new notes.new) result }
-    ensures complete { IsDoneOrNoMemory (Some (show (record { little = little; room = room })))
+    ensures complete { IsDonePass
+        (packet_pass (order_in little) (showing (record { order = order_in little; room = room })))
         (seen S.Source L.Lanes W.Sink N.Sink input.old lanes.old output.old notes.old)
         (seen S.Source L.Lanes W.Sink N.Sink input.new lanes.new output.new notes.new) result }
 {
@@ -266,10 +313,12 @@ fn put_byte_lines<S: Source, L: Lanes, W: Sink, N: Sink>(
     notes: &mut N,
 ) -> Status
     requires room { IsRoom room }
-    ensures says { Does (show_bytes (record { room = room }))
+    ensures says { Runs
+        (byte_pass (showing_bytes (record { room = room })))
         (seen S.Source L.Lanes W.Sink N.Sink input.old lanes.old output.old notes.old)
         (seen S.Source L.Lanes W.Sink N.Sink input.new lanes.new output.new notes.new) result }
-    ensures complete { IsDoneOrNoMemory (Some (show_bytes (record { room = room })))
+    ensures complete { IsDonePass
+        (byte_pass (showing_bytes (record { room = room })))
         (seen S.Source L.Lanes W.Sink N.Sink input.old lanes.old output.old notes.old)
         (seen S.Source L.Lanes W.Sink N.Sink input.new lanes.new output.new notes.new) result }
 {
@@ -278,6 +327,54 @@ fn put_byte_lines<S: Source, L: Lanes, W: Sink, N: Sink>(
             Ok(end) => status_of(end),
             Err(_) => unreachable!(),
         },
+        Err(_) => Status::NoMemory,
+    }
+}
+
+// The most bytes that are read of a setup: one more than a setup may have.
+const SETUP_LIMIT: usize = 65_537;
+
+// The setup of the text that the shelf has by a name.
+fn setup_named<K: Shelf>(alloc: Global, name: &str, shelf: &mut K) -> Result<Setup, Status>
+    requires asked { K.asked shelf.old ≡ None }
+    ensures { FindsSetup name.now (shelf_seen K.Shelf shelf.old) (shelf_seen K.Shelf shelf.new) result }
+{
+    let mut text = Vec::new(alloc);
+    match shelf.fetch(name, SETUP_LIMIT, &mut text) {
+        Ok(()) => match Setup::read(alloc, text.as_slice()) {
+            Ok(setup) => Ok(setup),
+            Err(SetupFault::Syntax) => Err(Status::SetupSyntax),
+            Err(SetupFault::Field(rule)) => Err(Status::SetupField(rule)),
+            Err(SetupFault::NoMemory) => Err(Status::NoMemory),
+        },
+        Err(OpenFault::Failed) => Err(Status::ShelfFault),
+        Err(OpenFault::NoMemory) => Err(Status::NoMemory),
+    }
+}
+
+// Answers a peer.
+fn answer_peer<S: Source, L: Lanes, W: Sink, N: Sink>(
+    alloc: Global,
+    setup: Setup,
+    little: bool,
+    room: u32,
+    input: &mut S,
+    lanes: &mut L,
+    output: &mut W,
+    notes: &mut N,
+) -> Status
+    requires room { IsRoom room }
+    ensures says { Runs
+        (packet_pass (order_in little) (answering (record { setup = setup; order = order_in little; room = room })))
+        (seen S.Source L.Lanes W.Sink N.Sink input.old lanes.old output.old notes.old)
+        (seen S.Source L.Lanes W.Sink N.Sink input.new lanes.new output.new notes.new) result }
+    ensures complete { IsDonePass
+        (packet_pass (order_in little) (answering (record { setup = setup; order = order_in little; room = room })))
+        (seen S.Source L.Lanes W.Sink N.Sink input.old lanes.old output.old notes.old)
+        (seen S.Source L.Lanes W.Sink N.Sink input.new lanes.new output.new notes.new) result }
+{
+    match EndpointRun::new(alloc, setup, order_of(little), room) {
+        Ok(engine) => status_of(run_endpoint(engine, input, lanes, output, notes)),
         Err(_) => Status::NoMemory,
     }
 }

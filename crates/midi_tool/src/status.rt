@@ -20,8 +20,14 @@ pub enum Status {
     OutputFault,
     /// A write to the notes failed.
     NoteFault,
+    /// The setup could not be read.
+    ShelfFault,
     /// The words are no command.
     Usage,
+    /// The setup isn't UTF-8, or no TOML.
+    SetupSyntax,
+    /// The rule of this number, 0 to 31, is the first that the setup breaks.
+    SetupField(u8),
     /// There was no memory.
     NoMemory,
 }
@@ -29,8 +35,8 @@ pub enum Status {
 impl Status {
     ghost use Rattle.midi_tool.specs.ExitCode.{exit_code_of};
 
-    /// The exit code: 0 for `Done`, 1 for `Refused`, 2 to 5 for faults of reading, of the lanes, of the output and of the notes, 7
-    /// for `Usage`, 10 for `NoMemory` (own rule).
+    /// The exit code: 0 for `Done`, 1 for `Refused`, 2 to 6 for faults of reading, of the lanes, of the output, of the notes
+    /// and of the shelf, 7 for `Usage`, 8 for `SetupSyntax`, 9 for `SetupField`, 10 for `NoMemory` (own rule).
     pub fn exit_code(self) -> u8
         ensures { result ≡ exit_code_of self }
     {
@@ -41,7 +47,10 @@ impl Status {
             Status::LaneFault => 3,
             Status::OutputFault => 4,
             Status::NoteFault => 5,
+            Status::ShelfFault => 6,
             Status::Usage => 7,
+            Status::SetupSyntax => 8,
+            Status::SetupField(_) => 9,
             Status::NoMemory => 10,
         }
     }

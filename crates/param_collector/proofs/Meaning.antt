@@ -1,4 +1,4 @@
--- What a control change leaves is kept behind the step of the meaning, and its answer is the meaning's.
+-- What a control change leaves is kept after the step of the meaning, and its answer is the meaning's.
 use Rattle.std.proofs.Common.{ℕ, ◌+◌, ◌*◌, ◌/◌, ◌≡◌, ◌<◌, ◌∙◌, ap, sym, subst, refl, Bool, true, false, cond, arith, Option, Some, None, List, length, get_or, set, replicate}
 use Rattle.std.proofs.lemmas.Bool.{and_parts, eqb-true, eqb-false, eq-eqb}
 use Rattle.std.proofs.lemmas.List.{get_or-set_same, get_or-set_other, length-set, get_or-replicate, length-replicate}
@@ -43,7 +43,7 @@ same_param-refl p = λ i. same_kind-refl p.kind i && (eq-eqb p.bank p.bank refl 
 
 -- ---- a channel
 
--- the registers behind a control change
+-- the registers after a control change
 registers_meant : (role : Role) (index value : ℕ) (channel : Channel) → registers_behind role value channel.registers ≡ (control as_they_come role index value channel).registers
 registers_meant bank_msb index value channel = refl
 registers_meant bank_lsb index value channel = refl
@@ -69,12 +69,12 @@ IsEntry data_msb = Unit {0}
 IsEntry data_lsb = Unit {0}
 IsEntry _ = ⊥
 
--- the MSB of a parameter of the channel behind a control change
+-- the MSB of a parameter of the channel after a control change
 abbrev msb_behind : Role → Option Param → ℕ → Param → ℕ → ℕ
 msb_behind data_msb (Some entry) value param msb = cond (same_param param entry) value msb
 msb_behind _ _ value param msb = msb
 
--- the MSB behind a control change
+-- the MSB after a control change
 msb_meant : (role : Role) (number index value : ℕ) (channel : Channel) (param : Param) → EntryInRange role number (selected channel.registers) value →
     msb_behind role (selected channel.registers) value param (value_of channel param / 128) ≡ value_of (control as_they_come role index value channel) param / 128
 msb_meant bank_msb number index value channel param range = refl
@@ -157,7 +157,7 @@ place_same c d p q pk qk same =
       λ i. kind_number-same p.kind q.kind parts.1 i && (eq-eqb p.bank q.bank parts.2 i && eq-eqb p.index q.index parts.3 i),
     )
 
--- ---- what is held behind a control change
+-- ---- what is held after a control change
 
 kept_anywhere : {A : Type 0} (test : Bool) (x : A) → x ≡ cond test x x
 kept_anywhere true x = refl

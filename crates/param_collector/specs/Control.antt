@@ -11,7 +11,7 @@ use Rattle.param_collector.specs.Msbs.{place_of}
 
 -- ---- the answer
 
--- to a data entry: the selected parameter, with its value behind it
+-- to a data entry: the selected parameter, with its value after it
 abbrev pub entered : Option Param → (Param → ℕ) → Collected
 entered None values = collected.Ignored
 entered (Some param) values = collected.Set param (values param)
@@ -28,7 +28,7 @@ answer_by reset_all param values = collected.Plain
 answer_by channel_mode param values = collected.Plain
 answer_by plain param values = collected.Plain
 
--- the value behind a data entry: the MSB sets the LSB to 0, the LSB keeps the MSB
+-- the value after a data entry: the MSB sets the LSB to 0, the LSB keeps the MSB
 abbrev pub value_behind : Role → ℕ → ℕ → ℕ
 value_behind data_msb value msb = value * 128
 value_behind _ value msb = msb * 128 + value
@@ -36,7 +36,7 @@ value_behind _ value msb = msb * 128 + value
 abbrev pub answer_of : Role → Holding → ℕ → ℕ → Collected
 answer_of role holding channel value = answer_by role (selected (registers_at holding channel)) (λ param. value_behind role value (msb_at holding channel param))
 
--- ---- what is held behind it
+-- ---- what is held after it
 
 abbrev pub registers_behind : Role → ℕ → Registers → Registers
 registers_behind bank_msb value registers = with_bank_msb value registers

@@ -24,15 +24,15 @@ pub record Keeps (holding : Holding) (group : GroupState) : Type 0 where
 
 -- ---- a control change
 
--- behind a control change, by the meaning of MIDI 1.0
+-- after a control change, by the meaning of MIDI 1.0
 abbrev pub control_step : GroupState → ℕ → ℕ → ℕ → GroupState
 control_step group channel index value = step1 group (voice (voice1.Control channel index value))
 
--- its answer, by that meaning: a data entry answers the value that the selected parameter has behind it
+-- its answer, by that meaning: a data entry answers the value that the selected parameter has after it
 abbrev pub meant : GroupState → ℕ → ℕ → ℕ → Collected
 meant group channel index value = answer_by (role_of index) (selected (group.channels channel).registers) (λ param. value_of ((control_step group channel index value).channels channel) param)
 
--- each state that was kept is kept behind the step, with the answer that it means
+-- each state that was kept is kept after the step, with the answer that it means
 abbrev pub IsMeant : Holding → Holding → ℕ → ℕ → ℕ → Collected → Type 0
 IsMeant old new channel index value answer = (group : GroupState) → Keeps old group → Keeps new (control_step group channel index value) × (answer ≡ meant group channel index value)
 

@@ -8,10 +8,10 @@ abbrev pub kind_number : ParamKind → ℕ
 kind_number Registered = 0
 kind_number Assignable = 1
 
--- where the MSB of a channel's parameter stands, below 524,288 for sixteen channels and numbers of seven bits a half
+-- where the MSB of a channel's parameter is, below 524,288 for sixteen channels and numbers of seven bits a half
 abbrev pub place_of : ℕ → Param → ℕ
 place_of channel param = ((channel * 2 + kind_number param.kind) * 128 + param.bank) * 128 + param.index
 
--- so many MSBs of 0; a name that stands for its list, which is long
+-- this many MSBs of 0; a name that stands for its list, which is long
 unfoldable pub zeros : ℕ → List ℕ
 zeros count = replicate count 0

@@ -6,7 +6,7 @@ use voice_messages::{Param, U14};
 pub enum Collected {
     /// A data increment or decrement, 96 or 97, which changes nothing.
     DataStep,
-    /// A bank half or a half of a parameter's number, 0, 32 or 98 to 101, is held until it is used.
+    /// A half of a bank or of a parameter's number, 0, 32 or 98 to 101, which is held until it is used.
     Held,
     /// A data entry, 6 or 38: the selected parameter and its new value of 14 bits.
     Set(Param, U14),

@@ -5,7 +5,15 @@ ghost use Rattle.voice_state.specs.Controllers.{role_of, data_msb, data_lsb};
 ghost use Rattle.voice_state.specs.Messages.{as_they_come, start};
 ghost use Rattle.voice_state.specs.Registers.{bank_of, selected};
 ghost use Rattle.voice_state.specs.State.{GroupState};
-ghost use Rattle.param_collector.specs.Control.{answer_of, at_registers, registers_behind, holding_behind, AreInRange, EntryInRange, Leaves};
+ghost use Rattle.param_collector.specs.Control.{
+  answer_of,
+  at_registers,
+  registers_behind,
+  holding_behind,
+  AreInRange,
+  EntryInRange,
+  Leaves,
+};
 ghost use Rattle.param_collector.specs.Holding.{IsHolding, fresh, registers_at};
 ghost use Rattle.param_collector.specs.Indexes.{HasIndex, IsIndexOf};
 ghost use Rattle.param_collector.specs.Keeps.{IsMeant, Keeps};
@@ -21,7 +29,7 @@ use std::marker::Model;
 use voice_messages::{Bank, Param, U7, U14};
 
 /// What the control changes of a MIDI 1.0 stream have set: for each of sixteen channels the halves of the bank and of the two
-/// parameter numbers, and for each parameter the MSB of its value. To a contract it is these registers and MSBs.
+/// parameter numbers, and for each parameter the MSB of its value. A contract sees these registers and MSBs.
 #[derive(Drop)]
 pub struct Collector {
     registers: Vec<Registers>,
@@ -53,8 +61,8 @@ fn of_halves(msb: U7, lsb: U7) -> U14
 }
 
 impl Collector {
-    /// A collector for a stream that has no byte yet: no half of a register is set, and no parameter has a value. All memory
-    /// that it ever needs is taken here; `NoMemory` where there is none.
+    /// A collector for a stream that has had no byte yet: no half of a register is set, and no parameter has a value. All memory
+    /// that it ever needs is taken here; `NoMemory` when there is none.
     pub fn new(alloc: Global) -> Result<Collector, NoMemory>
         ensures fresh { IfOk result (λ collector. collector ≡ fresh) }
         ensures holding { IfOk result IsHolding }
@@ -97,7 +105,8 @@ impl Collector {
         ensures unchanged { Leaves result self.old self.new }
         ensures index { (index : ℕ) → HasIndex (role_in role) index → IsIndexOf result index }
         ensures before { IsHolding self.old }
-        ensures in_range { EntryInRange (role_in role) channel (selected (registers_at self.old channel)) value }
+        ensures in_range { EntryInRange (role_in role) channel
+            (selected (registers_at self.old channel)) value }
     {
         // opened here, so that the sizes are known in each arm
         let _ = &self.msbs;
@@ -138,7 +147,7 @@ impl Collector {
         self.registers[channel.get() as usize].selected()
     }
 
-    // A data entry of the MSB, behind which the LSB is 0.
+    // A data entry of the MSB, after which the LSB is 0.
     fn enter_msb(&mut self, channel: U4, value: U7) -> Collected
         ensures answer { result ≡ answer_of data_msb self.old channel value }
         ensures behind { self.new ≡ holding_behind data_msb self.old channel value }
@@ -168,10 +177,11 @@ impl Collector {
         }
     }
 
-    /// The bank that a program change now takes: an unset half is 0, and `None` exactly where neither half was set.
+    /// The bank that a program change would take now: an unset half is 0; `None` exactly when neither half was set.
     pub fn program(&self, channel: U4) -> Option<Bank>
         ensures exact { result ≡ bank_of (registers_at self.now channel) }
-        ensures meant { (group : GroupState) → Keeps self.now group → result ≡ bank_of (group.channels channel).registers }
+        ensures meant { (group : GroupState) → Keeps self.now group →
+            result ≡ bank_of (group.channels channel).registers }
     {
         self.registers[channel.get() as usize].bank()
     }

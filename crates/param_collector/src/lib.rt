@@ -1,4 +1,4 @@
-//! What a MIDI 1.0 stream has set so far of banks and parameters, and what each control change gives.
+//! Tracks the banks and parameters that a MIDI 1.0 stream has set so far, and tells what each control change gives.
 #![tactic(auto)]
 
 pub mod collected;

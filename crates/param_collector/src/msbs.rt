@@ -33,7 +33,7 @@ fn zeros(alloc: Global, count: usize) -> Result<Vec<U7>, NoMemory>
     }
 }
 
-/// The MSBs of the parameters of all channels, 0 where none was set. To a contract it is the table of them.
+/// The MSBs of the parameters of all channels, 0 where none was set. A contract sees it as the table of them.
 #[derive(Drop)]
 pub(crate) struct Msbs {
     table: Vec<U7>,
@@ -52,7 +52,7 @@ impl Model for Msbs {
 impl Msbs {
     ghost use Rattle.std.specs.Prelude.{slice_index_or, slice_set};
 
-    /// No parameter has an MSB yet. `NoMemory` where there is none for the table.
+    /// No parameter has an MSB yet. `NoMemory` when there is none for the table.
     #[tactic(auto, using(crate::proofs::Meaning::length_zeros))]
     pub(crate) fn new(alloc: Global) -> Result<Msbs, NoMemory>
         ensures table { IfOk result (λ msbs. msbs ≡ zeros 524288) }

@@ -41,7 +41,7 @@ impl Pair {
         }
     }
 
-    // The parameter of a whole number that isn't the null number 127/127.
+    // The parameter of a number that is whole and isn't the null number 127/127.
     fn param(self, kind: ParamKind) -> Option<Param>
         ensures param { result ≡ selected_by kind self.msb self.lsb }
         ensures in_range { IfSome result IsParam }
@@ -58,8 +58,8 @@ impl Pair {
     }
 }
 
-/// What a channel has of a bank and of the two parameter numbers, with the kind of the number that was touched last. To a
-/// contract it is the registers of the definition.
+/// What a channel has set of a bank and of the two parameter numbers, with the kind of the number that was touched last. A
+/// contract sees it as the registers of the definition.
 #[derive(Drop)]
 pub(crate) struct Registers {
     bank: Pair,
@@ -82,7 +82,7 @@ impl Model for Registers {
 }
 
 impl Registers {
-    /// Registers of which nothing is set.
+    /// Registers with nothing set.
     pub(crate) fn unset() -> Registers
         ensures { result ≡ unset_registers }
     {

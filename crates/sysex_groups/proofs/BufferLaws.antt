@@ -12,7 +12,7 @@ begun_by buffer = (state_of buffer).begun
 abbrev pub table_of : ℕ → List Buffer → Table
 table_of room buffers = record { room = room; groups = map begun_by buffers }
 
--- what the group of a buffer has begun
+-- what the group of a buffer has open
 pub begun_found : (room : ℕ) (buffers : List Buffer) (index : ℕ) (buffer : Buffer) → index < length buffers → buffer ≡ slice_index_or buffers index buffer → begun_by buffer ≡ begun_in (table_of room buffers) index
 begun_found room buffers index buffer within found =
     ap begun_by found ∙ sym (get_or-map begun_by buffers index buffer None within)

@@ -43,11 +43,11 @@ chunk-fits room payload k fitting = fits-less room (length (slice_chunk payload 
 front-fits : (room : Room) (payload : List ℕ) (n : ℕ) → fits room (length payload) ≡ true → fits room (length (take n payload)) ≡ true
 front-fits room payload n fitting = fits-less room (length (take n payload)) (length payload) (omega (arith, length-take n payload)) fitting
 
--- what is begun after one part, by its form
+-- what is open after one part, by its form
 begun_on-form : (room : Room) (part : Part) (own : List Part) (f : Form) → part.form ≡ f → fits room (length part.bytes) ≡ true → begun_on room (part ∷ own) ≡ begun_after room (begun_on room own) f part.bytes part.offset
 begun_on-form room part own f is fitting = begun_on-more room part own fitting ∙ ap (λ g. begun_after room (begun_on room own) g part.bytes part.offset) is
 
--- what is begun after all packets up to k, which isn't the last
+-- what is open after all packets up to k, which isn't the last
 sent-begun : (room : Room) (group : ℕ) (offsets : ℕ → ℕ) (payload : List ℕ) (past : List Part) → fits room (length payload) ≡ true → (k : ℕ) → k + 1 < part_count payload →
     begun_on room (sent group offsets payload past (suc k)) ≡ Some (record { start = offsets 0; bytes = take ((k + 1) * 6) payload })
 sent-begun room group offsets payload past fitting zero more =

@@ -39,11 +39,11 @@ pub fits-more : (room : Room) (before bytes : List ℕ) → fits room (length be
 fits-more None before bytes passed = absurd (true≢false passed)
 fits-more (Some room) before bytes passed = lt-leb (length (before ++ bytes)) room (omega (arith, length-append before bytes, leb-false (length before) room passed))
 
--- what one group has begun, by its own parts alone
+-- what one group has open, by its own parts alone
 abbrev pub begun_on : Room → List Part → Option Begun
 begun_on room own = option_map begun_of (option_and_then (within room) (since_start own))
 
--- an exclusive that is begun has a part
+-- an exclusive that is open has a part
 abbrev pub HasPart : Option (List Part) → Type 0
 HasPart None = Unit {0}
 HasPart (Some []) = ⊥
@@ -60,7 +60,7 @@ since_start-has_part (part ∷ past) = go part.form (since_start past)
     go form.Complete before = tt
     go form.End before = tt
 
--- a Continue behind parts that have begun an exclusive
+-- a Continue after parts that leave an exclusive open
 continued : (room : Room) (more older : List Part) (bytes : List ℕ) (offset : ℕ) → bytes_of more ≡ bytes_of older ++ bytes → start_of more ≡ start_of older →
     option_map begun_of (within room more) ≡ begun_after room (option_map begun_of (within room older)) form.Continue bytes offset
 continued room more older bytes offset joins starts =
@@ -102,7 +102,7 @@ joined-begun room group past = go (opened room group past)
     go None = refl
     go (Some parts) = refl
 
--- What is joined behind one more part of the group, where the room isn't reached.
+-- What is joined after one more part of the group, where the limit isn't reached.
 abbrev pub joined_with : Form → Option (List ℕ) → List ℕ → Option (List ℕ)
 joined_with form.Start before bytes = Some bytes
 joined_with form.Continue before bytes = option_map (λ joined. joined ++ bytes) before

@@ -10,7 +10,7 @@ use Rattle.sysex_groups.specs.Exclusives.{Part, Room, of_group, opened, fits, go
 use Rattle.sysex_groups.specs.Table.{Begun, Table, begun_in, begun_after, begun_of, begun_behind, answer_of, answer_to, table_after, AreParts}
 use Rattle.sysex_groups.proofs.ExclusiveLaws.{begun_on, begun_on-more}
 
--- the room and the number of groups stay
+-- the limit and the number of groups stay
 pub table-room : (room : ℕ) (past : List Part) → (table_after room past).room ≡ room
 table-room room [] = refl
 table-room room (part ∷ past) = table-room room past
@@ -24,7 +24,7 @@ none_at zero group = refl
 none_at (suc count) zero = refl
 none_at (suc count) (suc group) = none_at count group
 
--- what each group has begun
+-- what each group has open
 pub table-begun : (room : ℕ) (past : List Part) → 6 ≤ room → AreParts past → (group : ℕ) → begun_in (table_after room past) group ≡ begun_behind (Some room) group past
 table-begun room [] least parts group = none_at 16 group
 table-begun room (part ∷ past) least parts group =
@@ -44,7 +44,7 @@ table-begun room (part ∷ past) least parts group =
     (λ other. get_or-set_other before.groups part.group group new None (λ same. eqb-false part.group group other (sym same))
     ∙ table-begun room past least parts.1 group)
 
--- the table's answer by what is begun is the definition's
+-- the table's answer by what is open is the definition's
 answer_of-opened : (room : Room) (f : Form) (o : Option (List Part)) (bytes : List ℕ) →
     answer_of room (option_map begun_of o) f bytes ≡
     answer_from (cond (goes_on f) None (option_map start_of o)) (ended_by room f (option_map bytes_of o) bytes) (cond (goes_on f) (passes_by room (option_map bytes_of o) bytes) false) (cond (goes_on f) (cond (is_some o) false true) false)
@@ -90,7 +90,7 @@ AreParts-of_group group (part ∷ past) parts =
 abbrev opened_on : Room → List Part → Option (List Part)
 opened_on room own = option_and_then (within room) (since_start own)
 
--- what is said of a part depends on the parts of its group alone
+-- the answer to a part depends on the parts of its group alone
 pub answer_at-alone : (room : Room) (past : List Part) (part : Part) → answer_at room past part ≡ answer_at room (of_group part.group past) part
 answer_at-alone room past part =
     let P : List Part → Type 0 = λ own. answer_at room past part ≡ answer_from (cond (goes_on part.form) None (option_map start_of (opened_on room own))) (ended_by room part.form (option_map bytes_of (opened_on room own)) part.bytes) (cond (goes_on part.form) (passes_by room (option_map bytes_of (opened_on room own)) part.bytes) false) (cond (goes_on part.form) (cond (is_some (opened_on room own)) false true) false) in
@@ -102,7 +102,7 @@ table-alone room past least parts part =
     ∙ answer_at-alone (Some room) past part
     ∙ sym (table-answers room (of_group part.group past) least (AreParts-of_group part.group past parts) part)
 
--- and so does what a group has begun
+-- and so does what a group has open
 pub table-begun_alone : (room : ℕ) (past : List Part) → 6 ≤ room → AreParts past → (group : ℕ) → begun_in (table_after room past) group ≡ begun_in (table_after room (of_group group past)) group
 table-begun_alone room past least parts group =
     table-begun room past least parts group

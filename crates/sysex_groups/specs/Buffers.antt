@@ -9,7 +9,7 @@ use Rattle.sysex_groups.specs.contracts.buffer.Buffer.{the_row}
 use Rattle.sysex_groups.specs.Table.{Begun, answer_of, begun_after}
 use Rattle.sysex_groups.specs.Exclusives.{Answer}
 
--- what one group has begun, and how many bytes an exclusive may have between F0 and F7
+-- what one group has open, and how many bytes an exclusive may have between F0 and F7
 pub record State : Type 0 where
   pub room : ℕ
   pub begun : Option Begun

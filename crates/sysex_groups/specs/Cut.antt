@@ -11,7 +11,7 @@ use Rattle.sysex_groups.specs.Exclusives.{Part}
 abbrev pub part_count : List ℕ → ℕ
 part_count payload = max 1 (div_ceil (length payload) 6)
 
--- the form of packet k of so many
+-- the form of packet k of this many
 abbrev pub form_at : ℕ → ℕ → Form
 form_at count k = if count == 1 then form.Complete else (if k == 0 then form.Start else (if k + 1 == count then form.End else form.Continue))
 
@@ -23,7 +23,7 @@ part_at payload k = if nat_lt k (part_count payload) then Some (form_at (part_co
 abbrev pub sent_part : ℕ → (ℕ → ℕ) → List ℕ → ℕ → Part
 sent_part group offsets payload k = record { group = group; form = form_at (part_count payload) k; bytes = slice_chunk payload 6 k; offset = offsets k }
 
--- the parts of a group once the first k packets have come behind others of the group, the newest first
+-- the parts of a group once the first k packets have come after others of the group, newest first
 abbrev pub sent : ℕ → (ℕ → ℕ) → List ℕ → List Part → ℕ → List Part
 sent group offsets payload past zero = past
 sent group offsets payload past (suc k) = sent_part group offsets payload k ∷ sent group offsets payload past k

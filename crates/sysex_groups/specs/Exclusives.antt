@@ -16,8 +16,8 @@ pub record Part : Type 0 where
 abbrev pub of_group : ℕ → List Part → List Part
 of_group group past = filter (λ part. part.group == group) past
 
--- Parts of one group, the newest first: those of the exclusive that is begun behind them, which are Continue parts and
--- before them a Start.
+-- Parts of one group, newest first: those of the exclusive that is open after them, which are Continue parts and before them a
+-- Start.
 abbrev pub since_start_by : Form → Part → Option (List Part) → Option (List Part)
 since_start_by form.Start part before = Some (part ∷ [])
 since_start_by form.Continue part before = option_map (λ parts. part ∷ parts) before
@@ -38,7 +38,7 @@ start_of [] = 0
 start_of (part ∷ []) = part.offset
 start_of (part ∷ before ∷ past) = start_of (before ∷ past)
 
--- how many bytes an exclusive may have between F0 and F7, or none where that isn't reached
+-- how many bytes an exclusive may have between F0 and F7, or none where there is no limit
 abbrev pub Room : Type 0
 Room = Option ℕ
 
@@ -49,20 +49,20 @@ fits (Some room) size = nat_le size room
 abbrev pub within : Room → List Part → Option (List Part)
 within room parts = if fits room (length (bytes_of parts)) then Some parts else None
 
--- the parts of the exclusive that a group has begun, behind these parts of all groups, the newest first
+-- the parts of the exclusive that a group has open, after these parts of all groups, newest first
 abbrev pub opened : Room → ℕ → List Part → Option (List Part)
 opened room group past = option_and_then (within room) (since_start (of_group group past))
 
--- the bytes of the exclusive that a group has begun
+-- the bytes of the exclusive that a group has open
 abbrev pub joined : Room → ℕ → List Part → Option (List ℕ)
 joined room group past = option_map bytes_of (opened room group past)
 
--- the offset of the Start of the exclusive that a group has begun
+-- the offset of the Start of the exclusive that a group has open
 abbrev pub started : Room → ℕ → List Part → Option ℕ
 started room group past = option_map start_of (opened room group past)
 
--- The bytes of the exclusive that a part ends, behind these parts: its own where it is Complete; where it is an End, those
--- that were joined and its own, if the room has them.
+-- The bytes of the exclusive that a part ends, after these parts: its own where it is Complete; where it is an End, those that
+-- were joined and its own, if they are within the limit.
 abbrev pub ended_by : Room → Form → Option (List ℕ) → List ℕ → Option (List ℕ)
 ended_by room form.Complete before bytes = Some bytes
 ended_by room form.End (Some before) bytes = if fits room (length (before ++ bytes)) then Some (before ++ bytes) else None
@@ -73,14 +73,14 @@ ended_by room form.Continue before bytes = None
 abbrev pub ended : Room → List Part → Part → Option (List ℕ)
 ended room past part = ended_by room part.form (joined room part.group past) part.bytes
 
--- whether a part goes on with an exclusive: it is a Continue or an End
+-- whether a part continues or ends an exclusive: it is a Continue or an End
 abbrev pub goes_on : Form → Bool
 goes_on form.Complete = false
 goes_on form.Start = false
 goes_on form.Continue = true
 goes_on form.End = true
 
--- whether a part goes on with an exclusive that is begun, and the bytes are more than the room has
+-- whether a part continues or ends an open exclusive, and the bytes are more than the limit
 abbrev pub passes_by : Room → Option (List ℕ) → List ℕ → Bool
 passes_by room None bytes = false
 passes_by room (Some before) bytes = if fits room (length (before ++ bytes)) then false else true
@@ -88,15 +88,15 @@ passes_by room (Some before) bytes = if fits room (length (before ++ bytes)) the
 abbrev pub passes_room : Room → List Part → Part → Bool
 passes_room room past part = if goes_on part.form then passes_by room (joined room part.group past) part.bytes else false
 
--- whether a part goes on with an exclusive, and none is begun
+-- whether a part continues or ends an exclusive, and none is open
 abbrev pub is_stray : Room → List Part → Part → Bool
 is_stray room past part = if goes_on part.form then (if is_some (opened room part.group past) then false else true) else false
 
--- the offset of the Start of the exclusive that a part cuts: it is a Start or Complete, and one is begun
+-- the offset of the Start of the exclusive that a part cuts: it is a Start or Complete, and one is open
 abbrev pub cut_at : Room → List Part → Part → Option ℕ
 cut_at room past part = if goes_on part.form then None else started room part.group past
 
--- what is said of a part
+-- the answer to a part
 pub data Answer : Type 0 where
   held : Answer
   whole : List ℕ → Answer  -- from F0 to F7
@@ -126,7 +126,7 @@ LendsData (restarted at) = Unit {0}
 LendsData (restarted_whole at bytes) = IsExclusive bytes
 LendsData too_long = Unit {0}
 
--- the answer of a part that cuts an exclusive, ends one, passes the room, is stray, or none of these
+-- the answer of a part that cuts an exclusive, ends one, exceeds the limit, is stray, or none of these
 abbrev pub answer_from : Option ℕ → Option (List ℕ) → Bool → Bool → Answer
 answer_from (Some at) (Some bytes) passes unstarted = restarted_whole at (framed bytes)
 answer_from (Some at) None passes unstarted = restarted at

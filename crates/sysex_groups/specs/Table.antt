@@ -1,4 +1,4 @@
--- The table of the sixteen groups: what each has begun, what is said of one more part, and what is begun after it.
+-- The table of the sixteen groups: what each has open, the answer to one more part, and what is open after it.
 use Rattle.std.specs.Prelude.{ℕ, ◌<◌, ◌≤◌, if◌then◌else◌, List, [], ◌∷◌, ◌++◌, length, Option, Some, None, slice_index_or, slice_set, replicate}
 use Rattle.std.specs.List.{AllByRecursion}
 use Rattle.std.specs.Option.{option_map}
@@ -6,12 +6,12 @@ use Rattle.voice_messages.specs.declared.voice2.Form.{Form}
 use Rattle.voice_messages.specs.declared.voice2.Form.TheVariants as form
 use Rattle.sysex_groups.specs.Exclusives.{Part, Room, fits, Answer, held, whole, stray, restarted, restarted_whole, too_long, framed, opened, start_of, bytes_of}
 
--- an exclusive that is begun: the offset of its Start, and the bytes that are joined
+-- an exclusive that is open: the offset of its Start, and the bytes that are joined
 pub record Begun : Type 0 where
   pub start : ℕ
   pub bytes : List ℕ
 
--- what is said of a part, by what its group has begun
+-- the answer to a part, by what its group has open
 abbrev pub answer_of : Room → Option Begun → Form → List ℕ → Answer
 answer_of room None form.Complete bytes = whole (framed bytes)
 answer_of room None form.Start bytes = held
@@ -22,7 +22,7 @@ answer_of room (Some begun) form.Start bytes = restarted begun.start
 answer_of room (Some begun) form.Continue bytes = if fits room (length (begun.bytes ++ bytes)) then held else too_long
 answer_of room (Some begun) form.End bytes = if fits room (length (begun.bytes ++ bytes)) then whole (framed (begun.bytes ++ bytes)) else too_long
 
--- what the group has begun after it
+-- what the group has open after it
 abbrev pub begun_after : Room → Option Begun → Form → List ℕ → ℕ → Option Begun
 begun_after room before form.Complete bytes offset = None
 begun_after room before form.Start bytes offset = Some (record { start = offset; bytes = bytes })
@@ -38,11 +38,11 @@ pub record Table : Type 0 where
 abbrev pub empty_table : ℕ → Table
 empty_table room = record { room = room; groups = replicate 16 None }
 
--- what a group has begun
+-- what a group has open
 abbrev pub begun_in : Table → ℕ → Option Begun
 begun_in table group = slice_index_or table.groups group None
 
--- what is said of one more part
+-- the answer to one more part
 abbrev pub answer_to : Table → Part → Answer
 answer_to table part = answer_of (Some table.room) (begun_in table part.group) part.form part.bytes
 
@@ -50,12 +50,12 @@ answer_to table part = answer_of (Some table.room) (begun_in table part.group) p
 abbrev pub with_part : Part → Table → Table
 with_part part table = record { room = table.room; groups = slice_set table.groups part.group (begun_after (Some table.room) (begun_in table part.group) part.form part.bytes part.offset) }
 
--- the table after parts of all groups, the newest first
+-- the table after parts of all groups, newest first
 abbrev pub table_after : ℕ → List Part → Table
 table_after room [] = empty_table room
 table_after room (part ∷ past) = with_part part (table_after room past)
 
--- what the definition says that a group has begun
+-- what the definition says that a group has open
 abbrev pub begun_of : List Part → Begun
 begun_of parts = record { start = start_of parts; bytes = bytes_of parts }
 

@@ -1,5 +1,21 @@
 // The buffer of one group.
-ghost use Rattle.std.specs.Prelude.{◌≡◌, ◌≤◌, ◌+◌, ◌∷◌, ◌++◌, [], Some, None, length, take, vec_len, vec_capacity, nat_lt, IfOk, drop};
+ghost use Rattle.std.specs.Prelude.{
+  ◌≡◌,
+  ◌≤◌,
+  ◌+◌,
+  ◌∷◌,
+  ◌++◌,
+  [],
+  Some,
+  None,
+  length,
+  take,
+  vec_len,
+  vec_capacity,
+  nat_lt,
+  IfOk,
+  drop,
+};
 ghost use Rattle.std.specs.Option.{ForSome};
 ghost use Rattle.sysex_groups.specs.Exclusives.{IsData, LendsData, framed};
 ghost use Rattle.voice_messages.specs.declared.voice2.Form.TheVariants as form;
@@ -12,7 +28,7 @@ const START_OF_EXCLUSIVE: u8 = 0xF0;
 
 const END_OF_EXCLUSIVE: u8 = 0xF7;
 
-/// The exclusive that a group has begun, if any. The bytes begin with F0 always; F7 is put behind them at the end. There is
+/// The exclusive that a group has open, if any. The bytes always begin with F0; F7 is added after them at the end. There is
 /// memory for `room` bytes between the two.
 #[derive(Drop)]
 pub struct Buffer {
@@ -54,7 +70,7 @@ impl Buffer {
     ghost use Rattle.std.specs.Option.{option_map};
     ghost use Rattle.std.specs.Borrow.{sem};
 
-    /// A buffer in which nothing is begun, with memory for `room` bytes between F0 and F7.
+    /// A buffer in which nothing is open, with memory for `room` bytes between F0 and F7.
     pub fn new(alloc: Global, room: u32) -> Result<Buffer, AllocError>
         requires { 6 ≤ room }
         ensures { IfOk result (λ buffer. state_of buffer ≡ idle room) }
@@ -68,14 +84,14 @@ impl Buffer {
         })
     }
 
-    /// The offset of the start of the exclusive that is begun.
+    /// The offset of the start of the open exclusive.
     pub fn begun_at(&self) -> Option<u64>
         ensures { result ≡ option_map (λ begun. begun.start) (state_of self.now).begun }
     {
         self.start
     }
 
-    /// Drops what was begun, F0 aside.
+    /// Drops what was open, except for F0.
     fn clear(&mut self)
         ensures state { state_of self.new ≡ idle (state_of self.old).room }
         ensures bytes { self.new.bytes.items ≡ 240 ∷ [] }
@@ -84,11 +100,11 @@ impl Buffer {
         self.bytes.truncate(1);
     }
 
-    /// Whether the exclusive that is begun would have more bytes with these than the room.
+    /// Whether the open exclusive, with these bytes, would exceed its limit.
     fn passes_room(&self, bytes: &[u8]) -> bool
         ensures { result ≡ nat_lt (self.now.room + 1) (length self.now.bytes.items + length bytes.now) }
     {
-        // F0 is held too.
+        // F0 is in the buffer too.
         self.bytes.len() + bytes.len() > self.room as usize + 1
     }
 
@@ -98,7 +114,8 @@ impl Buffer {
         requires data_bytes { IsData bytes.now }
         ensures answer { fed_view result ≡ answer_in (state_of self.old) form.Start bytes.now }
         ensures data_bytes { LendsData (fed_view result) }
-        ensures* after { sem 𝓛 (KeepsState self.entry (after_in (state_of self.old) form.Start bytes.now offset)) }
+        ensures* after { sem 𝓛 (KeepsState self.entry
+            (after_in (state_of self.old) form.Start bytes.now offset)) }
     {
         let cut_at = self.start;
         self.clear();
@@ -116,7 +133,8 @@ impl Buffer {
         requires data_bytes { IsData bytes.now }
         ensures answer { fed_view result ≡ answer_in (state_of self.old) form.Complete bytes.now }
         ensures data_bytes { LendsData (fed_view result) }
-        ensures* after { sem 𝓛 (KeepsState self.entry (after_in (state_of self.old) form.Complete bytes.now 0)) }
+        ensures* after { sem 𝓛 (KeepsState self.entry
+            (after_in (state_of self.old) form.Complete bytes.now 0)) }
     {
         let cut_at = self.start;
         self.clear();
@@ -128,13 +146,14 @@ impl Buffer {
         }
     }
 
-    /// Goes on with the exclusive that is begun.
+    /// Continues the open exclusive.
     fn go_on(&mut self, bytes: &[u8]) -> Fed<'_>
         requires few { length bytes.now ≤ 6 }
         requires data_bytes { IsData bytes.now }
         ensures answer { fed_view result ≡ answer_in (state_of self.old) form.Continue bytes.now }
         ensures data_bytes { LendsData (fed_view result) }
-        ensures* after { sem 𝓛 (KeepsState self.entry (after_in (state_of self.old) form.Continue bytes.now 0)) }
+        ensures* after { sem 𝓛 (KeepsState self.entry
+            (after_in (state_of self.old) form.Continue bytes.now 0)) }
     {
         if self.start.is_none() {
             return Fed::Stray;
@@ -147,13 +166,14 @@ impl Buffer {
         Fed::Held
     }
 
-    /// Ends the exclusive that is begun.
+    /// Ends the open exclusive.
     fn end(&mut self, bytes: &[u8]) -> Fed<'_>
         requires few { length bytes.now ≤ 6 }
         requires data_bytes { IsData bytes.now }
         ensures answer { fed_view result ≡ answer_in (state_of self.old) form.End bytes.now }
         ensures data_bytes { LendsData (fed_view result) }
-        ensures* after { sem 𝓛 (KeepsState self.entry (after_in (state_of self.old) form.End bytes.now 0)) }
+        ensures* after { sem 𝓛 (KeepsState self.entry
+            (after_in (state_of self.old) form.End bytes.now 0)) }
     {
         let Some(_) = self.start else {
             return Fed::Stray;
@@ -173,7 +193,8 @@ impl Buffer {
         requires data_bytes { IsData bytes.now }
         ensures answer { fed_view result ≡ answer_in (state_of self.old) form bytes.now }
         ensures data_bytes { LendsData (fed_view result) }
-        ensures* after { sem 𝓛 (KeepsState self.entry (after_in (state_of self.old) form bytes.now offset)) }
+        ensures* after { sem 𝓛 (KeepsState self.entry
+            (after_in (state_of self.old) form bytes.now offset)) }
     {
         match form {
             Form::Complete => self.complete(bytes),

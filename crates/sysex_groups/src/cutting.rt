@@ -6,7 +6,7 @@ ghost use Rattle.sysex_groups.specs.Cut.{form_at, part_at};
 use midi_edge::ShortList;
 use voice_messages::Form;
 
-/// How many bytes of an exclusive a packet has at most.
+/// The most bytes of an exclusive that a packet carries.
 const PACKET_BYTES: usize = 6;
 
 /// The form of packet `k` of `count`.
@@ -37,8 +37,8 @@ fn bytes_of(payload: &[u8], k: usize) -> ShortList<u8, 6>
 }
 
 /// Packet `k` (counted from 0) of an exclusive's payload, the bytes between F0 and F7, cut every six bytes (M2-104-UM, system
-/// exclusive 7-bit messages): one `Complete` for up to 6 bytes, else a `Start`, `Continue`s, and an `End` of 1 to 6 bytes. A
-/// payload without bytes is one `Complete` without bytes (own rule). `None` exactly past the last.
+/// exclusive 7-bit messages): one `Complete` for up to 6 bytes, else a `Start`, `Continue`s, and an `End` of 1 to 6 bytes. An
+/// empty payload is one empty `Complete` (own rule). `None` exactly when `k` is past the last packet.
 pub fn part(payload: &[u8], k: usize) -> Option<(Form, ShortList<u8, 6>)>
     ensures { result ≡ part_at payload.now k }
 {

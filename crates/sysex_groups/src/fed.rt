@@ -1,18 +1,18 @@
-// What is said of one more part of an exclusive.
+// The answer to one more part of an exclusive.
 
-/// What a part of an exclusive did to what its group had begun.
+/// What a part of an exclusive did to what its group had open.
 #[derive(Clone, Copy, Debug, PartialEq, Eq)]
 pub enum Fed<'a> {
-    /// The part is kept: it begins an exclusive, or goes on with one.
+    /// The part is kept: it begins an exclusive or continues one.
     Held,
     /// The part ends this exclusive, from F0 to F7.
     Whole(&'a [u8]),
-    /// The part goes on with an exclusive or ends one, and none is begun.
+    /// The part continues an exclusive or ends one, and none is open.
     Stray,
-    /// The part begins an exclusive and cuts the one that was begun at this offset.
+    /// The part begins an exclusive and cuts off the one that started at this offset.
     Restarted { cut_at: u64 },
-    /// The part is this exclusive, from F0 to F7, and cuts the one that was begun at this offset.
+    /// The part is all of this exclusive, from F0 to F7, and cuts off the one that started at this offset.
     RestartedWhole { cut_at: u64, whole: &'a [u8] },
-    /// The exclusive has more bytes between F0 and F7 than the room, and is dropped.
+    /// The exclusive has more bytes between F0 and F7 than the limit, and is dropped.
     TooLong,
 }

@@ -9,11 +9,11 @@ use std::alloc::Global;
 use std::marker::Model;
 use voice_messages::Form;
 
-/// The exclusives that sixteen groups have begun, each in a buffer of its own. To a contract it is, for each group, nothing or
-/// the offset of the packet that began the exclusive with the bytes that are joined, and beside them the room: the number of
-/// bytes that an exclusive may have between F0 and F7.
+/// The exclusives that sixteen groups have open, each in a buffer of its own. A contract sees, for each group, either nothing or
+/// the offset of the packet that began the exclusive and the bytes joined so far, and beside them the limit, `room`: how many
+/// bytes an exclusive may have between F0 and F7.
 ///
-/// Packets of other kinds don't end an exclusive (own rule), so they aren't shown to it.
+/// Packets of other kinds don't end an exclusive (own rule), so they aren't passed to it.
 #[derive(Drop)]
 pub struct Groups {
     buffers: Vec<Buffer>,
@@ -32,7 +32,8 @@ impl Model for Groups {
       groups = map (λ buffer. (state_of buffer).begun) g.buffers.items;
     } };
 
-    ghost invariant = { λ g. (length g.buffers.items ≡ 16) × All (λ buffer. buffer.room ≡ g.room) g.buffers.items };
+    ghost invariant = { λ g. (length g.buffers.items ≡ 16)
+        × All (λ buffer. buffer.room ≡ g.room) g.buffers.items };
 }
 
 impl Groups {
@@ -42,8 +43,8 @@ impl Groups {
     ghost use Rattle.std.specs.Borrow.{sem};
     ghost use Rattle.std.specs.Option.{option_map};
 
-    /// Sixteen groups in which nothing is begun. Reserves memory for `room` bytes between F0 and F7 in each, 6 to 1,048,576;
-    /// no other call takes any. `NoMemory` where there isn't so much.
+    /// Sixteen groups in which nothing is open. Reserves memory for `room` bytes between F0 and F7 in each, 6 to 1,048,576; no
+    /// other call takes any. `NoMemory` when there isn't that much.
     pub fn new(alloc: Global, room: u32) -> Result<Groups, NoMemory>
         requires least { 6 ≤ room }
         requires most { room ≤ 1048576 }
@@ -64,22 +65,22 @@ impl Groups {
     }
 
     /// Takes one more part of a group's exclusive: the payload bytes of a packet, at most 6, and the packet's offset (M2-104-UM,
-    /// system exclusive 7-bit messages). What is lent is the exclusive from F0 to F7. All other groups stay.
+    /// system exclusive 7-bit messages). What is lent is the exclusive from F0 to F7. All other groups stay as they are.
     pub fn feed(&mut self, group: U4, form: Form, bytes: &[u8], offset: u64) -> Fed<'_>
         requires few { length bytes.now ≤ 6 }
         requires data_bytes { IsData bytes.now }
         ensures answer { fed_view result ≡
             answer_to self.old (record { group = group; form = form; bytes = bytes.now; offset = offset }) }
         ensures data_bytes { LendsData (fed_view result) }
-        ensures* after { sem 𝓛 (KeepsGroups self.entry
-            (with_part (record { group = group; form = form; bytes = bytes.now; offset = offset }) self.old)) }
+        ensures* after { sem 𝓛 (KeepsGroups self.entry (with_part
+            (record { group = group; form = form; bytes = bytes.now; offset = offset }) self.old)) }
     {
         let index = group.get() as usize;
         let buffer = &mut self.buffers[index];
         buffer.feed(form, bytes, offset)
     }
 
-    /// The offset of the packet that began the group's exclusive; `None` exactly where nothing is begun.
+    /// The offset of the packet that began the group's exclusive; `None` exactly when nothing is open.
     pub fn begun_at(&self, group: U4) -> Option<u64>
         ensures { result ≡ option_map (λ begun. begun.start) (begun_in self.now group) }
     {

@@ -1,14 +1,14 @@
 // Laws over the definitions alone.
 ghost use Rattle.sysex_groups.specs.Laws.{CutPayloadIsJoined, FedPartsAreTheDefinition};
 
-/// Feeding any parts of all groups to a new table is the definition that looks back over them: what each group has begun, and
-/// what is said of one more part. Both depend on the parts of that group alone, and all other groups stay.
+/// Feeding any parts of all groups to a new table agrees with the definition that looks back over them: on what each group has
+/// open, and on the answer to one more part. Both depend on the parts of that group alone, and all other groups stay as they are.
 pub fn fed_parts_are_the_definition()
     ensures { FedPartsAreTheDefinition }
 {}
 
-/// The packets into which a payload is cut are joined to it again, with a room of at least its length: the last ends it, and
-/// none before ends anything, whatever came before them and whatever other groups send between them.
+/// The packets into which a payload is cut are joined back into it, with a limit of at least its length: the last one ends it,
+/// and none before ends anything, whatever came before them and whatever other groups send between them.
 pub fn cut_payload_is_joined()
     ensures { CutPayloadIsJoined }
 {}

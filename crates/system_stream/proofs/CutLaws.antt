@@ -77,7 +77,7 @@ chunk-joins size text k =
     let more : k * size + size ≡ (k + 1) * size = grind arith in
     sym (take-add (k * size) size text) ∙ ap (λ n. take n text) more
 
--- none of them passes the limit
+-- none of them exceeds the limit
 size-some : (kind : TextKind) → 0 < part_size kind
 size-some kind.EndpointName = lit< tt
 size-some kind.ProductId = lit< tt

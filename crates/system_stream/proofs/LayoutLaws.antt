@@ -47,7 +47,7 @@ at count bytes are i within =
     let P : ℕ → Type 0 = λ byte. byte < 2 ^ 8 in
     All-get_or P bytes i 0 (omega (arith, are.0)) are.1
 
--- so many items from an index on, one by one
+-- this many items from an index on, one by one
 abbrev items : ℕ → ℕ → List ℕ → List ℕ
 items zero i xs = []
 items (suc n) i xs = get_or xs i 0 ∷ items n (suc i) xs

@@ -21,7 +21,7 @@ bytes_of-more part parts =
     ∙ flat_map-append (λ p. p.bytes) (reverse parts) (part ∷ [])
     ∙ ap (λ bs. bytes_of parts ++ bs) (append-nil part.bytes)
 
--- more bytes pass a limit that fewer pass
+-- more bytes exceed a limit that fewer exceed
 passes-more : (limit : ℕ) (before bytes : List ℕ) → leb (length before) limit ≡ false → leb (length (before ++ bytes)) limit ≡ false
 passes-more limit before bytes passed = lt-leb (length (before ++ bytes)) limit (omega (arith, length-append before bytes, leb-false (length before) limit passed))
 
@@ -64,7 +64,7 @@ since_start-has_part (part ∷ past) = go part.form (since_start past)
     go form.Continue before = continues before
     go form.End before = tt
 
--- the bytes of the text that a part goes on with
+-- the bytes of the text that a part continues
 continued : (kind : TextKind) (part : Part) (before : Option (List Part)) → HasPart before →
     option_map bytes_of (option_and_then (within kind) (option_and_then (goes_on part) before))
     ≡ option_and_then (limited kind) (joined_to (option_map text_of (option_and_then (within kind) before)) part.block part.bytes)
@@ -136,7 +136,7 @@ opened-more kind past part = go (ends part.form)
     go true = refl
     go false = text-joined kind past part ∙ ap (option_map (λ bytes. record { block = part.block; bytes = bytes })) (joined-bytes kind past part)
 
--- what is said of one more part
+-- the answer to one more part
 pub answer-more : (kind : TextKind) (past : List Part) (part : Part) →
     answer_at kind past part ≡ answer_of kind part.form (option_and_then (limited kind) (joined_with (opened_text kind past) part))
 answer-more kind past part = go (option_and_then (within kind) (parts_with part (since_start past))) ∙ ap (answer_of kind part.form) (joined-bytes kind past part)

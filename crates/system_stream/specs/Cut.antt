@@ -16,7 +16,7 @@ use Rattle.system_stream.specs.Texts.{part_size, part_message}
 abbrev pub part_count : TextKind → List ℕ → ℕ
 part_count kind text = div_ceil (length text) (part_size kind)
 
--- the form of packet k of so many
+-- the form of packet k of this many
 abbrev pub form_at : ℕ → ℕ → Form
 form_at count k = if count == 1 then form.Complete else (if k == 0 then form.Start else (if k + 1 == count then form.End else form.Continue))
 
@@ -40,7 +40,7 @@ packet_at kind block text k = if nat_lt k (part_count kind text) then Some (pack
 abbrev pub sent_part : TextKind → ℕ → List ℕ → ℕ → Part
 sent_part kind block text k = record { form = form_at (part_count kind text) k; block = block; bytes = part_bytes (part_size kind) text k }
 
--- the parts of a kind once the first k packets of a text have come after others, the newest first
+-- the parts of a kind once the first k packets of a text have come after others, newest first
 abbrev pub sent : TextKind → ℕ → List ℕ → List Part → ℕ → List Part
 sent kind block text past zero = past
 sent kind block text past (suc k) = sent_part kind block text k ∷ sent kind block text past k

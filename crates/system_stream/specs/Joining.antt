@@ -34,7 +34,7 @@ limited kind bytes = if nat_le (length bytes) (limit_of kind) then Some bytes el
 abbrev pub text_with : State → Part → Option (List ℕ)
 text_with state part = option_and_then (limited state.kind) (joined_with state.text part)
 
--- what is said of a part by the bytes of its text
+-- the answer to a part by the bytes of its text
 abbrev pub answer_of : TextKind → Form → Option (List ℕ) → Answer
 answer_of kind form None = bad
 answer_of kind form (Some bytes) = if ends form then finished kind bytes else held
@@ -49,7 +49,7 @@ open_after part joined = if ends part.form then None else option_map (λ bytes. 
 abbrev pub after_part : State → Part → State
 after_part state part = record { kind = state.kind; text = open_after part (text_with state part) }
 
--- the state after parts, the newest first
+-- the state after parts, newest first
 abbrev pub state_after : TextKind → List Part → State
 state_after kind [] = idle kind
 state_after kind (part ∷ past) = after_part (state_after kind past) part

@@ -1,5 +1,5 @@
--- How stream messages stand in their packets (M2-104-UM, UMP stream messages): a row for each status. Bytes are counted from
--- 1 and bits from 0. Bytes 3 and 4 are the low half of word 1, and the fields are read from it and from words 2 to 4.
+-- How stream messages are laid out in their packets (M2-104-UM, UMP stream messages): a row for each status. Bytes are counted
+-- from 1 and bits from 0. Bytes 3 and 4 are the low half of word 1, and the fields are read from it and from words 2 to 4.
 use Rattle.std.specs.Prelude.{ℕ, ◌≡◌, ◌+◌, ◌*◌, ◌^◌, ◌<◌, ◌==◌, Bool, true, false, ◌||◌, ◌&&◌, not, if◌then◌else◌, List, [], ◌∷◌, ◌++◌, length, slice_index, Result, MatchResult}
 use Rattle.std.specs.List.{All}
 use Rattle.voice_messages.specs.declared.voice2.Form.{Form}
@@ -113,7 +113,7 @@ packet_of stream.StartClip = packet.Stream 0 0x020 0 0 0 0
 packet_of stream.EndClip = packet.Stream 0 0x021 0 0 0 0
 packet_of stream.Other = packet.Reserved []
 
--- so many bytes
+-- this many bytes
 abbrev pub AreBytes : ℕ → List ℕ → Type 0
 AreBytes count bytes = (length bytes ≡ count) × All (λ byte. byte < 2 ^ 8) bytes
 

@@ -27,7 +27,7 @@ ends form.Start = false
 ends form.Continue = false
 ends form.End = true
 
--- a part goes on with the text of these parts where it names the same block
+-- a part continues the text of these parts where it names the same block
 abbrev pub goes_on : Part → List Part → Option (List Part)
 goes_on part [] = None
 goes_on part (latest ∷ parts) = if latest.block == part.block then Some (part ∷ latest ∷ parts) else None
@@ -36,8 +36,8 @@ goes_on part (latest ∷ parts) = if latest.block == part.block then Some (part 
 abbrev pub parts_with : Part → Option (List Part) → Option (List Part)
 parts_with part before = if begins part.form then Some (part ∷ []) else option_and_then (goes_on part) before
 
--- Parts of one kind, the newest first: those of the text that is open after them, which are one that begins it, and after
--- it none that ends it or names another block.
+-- Parts of one kind, newest first: those of the text that is open after them, which are one that begins it, and after it none
+-- that ends it or names another block.
 abbrev pub since_start : List Part → Option (List Part)
 since_start [] = None
 since_start (part ∷ past) = if ends part.form then None else parts_with part (since_start past)
@@ -54,7 +54,7 @@ within kind parts = if nat_le (length (bytes_of parts)) (limit_of kind) then Som
 abbrev pub opened : TextKind → List Part → Option (List Part)
 opened kind past = option_and_then (within kind) (since_start past)
 
--- what is said of a part
+-- the answer to a part
 pub data Answer : Type 0 where
   held : Answer
   whole : List ℕ → Answer

@@ -8,13 +8,13 @@ use Rattle.system_stream.specs.declared.message.StreamMessage.TheVariants as str
 use Rattle.system_stream.specs.declared.texts.TextKind.{TextKind}
 use Rattle.system_stream.specs.declared.texts.TextKind.TheVariants as kind
 
--- how many bytes a text has at most, the zeros that fill its last packet among them
+-- the most bytes that a text may have, including the zeros that fill its last packet
 abbrev pub limit_of : TextKind → ℕ
 limit_of kind.EndpointName = 98
 limit_of kind.ProductId = 42
 limit_of kind.BlockName = 91
 
--- how many bytes of it each packet has
+-- how many bytes of it each packet carries
 abbrev pub part_size : TextKind → ℕ
 part_size kind.EndpointName = 14
 part_size kind.ProductId = 14

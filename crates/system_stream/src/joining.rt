@@ -7,8 +7,8 @@ use midi_edge::ShortList;
 use std::marker::Model;
 use voice_messages::Form;
 
-/// The texts of one kind, joined from the parts in their packets without memory of its own. To a contract it is the kind, and
-/// nothing or the block that the open text's parts name with the bytes that are joined.
+/// Joins the texts of one kind from the parts in their packets, without memory from an allocator. A contract sees it as the kind,
+/// and either nothing or the block that the open text's parts name together with the bytes joined so far.
 #[derive(Drop)]
 pub struct TextJoin {
     kind: TextKind,
@@ -36,7 +36,7 @@ impl TextJoin {
     ghost use Rattle.system_stream.specs.Lend.{KeepsJoining};
     ghost use Rattle.voice_messages.specs.declared.voice2.Form.TheVariants as form;
 
-    /// Nothing is open.
+    /// A joiner of one kind of text, with no text open.
     pub fn new(kind: TextKind) -> TextJoin
         ensures { result ≡ idle kind }
     {
@@ -47,9 +47,9 @@ impl TextJoin {
         }
     }
 
-    /// Takes one more part: its bytes, the zeros that fill it among them, and the number of the block that it names, one and
-    /// the same for a kind whose packets name none. A `Complete` or `Start` begins anew, and gives no answer for what it
-    /// replaces. After `Whole` and `Bad` nothing is open.
+    /// Takes one more part: its bytes, including the zeros that fill it, and the number of the block that it names; for a kind
+    /// whose packets name none, always the same number. A `Complete` or `Start` begins a new text, and gives no answer for the
+    /// one that it replaces. After `Whole` and `Bad` nothing is open.
     pub fn part(&mut self, form: Form, block: u8, bytes: &[u8]) -> Joined<'_>
         ensures answer { joined_view result ≡
             answer_to self.old (record { form = form; block = block; bytes = bytes.now }) }
@@ -65,8 +65,8 @@ impl TextJoin {
         }
     }
 
-    /// Joins a part to the text that it belongs to, and says whether there is one and it stays within the limit. If not,
-    /// nothing is open.
+    /// Joins a part to the text that it belongs to, and says whether there is one and it stays within the limit. If not, nothing
+    /// is open afterwards.
     fn append(&mut self, form: Form, block: u8, bytes: &[u8]) -> bool
         ensures joined { result ≡
             is_some (text_with self.old (record { form = form; block = block; bytes = bytes.now })) }

@@ -24,7 +24,7 @@ ghost use Rattle.system_stream.specs.Texts.{is_text, limit_of};
 ghost use Rattle.system_stream.specs.declared.message.StreamMessage.{StreamMessage};
 ghost use Rattle.system_stream.specs.declared.texts.TextKind.{TextKind};
 
-/// The packet of a message whose fields fit their places is read as this message.
+/// The packet of a message whose fields fit their places is read as that message.
 pub fn written_messages_are_read()
     ensures format { (message : StreamMessage) → IsWritten message →
         has_bad_format (packet_of message) ≡ false }
@@ -32,8 +32,8 @@ pub fn written_messages_are_read()
         message_in (packet_of message) ≡ message }
 {}
 
-/// Joining any parts of a kind, one after the other, is the definition that looks back over them: which text is open, and what
-/// is said of one more part.
+/// Joining any parts of a kind, one after the other, agrees with the definition that looks back over them: on which text is open,
+/// and on the answer to one more part.
 pub fn joined_parts_are_the_definition()
     ensures open_text { (kind : TextKind) (past : List Part) →
         (state_after kind past).text ≡ opened_text kind past }
@@ -41,8 +41,8 @@ pub fn joined_parts_are_the_definition()
         answer_to (state_after kind past) part ≡ answer_at kind past part }
 {}
 
-/// A text is joined again from the packets into which it is cut, where it doesn't end in a zero byte and its bytes are a text
-/// of its kind: the last gives it, and those before are held, whatever came before them.
+/// A text that doesn't end in a zero byte, and whose bytes are a text of its kind, is joined again from the packets into which it
+/// is cut: the last one gives it, and those before are held, whatever came before them.
 pub fn cut_text_is_joined()
     ensures { (kind : TextKind) (block : ℕ) (text : List ℕ) →
         0 < length text → length text ≤ limit_of kind →

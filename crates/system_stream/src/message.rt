@@ -5,14 +5,14 @@ use voice_messages::Form;
 /// What a stream packet says (M2-104-UM, UMP stream messages).
 #[derive(Clone, Copy, Debug, PartialEq, Eq)]
 pub enum StreamMessage {
-    /// Endpoint Discovery, with the version of the format that the sender has, and the filter: bit 0 asks for `Info`, bit 1
-    /// for `Identity`, bit 2 for the name, bit 3 for the product id, bit 4 for `ConfigNotice`.
+    /// Endpoint Discovery, with the version of the format that the sender uses, and the filter: bit 0 asks for `Info`, bit 1 for
+    /// `Identity`, bit 2 for the name, bit 3 for the product id, bit 4 for `ConfigNotice`.
     Discovery {
         major: u8,
         minor: u8,
         filter: u8,
     },
-    /// Endpoint Info, with the number of function blocks, 0 to 127. They are `fixed` where they don't change.
+    /// Endpoint Info, with the number of function blocks, 0 to 127. They are `fixed` if they don't change.
     Info {
         major: u8,
         minor: u8,
@@ -82,7 +82,7 @@ pub enum StreamMessage {
     Other,
 }
 
-/// A message of one packet comes in a format other than 0.
+/// A message of one packet has a format other than 0.
 #[derive(Clone, Copy, Debug, PartialEq, Eq, Error)]
 #[error("a stream message of one packet has a format other than complete")]
 pub struct BadFormat;

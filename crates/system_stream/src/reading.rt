@@ -19,8 +19,8 @@ use ump_grammar::decoding::form_of;
 use ump_grammar::fields::{bits, byte};
 use voice_messages::Form;
 
-/// The message of a stream packet (M2-104-UM, UMP stream messages). `Err(BadFormat)` comes exactly where the status is that of
-/// a message of one packet and the format isn't 0. A status without a row is `Other`.
+/// The message of a stream packet (M2-104-UM, UMP stream messages). `Err(BadFormat)` is returned exactly when the status is that
+/// of a message of one packet and the format isn't 0. A status without a row is read as `Other`.
 pub fn read(packet: &Packet) -> Result<StreamMessage, BadFormat>
     requires stream { IsStream packet.now }
     requires packet { IsPacket packet.now }

@@ -22,7 +22,7 @@ pub enum TextKind {
 }
 
 impl TextKind {
-    /// How many bytes a text has at most, the zeros that fill its last packet among them.
+    /// The most bytes that a text may have, including the zeros that fill its last packet.
     pub fn limit(self) -> usize
         ensures value { result ≡ limit_of self }
         ensures most { limit_of self ≤ 98 }
@@ -34,7 +34,7 @@ impl TextKind {
         }
     }
 
-    /// How many bytes of a text each packet has.
+    /// How many bytes of a text each packet carries.
     pub fn part_size(self) -> usize
         ensures value { result ≡ part_size_of self }
         ensures some { 0 < part_size_of self }

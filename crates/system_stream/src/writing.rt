@@ -145,7 +145,7 @@ fn single(status: u16, low: u16, second: u32, third: u32, fourth: u32) -> Packet
     }
 }
 
-// A packet of a text, of which twelve bytes from index `start` on stand in words 2 to 4.
+// A packet of a text, with twelve of its bytes, from index `start` on, in words 2 to 4.
 fn text_packet(form: Form, status: u16, low: u16, text: &[u8], start: usize) -> Packet
     requires status { status < 2 ^ 10 }
     requires start { start ≤ 2 }

@@ -8,7 +8,7 @@ use Rattle.ump_grammar.specs.Reading.{Encodes}
 use Rattle.ump_grammar.specs.Replies.{word_count}
 use Rattle.ump_grammar.specs.Spelling.{Spells}
 
--- as many as their type asks
+-- as many as their type asks for
 of_type : (words : List ℕ) (kind : ℕ) → get_or words 0 0 < 2 ^ 32 → IsWhole words → type_of words ≡ kind
     → length words ≡ get_or word_counts kind 4
 of_type words kind below whole is =

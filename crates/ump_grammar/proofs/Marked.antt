@@ -23,7 +23,7 @@ pub small-has_high : (bytes : List ℕ) → has_high bytes ≡ false → All (λ
 small-has_high [] none = All-nil IsSmall
 small-has_high (x ∷ xs) none = small-cons (leb 128 x) x xs refl none (small-has_high xs)
 
--- at most six bytes, from six places that hold zeros behind them
+-- at most six bytes, from six places that hold zeros after them
 pub take-six : (bytes : List ℕ) → length bytes ≤ 6
     → bytes ≡ take (length bytes) (get_or bytes 0 0 ∷ get_or bytes 1 0 ∷ get_or bytes 2 0 ∷ get_or bytes 3 0 ∷ get_or bytes 4 0 ∷ get_or bytes 5 0 ∷ [])
 take-six [] few = refl
@@ -35,7 +35,7 @@ take-six (a ∷ b ∷ c ∷ d ∷ e ∷ []) few = refl
 take-six (a ∷ b ∷ c ∷ d ∷ e ∷ f ∷ []) few = refl
 take-six (a ∷ b ∷ c ∷ d ∷ e ∷ f ∷ g ∷ rest) few = absurd (omega arith)
 
--- the six places hold the bytes, and zeros behind them
+-- the six places hold the bytes, and zeros after them
 pub append-zeros : (bytes : List ℕ) → length bytes ≤ 6
     → (get_or bytes 0 0 ∷ get_or bytes 1 0 ∷ get_or bytes 2 0 ∷ get_or bytes 3 0 ∷ get_or bytes 4 0 ∷ get_or bytes 5 0 ∷ []) ≡ bytes ++ replicate (6 - length bytes) 0
 append-zeros [] few = refl

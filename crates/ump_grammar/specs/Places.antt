@@ -1,5 +1,5 @@
--- Where the fields of a packet stand (M2-104-UM, Universal MIDI Packet Format and MIDI 2.0 Protocol). Bytes and words are
--- counted from 1, byte 1 being the top byte of word 1, and bits from 0.
+-- Where the fields of a packet are (M2-104-UM, Universal MIDI Packet Format and MIDI 2.0 Protocol). Bytes and words are counted
+-- from 1, byte 1 being the top byte of word 1, and bits from 0.
 use Rattle.std.specs.Prelude.{ℕ, ◌-◌, ◌*◌, ◌/◌, ◌%◌, ◌^◌, List, slice_index}
 
 -- a field of a word: this many bits, from a low bit on

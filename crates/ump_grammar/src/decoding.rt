@@ -5,7 +5,12 @@ ghost use Rattle.ump_grammar.specs.Places.{type_of};
 ghost use Rattle.ump_grammar.specs.Ranges.{IsPacket};
 ghost use Rattle.ump_grammar.specs.Reading.{Decodes};
 ghost use Rattle.ump_grammar.specs.Reason.{has_high as is_any_high};
-ghost use Rattle.ump_grammar.specs.Spelling.{has_row, exclusive_places, form_number, is_system_status as is_status};
+ghost use Rattle.ump_grammar.specs.Spelling.{
+  has_row,
+  exclusive_places,
+  form_number,
+  is_system_status as is_status,
+};
 
 use crate::fields::{bits, byte, half, nibble};
 use crate::packet::{Bad, Packet};
@@ -15,8 +20,8 @@ use midi_edge::ShortList;
 use ump_words::{Framed, Words};
 use voice_messages::Form;
 
-/// The packet that the words spell (M2-104-UM). `Err(BadCount)` comes exactly where a 7-bit exclusive counts more than six
-/// bytes, and `Err(HighBit)` exactly where another packet has a byte of 128 or more in a place of seven bits.
+/// The packet that the words spell (M2-104-UM). `Err(BadCount)` is returned exactly when a 7-bit exclusive counts more than six
+/// bytes, and `Err(HighBit)` exactly when another packet has a byte of 128 or more in a place of seven bits.
 #[tactic(auto, using(crate::proofs::Fitting::decoded_fits))]
 #[inline(always)]
 pub fn decode(framed: &Framed) -> Result<Packet, Bad>

@@ -1,7 +1,16 @@
 // From packets to words.
 ghost use Rattle.std.specs.Prelude.{◌≡◌, ◌≤◌, ◌<◌, ◌+◌, ◌*◌, ◌/◌, ◌%◌, ◌^◌, length, slice_index, [], ◌∷◌};
 ghost use Rattle.ump_words.specs.Cut.{IsWhole};
-ghost use Rattle.ump_grammar.specs.Places.{field, word, byte, type_of, group_of, opcode_of, channel_of, count_of};
+ghost use Rattle.ump_grammar.specs.Places.{
+  field,
+  word,
+  byte,
+  type_of,
+  group_of,
+  opcode_of,
+  channel_of,
+  count_of,
+};
 ghost use Rattle.ump_grammar.specs.Ranges.{IsPacket};
 ghost use Rattle.ump_grammar.specs.Reading.{Encodes};
 ghost use Rattle.voice_messages.specs.Kinds.{IsNote, IsOfOneNote, IsOfParam};
@@ -398,14 +407,14 @@ pub fn form_bits(form: Form) -> u8
     }
 }
 
-// The byte at index `i`, or a zero behind the last.
+// The byte at index `i`, or a zero past the last.
 fn place(bytes: &[u8], i: usize) -> u8
     ensures { result ≡ slice_index bytes.now i }
 {
     bytes.get(i).copied().unwrap_or(0)
 }
 
-// A type 3 packet with these bytes, and zeros behind them.
+// A type 3 packet with these bytes, and zeros after them.
 fn exclusive_words(group: U4, form: Form, bytes: &[u8]) -> Words
     requires { length bytes.now ≤ 6 }
     ensures whole { IsWhole result }
@@ -413,7 +422,8 @@ fn exclusive_words(group: U4, form: Form, bytes: &[u8]) -> Words
     ensures group { group_of result ≡ group }
     ensures form { opcode_of result ≡ form_number form }
     ensures count { count_of result ≡ length bytes.now }
-    ensures places { exclusive_places result ≡ slice_index bytes.now 0 ∷ slice_index bytes.now 1 ∷ slice_index bytes.now 2
+    ensures places { exclusive_places result ≡
+        slice_index bytes.now 0 ∷ slice_index bytes.now 1 ∷ slice_index bytes.now 2
         ∷ slice_index bytes.now 3 ∷ slice_index bytes.now 4 ∷ slice_index bytes.now 5 ∷ [] }
 {
     let first = first_word(

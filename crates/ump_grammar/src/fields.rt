@@ -4,7 +4,7 @@ ghost use Rattle.ump_grammar.specs.Places.{field};
 
 use voice_messages::{U4, U7};
 
-/// The field of `width` bits, below 32, from bit `low` on, the bits being counted from 0.
+/// The field of `width` bits, below 32, from bit `low` on, counting bits from 0.
 pub fn bits(word: u32, low: u32, width: u32) -> u32
     requires { (low < 32) × (width < 32) }
     ensures { result ≡ field word low width }
@@ -36,7 +36,7 @@ pub fn half(word: u32, low: u32) -> u16
     ((word >> low) % 0x1_0000) as u16
 }
 
-/// The field of eight bits from bit `low` on; `None` exactly where it is 128 or more.
+/// The field of eight bits from bit `low` on; `None` exactly when it is 128 or more.
 pub fn data_byte(word: u32, low: u32) -> Option<U7>
     requires { low < 32 }
     ensures { MatchOption result (128 ≤ field word low 8) (λ b. (b ≡ field word low 8) × (b < 128)) }

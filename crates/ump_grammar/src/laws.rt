@@ -7,12 +7,12 @@ ghost use Rattle.ump_grammar.specs.Reason.{reason};
 ghost use Rattle.ump_grammar.specs.Replies.{word_count};
 ghost use Rattle.ump_grammar.specs.Spelling.{HasRow, IsRead, Spells, has_row};
 
-/// Words spell one packet only.
+/// Words spell at most one packet.
 pub fn words_spell_one_packet()
     ensures { (p q : Packet) (words : List ℕ) → Spells p words → Spells q words → p ≡ q }
 {}
 
-/// The fields of a packet that words spell fit their places, where there is no reason to refuse the words.
+/// Where there is no reason to refuse some words, the fields of the packet that they spell fit their places.
 pub fn spelled_packets_fit()
     ensures { (p : Packet) (words : List ℕ) → Spells p words → reason words ≡ None → IsPacket p }
 {}
@@ -27,7 +27,7 @@ pub fn exclusives_have_words()
     ensures { ExclusivesHaveWords }
 {}
 
-/// The words that spell a packet are as many as its row says.
+/// A packet is spelled by as many words as its row says.
 pub fn packets_have_their_words()
     ensures { (p : Packet) (words : List ℕ) → slice_index words 0 < 2 ^ 32 → Spells p words →
         length words ≡ word_count p }

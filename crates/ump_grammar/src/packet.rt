@@ -7,7 +7,7 @@ use voice_messages::{Form, System, U4, Voice1, Voice2};
 /// A packet of the Universal MIDI Packet format (M2-104-UM).
 #[derive(Debug, PartialEq, Eq, Drop)]
 pub enum Packet {
-    /// Type 0, of a status 0 to 4 with a value of 20 bits.
+    /// Type 0, with a status of 0 to 4 and a value of 20 bits.
     Utility {
         status: u8,
         value: u32,
@@ -43,7 +43,7 @@ pub enum Packet {
         group: U4,
         words: Words,
     },
-    /// Type F: stream messages, of a format 0 to 3 and a status of 10 bits.
+    /// Type F: stream messages, with a format of 0 to 3 and a status of 10 bits.
     Stream {
         format: u8,
         status: u16,

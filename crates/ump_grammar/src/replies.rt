@@ -8,7 +8,7 @@ use crate::packet::Packet;
 use midi_edge::ShortList;
 use std::marker::Model;
 
-/// At most 1,024 words of packets that are to be sent, kept in place without memory of their own. To a contract it is the
+/// At most 1,024 words of packets that are to be sent, kept in place, without memory from an allocator. A contract sees it as the
 /// list of the words.
 #[derive(Debug, Drop)]
 pub struct Replies {
@@ -33,7 +33,7 @@ impl Replies {
         }
     }
 
-    /// Adds the words of the packet at the end, those that `encode` gives (M2-104-UM).
+    /// Appends the words of the packet, as `encode` gives them (M2-104-UM).
     pub fn push(&mut self, packet: &Packet)
         requires packet { IsPacket packet.now }
         requires fits { length self.old + word_count packet.now ≤ 1024 }
@@ -46,7 +46,7 @@ impl Replies {
         self.words.extend(words);
     }
 
-    /// Takes all words away.
+    /// Removes all words.
     pub fn clear(&mut self)
         ensures { self.new ≡ [] }
     {

@@ -7,14 +7,14 @@ ghost use Rattle.ump_grammar.specs.Spelling.{is_system_status};
 use crate::fields::{bits, data_byte, nibble};
 use voice_messages::{System, U7, U14, Voice1};
 
-// The number of two data bytes, of which the low one comes first.
+// The number in two data bytes, the low one first.
 fn both(low: U7, high: U7) -> U14
     ensures { result ≡ low + 128 * high }
 {
     U14::low_bits(u32::from(low.get()) + 128 * u32::from(high.get()))
 }
 
-/// The message of a type 1 packet; `None` exactly where a byte that carries seven bits is 128 or more.
+/// The message of a type 1 packet; `None` exactly when a byte that carries seven bits is 128 or more.
 #[inline(always)]
 pub fn system_message(words: &[u32]) -> Option<System>
     requires size { length words.now ≡ 1 }
@@ -36,7 +36,7 @@ pub fn system_message(words: &[u32]) -> Option<System>
     })
 }
 
-/// The message of a type 2 packet; `None` exactly where a byte that carries seven bits is 128 or more.
+/// The message of a type 2 packet; `None` exactly when a byte that carries seven bits is 128 or more.
 #[inline(always)]
 pub fn voice1_message(words: &[u32]) -> Option<Voice1>
     requires size { length words.now ≡ 1 }

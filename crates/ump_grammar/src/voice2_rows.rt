@@ -6,7 +6,7 @@ ghost use Rattle.ump_grammar.specs.Reading.{ReadsVoice2};
 use crate::fields::{bits, byte, data_byte, half, nibble};
 use voice_messages::{Bank, Param, ParamKind, Voice2};
 
-/// The message of a type 4 packet; `None` exactly where a byte that carries seven bits is 128 or more.
+/// The message of a type 4 packet; `None` exactly when a byte that carries seven bits is 128 or more.
 #[inline(always)]
 pub fn voice2_message(words: &[u32]) -> Option<Voice2>
     requires size { length words.now ≡ 2 }

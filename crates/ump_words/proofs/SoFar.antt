@@ -152,7 +152,7 @@ module _ (order : Order) (limit : ℕ) (reader : Reading) (before now : Option (
       by_told None e = tt
       by_told (Some bytes) e = left_at_end reader' now' bytes e ends
 
-  -- what is behind a packet that is given out
+  -- what follows a packet that is given out
   behind : (reader' : Reading) (now' : Option (List ℕ)) (framed : Framed) (left : List ℕ) → now ≡ Some left → (gives : GivesPacket reader reader' (ahead reader.pending now) (ahead reader'.pending now') framed)
       → (more : List ℕ) × (reader.pending ++ left ≡ gives.chunk ++ more)
   behind reader' now' framed left e gives = by_left (ahead reader'.pending now') refl
@@ -188,7 +188,7 @@ module _ (order : Order) (limit : ℕ) (reader : Reading) (before now : Option (
         };
       }
 
-  -- behind the packets so far stands the one that is given out
+  -- after the packets so far comes the one that is given out
   pub stands_behind : (reader' : Reading) (now' : Option (List ℕ)) (framed : Framed) → GivesPacket reader reader' (ahead reader.pending now) (ahead reader'.pending now') framed
       → IfSome before (λ bytes. StandsBehind order limit bytes read framed)
   stands_behind reader' now' framed gives = by_told before refl

@@ -41,22 +41,22 @@ first_words order bytes (suc n) = first_words order bytes n ++ word_at order byt
 abbrev pub words_of : Order → List ℕ → List ℕ
 words_of order bytes = first_words order bytes (length bytes / 4)
 
--- as many bytes as the type of the first word asks
+-- as many bytes as the type of the first word asks for
 abbrev pub bytes_asked : Order → List ℕ → ℕ
 bytes_asked order bytes = 4 * words_asked (word_at order bytes 0)
 
 abbrev pub IsPacket : Order → List ℕ → Type 0
 IsPacket order bytes = length bytes ≡ bytes_asked order bytes
 
--- as many words as the first of them asks
+-- as many words as the first of them asks for
 abbrev pub IsWhole : List ℕ → Type 0
 IsWhole words = length words ≡ words_asked (slice_index words 0)
 
--- too few bytes for a packet: no whole word, or fewer than its first word asks
+-- too few bytes for a packet: no whole word, or fewer than its first word asks for
 abbrev pub IsRest : Order → List ℕ → Type 0
 IsRest order bytes = (length bytes < 4) ⊎ (length bytes < bytes_asked order bytes)
 
--- how the packets end, where these bytes stand behind them at an offset
+-- how the packets end, where these bytes follow them at an offset
 abbrev pub Ends : Order → ℕ → ℕ → List ℕ → Tail → Type 0
 Ends order limit at bytes End = (bytes ≡ []) × (at ≤ limit)
 Ends order limit at bytes (Truncated o) = (o ≡ at) × (0 < length bytes) × IsRest order bytes × (at + length bytes ≤ limit)

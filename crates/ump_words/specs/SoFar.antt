@@ -27,7 +27,7 @@ none_within limit = let P : ℕ → Type 0 = λ n. 0 ≤ n in subst P (zero-add 
 pub start : (order : Order) (limit : ℕ) (left : Option (List ℕ)) → ReadSoFar order limit (record { order = order; pending = []; offset = 0; limit = limit; end = None }) left left []
 start order limit left = record { chunks = []; same = refl; place = refl; within = none_within limit; each = tt; lost = runs_are_lost.none left }
 
--- after these packets of a stream stands this one, and perhaps more
+-- after these packets of a stream comes this one, and perhaps more
 pub record StandsBehind (order : Order) (limit : ℕ) (bytes : List ℕ) (before : List Framed) (framed : Framed) : Type 0 where
   pub after : List Framed
   pub tail : Tail

@@ -1,5 +1,20 @@
 // A reader of packets from a source.
-ghost use Rattle.std.specs.Prelude.{◌≡◌, ◌≤◌, ◌+◌, ◌-◌, ◌==◌, ◌^◌, [], length, take, drop, IfSome, IfOk, OnErr, if◌then◌else◌};
+ghost use Rattle.std.specs.Prelude.{
+  ◌≡◌,
+  ◌≤◌,
+  ◌+◌,
+  ◌-◌,
+  ◌==◌,
+  ◌^◌,
+  [],
+  length,
+  take,
+  drop,
+  IfSome,
+  IfOk,
+  OnErr,
+  if◌then◌else◌,
+};
 ghost use Rattle.midi_edge.specs.Outside.{ahead, HasCause, IsUsedUp};
 ghost use Rattle.ump_words.specs.Cut.{IsRest, words_of};
 ghost use Rattle.ump_words.specs.Front.{Sees};
@@ -26,13 +41,20 @@ impl Model for WordReader {
 
     ghost Value = { Reading };
 
-    ghost view = { λ r. record { order = r.order; pending = r.window; offset = r.offset; limit = r.limit; end = r.end } };
+    ghost view = { λ r. record {
+      order = r.order;
+      pending = r.window;
+      offset = r.offset;
+      limit = r.limit;
+      end = r.end;
+    } };
 
     ghost invariant = { λ r. (r.offset ≤ r.limit) × (r.limit ≤ 2 ^ 62) };
 }
 
 impl WordReader {
-    /// A reader that has given nothing. It gives at most `limit` bytes, at most 2^62 (own rule); offsets count bytes from 0.
+    /// A reader that has given out nothing yet. It gives out at most `limit` bytes, which is at most 2^62 (own rule); offsets
+    /// count bytes from 0.
     pub fn new(order: Order, limit: u64) -> Self
         requires { limit ≤ 2 ^ 62 }
         ensures { result ≡ record { order = order; pending = []; offset = 0; limit = limit; end = None } }
@@ -46,19 +68,20 @@ impl WordReader {
         }
     }
 
-    /// The next packet (M2-104-UM, message types) and its offset, the number of bytes before it; `None` where the source ends
-    /// with the last packet.
+    /// The next packet (M2-104-UM, message types) and its offset, the number of bytes before it; `None` when the source ends with
+    /// the last packet.
     ///
-    /// `Truncated` comes where the source ends within the limit, and within a packet: behind some of the bytes that the message
-    /// type asks, or of the first word. It tells the offset of that packet. `TooLong` comes where the source gave more bytes than
-    /// the limit, and what is left within it is no whole packet (own rule). `Read` comes only where the source's count of faults
-    /// rose; no byte is lost, and a later call goes on from there. Each other answer that is no packet is given again from then
-    /// on, and the source isn't asked.
+    /// `Truncated` is returned when the source ends within the limit and within a packet: after some of the bytes that the
+    /// message type asks for, or of the first word. It carries the offset of that packet. `TooLong` is returned when the source
+    /// gave more bytes than the limit, and what is left within the limit is no whole packet (own rule). `Read` is returned only
+    /// when the source's count of faults rose; no byte is lost, and a later call goes on from there. Any other answer without a
+    /// packet is returned again by every later call, and the source isn't asked.
     #[inline(always)]
     pub fn next<S: Source>(&mut self, src: &mut S) -> Result<Option<Framed>, ReadStop>
         ensures answer { self.old.end ≡ None → Answers self.old self.new
             (ahead self.old.pending (S.left src.old)) (ahead self.new.pending (S.left src.new)) result }
-        ensures again { IfSome self.old.end (λ tail. (result ≡ answer_of tail) × (self.new ≡ self.old) × (src.new ≡ src.old)) }
+        ensures again { IfSome self.old.end (λ tail.
+            (result ≡ answer_of tail) × (self.new ≡ self.old) × (src.new ≡ src.old)) }
         ensures cause { ReadCause (S.faults src.old) (S.faults src.new) result }
     {
         if let Some(tail) = self.end {
@@ -80,12 +103,19 @@ impl WordReader {
         }
     }
 
-    // Gives out the packet of this many bytes that stands next.
+    // Gives out the next packet, which has this many bytes.
     #[inline(always)]
     fn give(&mut self, size: usize) -> Framed
-        requires front { Sees self.old.order self.old.pending (self.old.limit - self.old.offset) (Front.Packet size) }
-        ensures framed { result ≡ record { offset = self.old.offset; words = words_of self.old.order (take size self.old.pending) } }
-        ensures after { self.new ≡ record self.old { pending = drop size self.old.pending; offset = self.old.offset + size } }
+        requires front { Sees self.old.order self.old.pending
+            (self.old.limit - self.old.offset) (Front.Packet size) }
+        ensures framed { result ≡ record {
+          offset = self.old.offset;
+          words = words_of self.old.order (take size self.old.pending);
+        } }
+        ensures after { self.new ≡ record self.old {
+          pending = drop size self.old.pending;
+          offset = self.old.offset + size;
+        } }
     {
         let offset = self.offset;
         let words = words_in(self.order, &self.window.bytes()[..size]);

@@ -22,13 +22,13 @@ pub enum Order {
 pub enum Tail {
     /// With the last packet.
     End,
-    /// Within what begins at this offset, counted in bytes from 0.
+    /// Within the packet that begins at this offset, counted in bytes from 0.
     Truncated(u64),
     /// With more bytes than the limit.
     TooLong,
 }
 
-/// One to four words of 32 bits. To a contract it is the list of the words.
+/// One to four words of 32 bits. A contract sees it as the list of the words.
 #[derive(Drop)]
 pub struct Words {
     cells: [u32; 4],
@@ -73,7 +73,7 @@ impl Words {
         &self.cells[..self.count]
     }
 
-    /// The same words again. Unlike `clone` it cannot fail.
+    /// A copy of the words. Unlike `clone`, it cannot fail.
     #[inline]
     pub fn copied(&self) -> Self
         ensures { result ≡ self.now }
@@ -111,19 +111,19 @@ impl fmt::Debug for Words {
     }
 }
 
-/// The words of a packet, and where it stands.
+/// The words of a packet, and its offset.
 #[derive(Debug, Drop)]
 pub struct Framed {
     /// The number of bytes before it.
     pub offset: u64,
-    /// Its words, as many as the message type of the first one asks.
+    /// Its words, as many as the message type of the first one asks for.
     pub words: Words,
 }
 
 // How many words a packet of each message type has.
 const WORD_COUNTS: [usize; 16] = [1, 1, 1, 2, 2, 4, 1, 1, 2, 2, 2, 3, 3, 4, 4, 4];
 
-/// How many words a packet has that begins with this one, 1 to 4 (M2-104-UM, message types).
+/// How many words a packet that begins with this one has, 1 to 4 (M2-104-UM, message types).
 #[inline]
 pub fn words_in_packet(first: u32) -> usize
     ensures count { result ≡ words_asked first }
@@ -212,11 +212,12 @@ fn pair_bytes(first: u32, second: u32, order: Order) -> [u8; 8]
     bytes
 }
 
-/// Puts the bytes of these words, one to four, one word after the other, by one put.
+/// Puts the bytes of these words, one to four, one word after the other, in a single put.
 #[inline(always)]
 pub fn put_words<W: Sink>(words: &[u32], order: Order, output: &mut W) -> Result<(), Failed>
     requires { (0 < length words.now) × (length words.now ≤ 4) }
-    ensures bytes { Puts (W.held output.old) (W.held output.new) result (flat_map (word_bytes order) words.now) }
+    ensures bytes { Puts (W.held output.old) (W.held output.new) result
+        (flat_map (word_bytes order) words.now) }
     ensures cause { HasCause (W.faults output.old) (W.faults output.new) result }
 {
     match *words {

@@ -71,7 +71,7 @@ ignored_meant plain o values channel index value = refl
 
 -- ---- a group
 
--- the channel behind a control change of its own
+-- the channel after a control change of its own
 channel_behind : (state : GroupState) (channel index value : ℕ) →
     control as_they_come (role_of index) index value (state.channels channel) ≡ (control_step state channel index value).channels channel
 channel_behind state channel index value = λ i. cond (sym (eq-eqb channel channel refl) i) (control as_they_come (role_of index) index value (state.channels channel)) (state.channels channel)

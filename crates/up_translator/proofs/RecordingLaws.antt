@@ -49,7 +49,7 @@ held-answer parsed in_range room group past byte up result holds answer =
     (subst (λ (g : ℕ). RaisesStep up.holding g (length past) (step_of (Some room) past byte) result) holds.group_is
     (subst (λ (step : Step). RaisesStep up.holding up.group (length past) step result) (step-held parsed room group past byte up holds) answer))
 
--- ---- behind it
+-- ---- after it
 
 folded : (state : GroupState) (message : Option Message) → fold step1 state (option_to_list message) ≡ state_behind state message
 folded state None = refl

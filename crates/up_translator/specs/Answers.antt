@@ -1,4 +1,4 @@
--- What the translator answers to one more byte of a stream, by all the bytes before, which are listed the newest first.
+-- What the translator answers to one more byte of a stream, by all the bytes before, which are listed newest first.
 use Rattle.std.specs.Prelude.{◌≡◌, ℕ, List, Some, None, IfSome, Result, Ok, Err}
 use Rattle.midi1_bytes.specs.Messages.{AreData}
 use Rattle.voice_state.specs.declared.listed.BadStep.{BadStep}
@@ -15,7 +15,7 @@ pub record IsRaisedAt (room group : ℕ) (past : List ℕ) (byte : ℕ) (raised 
   pub lines : lines_in raised ≡ lines_at (Some room) group past byte
   pub data_bytes : IfSome (payload_in raised) AreData
 
--- It is refused exactly where there is a reason to refuse it, and for that reason.
+-- It is refused exactly when there is a reason to refuse it, and for that reason.
 abbrev pub IsAnswerAt : ℕ → ℕ → List ℕ → ℕ → Result Raised BadStep → Type 0
 IsAnswerAt room group past byte (Ok raised) = IsRaisedAt room group past byte raised
 IsAnswerAt room group past byte (Err bad) = refusal_up (Some room) past byte ≡ Some bad

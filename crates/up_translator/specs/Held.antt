@@ -14,13 +14,13 @@ pub record RaiserState : Type 0 where
   pub group : ℕ
   pub holding : Holding
 
--- besides what is begun of a message or exclusive
+-- and also what is open of a message or an exclusive
 pub record UpState : Type 0 where
   pub group : ℕ
   pub parsing : Parsing
   pub holding : Holding
 
--- ---- behind a byte
+-- ---- after a byte
 
 abbrev pub holding_behind_message : Holding → Option Message → Holding
 holding_behind_message holding (Some (voice message)) = holding_with holding message
@@ -47,6 +47,6 @@ abbrev pub state_behind : GroupState → Option Message → GroupState
 state_behind state None = state
 state_behind state (Some message) = step1 state message
 
--- each state that is kept is kept behind a step, as it then is
+-- each state that is kept is kept after a step, as it then is
 abbrev pub KeepsBehind : Holding → Step → Type 0
 KeepsBehind holding step = (state : GroupState) → Keeps holding state → Keeps (holding_behind_step holding step) (state_behind state (completed_by step))

@@ -1,4 +1,4 @@
--- What holds of all streams of bytes, which are listed the newest first.
+-- What holds of all streams of bytes, which are listed newest first.
 use Rattle.std.specs.Prelude.{◌≡◌, ℕ, List, ◌∷◌, length, map, Some, Result}
 use Rattle.std.specs.Option.{option_map}
 use Rattle.midi1_bytes.specs.Parsing.{open_of}

@@ -58,7 +58,7 @@ outcome_by (collected.Set param entered) channel index value = outcome.Message (
 outcome_by collected.Ignored channel index value = outcome.Ignored
 outcome_by collected.Plain channel index value = outcome.Message (voice2.Control channel index (up value 7 32))
 
--- ---- what is held behind a voice message: a control change is collected
+-- ---- what is held after a voice message: a control change is collected
 
 abbrev pub holding_with : Holding → Voice1 → Holding
 holding_with holding (voice1.Control channel index value) = holding_behind (role_of index) holding channel value

@@ -1,4 +1,4 @@
--- What the translator holds behind the bytes of a stream, which are listed the newest first.
+-- What the translator holds after the bytes of a stream, which are listed newest first.
 use Rattle.std.specs.Prelude.{◌≡◌, ℕ, List}
 use Rattle.midi1_bytes.specs.Parsing.{held_behind}
 use Rattle.voice_state.specs.Messages.{meaning1}

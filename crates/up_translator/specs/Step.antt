@@ -33,7 +33,7 @@ pub record Accepts (holding : Holding) (group offset : ℕ) (step : Step) (raise
   pub spelled : IfSome (packet_in raised) IsPacket
   pub raised_of : (state : GroupState) → Keeps holding state → IsRaised state group offset step raised
 
--- It is refused exactly where there is a reason to refuse it, and for that reason.
+-- It is refused exactly when there is a reason to refuse it, and for that reason.
 abbrev pub RaisesStep : Holding → ℕ → ℕ → Step → Result Raised BadStep → Type 0
 RaisesStep holding group offset step (Ok raised) = Accepts holding group offset step raised
 RaisesStep holding group offset step (Err bad) = refusal_of_step step ≡ Some bad

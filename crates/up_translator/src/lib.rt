@@ -1,4 +1,4 @@
-//! The bytes of a MIDI 1.0 stream as packets of the Universal MIDI Packet format, in one group.
+//! Turns the bytes of a MIDI 1.0 stream into packets of the Universal MIDI Packet format, in one group.
 #![tactic(auto)]
 
 pub mod laws;

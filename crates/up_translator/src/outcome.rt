@@ -8,7 +8,15 @@ ghost use Rattle.voice_state.specs.Refusal.{bad_control, bad_voice1};
 ghost use Rattle.voice_state.specs.State.{GroupState};
 ghost use Rattle.param_collector.specs.Control.{holding_behind};
 ghost use Rattle.param_collector.specs.Keeps.{Keeps};
-ghost use Rattle.up_translator.specs.Outcome.{messages_in, refusal_in, outcome_by, bad_data_step, holding_with, FitsVoice2, IsRaisedVoice};
+ghost use Rattle.up_translator.specs.Outcome.{
+  messages_in,
+  refusal_in,
+  outcome_by,
+  bad_data_step,
+  holding_with,
+  FitsVoice2,
+  IsRaisedVoice,
+};
 
 use crate::voice::{
     raise_bend, raise_control, raise_data_entry, raise_note_off, raise_note_on,
@@ -66,10 +74,12 @@ fn outcome_of(collected: Collected, channel: U4, index: U7, value: U7) -> Outcom
 #[inline(always)]
 fn raise_control_change(collector: &mut Collector, channel: U4, index: U7, value: U7) -> Outcome
     ensures refused { refusal_in result ≡ bad_control index }
-    ensures raised { (state : GroupState) → Keeps collector.old state → IsRaisedVoice state (voice1.Control channel index value) result }
+    ensures raised { (state : GroupState) → Keeps collector.old state →
+        IsRaisedVoice state (voice1.Control channel index value) result }
     ensures fits { FitsVoice2 result }
     ensures behind { collector.new ≡ holding_behind (role_of index) collector.old channel value }
-    ensures kept { (state : GroupState) → Keeps collector.old state → Keeps collector.new (step1 state (voice (voice1.Control channel index value))) }
+    ensures kept { (state : GroupState) → Keeps collector.old state →
+        Keeps collector.new (step1 state (voice (voice1.Control channel index value))) }
 {
     let collected = collector.control(channel, index, value);
     outcome_of(collected, channel, index, value)
@@ -80,10 +90,12 @@ fn raise_control_change(collector: &mut Collector, channel: U4, index: U7, value
 #[inline(always)]
 pub fn raise(collector: &mut Collector, message: &Voice1) -> Outcome
     ensures refused { refusal_in result ≡ bad_voice1 message.now }
-    ensures raised { (state : GroupState) → Keeps collector.old state → IsRaisedVoice state message.now result }
+    ensures raised { (state : GroupState) → Keeps collector.old state →
+        IsRaisedVoice state message.now result }
     ensures fits { FitsVoice2 result }
     ensures behind { collector.new ≡ holding_with collector.old message.now }
-    ensures kept { (state : GroupState) → Keeps collector.old state → Keeps collector.new (step1 state (voice message.now)) }
+    ensures kept { (state : GroupState) → Keeps collector.old state →
+        Keeps collector.new (step1 state (voice message.now)) }
 {
     other_messages_change_nothing_kept();
     match *message {

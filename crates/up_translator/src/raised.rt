@@ -3,7 +3,7 @@ use midi_edge::{LentU4, U4};
 use ump_grammar::Packet;
 use voice_state::{Kind, Listed};
 
-/// A line of the listing, whose group is that of all lines.
+/// A line of the listing; all lines have the same group.
 #[derive(Clone, Copy, Debug)]
 pub(crate) struct Line {
     pub(crate) offset: u64,
@@ -15,8 +15,8 @@ pub(crate) struct Line {
 pub struct Raised<'a> {
     /// The packet of the voice or system message that the byte completes.
     pub packet: Option<&'a Packet>,
-    /// The bytes between F0 and F7 of the exclusive that the byte ends. Its packets are those of `sysex_groups::part`. Where it
-    /// is there, no packet is.
+    /// The bytes between F0 and F7 of the exclusive that the byte ends. Its packets are those of `sysex_groups::part`. Where
+    /// there is a payload, there is no packet.
     pub payload: Option<&'a [u8]>,
     group: LentU4,
     first: Option<Line>,
@@ -29,7 +29,19 @@ impl<'a> Raised<'a> {
     ghost use Rattle.midi1_bytes.specs.Answers.{framed, payload_of};
     ghost use Rattle.voice_state.specs.Raising.{exclusive_packets};
     ghost use Rattle.voice_state.specs.StepListing.{line_up};
-    ghost use Rattle.up_translator.specs.Raised.{group_in, packet_in, payload_in, packets_in, lines_in, told_of, line_by, first_in, second_in, is_empty_in, IsApart};
+    ghost use Rattle.up_translator.specs.Raised.{
+      group_in,
+      packet_in,
+      payload_in,
+      packets_in,
+      lines_in,
+      told_of,
+      line_by,
+      first_in,
+      second_in,
+      is_empty_in,
+      IsApart,
+    };
 
     fn new(
         group: U4,
@@ -41,7 +53,8 @@ impl<'a> Raised<'a> {
         ensures packet { result.packet ≡ packet.entry }
         ensures payload { result.payload ≡ payload.entry }
         ensures group { group_in result ≡ group }
-        ensures lines { lines_in result ≡ map (line_up group) (map told_of (option_to_list first ++ option_to_list second)) }
+        ensures lines { lines_in result ≡
+            map (line_up group) (map told_of (option_to_list first ++ option_to_list second)) }
     {
         Raised {
             packet,
@@ -58,7 +71,8 @@ impl<'a> Raised<'a> {
         ensures packet { packet_in result ≡ None }
         ensures payload { payload_in result ≡ None }
         ensures packets { packets_in result ≡ [] }
-        ensures lines { lines_in result ≡ map (line_up group) (map told_of (option_to_list first ++ option_to_list second)) }
+        ensures lines { lines_in result ≡
+            map (line_up group) (map told_of (option_to_list first ++ option_to_list second)) }
     {
         Raised::new(group, None, None, first, second)
     }
@@ -126,7 +140,7 @@ impl<'a> Raised<'a> {
         self.listed(self.first)
     }
 
-    /// The second one, if there is one: what the byte is that cut something off.
+    /// The second line, if there is one: what the byte that cut something off is itself.
     pub fn second(&self) -> Option<Listed>
         ensures { result ≡ second_in self.now }
     {

@@ -31,8 +31,8 @@ fn system_fits(group: U4, message: &System)
     }
 }
 
-/// What raises messages to packets of one group. It keeps the packet that it lends. To a contract it is the group and what
-/// control changes have set.
+/// Raises messages to packets of one group. It keeps the packet that it lends. A contract sees the group and what control changes
+/// have set.
 #[derive(Drop)]
 pub(crate) struct Raiser {
     group: U4,
@@ -54,7 +54,14 @@ impl Raiser {
     ghost use Rattle.up_translator.specs.Held.{KeepsBehind};
     ghost use Rattle.up_translator.specs.LendRaiser.{KeepsRaiser};
     ghost use Rattle.up_translator.specs.Outcome.{holding_with};
-    ghost use Rattle.up_translator.specs.Raised.{packet_in, payload_in, packets_in, lines_in, told_of, IsApart};
+    ghost use Rattle.up_translator.specs.Raised.{
+      packet_in,
+      payload_in,
+      packets_in,
+      lines_in,
+      told_of,
+      IsApart,
+    };
     ghost use Rattle.up_translator.specs.Step.{RaisesStep};
 
     /// A raiser into a group.
@@ -91,7 +98,7 @@ impl Raiser {
         Raised::of_packet(self.group, &self.packet, line)
     }
 
-    /// A system message, with a line of what its byte cuts off if it does.
+    /// A system message, with a line for what its byte cuts off, if it cuts anything off.
     #[inline(always)]
     pub(crate) fn system(&mut self, message: System, line: Option<Line>) -> Raised<'_>
         ensures apart { IsApart result }
@@ -109,9 +116,11 @@ impl Raiser {
     /// A voice message that the byte at this offset completes.
     #[inline(always)]
     pub(crate) fn voice(&mut self, message: &Voice1, offset: u64) -> Result<Raised<'_>, BadStep>
-        ensures answer { RaisesStep self.old.holding self.old.group offset (completes (voice message.now)) result }
+        ensures answer { RaisesStep self.old.holding self.old.group offset
+            (completes (voice message.now)) result }
         ensures kept { KeepsBehind self.old.holding (completes (voice message.now)) }
-        ensures* after { sem 𝓛 (KeepsRaiser self.entry (record self.old { holding = holding_with self.old.holding message.now })) }
+        ensures* after { sem 𝓛 (KeepsRaiser self.entry
+            (record self.old { holding = holding_with self.old.holding message.now })) }
     {
         match raise(&mut self.collector, message) {
             Outcome::Nothing => Ok(Raised::only_listed(self.group, None, None)),

@@ -16,8 +16,8 @@ use voice_state::{BadStep, Listed};
 
 const END_OF_EXCLUSIVE: u8 = 0xf7;
 
-/// The translator of the bytes of one MIDI 1.0 stream to packets of one group. To a contract it is the group, what is begun of a
-/// message or exclusive, and what control changes have set.
+/// Translates the bytes of one MIDI 1.0 stream to packets of one group. A contract sees the group, what is open of a message or
+/// an exclusive, and what control changes have set.
 #[derive(Drop)]
 pub struct Up {
     parser: Parser,
@@ -29,7 +29,11 @@ impl Model for Up {
 
     ghost Value = { UpState };
 
-    ghost view = { λ up. record { group = up.raiser.group; parsing = up.parser; holding = up.raiser.holding } };
+    ghost view = { λ up. record {
+      group = up.raiser.group;
+      parsing = up.parser;
+      holding = up.raiser.holding;
+    } };
 }
 
 impl Up {
@@ -41,12 +45,13 @@ impl Up {
     ghost use Rattle.up_translator.specs.Recording.{HoldsUp};
     ghost use Rattle.up_translator.specs.Step.{Raises};
 
-    /// A translator into a group, for a stream that has no byte yet. Takes all memory that it ever needs: for exclusives of
-    /// `room` bytes between F0 and F7, 6 to 1,048,576, and for what control changes set. `NoMemory` where there isn't so much.
+    /// A translator into a group, for a stream that has had no byte yet. Takes all memory that it ever needs: for exclusives of
+    /// `room` bytes between F0 and F7, 6 to 1,048,576, and for what control changes set. `NoMemory` when there isn't that much.
     pub fn new(alloc: Global, group: U4, room: u32) -> Result<Up, NoMemory>
         requires least { 6 ≤ room }
         requires most { room ≤ 1048576 }
-        ensures fresh { IfOk result (λ up. up ≡ record { group = group; parsing = idle room; holding = fresh }) }
+        ensures fresh { IfOk result (λ up.
+            up ≡ record { group = group; parsing = idle room; holding = fresh }) }
         ensures holds { IfOk result (HoldsUp room group []) }
     {
         let parser = match Parser::new(alloc, room) {
@@ -132,9 +137,9 @@ impl Up {
     /// The packets of one more byte (M2-104-UM, translation from MIDI 1.0; M2-115-U), and its lines of the listing (own rules).
     /// The offset is the number of bytes before it.
     ///
-    /// `DataIncrement` and `DataDecrement` come exactly at the byte that completes a control change 96 or 97; what control
-    /// changes have set then stays as it was. `ExclusiveTooLong` comes exactly where the byte makes an exclusive longer than
-    /// the room; it is dropped (own rules).
+    /// `DataIncrement` and `DataDecrement` are returned exactly at the byte that completes a control change 96 or 97; what
+    /// control changes have set then stays as it was. `ExclusiveTooLong` is returned exactly when the byte makes an exclusive
+    /// longer than the limit; the exclusive is dropped (own rules).
     #[inline(always)]
     pub fn byte(&mut self, byte: u8, offset: u64) -> Result<Raised<'_>, BadStep>
         ensures answer { Raises self.old offset byte result }
@@ -147,10 +152,11 @@ impl Up {
         }
     }
 
-    /// The line of what is begun at the end of the stream, with the offset at which it starts; `None` exactly where nothing is
-    /// begun.
+    /// The line of what is open at the end of the stream, with the offset at which it starts; `None` exactly when nothing is
+    /// open.
     pub fn end(&self) -> Option<Listed>
-        ensures { option_to_list result ≡ map (line_up self.now.group) (kinds_at_end (option_map (λ begun. (begun.start, begun.kind)) (open_of self.now.parsing))) }
+        ensures { option_to_list result ≡ map (line_up self.now.group) (kinds_at_end
+            (option_map (λ begun. (begun.start, begun.kind)) (open_of self.now.parsing))) }
     {
         match self.parser.end() {
             None => None,

@@ -8,7 +8,7 @@ ghost use Rattle.voice_state.specs.Raising.{raised_note_on};
 use bit_scaling::{up7, up14, velocity_up};
 use voice_messages::{Bank, Param, U4, U7, U14, Voice2};
 
-/// The velocity of the note off that a note on of velocity 0 is (own rule).
+/// The velocity of the note off that a note on of velocity 0 becomes (own rule).
 const RELEASE: u16 = 0x8000;
 
 /// A note off without an attribute.

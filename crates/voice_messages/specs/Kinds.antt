@@ -21,7 +21,7 @@ IsOfParam (voice2.Set channel param value) = Unit {0}
 IsOfParam (voice2.Shift channel param value) = Unit {0}
 IsOfParam _ = ⊥
 
--- what is about the whole channel
+-- messages about the whole channel
 abbrev pub IsOfChannel : Voice2 → Type 0
 IsOfChannel (voice2.Control channel index value) = Unit {0}
 IsOfChannel (voice2.Set channel param value) = Unit {0}

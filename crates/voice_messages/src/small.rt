@@ -3,7 +3,7 @@ ghost use Rattle.std.specs.Prelude.{◌≡◌, ◌<◌, ◌≤◌, ◌%◌, Matc
 
 use std::marker::Model;
 
-/// A number below 128, as a data byte. To a contract it is the number.
+/// A number below 128, as in a data byte. A contract sees it as the number.
 #[derive(Clone, Copy, Debug, PartialEq, Eq)]
 pub struct U7 {
     value: u8,
@@ -22,7 +22,7 @@ impl Model for U7 {
 }
 
 impl U7 {
-    /// The number; `None` exactly where it is 128 or more.
+    /// The number; `None` exactly when it is 128 or more.
     pub fn new(value: u8) -> Option<Self>
         ensures { MatchOption result (128 ≤ value) (λ u. (u ≡ value) × (value < 128)) }
     {
@@ -51,7 +51,7 @@ impl U7 {
     }
 }
 
-/// A number below 16384, as two data bytes. To a contract it is the number.
+/// A number below 16384, as in two data bytes. A contract sees it as the number.
 #[derive(Clone, Copy, Debug, PartialEq, Eq)]
 pub struct U14 {
     value: u16,
@@ -70,7 +70,7 @@ impl Model for U14 {
 }
 
 impl U14 {
-    /// The number; `None` exactly where it is 16384 or more.
+    /// The number; `None` exactly when it is 16384 or more.
     pub fn new(value: u16) -> Option<Self>
         ensures { MatchOption result (16384 ≤ value) (λ u. (u ≡ value) × (value < 16384)) }
     {

@@ -17,7 +17,7 @@ pub enum Voice1 {
     Program { channel: U4, program: U7 },
     /// Status Dn: pressure of the channel.
     Pressure { channel: U4, value: U7 },
-    /// Status En: pitch bend, 8,192 being the centre.
+    /// Status En: pitch bend, with its centre at 8,192.
     Bend { channel: U4, value: U14 },
 }
 

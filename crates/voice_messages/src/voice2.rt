@@ -2,7 +2,7 @@
 use crate::small::U7;
 use midi_edge::U4;
 
-/// Which list of parameters or note controllers a number is of.
+/// Which list of parameters or note controllers a number belongs to.
 #[derive(Clone, Copy, Debug, PartialEq, Eq)]
 pub enum ParamKind {
     /// Registered by the standard.
@@ -26,8 +26,8 @@ pub struct Bank {
     pub lsb: U7,
 }
 
-/// A channel voice message of the MIDI 2.0 protocol (M2-104-UM, MIDI 2.0 channel voice messages). Velocities and
-/// attributes have 16 bits and values 32, a bend with its centre at 80000000.
+/// A channel voice message of the MIDI 2.0 protocol (M2-104-UM, MIDI 2.0 channel voice messages). Velocities and attributes have
+/// 16 bits, and values have 32; a bend has its centre at 80000000.
 #[derive(Clone, Copy, Debug, PartialEq, Eq)]
 pub enum Voice2 {
     /// Opcode 8.
@@ -108,7 +108,7 @@ pub enum Voice2 {
     },
 }
 
-/// Which part of a message a packet has (M2-104-UM, system exclusive and stream messages).
+/// Which part of a message a packet carries (M2-104-UM, system exclusive and stream messages).
 #[derive(Clone, Copy, Debug, PartialEq, Eq)]
 pub enum Form {
     /// All of it.

@@ -88,7 +88,7 @@ AreOf g ps = AllByRecursion (λ p. group_of p ≡ Some g) ps
 lane_after-own : (bytes : List ℕ) (past : List Packet) (p : Packet) (g : ℕ) → group_of p ≡ Some g → lane_after bytes past p g ≡ reverse (plain_piece (whole_of past p) p) ++ bytes
 lane_after-own bytes past p g e = ap (λ t. cond t (reverse (plain_piece (whole_of past p) p) ++ bytes) bytes) (ap (λ o. is_group o g) e ∙ eq-eqb g g refl)
 
--- the bytes of a lane, the newest first, behind further packets
+-- the bytes of a lane, newest first, after further packets
 pieces_denote : WrittenMessagesAreReadAgain → (g : ℕ) (ps : List Packet) (bytes : List ℕ) (past : List Packet) → AreOf g ps → AllByRecursion IsInRange ps → AllByRecursion IsInRange past → Denotes bytes past g → Denotes (reverse (pieces_of past ps) ++ bytes) (reverse ps ++ past) g
 pieces_denote reads g [] bytes past o a b d = d
 pieces_denote reads g (p ∷ ps) bytes past o a b d =

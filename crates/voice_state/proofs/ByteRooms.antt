@@ -1,4 +1,4 @@
--- Where no exclusive in the bytes passes its room, the room doesn't matter.
+-- Where no exclusive in the bytes exceeds its limit, the limit doesn't matter.
 use Rattle.std.proofs.Common.{ℕ, ◌%◌, ◌≡◌, ◌≤◌, ◌∙◌, ap, sym, refl, suc, List, [], ◌∷◌, ◌++◌, map, reverse, length, Option, Some, None, Bool, true, false, cond, arith}
 use Rattle.std.specs.Prelude.{◌≢◌}
 use Rattle.std.specs.Option.{option_map}
@@ -22,7 +22,7 @@ use Rattle.voice_state.specs.StepListing.{kinds_up, line_up, kinds_at_end, lines
 use Rattle.voice_state.specs.Back.{pieces_of, back}
 use Rattle.voice_state.specs.UpRefusal.{refusal_of_step, AreStepsWithinRoom, AreAcceptedUp}
 
--- so many data bytes behind a status fit the room, if they are an exclusive's
+-- this many data bytes after a status fit the limit, if they are an exclusive's
 abbrev FitsUnder : ℕ → Sort → ℕ → Type 0
 FitsUnder room exclusive_start size = leb size room ≡ true
 FitsUnder room _ size = Unit {0}
@@ -105,7 +105,7 @@ fits_within : (room : ℕ) (past : List ℕ) → AreStepsWithinRoom room past �
 fits_within room [] a = tt
 fits_within room (b ∷ past) a = fits-more room past b (fits_within room past a.1) a.0
 
--- ---- the room doesn't matter
+-- ---- the limit doesn't matter
 
 pub step_in_room : (room : ℕ) (past : List ℕ) (b : ℕ) → AreStepsWithinRoom room (b ∷ past) → step_of (Some room) past b ≡ step_of None past b
 step_in_room room past b a = step_under-same room past b (sort_of b) (fits_within room past a.1) a.0
@@ -130,7 +130,7 @@ lines_to_end_in_room room g past a =
     let begun : Option CutKind → List Listed = λ o. map (line_up g) (kinds_at_end (option_map {T = Open} (λ begun. (begun.start, begun.kind)) (option_map (λ kind. record { start = start_in past; kind = kind }) o))) in
     λ i. lines_in_room room g past a i ++ begun (open_in_room room past a i)
 
--- bytes that are accepted pass no room
+-- bytes that are accepted exceed no limit
 pub accepted_within : (room : ℕ) (past : List ℕ) → AreAcceptedUp (Some room) past → AreStepsWithinRoom room past
 accepted_within room [] a = tt
 accepted_within room (b ∷ past) a = (λ e. go (sym (ap refusal_of_step e) ∙ a.0), accepted_within room past a.1)

@@ -116,7 +116,7 @@ first_come_back room g past packets more placed e q =
     let first : AreSilent room (reverse packets) = silent_before room (reverse more) (reverse packets) (subst (AreSilent room) (reverse-append packets more) all) in
     all_come_back room placed (subst (AreSilent room) (sym q) first)
 
--- ---- behind all packets of some bytes
+-- ---- after all packets of some bytes
 
 turned_of_group : (g : ℕ) (xs acc : List Packet) → AreOf g xs → AreOf g acc → AreOf g (reverse_aux xs acc)
 turned_of_group g [] acc h k = k

@@ -99,7 +99,7 @@ start_denotes g = record {
   bounded = λ j p. omega arith;
 }
 
--- behind a piece that is read as these messages, they are folded
+-- after a piece that is read as these messages, they are folded
 meaning1-piece : (bytes piece : List ℕ) (ms : List Message) → ReadsAs bytes piece ms → meaning1 (reverse piece ++ bytes) ≡ fold step1 (meaning1 bytes) ms
 meaning1-piece bytes piece ms r = ap (fold step1 (start as_they_come)) r.completes ∙ fold-append step1 (start as_they_come) (completed bytes) ms
 

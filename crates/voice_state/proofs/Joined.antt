@@ -94,7 +94,7 @@ whole_data past (packet.Reserved w) a b = tt
 
 -- ---- part by part
 
--- the bytes of the exclusive that a group has begun, from those before the part
+-- the bytes of the exclusive that a group has open, from those before the part
 abbrev pub begun_with : Form → List ℕ → Option (List ℕ) → Option (List ℕ)
 begun_with form.Start bytes before = Some bytes
 begun_with form.Continue bytes before = option_map (λ joined. joined ++ bytes) before

@@ -148,6 +148,6 @@ all_reverse (x ∷ xs) acc h k = all_reverse xs (x ∷ acc) h.1 (h.0, k)
 pub recording_agrees : WrittenMessagesAreReadAgain → (packets : List Packet) (g : ℕ) → AllByRecursion IsInRange packets → Agrees (mean1 (lane_bytes g (plain_pairs packets))) (mean2 packets g)
 recording_agrees reads packets g a = (recording_denotes reads g (reverse packets) (all_reverse packets [] a tt)).agrees
 
--- the pairs of one more packet stand behind those before
+-- the pairs of one more packet come after those before
 pub plain_pairs-more : (packets : List Packet) (p : Packet) → plain_pairs (packets ++ p ∷ []) ≡ plain_pairs packets ++ pair_of (reverse packets) p
 plain_pairs-more packets p = ap pairs_behind (reverse-append packets (p ∷ []))

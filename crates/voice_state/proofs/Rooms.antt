@@ -1,4 +1,4 @@
--- Where no exclusive passes its room, the room doesn't matter.
+-- Where no exclusive exceeds its limit, the limit doesn't matter.
 use Rattle.std.proofs.Common.{ℕ, ◌≡◌, ◌≤◌, ◌∙◌, ap, sym, refl, subst, List, [], ◌∷◌, ◌++◌, length, Option, Some, None, Bool, true, false, cond}
 use Rattle.std.specs.Option.{option_map, option_and_then, IfSome}
 use Rattle.std.proofs.lemmas.List.{append-nil}

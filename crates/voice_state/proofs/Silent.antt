@@ -36,9 +36,9 @@ use Rattle.voice_state.proofs.Up.{turned, behind, turned-first, packets_up-turne
 use Rattle.voice_state.proofs.Back.{AreOf}
 use Rattle.voice_state.proofs.ByteRooms.{FitsMessage, completed_fits_room}
 
--- ---- a packet that is silent behind others, the newest first
+-- ---- a packet that is silent after others, newest first
 
--- what a group has begun, by its bytes
+-- what a group has open, by its bytes
 abbrev pub begun : ℕ → List Packet → Option (List ℕ)
 begun g past = joined None g (packet_parts past)
 
@@ -104,14 +104,14 @@ voice_silent (voice1.Bend ch v) s = (record { unlisted = refl; accepted = refl; 
 
 -- ---- exclusives
 
--- the first packet goes on with nothing, and all others go on
+-- the first packet continues nothing, and all others go on
 first_form : (count : ℕ) → goes_on (form_at count 0) ≡ false
 first_form count = cond_both (eqb count 1) form.Complete _ (λ f. goes_on f ≡ false) (λ e. refl) (λ e. refl)
 
 later_form : (count k : ℕ) → suc k < count → goes_on (form_at count (suc k)) ≡ true
 later_form count k h = rw (ne_eqb count 1 (λ e. omega arith), ne_eqb (suc k) 0 (λ e. omega arith)) (cond_both (eqb (suc k + 1) count) form.End form.Continue (λ f. goes_on f ≡ true) (λ e. refl) (λ e. refl))
 
--- what is begun behind the first k packets
+-- what is open after the first k packets
 begun-more : (g : ℕ) (payload : List ℕ) (past : List Packet) (k : ℕ) → begun g (exclusive_packet g payload k ∷ behind g payload past k) ≡ begun_with (form_at (part_count payload) k) (slice_chunk payload 6 k) (begun g (behind g payload past k))
 begun-more g payload past k =
     let f = form_at (part_count payload) k in
@@ -166,7 +166,7 @@ behind_silent room g payload past (suc k) n b a h = (part_silent room g payload 
 
 -- ---- the packets of a message
 
--- behind these packets nothing of the group is begun
+-- after these packets nothing of the group is open
 pub record LeavesNothing (room g : ℕ) (past : List Packet) : Type 0 where
   pub silent : AreSilent room past
   pub nothing : begun g past ≡ None

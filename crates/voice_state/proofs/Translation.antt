@@ -36,7 +36,7 @@ length-pairs packets = sym (length-map (plain_pairs packets) (λ (pair : ℕ × 
 
 -- ---- the pairs of the first packets come first
 
--- the pairs of further packets, the newest first as those before them
+-- the pairs of further packets, newest first as those before them
 pairs_since : List Packet → List Packet → List (ℕ × List ℕ)
 pairs_since past [] = []
 pairs_since past (p ∷ more) = pairs_since past more ++ pair_of (more ++ past) p

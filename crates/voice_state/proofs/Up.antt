@@ -45,7 +45,7 @@ turned p ps past = let one : List Packet = p ∷ [] in ap (λ l. l ++ past) (rev
 
 -- ---- the packets of an exclusive are joined again
 
--- the first k packets, the newest first, behind others
+-- the first k packets, newest first, after others
 unfoldable pub behind : ℕ → List ℕ → List Packet → ℕ → List Packet
 behind g payload past zero = past
 behind g payload past (suc k) = exclusive_packet g payload k ∷ behind g payload past k

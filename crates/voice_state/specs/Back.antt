@@ -12,12 +12,12 @@ use Rattle.voice_state.specs.Plain.{plain_piece}
 use Rattle.voice_state.specs.Refusal.{bad_step}
 use Rattle.voice_state.specs.Raising.{packets_at, packets_up}
 
--- the plain pieces of packets, in the order in which they come behind others, which are the newest first
+-- the plain pieces of packets, in the order in which they come after others, which are newest first
 abbrev pub pieces_of : List Packet → List Packet → List ℕ
 pieces_of past [] = []
 pieces_of past (packet ∷ packets) = plain_piece (whole_of past packet) packet ++ pieces_of (packet ∷ past) packets
 
--- The pieces of the packets of one more byte, behind the bytes so far, the newest first.
+-- The pieces of the packets of one more byte, after the bytes so far, newest first.
 abbrev pub back_at : Room → ℕ → List ℕ → ℕ → List ℕ
 back_at room group past byte = pieces_of (reverse (packets_up room group past)) (packets_at room group past byte)
 
@@ -55,15 +55,15 @@ is_last_part (packet.Exclusive group form.Start bytes) = false
 is_last_part (packet.Exclusive group form.Continue bytes) = false
 is_last_part _ = true
 
--- Behind others, the newest first, a packet is accepted within the room and isn't listed, it is carried unless it is a part that
--- is held, and its piece is the one without a room.
+-- After others, newest first, a packet is accepted within the limit and isn't listed, it is carried unless it is a part that is
+-- held, and its piece is the one without a limit.
 pub record ComesBack (room : ℕ) (past : List Placed) (placed : Placed) : Type 0 where
   pub accepted : bad_step (Some room) (parts_of past) placed.packet ≡ None
   pub unlisted : line_of (Some room) (parts_of past) placed ≡ None
   pub carried : is_carried (whole_by (Some room) (parts_of past) placed.packet) placed.packet ≡ is_last_part placed.packet
   pub whole : whole_by (Some room) (parts_of past) placed.packet ≡ whole_of (map (λ placed. placed.packet) past) placed.packet
 
--- each of these packets, the newest first, behind those before it
+-- each of these packets, newest first, after those before it
 abbrev pub AllComeBack : ℕ → List Placed → Type 0
 AllComeBack room [] = Unit {0}
 AllComeBack room (placed ∷ past) = ComesBack room past placed × AllComeBack room past

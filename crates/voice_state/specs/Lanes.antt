@@ -41,8 +41,8 @@ lane_bytes lane pairs = flat_map (bytes_for lane) pairs
 
 -- ---- packet by packet
 
--- The bytes of a lane and the packets of all groups, both the newest first: the bytes mean what the group's packets mean, they
--- leave the same registers, and nothing is open in them. Values of parameters have fourteen bits.
+-- The bytes of a lane and the packets of all groups, both newest first: the bytes mean what the group's packets mean, they leave
+-- the same registers, and nothing is open in them. Values of parameters have fourteen bits.
 pub record Denotes (bytes : List ℕ) (past : List Packet) (group : ℕ) : Type 0 where
   pub agrees : Agrees (meaning1 bytes) (meaning2 past group)
   pub registers : SameRegisters (meaning1 bytes) (meaning2 past group)

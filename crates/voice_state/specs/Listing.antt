@@ -45,7 +45,7 @@ is_carried whole (packet.Exclusive group form bytes) = is_some whole
 is_carried whole (packet.Voice2 group message) = is_carried_voice message
 is_carried whole _ = false
 
--- behind these parts of exclusives, the newest first
+-- after these parts of exclusives, newest first
 abbrev pub IsCarried : Room → List Part → Packet → Type 0
 IsCarried room parts packet = IsTrue (is_carried (whole_by room parts packet) packet)
 
@@ -70,7 +70,7 @@ voice_kind (voice2.NoteBend channel note value) = Some kinds.NoteBend
 voice_kind (voice2.NoteManagement channel note flags) = Some kinds.NoteManagement
 voice_kind _ = None
 
--- an exclusive that is begun is cut where another one begins; a part that goes on with none is stray
+-- an exclusive that is open is cut where another one begins; a part that continues or ends one is stray where none is open
 abbrev pub exclusive_kind : Form → Option ℕ → Option Kind
 exclusive_kind form.Complete (Some start) = Some kinds.CutExclusive
 exclusive_kind form.Start (Some start) = Some kinds.CutExclusive
@@ -78,8 +78,8 @@ exclusive_kind form.Continue None = Some kinds.StrayExclusive
 exclusive_kind form.End None = Some kinds.StrayExclusive
 exclusive_kind _ _ = None
 
--- The kind that a packet is listed as, if it is listed. The first argument is where the exclusive started that its group has
--- begun, if it has begun one.
+-- The kind that a packet is listed as, if it is listed. The first argument is where the exclusive that its group has open
+-- started, if it has one open.
 abbrev pub listed_kind : Option ℕ → Packet → Option Kind
 listed_kind begun (packet.Utility status value) = Some kinds.Utility
 listed_kind begun (packet.System group message) = None
@@ -101,14 +101,14 @@ listed begun offset packet =
     option_map (λ kind. record { offset = line_offset kind begun offset; group = group_of packet; kind = kind })
     (listed_kind begun packet)
 
--- ---- in a stream; parts of exclusives are the newest first
+-- ---- in a stream; parts of exclusives are newest first
 
--- where the exclusive started that the packet's group has begun; only packets of exclusives ask for it
+-- where the exclusive that the packet's group has open started; only packets of exclusives ask for it
 abbrev pub begun_before : Room → List Part → Packet → Option ℕ
 begun_before room parts (packet.Exclusive group form bytes) = started room group parts
 begun_before room parts _ = None
 
--- the line of a packet behind these parts
+-- the line of a packet after these parts
 abbrev pub line_of : Room → List Part → Placed → Option Listed
 line_of room parts placed = listed (begun_before room parts placed.packet) placed.offset placed.packet
 
@@ -117,7 +117,7 @@ abbrev pub lines_behind : Room → List Placed → List Listed
 lines_behind room [] = []
 lines_behind room (placed ∷ past) = lines_behind room past ++ option_to_list (line_of room (parts_of past) placed)
 
--- the line of a group at the end of input, where an exclusive is still begun
+-- the line of a group at the end of input, where an exclusive is still open
 abbrev pub end_line : Room → List Part → ℕ → Option Listed
 end_line room parts group =
     option_map (λ start. record { offset = start; group = Some group; kind = kinds.OpenExclusive })

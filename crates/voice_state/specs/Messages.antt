@@ -50,7 +50,7 @@ reset_controllers scale map index =
     else if nat_le 64 index && nat_le index 67 then Some (scale.controller index 0)
     else map index
 
--- besides, no pressure, the bend at its centre, and no parameter selected
+-- also, no pressure, the bend at its centre, and no parameter selected
 abbrev pub reset : Scale → Channel → Channel
 reset scale channel = record channel {
   controllers = reset_controllers scale channel.controllers;
@@ -143,7 +143,7 @@ start_channel scale = record {
 abbrev pub start : Scale → GroupState
 start scale = record { channels = λ index. start_channel scale; commons = []; real_times = [] }
 
--- behind these bytes, the newest first
+-- after these bytes, newest first
 abbrev pub meaning1 : List ℕ → GroupState
 meaning1 past = fold step1 (start as_they_come) (completed past)
 

@@ -70,7 +70,7 @@ step2 state (packet.Exclusive group form bytes) whole = with_ended whole state
 step2 state (packet.Voice2 group message) whole = at_channel (channel2 message) (voice2_at message) state
 step2 state _ whole = state
 
--- for a group, behind these packets of all groups, the newest first
+-- for a group, after these packets of all groups, newest first
 abbrev pub meaning2 : List Packet → ℕ → GroupState
 meaning2 [] group = start raised
 meaning2 (packet ∷ past) group =

@@ -1,4 +1,4 @@
--- The packets of a stream, and what they have of exclusives. Lists are the newest first.
+-- The packets of a stream, and what they have of exclusives. Lists are newest first.
 use Rattle.std.specs.Prelude.{ℕ, ◌==◌, Bool, false, List, [], ◌∷◌, ◌++◌, Option, Some, None}
 use Rattle.std.specs.Option.{option_to_list, option_and_then}
 use Rattle.ump_grammar.specs.declared.packet.Packet.{Packet}
@@ -34,15 +34,15 @@ abbrev pub parts_of : List Placed → List Part
 parts_of [] = []
 parts_of (placed ∷ past) = option_to_list (part_of placed.offset placed.packet) ++ parts_of past
 
--- the same where no offset is asked
+-- the same where no offset is asked for
 abbrev pub packet_parts : List Packet → List Part
 packet_parts [] = []
 packet_parts (packet ∷ past) = option_to_list (part_of 0 packet) ++ packet_parts past
 
--- the bytes of the exclusive that a packet ends behind these parts, if it ends one
+-- the bytes of the exclusive that a packet ends after these parts, if it ends one
 abbrev pub whole_by : Room → List Part → Packet → Option (List ℕ)
 whole_by room parts packet = option_and_then (ended room parts) (part_of 0 packet)
 
--- the same behind packets of all groups, with a room that isn't reached
+-- the same after packets of all groups, with a limit that isn't reached
 abbrev pub whole_of : List Packet → Packet → Option (List ℕ)
 whole_of past packet = whole_by None (packet_parts past) packet

@@ -90,7 +90,7 @@ raised_completed state group (Some message) = raised_message state group message
 abbrev pub raised_step : GroupState → ℕ → Step → List Packet
 raised_step state group step = raised_completed state group (completed_by step)
 
--- ---- of the bytes of a stream, `past` being those so far, the newest first
+-- ---- of the bytes of a stream, `past` being those so far, newest first
 
 -- the packets of one more byte
 abbrev pub packets_at : Room → ℕ → List ℕ → ℕ → List Packet

@@ -27,7 +27,7 @@ abbrev pub bad_part : Room → List Part → Option Part → Option BadStep
 bad_part room parts None = None
 bad_part room parts (Some part) = if passes_room room parts part then Some bad.ExclusiveTooLong else None
 
--- why a packet is refused behind these parts of exclusives, the newest first, if it is refused
+-- why a packet is refused after these parts of exclusives, newest first, if it is refused
 abbrev pub bad_step : Room → List Part → Packet → Option BadStep
 bad_step room parts (packet.Voice1 group message) = bad_voice1 message
 bad_step room parts (packet.Voice2 group message) = bad_voice2 message

@@ -24,7 +24,7 @@ abbrev pub cut_kind : CutKind → Kind
 cut_kind kind.Message = kinds.CutMessage
 cut_kind kind.Exclusive = kinds.CutExclusive
 
--- what a byte at this offset is besides
+-- what else a byte at this offset is
 abbrev pub kinds_after : AfterCut → ℕ → List (Kind × ℕ)
 kinds_after after.Begins offset = []
 kinds_after after.Tune offset = []
@@ -73,7 +73,7 @@ kinds_of_message state (Some message) offset = if is_ignored_entry state message
 abbrev pub kinds_up : GroupState → Step → ℕ → List (Kind × ℕ)
 kinds_up state step offset = kinds_of_step step offset ++ kinds_of_message state (completed_by step) offset
 
--- ---- of the bytes of a stream, `past` being those so far, the newest first
+-- ---- of the bytes of a stream, `past` being those so far, newest first
 
 -- a line has the group into which the bytes are raised
 abbrev pub line_up : ℕ → Kind × ℕ → Listed

@@ -24,8 +24,8 @@ carried_lanes packets = lanes_behind (reverse packets)
 abbrev pub first_pairs : ℕ → List Packet → List (ℕ × List ℕ) → List (ℕ × List ℕ)
 first_pairs count packets pairs = take (length (carried_lanes (take count packets))) pairs
 
--- One pair for each packet that is carried, in the lane of its group. Behind each packet the bytes so far of each lane mean
--- what the packets so far of its group mean.
+-- One pair for each packet that is carried, in the lane of its group. After each packet the bytes so far of each lane mean what
+-- the packets so far of its group mean.
 pub record IsTranslation (packets : List Packet) (pairs : List (ℕ × List ℕ)) : Type 0 where
   pub lanes : map (λ pair. pair.0) pairs ≡ carried_lanes packets
   pub agrees : (count group : ℕ) → Agrees (mean1 (lane_bytes group (first_pairs count packets pairs))) (mean2 (take count packets) group)

@@ -17,16 +17,16 @@ abbrev pub refusal_of_step : Step → Option BadStep
 refusal_of_step too_long = Some bad.ExclusiveTooLong
 refusal_of_step step = bad_message (completed_by step)
 
--- why a byte is refused behind these, the newest first, if it is refused
+-- why a byte is refused after these, newest first, if it is refused
 abbrev pub refusal_up : Room → List ℕ → ℕ → Option BadStep
 refusal_up room past byte = refusal_of_step (step_of room past byte)
 
--- no exclusive in these bytes, the newest first, passes the room
+-- no exclusive in these bytes, newest first, exceeds the limit
 abbrev pub AreStepsWithinRoom : ℕ → List ℕ → Type 0
 AreStepsWithinRoom room [] = Unit {0}
 AreStepsWithinRoom room (byte ∷ past) = (step_of (Some room) past byte ≢ too_long) × AreStepsWithinRoom room past
 
--- no byte of these, the newest first, is refused
+-- no byte of these, newest first, is refused
 abbrev pub AreAcceptedUp : Room → List ℕ → Type 0
 AreAcceptedUp room [] = Unit {0}
 AreAcceptedUp room (byte ∷ past) = (refusal_up room past byte ≡ None) × AreAcceptedUp room past

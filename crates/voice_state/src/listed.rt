@@ -29,11 +29,11 @@ pub enum Kind {
     RelativeParameter,
     /// A MIDI 2.0 control change of a bank, data entry or parameter number.
     MisplacedController,
-    /// A packet that goes on with an exclusive where none is begun, or ends one.
+    /// A packet that continues or ends an exclusive where none is open.
     StrayExclusive,
     /// An exclusive that another one, or a status byte, cut off.
     CutExclusive,
-    /// An exclusive that is begun at the end of input.
+    /// An exclusive that is open at the end of input.
     OpenExclusive,
     /// A byte that belongs to nothing.
     Stray,
@@ -41,7 +41,7 @@ pub enum Kind {
     Undefined,
     /// A message that a status byte cut off.
     CutMessage,
-    /// A message that is begun at the end of input.
+    /// A message that is open at the end of input.
     OpenMessage,
     /// A data entry without a selected parameter.
     IgnoredDataEntry,
@@ -67,7 +67,7 @@ pub enum BadStep {
     /// A data decrement, control change 97.
     #[error("a data decrement can't be carried")]
     DataDecrement,
-    /// An exclusive passes its room.
+    /// An exclusive exceeds its limit.
     #[error("an exclusive is too long")]
     ExclusiveTooLong,
 }

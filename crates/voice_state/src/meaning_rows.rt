@@ -5,15 +5,41 @@ ghost use Rattle.midi1_bytes.specs.Messages.{common, exclusive};
 ghost use Rattle.voice_state.specs.declared.listed.Kind.TheVariants as kinds;
 ghost use Rattle.voice_state.specs.Listing.{listing_of};
 ghost use Rattle.voice_state.specs.Messages.{mean1};
-ghost use Rattle.voice_state.specs.MeaningRows.{after_bytes, after_packets, assignable, bank_of_halves, bytes_of_each_kind, bytes_of_modes, bytes_of_the_system, bytes_with_parameters, bytes_with_reset, controllers_at, midi1_packets_of_each_kind, midi2_packets_of_each_kind, misplaced_packets, one_more_msb, packets_of_each_listed_kind, packets_of_modes, packets_of_the_system, packets_with_half_a_bank, packets_with_midi1_reset, packets_with_parameters, packets_with_programs, packets_with_reset, packets_without_lines, packets_without_meaning, registers_after_reset};
+ghost use Rattle.voice_state.specs.MeaningRows.{
+  after_bytes,
+  after_packets,
+  assignable,
+  bank_of_halves,
+  bytes_of_each_kind,
+  bytes_of_modes,
+  bytes_of_the_system,
+  bytes_with_parameters,
+  bytes_with_reset,
+  controllers_at,
+  midi1_packets_of_each_kind,
+  midi2_packets_of_each_kind,
+  misplaced_packets,
+  one_more_msb,
+  packets_of_each_listed_kind,
+  packets_of_modes,
+  packets_of_the_system,
+  packets_with_half_a_bank,
+  packets_with_midi1_reset,
+  packets_with_parameters,
+  packets_with_programs,
+  packets_with_reset,
+  packets_without_lines,
+  packets_without_meaning,
+  registers_after_reset,
+};
 ghost use Rattle.voice_state.specs.Packets.{mean2};
 ghost use Rattle.voice_state.specs.Registers.{bank_of, selected};
 ghost use Rattle.voice_state.specs.Rows.{registered};
 ghost use Rattle.voice_state.specs.State.{mode, off, on};
 
 /// Control change 121 in a stream of bytes (RP-015): expression is at its greatest, modulation and the pedals 64 to 67 are at 0,
-/// the controllers beside them stay; the bend is at its centre, no pressure is left, and no parameter is selected. The bank and the
-/// values of parameters stay.
+/// the controllers beside them stay as they are; the bend is at its centre, no pressure is left, and no parameter is selected.
+/// The bank and the values of parameters stay as they are.
 pub fn bytes_reset_all_controllers()
     ensures expression { (after_bytes bytes_with_reset).controllers 11 ≡ Some 127 }
     ensures modulation { (after_bytes bytes_with_reset).controllers 1 ≡ Some 0 }
@@ -48,7 +74,8 @@ pub fn packets_reset_all_controllers()
 
 /// A packet of the MIDI 1.0 protocol resets the same.
 pub fn midi1_packets_reset_all_controllers()
-    ensures controllers { controllers_at (11 ∷ 1 ∷ 64 ∷ 67 ∷ 63 ∷ 68 ∷ []) (after_packets packets_with_midi1_reset)
+    ensures controllers { controllers_at (11 ∷ 1 ∷ 64 ∷ 67 ∷ 63 ∷ 68 ∷ [])
+        (after_packets packets_with_midi1_reset)
         ≡ Some 0xffff_ffff ∷ Some 0 ∷ Some 0 ∷ Some 0 ∷ Some 0x1700_0000 ∷ Some 0x1800_0000 ∷ [] }
     ensures bend { (after_packets packets_with_midi1_reset).bend ≡ 0x8000_0000 }
     ensures pressure { (after_packets packets_with_midi1_reset).pressure ≡ 0 }

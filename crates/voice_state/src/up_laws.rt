@@ -1,5 +1,20 @@
-// What holds of all streams of bytes that are raised to packets. Bytes that are called `past` are listed the newest first.
-ghost use Rattle.std.specs.Prelude.{◌≡◌, ◌<◌, ◌≤◌, ◌^◌, ℕ, List, [], ◌∷◌, ◌++◌, length, reverse, Some, None, IfSome};
+// What holds of all streams of bytes that are raised to packets. Bytes that are called `past` are listed newest first.
+ghost use Rattle.std.specs.Prelude.{
+  ◌≡◌,
+  ◌<◌,
+  ◌≤◌,
+  ◌^◌,
+  ℕ,
+  List,
+  [],
+  ◌∷◌,
+  ◌++◌,
+  length,
+  reverse,
+  Some,
+  None,
+  IfSome,
+};
 ghost use Rattle.std.specs.Option.{unwrap_or, option_to_list};
 ghost use Rattle.std.specs.List.{fold};
 ghost use Rattle.voice_messages.specs.declared.voice2.Param.{Param};
@@ -15,7 +30,13 @@ ghost use Rattle.voice_state.specs.Plain.{plain_piece};
 ghost use Rattle.voice_state.specs.Registers.{bank_of, selected};
 ghost use Rattle.voice_state.specs.Raising.{packets_at, packets_of_bytes};
 ghost use Rattle.voice_state.specs.StepListing.{lines_at, lines_of_bytes};
-ghost use Rattle.voice_state.specs.UpLaws.{BytesThatComeBackMeanTheSame, RaisedPacketsAreInRange, RaisedPacketsComeBackInSilence, RaisedPacketsMeanTheBytes, RoomsThatAreNotReachedDoNotMatterInBytes};
+ghost use Rattle.voice_state.specs.UpLaws.{
+  BytesThatComeBackMeanTheSame,
+  RaisedPacketsAreInRange,
+  RaisedPacketsComeBackInSilence,
+  RaisedPacketsMeanTheBytes,
+  RoomsThatAreNotReachedDoNotMatterInBytes,
+};
 ghost use Rattle.voice_state.specs.UpRefusal.{AreStepsWithinRoom};
 
 use midi1_bytes::laws::{completed_messages_are_in_range, written_messages_are_read_again};
@@ -39,14 +60,14 @@ pub fn raised_packets_are_in_range()
     completed_messages_are_in_range();
 }
 
-/// Where no exclusive in the bytes passes the room, each of their steps, what is open behind them, their packets, what
-/// comes back of them, and their lines are those without a room. Bytes that are accepted are such.
+/// Where no exclusive in the bytes exceeds the limit, each of their steps, what is open after them, their packets, what comes
+/// back of them, and their lines are those without a limit. Bytes that are accepted are of this kind.
 pub fn rooms_that_are_not_reached_do_not_matter_in_bytes()
     ensures { RoomsThatAreNotReachedDoNotMatterInBytes }
 {}
 
 /// There and back: after each byte, the plain pieces of the packets to which the bytes so far are raised leave a receiver in the
-/// state in which the bytes themselves leave it, registers aside. The pieces are the bytes of the group's lane.
+/// state in which the bytes themselves leave it, except for registers. The pieces are the bytes of the group's lane.
 pub fn bytes_that_come_back_mean_the_same()
     ensures { BytesThatComeBackMeanTheSame }
 {
@@ -55,36 +76,51 @@ pub fn bytes_that_come_back_mean_the_same()
     written_messages_are_read_again();
 }
 
-/// The packets to which bytes are raised within a room come back in silence, whatever their offsets: of the first of them each
-/// is accepted by the way down with that room and isn't listed, and it is carried unless it is a part of an exclusive that
-/// others follow. Behind all packets of some bytes no group has an exclusive begun, and the way down has listed nothing.
+/// The packets to which bytes are raised within a limit come back silently, whatever their offsets: of the first of them, each is
+/// accepted on the way down with that limit and isn't listed, and it is carried unless it is a part of an exclusive that others
+/// follow. After all packets of some bytes no group has an exclusive open, and the way down has listed nothing.
 pub fn raised_packets_come_back_in_silence()
     ensures { RaisedPacketsComeBackInSilence }
 {}
 
-/// One more byte, behind bytes in the order in which they come: its packets, lines and pieces stand behind those before it, and
-/// the meaning takes the message that it completes, which is the same within a room that isn't passed.
+/// One more byte, after bytes in the order in which they come: its packets, lines and pieces come after those before it, and the
+/// meaning takes the message that it completes, which is the same within a limit that isn't exceeded.
 pub fn one_more_byte_is_raised()
-    ensures packets { (room : Room) (group : ℕ) (bytes : List ℕ) (byte : ℕ) → packets_of_bytes room group (bytes ++ byte ∷ []) ≡ packets_of_bytes room group bytes ++ packets_at room group (reverse bytes) byte }
-    ensures lines { (room : Room) (group : ℕ) (bytes : List ℕ) (byte : ℕ) → lines_of_bytes room group (bytes ++ byte ∷ []) ≡ lines_of_bytes room group bytes ++ lines_at room group (reverse bytes) byte }
-    ensures pieces { (room : Room) (group : ℕ) (bytes : List ℕ) (byte : ℕ) → back_of_bytes room group (bytes ++ byte ∷ []) ≡ back_of_bytes room group bytes ++ back_at room group (reverse bytes) byte }
-    ensures meaning { (past : List ℕ) (byte : ℕ) → meaning1 (byte ∷ past) ≡ fold step1 (meaning1 past) (option_to_list (completed_by (step_of None past byte))) }
-    ensures meaning_in_room { (room : ℕ) (past : List ℕ) (byte : ℕ) → AreStepsWithinRoom room (byte ∷ past) → meaning1 (byte ∷ past) ≡ fold step1 (meaning1 past) (option_to_list (completed_by (step_of (Some room) past byte))) }
+    ensures packets { (room : Room) (group : ℕ) (bytes : List ℕ) (byte : ℕ) →
+        packets_of_bytes room group (bytes ++ byte ∷ []) ≡
+        packets_of_bytes room group bytes ++ packets_at room group (reverse bytes) byte }
+    ensures lines { (room : Room) (group : ℕ) (bytes : List ℕ) (byte : ℕ) →
+        lines_of_bytes room group (bytes ++ byte ∷ []) ≡
+        lines_of_bytes room group bytes ++ lines_at room group (reverse bytes) byte }
+    ensures pieces { (room : Room) (group : ℕ) (bytes : List ℕ) (byte : ℕ) →
+        back_of_bytes room group (bytes ++ byte ∷ []) ≡
+        back_of_bytes room group bytes ++ back_at room group (reverse bytes) byte }
+    ensures meaning { (past : List ℕ) (byte : ℕ) → meaning1 (byte ∷ past) ≡
+        fold step1 (meaning1 past) (option_to_list (completed_by (step_of None past byte))) }
+    ensures meaning_in_room { (room : ℕ) (past : List ℕ) (byte : ℕ) →
+        AreStepsWithinRoom room (byte ∷ past) → meaning1 (byte ∷ past) ≡
+        fold step1 (meaning1 past) (option_to_list (completed_by (step_of (Some room) past byte))) }
 {}
 
 /// What bytes leave in a receiver is in range: values of parameters have fourteen bits, the bank and the selected parameter seven
-/// bits in each half. An exclusive that is completed fits its room.
+/// bits in each half. An exclusive that is completed fits its limit.
 pub fn what_bytes_leave_is_in_range()
-    ensures values { (past : List ℕ) (channel : ℕ) (param : Param) → unwrap_or (((meaning1 past).channels channel).params param) 0 < 2 ^ 14 }
-    ensures bank { (past : List ℕ) (channel : ℕ) → IsBank (bank_of ((meaning1 past).channels channel).registers) }
-    ensures number { (past : List ℕ) (channel : ℕ) → IfSome (selected ((meaning1 past).channels channel).registers) IsParam }
-    ensures payload { (room : ℕ) (past : List ℕ) (byte : ℕ) (bytes : List ℕ) → completed_by (step_of (Some room) past byte) ≡ Some (exclusive bytes) → length bytes ≤ room }
+    ensures values { (past : List ℕ) (channel : ℕ) (param : Param) →
+        unwrap_or (((meaning1 past).channels channel).params param) 0 < 2 ^ 14 }
+    ensures bank { (past : List ℕ) (channel : ℕ) →
+        IsBank (bank_of ((meaning1 past).channels channel).registers) }
+    ensures number { (past : List ℕ) (channel : ℕ) →
+        IfSome (selected ((meaning1 past).channels channel).registers) IsParam }
+    ensures payload { (room : ℕ) (past : List ℕ) (byte : ℕ) (bytes : List ℕ) →
+        completed_by (step_of (Some room) past byte) ≡ Some (exclusive bytes) → length bytes ≤ room }
 {
     cut_payload_is_joined();
     completed_messages_are_in_range();
 }
 
-/// A packet adds its piece behind those of the packets before it.
+/// A packet adds its piece after those of the packets before it.
 pub fn pieces_come_packet_by_packet()
-    ensures { (past packets : List Packet) (packet : Packet) → pieces_of past (packets ++ packet ∷ []) ≡ pieces_of past packets ++ plain_piece (whole_of (reverse packets ++ past) packet) packet }
+    ensures { (past packets : List Packet) (packet : Packet) →
+        pieces_of past (packets ++ packet ∷ []) ≡
+        pieces_of past packets ++ plain_piece (whole_of (reverse packets ++ past) packet) packet }
 {}

@@ -3,8 +3,8 @@ ghost use Rattle.std.specs.Prelude.{◌≡◌, ◌<◌, ◌==◌, None, Err, tru
 ghost use Rattle.midi_edge.specs.Adapters.{IsWrittenOut, AcceptsInLane, KeepsEach, KeepsLanes, unwritten};
 ghost use Rattle.midi_edge.specs.Outside.{HasCause, HasOpenCause, PutsPair, kept_bytes};
 
-use super::counted;
 use super::write_sink::WriteSink;
+use super::{counted, counted_opening};
 use crate::few_bits::U4;
 use crate::kept_text::KeptText;
 use crate::outside::{Failed, Lanes, OpenFault, Sink};
@@ -121,17 +121,9 @@ impl<R: Files + AllocGlobal> Lanes for FolderLanes<R> {
         ensures written { OnOk result (IsWrittenOut self.new) }
     {
         self.path.keep(path);
-        match open_lanes(&self.rt, path) {
-            Ok(lanes) => {
-                self.lanes = lanes;
-                Ok(())
-            }
-            Err(OpenFault::Failed) => {
-                self.faults = self.faults.saturating_add(1);
-                Err(OpenFault::Failed)
-            }
-            Err(OpenFault::NoMemory) => Err(OpenFault::NoMemory),
-        }
+        let answer = open_lanes(&self.rt, path);
+        self.lanes = counted_opening(answer, &mut self.faults)?;
+        Ok(())
     }
 
     #[inline(always)]

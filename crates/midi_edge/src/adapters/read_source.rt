@@ -13,7 +13,7 @@ use std::io::{ErrorKind, Read};
 /// A source over any reader. A read that a signal interrupts is tried again.
 #[derive(Drop)]
 pub struct ReadSource<R: Read> {
-    reader: R,
+    pub(super) reader: R,
     pub(super) faults: u64,
 }
 

@@ -12,24 +12,26 @@ use std::{fs, process};
 
 // What a call does.
 #[derive(Clone, Copy)]
-enum Step {
+pub(super) enum Step {
     Moves(usize),
     Fails(ErrorKind),
 }
 
 // Moves at most so many bytes at each call, and all of them behind the last step.
 #[derive(Drop)]
-struct Scripted<'a> {
+pub(super) struct Scripted<'a> {
     steps: &'a [Step],
     calls: usize,
+    flushes: usize,
     moved: Vec<u8>,
 }
 
 impl<'a> Scripted<'a> {
-    fn new(alloc: Global, steps: &'a [Step]) -> Self {
+    pub(super) fn new(alloc: Global, steps: &'a [Step]) -> Self {
         Scripted {
             steps,
             calls: 0,
+            flushes: 0,
             moved: Vec::new(alloc),
         }
     }
@@ -55,6 +57,7 @@ impl Write for Scripted<'_> {
     }
 
     fn flush(&mut self) -> io::Result<()> {
+        self.flushes = self.flushes.saturating_add(1);
         Ok(())
     }
 }
@@ -124,14 +127,54 @@ fn a_fault_is_told_and_takes_nothing_away(rt: HostRuntime) -> Result<(), Fail> {
     Ok(())
 }
 
-// A folder of the test's own, where the file of lane 3 takes no byte.
-fn folder_with_full_lane(rt: &HostRuntime) -> Result<String, Fail> {
-    let alloc = rt.alloc();
+#[test]
+fn a_flush_flushes_the_writer(rt: HostRuntime) -> Result<(), Fail> {
+    let mut sink = WriteSink::new(Scripted::new(rt.alloc(), &[]));
+    sink.put(b"one ")?;
+    sink.put(&[b'x'; 9000])?;
+    assert_eq!(rt; sink.writer.flushes, 0);
+    sink.flush()?;
+    assert_eq!(rt; sink.writer.flushes, 1);
+    Ok(())
+}
+
+#[test]
+fn each_error_but_an_interruption_is_a_fault_at_once(rt: HostRuntime) -> Result<(), Fail> {
+    for kind in [
+        ErrorKind::WouldBlock,
+        ErrorKind::TimedOut,
+        ErrorKind::UnexpectedEof,
+        ErrorKind::WriteZero,
+        ErrorKind::OutOfMemory,
+        ErrorKind::Other,
+    ] {
+        let steps = [Step::Fails(kind)];
+        let mut source = ReadSource::new(Scripted::new(rt.alloc(), &steps));
+        assert!(rt; source.take(&mut [0; 3]) == Err(Failed));
+        assert_eq!(rt; source.reader.calls, 1);
+        assert_eq!(rt; source.faults, 1);
+        let mut sink = WriteSink::new(Scripted::new(rt.alloc(), &steps));
+        sink.put(b"one")?;
+        assert!(rt; sink.flush() == Err(Failed));
+        assert_eq!(rt; sink.writer.calls, 1);
+        assert_eq!(rt; sink.faults, 1);
+    }
+    Ok(())
+}
+
+// A new folder of the test's own.
+fn new_folder(rt: &HostRuntime, ending: &str) -> Result<String, Fail> {
     let id = process::id(rt.process());
-    let folder = format!(in alloc; "/tmp/midi_edge_lanes_{id}")?;
+    let folder = format!(in rt.alloc(); "/tmp/midi_edge_{id}_{ending}")?;
     let _ = fs::remove_dir_all(rt, folder.as_str());
     fs::create_dir(rt, folder.as_str())?;
-    let name = format!(in alloc; "{folder}/group-03.midi1")?;
+    Ok(folder)
+}
+
+// A folder where the file of lane 3 takes no byte.
+fn folder_with_full_lane(rt: &HostRuntime) -> Result<String, Fail> {
+    let folder = new_folder(rt, "lanes")?;
+    let name = format!(in rt.alloc(); "{folder}/group-03.midi1")?;
     symlink(rt, "/dev/full", name.as_str())?;
     Ok(folder)
 }
@@ -164,5 +207,35 @@ fn an_empty_path_is_no_folder(rt: HostRuntime) -> Result<(), Fail> {
     let mut lanes = FolderLanes::new(rt.clone()?);
     assert!(rt; lanes.begin("") == Err(OpenFault::Failed));
     assert_eq!(rt; lanes.faults, 1);
+    Ok(())
+}
+
+#[test]
+fn an_older_file_is_emptied(rt: HostRuntime) -> Result<(), Fail> {
+    let folder = new_folder(&rt, "older")?;
+    let name = format!(in rt.alloc(); "{folder}/group-00.midi1")?;
+    fs::write(&rt, name.as_str(), "longer than what is put")?;
+    let mut lanes = FolderLanes::new(rt.clone()?);
+    lanes.begin(folder.as_str())?;
+    assert_eq!(rt; fs::read(&rt, name.as_str())?.as_slice(), b"".as_slice());
+    lanes.put(U4::low_bits(0), b"new")?;
+    lanes.flush()?;
+    assert_eq!(rt; fs::read(&rt, name.as_str())?.as_slice(), b"new".as_slice());
+    fs::remove_dir_all(&rt, folder.as_str())?;
+    Ok(())
+}
+
+#[test]
+fn a_blank_at_the_end_of_a_path_counts(rt: HostRuntime) -> Result<(), Fail> {
+    let without = new_folder(&rt, "blank")?;
+    let with = new_folder(&rt, "blank ")?;
+    let mut lanes = FolderLanes::new(rt.clone()?);
+    lanes.begin(with.as_str())?;
+    let other = format!(in rt.alloc(); "{without}/group-00.midi1")?;
+    assert!(rt; fs::read(&rt, other.as_str()).is_err());
+    let opened = format!(in rt.alloc(); "{with}/group-00.midi1")?;
+    assert!(rt; fs::read(&rt, opened.as_str()).is_ok());
+    fs::remove_dir_all(&rt, with.as_str())?;
+    fs::remove_dir_all(&rt, without.as_str())?;
     Ok(())
 }

@@ -18,14 +18,17 @@ fn each_status_has_its_exit_code(rt: HostRuntime) -> Result<(), Fail> {
         reason: Reason::HighBit,
         offset: 8,
     };
-    let codes: [(Status, u8); 8] = [
+    let codes: [(Status, u8); 11] = [
         (Status::Done, 0),
         (refused, 1),
         (Status::ReadFault, 2),
         (Status::LaneFault, 3),
         (Status::OutputFault, 4),
         (Status::NoteFault, 5),
+        (Status::ShelfFault, 6),
         (Status::Usage, 7),
+        (Status::SetupSyntax, 8),
+        (Status::SetupField(14), 9),
         (Status::NoMemory, 10),
     ];
     for (status, code) in codes {

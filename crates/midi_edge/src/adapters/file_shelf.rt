@@ -1,0 +1,100 @@
+// A shelf over files.
+ghost use Rattle.std.specs.Prelude.{◌≡◌, ◌≢◌, ℕ, List, [], ◌++◌, None, Some, Err, OnOk, OnErr, IfSome, take};
+ghost use Rattle.std.specs.IoError.{error_kind};
+ghost use Rattle.midi_edge.specs.Outside.{HasOpenCause, Fetches, kept_bytes};
+
+#[cfg(test)]
+mod tests;
+
+use super::counted_opening;
+use crate::kept_text::KeptText;
+use crate::outside::{OpenFault, Shelf};
+use std::fs;
+use std::io::{self, ErrorKind, Read};
+use std::rt::Files;
+
+/// A shelf of files, each named by its path. An empty path is no file, so fetching it fails, as does fetching a folder. No more
+/// than the limit is read, so `fetch` ends even at a file that has no end; at a limit of 0 the file is opened, and nothing read.
+/// `into` grows as needed; where there is no memory to open, to read or to grow, the answer is `NoMemory`. A read that a signal
+/// interrupts is tried again. What was read before an `Err` stays added.
+#[derive(Drop)]
+pub struct FileShelf<R: Files> {
+    rt: R,
+    faults: u64,
+    name: KeptText,
+}
+
+impl<R: Files> FileShelf<R> {
+    /// A shelf that was asked for nothing yet, and takes no memory. No fault is counted.
+    pub fn new(rt: R) -> Self
+        ensures asked { ⟦<FileShelf<R> as Shelf>⟧.asked result ≡ None }
+        ensures texts { ⟦<FileShelf<R> as Shelf>⟧.texts result ≡ None }
+        ensures faults { ⟦<FileShelf<R> as Shelf>⟧.faults result ≡ 0 }
+    {
+        FileShelf {
+            rt,
+            faults: 0,
+            name: KeptText::new(),
+        }
+    }
+}
+
+// Why a file was not opened or not read.
+fn fault_of(error: io::Error) -> OpenFault
+    ensures memory { error_kind error ≡ ErrorKind.OutOfMemory → result ≡ OpenFault.NoMemory }
+    ensures other { error_kind error ≢ ErrorKind.OutOfMemory → result ≡ OpenFault.Failed }
+{
+    match error.kind() {
+        ErrorKind::OutOfMemory => OpenFault::NoMemory,
+        _ => OpenFault::Failed,
+    }
+}
+
+// Adds the first bytes that a reader gives, at most this many.
+fn add_front<F: Read + Drop>(reader: F, limit: usize, into: &mut Vec<u8>) -> io::Result<()>
+    ensures front { OnOk result (IfSome (F.remaining reader) (λ text. into.new.items ≡ into.old.items ++ take limit text)) }
+    ensures keeps { (more : List ℕ) × (into.new.items ≡ into.old.items ++ more) }
+{
+    reader.take(limit as u64).read_to_end(into)?;
+    Ok(())
+}
+
+// Adds the first bytes of a file, at most this many. No file has an empty path.
+fn read_front<R: Files>(
+    rt: &R,
+    path: &str,
+    limit: usize,
+    into: &mut Vec<u8>,
+) -> Result<(), OpenFault>
+    ensures keeps { (more : List ℕ) × (into.new.items ≡ into.old.items ++ more) }
+    ensures empty { path.now ≡ [] → result ≡ Err OpenFault.Failed }
+{
+    if path.is_empty() {
+        return Err(OpenFault::Failed);
+    }
+    let file = fs::open(rt, path).map_err(fault_of)?;
+    add_front(file, limit, into).map_err(fault_of)
+}
+
+impl<R: Files> Shelf for FileShelf<R> {
+    ghost asked = { λ s. s.name };
+
+    ghost texts = { λ _. None };
+
+    ghost faults = { λ s. s.faults };
+
+    fn fetch(&mut self, name: &str, limit: usize, into: &mut Vec<u8>) -> Result<(), OpenFault>
+        requires { ⟦<Self as Shelf>⟧.asked self.old ≡ None }
+        ensures asked { ⟦<Self as Shelf>⟧.asked self.new ≡ Some (kept_bytes name.now) }
+        ensures texts { ⟦<Self as Shelf>⟧.texts self.new ≡ ⟦<Self as Shelf>⟧.texts self.old }
+        ensures ok { OnOk result (Fetches None name.now limit into.old.items into.new.items) }
+        ensures err { OnErr result ((more : List ℕ) × (into.new.items ≡ into.old.items ++ more)) }
+        ensures cause { HasOpenCause (⟦<Self as Shelf>⟧.faults self.old) (⟦<Self as Shelf>⟧.faults self.new) result }
+        ensures keeps { (more : List ℕ) × (into.new.items ≡ into.old.items ++ more) }
+        ensures empty { name.now ≡ [] → result ≡ Err OpenFault.Failed }
+    {
+        self.name.keep(name);
+        let answer = read_front(&self.rt, name, limit, into);
+        counted_opening(answer, &mut self.faults)
+    }
+}

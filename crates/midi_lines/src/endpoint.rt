@@ -1,0 +1,236 @@
+// The lines of the command `endpoint`.
+ghost use Rattle.std.specs.Prelude.{◌≡◌, ◌<◌, ◌≤◌, ◌+◌, ◌++◌, length, codes};
+ghost use Rattle.midi_lines.specs.Fields.{hex_bytes};
+ghost use Rattle.midi_lines.specs.EndpointLines.{
+  name_word,
+  endpoint_text,
+  protocol_text,
+  muid_text,
+  block_text,
+  place_text,
+  state_word,
+  profile_text,
+};
+
+use crate::line::Line;
+use crate::listing::put_group_or_hyphen;
+use crate::put::{put_decimal, put_hex, put_text};
+use function_blocks::{Place, Profile};
+use voice_messages::{U4, U7};
+
+/// What became of a whole exclusive or of a stream packet (own rule).
+#[derive(Clone, Copy, Debug, PartialEq, Eq)]
+pub enum Name {
+    /// `not-ci`: the exclusive isn't a message of MIDI-CI.
+    NotCi,
+    /// `short`: the message ends before its fields do.
+    Short,
+    /// `bad-address`: the device ID is neither a channel, 7E nor 7F.
+    BadAddress,
+    /// `reserved-muid`: the source is a reserved MUID or that of a broadcast.
+    ReservedMuid,
+    /// `no-block`: no active function block with MIDI-CI has the group.
+    NoBlock,
+    /// `silent`: the block has used up its MUIDs.
+    Silent,
+    /// `collision`: the source is the MUID of the block, which takes its next one or falls silent.
+    Collision,
+    /// `old-version`: the message has a version that isn't answered.
+    OldVersion,
+    /// `not-ours`: the message is for another MUID.
+    NotOurs,
+    /// `moved`: the MUID of the block was invalidated, and the block takes its next one or falls silent.
+    Moved,
+    /// `report`: the message is itself a reply or a report.
+    Report,
+    /// `broadcast`: the message is to all, and it isn't Discovery.
+    Broadcast,
+    /// `answered`: the message has a reply.
+    Answered,
+    /// `passed`: the message is one of Property Exchange, which isn't answered.
+    Passed,
+    /// `nak`: the message is refused by a NAK.
+    Nak,
+    /// `no-answer`: the stream message has no reply.
+    NoAnswer,
+    /// `bad-format`: the stream packet has a format that its message may not have.
+    BadFormat,
+}
+
+/// The line of a whole exclusive or of a stream packet: the offset, in decimal digits, of the packet that ended it, its group, or
+/// a hyphen where it has none, and what became of it (own rule).
+pub fn endpoint_line(offset: u64, group: Option<U4>, name: Name) -> Line
+    ensures text { result ≡ endpoint_text offset group name }
+    ensures some { 0 < length result }
+{
+    let mut line = Line::new();
+    fill_endpoint_line(&mut line, offset, group, name);
+    line
+}
+
+/// Makes the line that of an exclusive or a stream packet, as `endpoint_line` does, in the place of another one (own rule).
+pub fn fill_endpoint_line(line: &mut Line, offset: u64, group: Option<U4>, name: Name)
+    ensures text { line.new ≡ endpoint_text offset group name }
+    ensures some { 0 < length line.new }
+{
+    line.clear();
+    put_decimal(line, offset);
+    put_text(line, " ");
+    put_group_or_hyphen(line, group);
+    put_text(line, " ");
+    put_text(line, word_of(name));
+    put_text(line, "\n");
+}
+
+/// The line of the protocol in force, which is 1 for MIDI 1.0 and 2 for MIDI 2.0 (own rule).
+pub fn protocol_line(protocol: u8) -> Line
+    ensures text { result ≡ protocol_text protocol }
+    ensures some { 0 < length result }
+{
+    let mut line = Line::new();
+    fill_protocol_line(&mut line, protocol);
+    line
+}
+
+/// Makes the line that of the protocol in force, as `protocol_line` does, in the place of another one (own rule).
+pub fn fill_protocol_line(line: &mut Line, protocol: u8)
+    ensures text { line.new ≡ protocol_text protocol }
+    ensures some { 0 < length line.new }
+{
+    line.clear();
+    put_text(line, "protocol ");
+    put_decimal(line, protocol as u64);
+    put_text(line, "\n");
+}
+
+/// The line of a function block: its number, and its MUID in decimal digits, or `silent` where it has none (own rule).
+pub fn block_line(number: u8, muid: Option<u32>) -> Line
+    ensures text { result ≡ block_text number muid }
+    ensures some { 0 < length result }
+{
+    let mut line = Line::new();
+    fill_block_line(&mut line, number, muid);
+    line
+}
+
+/// Makes the line that of a function block, as `block_line` does, in the place of another one (own rule).
+pub fn fill_block_line(line: &mut Line, number: u8, muid: Option<u32>)
+    ensures text { line.new ≡ block_text number muid }
+    ensures some { 0 < length line.new }
+{
+    line.clear();
+    put_text(line, "block ");
+    put_decimal(line, number as u64);
+    put_text(line, " ");
+    put_muid(line, muid);
+    put_text(line, "\n");
+}
+
+/// The line of a profile: the number of its function block, its place, its ID in ten hexadecimal digits, and whether it is on
+/// now (own rule). Whether it was on at first doesn't matter.
+pub fn profile_line(profile: &Profile, on: bool) -> Line
+    ensures text { result ≡ profile_text profile.now on }
+    ensures some { 0 < length result }
+{
+    let mut line = Line::new();
+    fill_profile_line(&mut line, profile, on);
+    line
+}
+
+/// Makes the line that of a profile, as `profile_line` does, in the place of another one (own rule).
+pub fn fill_profile_line(line: &mut Line, profile: &Profile, on: bool)
+    ensures text { line.new ≡ profile_text profile.now on }
+    ensures some { 0 < length line.new }
+{
+    line.clear();
+    put_text(line, "profile ");
+    put_decimal(line, profile.block as u64);
+    put_text(line, " ");
+    put_place(line, profile.place);
+    put_text(line, " ");
+    put_id(line, &profile.id);
+    put_text(line, " ");
+    put_text(line, state_name(on));
+    put_text(line, "\n");
+}
+
+// A MUID, or that there is none.
+fn put_muid(line: &mut Line, muid: Option<u32>)
+    requires { length line.old ≤ 60 }
+    ensures text { line.new ≡ line.old ++ muid_text muid }
+    ensures room { length line.new ≤ length line.old + 25 }
+{
+    match muid {
+        Some(muid) => {
+            put_text(line, "muid ");
+            put_decimal(line, muid as u64);
+        }
+        None => put_text(line, "silent"),
+    }
+}
+
+// The place of a profile.
+fn put_place(line: &mut Line, place: Place)
+    requires { length line.old ≤ 60 }
+    ensures text { line.new ≡ line.old ++ place_text place }
+    ensures room { length line.new ≤ length line.old + 49 }
+{
+    match place {
+        Place::Function => put_text(line, "function"),
+        Place::Group(group) => {
+            put_text(line, "group ");
+            put_decimal(line, group.get() as u64);
+        }
+        Place::Channel(group, channel) => {
+            put_text(line, "channel ");
+            put_decimal(line, group.get() as u64);
+            put_text(line, " ");
+            put_decimal(line, channel.get() as u64);
+        }
+    }
+}
+
+// The ID of a profile in ten hexadecimal digits.
+fn put_id(line: &mut Line, id: &[U7; 5])
+    requires { length line.old ≤ 120 }
+    ensures text { line.new ≡ line.old ++ hex_bytes id.now }
+    ensures room { length line.new ≡ length line.old + 10 }
+{
+    for byte in id {
+        put_hex(line, 2, byte.get() as u32);
+    }
+}
+
+// Whether a profile is on.
+fn state_name(on: bool) -> &'static str
+    ensures word { result.now ≡ state_word on }
+    ensures size { length result.now ≤ 3 }
+{
+    if on { "on" } else { "off" }
+}
+
+// The word of a name.
+fn word_of(name: Name) -> &'static str
+    ensures word { result.now ≡ name_word name }
+    ensures size { length result.now ≤ 13 }
+{
+    match name {
+        Name::NotCi => "not-ci",
+        Name::Short => "short",
+        Name::BadAddress => "bad-address",
+        Name::ReservedMuid => "reserved-muid",
+        Name::NoBlock => "no-block",
+        Name::Silent => "silent",
+        Name::Collision => "collision",
+        Name::OldVersion => "old-version",
+        Name::NotOurs => "not-ours",
+        Name::Moved => "moved",
+        Name::Report => "report",
+        Name::Broadcast => "broadcast",
+        Name::Answered => "answered",
+        Name::Passed => "passed",
+        Name::Nak => "nak",
+        Name::NoAnswer => "no-answer",
+        Name::BadFormat => "bad-format",
+    }
+}
