@@ -46,8 +46,8 @@ pub record IsEndpoint (e : Endpoint) : Type 0 where
   pub named : (0 < length e.name) × (length e.name ≤ 98)
   pub identified : (0 < length e.id) × (length e.id ≤ 42)
   pub printable : list_all is_printable e.id ≡ true
-  pub manufacturer : All (λ byte. byte ≤ 127) e.manufacturer
+  pub manufacturer : (length e.manufacturer ≡ 3) × All (λ byte. byte ≤ 127) e.manufacturer
   pub family : e.family < 2 ^ 14
   pub model : e.model < 2 ^ 14
-  pub revision : All (λ byte. byte ≤ 127) e.revision
+  pub revision : (length e.revision ≡ 4) × All (λ byte. byte ≤ 127) e.revision
   pub supported : is_supported e.midi1 e.midi2 e.protocol ≡ true

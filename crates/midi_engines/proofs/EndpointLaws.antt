@@ -1,34 +1,56 @@
--- The words of replies, which are put packet by packet.
-use Rattle.std.proofs.Common.{◌≡◌, ◌<◌, ◌^◌, ℕ, Bool, true, false, List, [], ◌∷◌, ◌++◌, length, take, drop, Option, None, Some, refl, ap, sym, ◌∙◌, subst, arith}
-use Rattle.std.specs.Prelude.{Result, Ok, Err, slice_index, if◌then◌else◌, IsTrue, ◌↔◌}
-use Rattle.std.specs.List.{flat_map}
-use Rattle.std.specs.Option.{option_map_or}
+-- What an endpoint answers by what it holds is what it answers by all packets before.
+use Rattle.std.proofs.Common.{◌≡◌, ◌≤◌, ◌<◌, ℕ, Bool, true, false, List, [], ◌∷◌, ◌++◌, ◌+◌, length, take, drop, Option, None, Some, zero, suc, refl, ap, sym, ◌∙◌, subst, arith}
+use Rattle.std.specs.Prelude.{Result, Ok, Err, if◌then◌else◌, IsTrue, ◌↔◌, unwrap_or, slice_get}
+use Rattle.std.specs.List.{All}
+use Rattle.std.specs.Option.{option_map, option_map_or, option_to_list}
+use native.Mathlib.Numerals.{add-one}
 use Rattle.std.proofs.lemmas.List.{append_assoc, append-nil}
-use Rattle.std.proofs.lemmas.List.Elements.{All-head, All-tail}
+use Rattle.std.proofs.lemmas.List.Elements.{All-append, All-cons, All-nil}
 use Rattle.voice_messages.specs.declared.voice2.Form.{Form}
-use Rattle.ump_words.specs.Cut.{word_bytes}
-use Rattle.ump_words.specs.declared.words.Order.{Order}
+use Rattle.voice_messages.specs.declared.voice2.Form.TheVariants as form
 use Rattle.ump_grammar.specs.declared.packet.Packet.{Packet}
 use Rattle.ump_grammar.specs.declared.packet.Packet.TheVariants as packets
-use Rattle.ump_grammar.specs.Reading.{Encodes}
-use Rattle.ump_grammar.specs.Replies.{AddsPackets, word_count}
-use Rattle.ump_grammar.specs.Spelling.{Spells}
+use Rattle.ump_grammar.specs.Replies.{word_count}
 use Rattle.system_stream.specs.declared.message.StreamMessage.{StreamMessage}
 use Rattle.system_stream.specs.Layout.{IsStream, has_bad_format, message_in}
+use Rattle.function_blocks.specs.Blocks.{has_ci}
+use Rattle.function_blocks.specs.Profiles.{profiles_are_distinct}
+use Rattle.function_blocks.specs.declared.setup.Block.{Block}
+use Rattle.function_blocks.specs.declared.setup.Profile.{Profile}
 use Rattle.function_blocks.specs.InForce.{message_read, protocol_at}
 use Rattle.function_blocks.specs.Replies.{protocol_after}
-use Rattle.midi_lines.specs.declared.endpoint.Name.TheVariants as names
 use Rattle.function_blocks.specs.Setups.{Facts}
-use Rattle.midi_lines.specs.EndpointLines.{endpoint_text}
+use Rattle.ci_messages.specs.Reading.{ci_fault}
+use Rattle.ci_messages.specs.declared.view.CiFault.{CiFault}
+use Rattle.ci_responder.specs.Held.{Held, block_in, heard_in, replies_in, sender_in}
+use Rattle.ci_responder.specs.History.{held_at}
+use Rattle.ci_responder.specs.Keys.{key_of}
+use Rattle.ci_responder.specs.Laws.{HeldIsTheHistory}
+use Rattle.ci_responder.specs.declared.keys.Key.{Key}
+use Rattle.ci_responder.specs.Messages.{Told}
+use Rattle.ci_responder.specs.Read.{told_in}
+use Rattle.ci_responder.specs.Replies.{Sender, first_packets, packets_of, replies_by, reply_to, sent}
+use Rattle.ci_responder.specs.declared.heard.Heard.{Heard}
+use Rattle.sysex_groups.specs.Cut.{part_count}
+use Rattle.sysex_groups.specs.Exclusives.{Answer, Part, Room, ended_by, fits, framed, held, too_long, whole}
+use Rattle.sysex_groups.specs.Table.{Begun, Table, answer_of, begun_in}
+use Rattle.voice_state.specs.Listing.{end_lines, groups, line_of, listed}
+use Rattle.voice_state.specs.Parts.{Placed, part_of, parts_of}
+use Rattle.voice_state.specs.Refusal.{bad_part}
+use Rattle.down_translator.specs.Laws.{WhatIsHeldIsTheDefinition}
+use Rattle.down_translator.specs.Recording.{AreInRange, state_of}
+use Rattle.midi_lines.specs.EndpointLines.{block_text, endpoint_text, profile_text}
 use Rattle.midi_lines.specs.declared.endpoint.Name.{Name}
-use Rattle.midi_pass.specs.Places.{FailsAt, Places, Puts, after_puts}
-use Rattle.midi_pass.specs.Put.{Put, in_notes, in_output}
-use Rattle.midi_pass.specs.PutLaws.{after_puts-none, stops_more, then_put, then_stops}
-use Rattle.midi_pass.specs.declared.ends.RunEnd.{RunEnd}
-use Rattle.midi_engines.specs.Endpoint.{AreWordsOf, Written, WrittenAndListed, answer_lines, name_of, name_of_replies, not_built, packet_replies, protocol_after_packet}
-use Rattle.midi_engines.specs.Raised.{Answers, CarriesOut}
-use Rattle.midi_engines.specs.Up.{AreWritten}
-use Rattle.midi_engines.specs.UpMeans.{written-then}
+use Rattle.midi_lines.specs.declared.endpoint.Name.TheVariants as names
+use Rattle.midi_pass.specs.Places.{Places}
+use Rattle.midi_pass.specs.Put.{Put, in_notes}
+use Rattle.midi_engines.specs.Down.{line_puts, open_puts}
+use Rattle.midi_engines.specs.Endpoint.{Said, block_line_of, exclusive_lines, for_each, in_force, message_lines, message_replies, name_of_heard, name_of_replies, packet_lines, packet_replies, profile_line_of, protocol_after_packet, said_by, said_in, said_with, stream_lines, stream_name, stream_packet_replies, told_by, told_in_packets}
+use Rattle.midi_engines.specs.EndpointHeld.{TakesPacket, after_part, lost_by, packet_part_lines, part_replies, said_lines, said_of, said_of_packet}
+use Rattle.midi_engines.specs.ShowPackets.{bad_join}
+use Rattle.midi_engines.specs.declared.endpoint.EndpointEngine.{EndpointEngine}
+use Rattle.midi_engines.proofs.OpenLaws.{open-ends}
+use Rattle.midi_engines.proofs.ReplyLaws.{nothing_written}
 
 -- ---- the message of a stream packet
 
@@ -62,173 +84,37 @@ name_is [] false same = refl
 name_is (p ∷ ps) true same = refl
 name_is (p ∷ ps) false same = absurd (let e : false ≡ true = same.1 (omega arith) in cc)
 
--- ---- the words of the first packet, and those of the others
+-- ---- what a message says
 
-adds_behind : (front : List ℕ) (packets : List Packet) (old new : List ℕ) → AddsPackets packets old new → AddsPackets packets (front ++ old) (front ++ new)
-adds_behind front [] old new adds = ap (λ xs. front ++ xs) adds
-adds_behind front (p ∷ ps) old new adds =
-    let one = adds.1 in (
-      front ++ adds.0,
-      record { words = one.words; encoded = one.encoded; added = ap (λ xs. front ++ xs) one.added ∙ sym (append_assoc front old one.words) },
-      adds_behind front ps adds.0 new adds.2,
-    )
+pub said_is_told : (group : ℕ) (message : List ℕ) (told : Told) → ci_fault message ≡ None → told ≡ told_in group message → said_in group message ≡ Ok told
+said_is_told group message told fine is = ap (λ fault. said_with fault (told_in group message)) fine ∙ ap Ok (sym is)
 
-adds_more : (packets : List Packet) (old new : List ℕ) → AddsPackets packets old new → (words : List ℕ) × (new ≡ old ++ words) × AddsPackets packets [] words
-adds_more [] old new adds = ([], adds ∙ sym (append-nil old), refl)
-adds_more (p ∷ ps) old new adds =
-    let one = adds.1 in
-    let more = adds_more ps adds.0 new adds.2 in
-    let A : List ℕ → Type 0 = λ xs. AddsPackets ps xs (one.words ++ more.0) in (
-      one.words ++ more.0,
-      more.1 ∙ ap (λ xs. xs ++ more.0) one.added ∙ append_assoc old one.words more.0,
-      (one.words, record { words = one.words; encoded = one.encoded; added = refl }, subst A (append-nil one.words) (adds_behind one.words ps [] more.0 more.2)),
-    )
+pub said_is_fault : (group : ℕ) (message : List ℕ) (fault : CiFault) → ci_fault message ≡ Some fault → said_in group message ≡ Err fault
+said_is_fault group message fault is = ap (λ f. said_with f (told_in group message)) is
 
--- the first of these packets, with its words, and what follows
-pub record NextPacket (size : ℕ) (packets : List Packet) (words : List ℕ) : Type 0 where
-  pub first : Packet
-  pub others : List Packet
-  pub packets_are : packets ≡ first ∷ others
-  pub front : List ℕ
-  pub rest : List ℕ
-  pub words_are : words ≡ front ++ rest
-  pub encoded : Encodes first front
-  pub count : length front ≡ size
-  pub follow : AreWordsOf size others rest
+-- ---- each reply to a message has two words
 
-abbrev pub CountsWords : Type 0
-CountsWords = (p : Packet) (words : List ℕ) → slice_index words 0 < 2 ^ 32 → Spells p words → length words ≡ word_count p
+abbrev HasTwoWords : Packet → Type 0
+HasTwoWords packet = word_count packet ≡ 2
 
-in_front : (front rest : List ℕ) → slice_index (front ++ rest) 0 < 2 ^ 32 → slice_index front 0 < 2 ^ 32
-in_front [] rest fits = omega arith
-in_front (word ∷ words) rest fits = fits
+first_two : (group : ℕ) (bytes : List ℕ) (k : ℕ) → All HasTwoWords (first_packets group bytes k)
+first_two group bytes zero = All-nil HasTwoWords
+first_two group bytes (suc k) = All-append HasTwoWords (first_packets group bytes k) _ (first_two group bytes k) (All-cons HasTwoWords _ [] refl (All-nil HasTwoWords))
 
-pub next_packet : CountsWords → (size : ℕ) (packets : List Packet) (words : List ℕ) → AreWordsOf size packets words → 0 < length words → slice_index words 0 < 2 ^ 32 → NextPacket size packets words
-next_packet law size [] words are some fits = absurd (let e : words ≡ [] = are.added in omega (arith, some, ap length e))
-next_packet law size (p ∷ ps) words are some fits =
-    let one = are.added.1 in
-    let more = adds_more ps are.added.0 words are.added.2 in
-    let split : words ≡ one.words ++ more.0 = more.1 ∙ ap (λ xs. xs ++ more.0) one.added in
-    let F : List ℕ → Type 0 = λ ws. slice_index ws 0 < 2 ^ 32 in
-    record {
-      first = p;
-      others = ps;
-      packets_are = refl;
-      front = one.words;
-      rest = more.0;
-      words_are = split;
-      encoded = one.encoded;
-      count = law p one.words (in_front one.words more.0 (subst F split fits)) one.encoded.spelled ∙ All-head (λ packet. word_count packet ≡ size) p ps are.sizes;
-      follow = record { added = more.2; sizes = All-tail (λ packet. word_count packet ≡ size) p ps are.sizes };
-    }
+sent_two : (group : ℕ) (payload : Option (List ℕ)) → All HasTwoWords (sent group payload)
+sent_two group None = All-nil HasTwoWords
+sent_two group (Some bytes) = first_two group bytes (part_count bytes)
 
--- there are words where packets are left
-none_left : CountsWords → (size : ℕ) (p : Packet) (ps : List Packet) (words : List ℕ) → AreWordsOf size (p ∷ ps) words → 0 < size → length words ≡ 0 → ⊥
-none_left law size p ps words are some none =
-    let one = are.added.1 in
-    let more = adds_more ps are.added.0 words are.added.2 in
-    by_front one.words more.0 one.encoded.spelled (more.1 ∙ ap (λ xs. xs ++ more.0) one.added)
-  where
-    by_front : (front others : List ℕ) → Spells p front → words ≡ front ++ others → ⊥
-    by_front [] others spells e = omega (arith, law p [] (omega arith) spells, All-head (λ packet. word_count packet ≡ size) p ps are.sizes, some)
-    by_front (word ∷ front) others spells e = omega (arith, none, ap length e)
+replies_two : (sender : Option Sender) (heard : Heard) (told : Told) → All HasTwoWords (replies_by sender heard told)
+replies_two None heard told = All-nil HasTwoWords
+replies_two (Some sender) heard told = sent_two told.group (reply_to sender heard told)
 
-take-front : (xs ys : List ℕ) → take (length xs) (xs ++ ys) ≡ xs
-take-front [] ys = refl
-take-front (x ∷ xs) ys = ap (λ zs. x ∷ zs) (take-front xs ys)
-
-drop-front : (xs ys : List ℕ) → drop (length xs) (xs ++ ys) ≡ ys
-drop-front [] ys = refl
-drop-front (x ∷ xs) ys = drop-front xs ys
-
-pub can_be_written : (order : Order) (packets : List Packet) (old new : List ℕ) → AddsPackets packets old new → (puts : List Put) × AreWritten order packets puts
-can_be_written order [] old new adds = ([], refl)
-can_be_written order (p ∷ ps) old new adds =
-    let more = can_be_written order ps adds.0 new adds.2 in
-    let one : List Put = in_output (flat_map (word_bytes order) adds.1.words) ∷ [] in
-    (one ++ more.0, (one, more.0, (adds.1.words, adds.1.encoded, refl), more.1, refl))
-
--- ---- so far
-
--- of these packets some are written, and the words of the others are left
-pub record PutSoFar (order : Order) (size : ℕ) (packets : List Packet) (rest : List ℕ) (old now : Places) : Type 0 where
-  pub done : List Packet
-  pub left : List Packet
-  pub parts : packets ≡ done ++ left
-  pub words : AreWordsOf size left rest
-  pub puts : List Put
-  pub written : AreWritten order done puts
-  pub stands : now ≡ after_puts puts old
-
-pub nothing_put : (order : Order) (size : ℕ) (packets : List Packet) (words : List ℕ) (old : Places) → AreWordsOf size packets words → old ≡ after_puts [] old → PutSoFar order size packets words old old
-nothing_put order size packets words old are same = record { done = []; left = packets; parts = refl; words = are; puts = []; written = refl; stands = same }
-
-abbrev pub put_of : Order → List ℕ → List Put
-put_of order words = in_output (flat_map (word_bytes order) words) ∷ []
-
-module _ (law : CountsWords) (order : Order) (size : ℕ) (packets : List Packet) (rest : List ℕ) (old now : Places) (so_far : PutSoFar order size packets rest old now) where
-  module _ (some : 0 < length rest) (fits : slice_index rest 0 < 2 ^ 32) where
-    abbrev next : NextPacket size so_far.left rest
-    next = next_packet law size so_far.left rest so_far.words some fits
-
-    pub one_more : (later : Places) → later ≡ after_puts (put_of order next.front) now → PutSoFar order size packets next.rest old later
-    one_more later stands =
-        record {
-          done = so_far.done ++ next.first ∷ [];
-          left = next.others;
-          parts = so_far.parts ∙ ap (λ xs. so_far.done ++ xs) next.packets_are ∙ sym (append_assoc so_far.done (next.first ∷ []) next.others);
-          words = next.follow;
-          puts = so_far.puts ++ put_of order next.front;
-          written = written-then order so_far.done (next.first ∷ []) so_far.puts (put_of order next.front) so_far.written
-              (put_of order next.front, [], (next.front, next.encoded, refl), refl, refl);
-          stands = then_put so_far.puts (put_of order next.front) old now later so_far.stands stands;
-        }
-
-    pub one_fails : (later : Places) (end : RunEnd) → FailsAt (put_of order next.front) end now later → CarriesOut (Written order packets) tt old later (Err end)
-    one_fails later end fails =
-        let others = can_be_written order next.others [] next.rest next.follow.added in
-        let W : List Packet → Type 0 = λ ps. AreWritten order ps (so_far.puts ++ (put_of order next.front ++ others.0)) in (
-          tt,
-          so_far.puts ++ (put_of order next.front ++ others.0),
-          subst W (sym (so_far.parts ∙ ap (λ xs. so_far.done ++ xs) next.packets_are))
-              (written-then order so_far.done (next.first ∷ next.others) so_far.puts (put_of order next.front ++ others.0) so_far.written
-              (put_of order next.front, others.0, (next.front, next.encoded, refl), others.1, refl)),
-          then_stops so_far.puts (put_of order next.front ++ others.0) end old now later so_far.stands (stops_more (put_of order next.front) others.0 end now later fails),
-        )
-
-    pub front_is : take size rest ≡ next.front
-    front_is = ap (take size) next.words_are ∙ ap (λ n. take n (next.front ++ next.rest)) (sym next.count) ∙ take-front next.front next.rest
-
-    pub rest_is : drop size rest ≡ next.rest
-    rest_is = ap (drop size) next.words_are ∙ ap (λ n. drop n (next.front ++ next.rest)) (sym next.count) ∙ drop-front next.front next.rest
-
-  pub all_put : 0 < size → length rest ≡ 0 → CarriesOut (Written order packets) tt old now (Ok tt)
-  all_put some none = by_left so_far.left refl
-    where
-      by_left : (left : List Packet) → so_far.left ≡ left → CarriesOut (Written order packets) tt old now (Ok tt)
-      by_left [] e =
-          let W : List Packet → Type 0 = λ ps. AreWritten order ps so_far.puts in
-          (so_far.puts, subst W (sym (so_far.parts ∙ ap (λ xs. so_far.done ++ xs) e ∙ append-nil so_far.done)) so_far.written, so_far.stands)
-      by_left (p ∷ ps) e =
-          let A : List Packet → Type 0 = λ xs. AreWordsOf size xs rest in
-          absurd (none_left law size p ps rest (subst A e so_far.words) some none)
-
--- ---- and then lines
-
-module _ (order : Order) (packets : List Packet) (lines : List Put) where
-  pub then_lines : (a b c : Places) (result : Result (Unit {0}) RunEnd) → CarriesOut (Written order packets) tt a b (Ok tt) → Puts lines b c result → CarriesOut (WrittenAndListed order packets lines) tt a c result
-  then_lines a b c (Ok done) out puts = (out.0 ++ lines, (out.0, out.1, refl), then_put out.0 lines a b c out.2 puts)
-  then_lines a b c (Err end) out puts = (tt, out.0 ++ lines, (out.0, out.1, refl), then_stops out.0 lines end a b c out.2 puts)
-
-  pub no_lines : (a b : Places) (end : RunEnd) → CarriesOut (Written order packets) tt a b (Err end) → CarriesOut (WrittenAndListed order packets lines) tt a b (Err end)
-  no_lines a b end out = (tt, out.1 ++ lines, (out.1, out.2, refl), stops_more out.1 lines end a b out.3)
-
-pub nothing_written : (order : Order) (s : Places) → CarriesOut (WrittenAndListed order [] []) tt s s (Ok tt)
-nothing_written order s = ([], ([], refl, refl), sym (after_puts-none s))
+pub two_words : (state : Held) (told : Told) → All (λ packet. word_count packet ≡ 2) (replies_in state told)
+two_words state told = replies_two (sender_in state (block_in state.blocks told.group)) (heard_in state told) told
 
 -- the line of a stream packet
-pub line_is : (setup : Facts) (protocol offset : ℕ) (packet : Packet) (name : Name) → IsStream packet → name ≡ name_of setup protocol packet
-    → in_notes (endpoint_text offset None name) ∷ [] ≡ answer_lines setup protocol offset packet
+pub line_is : (setup : Facts) (protocol offset : ℕ) (packet : Packet) (name : Name) → IsStream packet → name ≡ stream_name setup protocol packet
+    → in_notes (endpoint_text offset None name) ∷ [] ≡ stream_lines setup protocol offset packet
 line_is setup protocol offset (packets.Stream f s l w x y) name stream is = ap (λ n. in_notes (endpoint_text offset None n) ∷ []) is
 line_is setup protocol offset (packets.Utility s v) name stream is = absurd stream
 line_is setup protocol offset (packets.System g m) name stream is = absurd stream
@@ -250,18 +136,213 @@ protocol_next follows unread setup past packet = by_message (message_read packet
     by_message None e = sym (unread setup past packet e)
     by_message (Some message) e = follows setup past packet message e
 
+-- ---- a part of an exclusive, by what its group has open
+
+said_is_ended : (room : Room) (begun : Option Begun) (group : ℕ) (f : Form) (bytes : List ℕ)
+    → said_of group (answer_of room begun f bytes) ≡ option_map (λ payload. said_in group (framed payload)) (ended_by room f (option_map (λ (b : Begun). b.bytes) begun) bytes)
+said_is_ended room None group form.Complete bytes = refl
+said_is_ended room None group form.Start bytes = refl
+said_is_ended room None group form.Continue bytes = refl
+said_is_ended room None group form.End bytes = refl
+said_is_ended room (Some begun) group form.Complete bytes = refl
+said_is_ended room (Some begun) group form.Start bytes = refl
+said_is_ended room (Some begun) group form.Continue bytes = by_fit (fits room (length (begun.bytes ++ bytes)))
+  where
+    by_fit : (fit : Bool) → said_of group (if fit then held else too_long) ≡ None
+    by_fit true = refl
+    by_fit false = refl
+said_is_ended room (Some begun) group form.End bytes = by_fit (fits room (length (begun.bytes ++ bytes)))
+  where
+    by_fit : (fit : Bool) → said_of group (if fit then whole (framed (begun.bytes ++ bytes)) else too_long) ≡ option_map (λ payload. said_in group (framed payload)) (if fit then Some (begun.bytes ++ bytes) else None)
+    by_fit true = refl
+    by_fit false = refl
+
+lost_is_listed : (room : Room) (begun : Option Begun) (group offset : ℕ) (f : Form) (bytes : List ℕ)
+    → lost_by group offset (answer_of room begun f bytes) ≡ option_to_list (listed (option_map (λ (b : Begun). b.start) begun) offset (packets.Exclusive group f bytes))
+lost_is_listed room None group offset form.Complete bytes = refl
+lost_is_listed room None group offset form.Start bytes = refl
+lost_is_listed room None group offset form.Continue bytes = refl
+lost_is_listed room None group offset form.End bytes = refl
+lost_is_listed room (Some begun) group offset form.Complete bytes = refl
+lost_is_listed room (Some begun) group offset form.Start bytes = refl
+lost_is_listed room (Some begun) group offset form.Continue bytes = by_fit (fits room (length (begun.bytes ++ bytes)))
+  where
+    by_fit : (fit : Bool) → lost_by group offset (if fit then held else too_long) ≡ []
+    by_fit true = refl
+    by_fit false = refl
+lost_is_listed room (Some begun) group offset form.End bytes = by_fit (fits room (length (begun.bytes ++ bytes)))
+  where
+    by_fit : (fit : Bool) → lost_by group offset (if fit then whole (framed (begun.bytes ++ bytes)) else too_long) ≡ []
+    by_fit true = refl
+    by_fit false = refl
+
+-- ---- by the messages that were heard
+
+module _ (history : HeldIsTheHistory) (setup : Facts) (room : ℕ) (told : List Told) where
+  replies_are : (said : Option Said) → part_replies (held_at setup room told) said ≡ message_replies setup room told said
+  replies_are None = refl
+  replies_are (Some (Ok one)) = history.replies setup room told one
+  replies_are (Some (Err fault)) = refl
+
+  lines_are : (group offset : ℕ) (f : Form) (bytes : List ℕ) (said : Option Said) → said_lines (held_at setup room told) group offset said ≡ message_lines setup told offset (packets.Exclusive group f bytes) said
+  lines_are group offset f bytes None = refl
+  lines_are group offset f bytes (Some (Ok one)) = ap (λ h. in_notes (endpoint_text offset (Some group) (name_of_heard h)) ∷ []) (history.heard setup room told one)
+  lines_are group offset f bytes (Some (Err fault)) = refl
+
+  after_is : profiles_are_distinct setup.profiles ≡ true → (said : Option Said) → after_part (held_at setup room told) said ≡ held_at setup room (told_by said ++ told)
+  after_is distinct None = refl
+  after_is distinct (Some (Ok one)) = history.after setup room told one distinct
+  after_is distinct (Some (Err fault)) = refl
+
+-- ---- one packet after others
+
+module _ (laws : WhatIsHeldIsTheDefinition) (history : HeldIsTheHistory) (setup : Facts) (room : ℕ) (before : List Placed) (least : 6 ≤ room) (range : AreInRange before) where
+  abbrev table : Table
+  table = (state_of room before).exclusives
+
+  abbrev told : List Told
+  told = told_in_packets room before
+
+  abbrev parts : List Part
+  parts = parts_of before
+
+  said_is : (packet : Packet) → said_of_packet table packet ≡ said_by room parts packet
+  said_is (packets.Exclusive g f b) =
+      said_is_ended (Some table.room) (begun_in table g) g f b
+      ∙ ap (option_map (λ payload. said_in g (framed payload))) (laws.whole room before least range (packets.Exclusive g f b))
+  said_is (packets.Stream f s l w x y) = refl
+  said_is (packets.Utility s v) = refl
+  said_is (packets.System g m) = refl
+  said_is (packets.Voice1 g m) = refl
+  said_is (packets.Voice2 g m) = refl
+  said_is (packets.Data8 g w) = refl
+  said_is (packets.Flex g w) = refl
+  said_is (packets.Reserved w) = refl
+
+  part_lines_are : (offset : ℕ) (packet : Packet)
+      → packet_part_lines table (held_at setup room told) offset packet
+      ≡ message_lines setup told offset packet (said_by room parts packet) ++ exclusive_lines room parts (record { offset = offset; packet = packet })
+  part_lines_are offset (packets.Exclusive g f b) =
+      let answer : Answer = answer_of (Some table.room) (begun_in table g) f b in
+      let placed : Placed = record { offset = offset; packet = packets.Exclusive g f b } in
+      let lost : lost_by g offset answer ≡ option_to_list (line_of (Some room) parts placed) =
+      lost_is_listed (Some table.room) (begun_in table g) g offset f b
+      ∙ ap (λ start. option_to_list (listed start offset (packets.Exclusive g f b))) (laws.begun room before least range (packets.Exclusive g f b)) in
+      ap (λ xs. said_lines (held_at setup room told) g offset (said_of g answer) ++ line_puts xs) lost
+      ∙ ap (λ said. said_lines (held_at setup room told) g offset said ++ line_puts (option_to_list (line_of (Some room) parts placed))) (said_is (packets.Exclusive g f b))
+      ∙ ap (λ xs. xs ++ line_puts (option_to_list (line_of (Some room) parts placed))) (lines_are history setup room told g offset f b (said_by room parts (packets.Exclusive g f b)))
+  part_lines_are offset (packets.Stream f s l w x y) = refl
+  part_lines_are offset (packets.Utility s v) = refl
+  part_lines_are offset (packets.System g m) = refl
+  part_lines_are offset (packets.Voice1 g m) = refl
+  part_lines_are offset (packets.Voice2 g m) = refl
+  part_lines_are offset (packets.Data8 g w) = refl
+  part_lines_are offset (packets.Flex g w) = refl
+  part_lines_are offset (packets.Reserved w) = refl
+
+  pub bad_is : (packet : Packet) → bad_join table packet ≡ bad_part (Some room) parts (part_of 0 packet)
+  bad_is (packets.Exclusive g f b) = laws.refusal room before least range (packets.Exclusive g f b)
+  bad_is (packets.Stream f s l w x y) = refl
+  bad_is (packets.Utility s v) = refl
+  bad_is (packets.System g m) = refl
+  bad_is (packets.Voice1 g m) = refl
+  bad_is (packets.Voice2 g m) = refl
+  bad_is (packets.Data8 g w) = refl
+  bad_is (packets.Flex g w) = refl
+  bad_is (packets.Reserved w) = refl
+
+  pub packet_replies_are : (placed : Placed)
+      → stream_packet_replies setup (in_force setup before) placed.packet ++ part_replies (held_at setup room told) (said_of_packet table placed.packet) ≡ packet_replies setup room before placed
+  packet_replies_are placed =
+      let stream : List Packet = stream_packet_replies setup (in_force setup before) placed.packet in
+      ap (λ said. stream ++ part_replies (held_at setup room told) said) (said_is placed.packet)
+      ∙ ap (λ xs. stream ++ xs) (replies_are history setup room told (said_by room parts placed.packet))
+
+  pub packet_lines_are : (placed : Placed)
+      → stream_lines setup (in_force setup before) placed.offset placed.packet ++ packet_part_lines table (held_at setup room told) placed.offset placed.packet ≡ packet_lines setup room before placed
+  packet_lines_are placed = ap (λ xs. stream_lines setup (in_force setup before) placed.offset placed.packet ++ xs) (part_lines_are placed.offset placed.packet)
+
+  pub responder_is : profiles_are_distinct setup.profiles ≡ true → (placed : Placed)
+      → after_part (held_at setup room told) (said_of_packet table placed.packet) ≡ held_at setup room (told_in_packets room (placed ∷ before))
+  responder_is distinct placed =
+      ap (after_part (held_at setup room told)) (said_is placed.packet) ∙ after_is history setup room told distinct (said_by room parts placed.packet)
+
+  -- ---- the end
+
+  pub open_is : open_puts table groups ≡ line_puts (end_lines (Some room) parts)
+  open_is = ap line_puts (open-ends room parts table (λ group. laws.begun room before least range (packets.Exclusive group form.Complete [])) groups)
+
+-- the same is put for each, where the same is put for one
+same_for_each : {X : Type 0} (one other : ℕ → X → List Put) → ((n : ℕ) (x : X) → one n x ≡ other n x) → (number : ℕ) (xs : List X) → for_each one number xs ≡ for_each other number xs
+same_for_each one other same number [] = refl
+same_for_each one other same number (x ∷ xs) =
+    ap (λ ps. ps ++ for_each one (number + 1) xs) (same number x) ∙ ap (λ ps. other number x ++ ps) (same_for_each one other same (number + 1) xs)
+
+pub blocks_are : (muid other : ℕ → Option ℕ) → ((n : ℕ) → muid n ≡ other n) → (blocks : List Block) → for_each (block_line_of muid) 0 blocks ≡ for_each (block_line_of other) 0 blocks
+blocks_are muid other same blocks =
+    same_for_each (block_line_of muid) (block_line_of other) (λ n block. ap (λ m. if has_ci block then in_notes (block_text n m) ∷ [] else []) (same n)) 0 blocks
+
+pub profiles_are : (on other : Key → Option Bool) → ((k : Key) → on k ≡ other k) → (profiles : List Profile) → for_each (profile_line_of on) 0 profiles ≡ for_each (profile_line_of other) 0 profiles
+profiles_are on other same profiles =
+    same_for_each (profile_line_of on) (profile_line_of other) (λ n profile. ap (λ o. in_notes (profile_text profile (unwrap_or o profile.on)) ∷ []) (same (key_of profile))) 0 profiles
+
+-- ---- one after the other
+
+pub each-then : {X : Type 0} (put : ℕ → X → List Put) (number : ℕ) (xs ys : List X) → for_each put number (xs ++ ys) ≡ for_each put number xs ++ for_each put (number + length xs) ys
+each-then put number [] ys = ap (λ n. for_each put n ys) (omega arith)
+each-then put number (x ∷ xs) ys =
+    ap (λ ps. put number x ++ ps) (each-then put (number + 1) xs ys)
+    ∙ ap (λ n. put number x ++ (for_each put (number + 1) xs ++ for_each put n ys)) {x = (number + 1) + length xs} {y = number + length (x ∷ xs)} (omega arith)
+    ∙ sym (append_assoc (put number x) (for_each put (number + 1) xs) (for_each put (number + length (x ∷ xs)) ys))
+
+-- where an item stands in a list
+pub record At {X : Type 0} (n : ℕ) (xs : List X) (x : X) : Type 0 where
+  pub all : xs ≡ take n xs ++ x ∷ drop (suc n) xs
+  pub more : take (suc n) xs ≡ take n xs ++ x ∷ []
+  pub count : length (take n xs) ≡ n
+
+at_place : {X : Type 0} (n : ℕ) (xs : List X) (x : X) → slice_get xs n ≡ Some x → At n xs x
+at_place n [] x e = absurd (let h : None ≡ Some x = e in cc)
+at_place zero (y ∷ ys) x e =
+    let same : y ≡ x = ap (λ o. unwrap_or o x) e in
+    record { all = ap (λ z. z ∷ ys) same; more = ap (λ z. z ∷ []) same; count = refl }
+at_place (suc n) (y ∷ ys) x e =
+    let rest = at_place n ys x e in
+    record { all = ap (λ zs. y ∷ zs) rest.all; more = ap (λ zs. y ∷ zs) rest.more; count = ap suc rest.count }
+
+module _ {X : Type 0} (put : ℕ → X → List Put) (xs : List X) (n : ℕ) (x : X) (at : slice_get xs n ≡ Some x) where
+  pub next_each : for_each put 0 (take (n + 1) xs) ≡ for_each put 0 (take n xs) ++ put n x
+  next_each =
+      let is = at_place n xs x at in
+      ap (λ k. for_each put 0 (take k xs)) (add-one n)
+      ∙ ap (for_each put 0) is.more
+      ∙ each-then put 0 (take n xs) (x ∷ [])
+      ∙ ap (λ k. for_each put 0 (take n xs) ++ for_each put k (x ∷ [])) {x = 0 + length (take n xs)} {y = n} (omega (arith, is.count))
+      ∙ ap (λ ps. for_each put 0 (take n xs) ++ ps) (append-nil (put n x))
+
+  pub all_each : for_each put 0 xs ≡ for_each put 0 (take n xs) ++ (put n x ++ for_each put (n + 1) (drop (suc n) xs))
+  all_each =
+      let is = at_place n xs x at in
+      ap (for_each put 0) is.all
+      ∙ each-then put 0 (take n xs) (x ∷ drop (suc n) xs)
+      ∙ ap (λ k. for_each put 0 (take n xs) ++ for_each put k (x ∷ drop (suc n) xs)) {x = 0 + length (take n xs)} {y = n} (omega (arith, is.count))
+
+-- what is before the end of a list is there
+pub not_past : {X : Type 0} (n : ℕ) (xs : List X) → slice_get xs n ≡ None → n < length xs → ⊥
+not_past n [] e below = omega (arith, below)
+not_past zero (x ∷ xs) e below = let h : Some x ≡ None = e in cc
+not_past (suc n) (x ∷ xs) e below = not_past n xs e (omega (arith, below))
+
 -- ---- packets that are no messages to an endpoint
 
-pub other_kinds : (setup : Facts) (protocol offset : ℕ) (order : Order) (packet : Packet) (s : Places) → ((g : ℕ) (f : Form) (b : List ℕ) → packet ≡ packets.Exclusive g f b → ⊥)
-    → ((f s l w x y : ℕ) → packet ≡ packets.Stream f s l w x y → ⊥)
-    → (protocol ≡ protocol_after_packet setup protocol packet)
-    × Answers (not_built offset packet) (WrittenAndListed order (packet_replies setup protocol packet) (answer_lines setup protocol offset packet)) tt s s (Ok tt)
-other_kinds setup protocol offset order (packets.Exclusive g f b) s exclusive stream = absurd (exclusive g f b refl)
-other_kinds setup protocol offset order (packets.Stream f t l w x y) s exclusive stream = absurd (stream f t l w x y refl)
-other_kinds setup protocol offset order (packets.Utility t v) s exclusive stream = (refl, nothing_written order s)
-other_kinds setup protocol offset order (packets.System g m) s exclusive stream = (refl, nothing_written order s)
-other_kinds setup protocol offset order (packets.Voice1 g m) s exclusive stream = (refl, nothing_written order s)
-other_kinds setup protocol offset order (packets.Voice2 g m) s exclusive stream = (refl, nothing_written order s)
-other_kinds setup protocol offset order (packets.Data8 g w) s exclusive stream = (refl, nothing_written order s)
-other_kinds setup protocol offset order (packets.Flex g w) s exclusive stream = (refl, nothing_written order s)
-other_kinds setup protocol offset order (packets.Reserved w) s exclusive stream = (refl, nothing_written order s)
+pub other_kinds : (now : EndpointEngine) (offset : ℕ) (packet : Packet) (s : Places) → ((g : ℕ) (f : Form) (b : List ℕ) → packet ≡ packets.Exclusive g f b → ⊥)
+    → ((f s l w x y : ℕ) → packet ≡ packets.Stream f s l w x y → ⊥) → TakesPacket now now offset packet s s (Ok tt)
+other_kinds now offset (packets.Exclusive g f b) s exclusive stream = absurd (exclusive g f b refl)
+other_kinds now offset (packets.Stream f t l w x y) s exclusive stream = absurd (stream f t l w x y refl)
+other_kinds now offset (packets.Utility t v) s exclusive stream = record { setup_is = refl; order_is = refl; protocol_is = refl; groups_are = refl; responder_is = refl; answers = nothing_written now.writer.order s }
+other_kinds now offset (packets.System g m) s exclusive stream = record { setup_is = refl; order_is = refl; protocol_is = refl; groups_are = refl; responder_is = refl; answers = nothing_written now.writer.order s }
+other_kinds now offset (packets.Voice1 g m) s exclusive stream = record { setup_is = refl; order_is = refl; protocol_is = refl; groups_are = refl; responder_is = refl; answers = nothing_written now.writer.order s }
+other_kinds now offset (packets.Voice2 g m) s exclusive stream = record { setup_is = refl; order_is = refl; protocol_is = refl; groups_are = refl; responder_is = refl; answers = nothing_written now.writer.order s }
+other_kinds now offset (packets.Data8 g w) s exclusive stream = record { setup_is = refl; order_is = refl; protocol_is = refl; groups_are = refl; responder_is = refl; answers = nothing_written now.writer.order s }
+other_kinds now offset (packets.Flex g w) s exclusive stream = record { setup_is = refl; order_is = refl; protocol_is = refl; groups_are = refl; responder_is = refl; answers = nothing_written now.writer.order s }
+other_kinds now offset (packets.Reserved w) s exclusive stream = record { setup_is = refl; order_is = refl; protocol_is = refl; groups_are = refl; responder_is = refl; answers = nothing_written now.writer.order s }

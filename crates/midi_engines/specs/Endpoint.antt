@@ -1,33 +1,47 @@
--- A recording of a peer that is answered: the words of the replies to each packet and then its line; at the end the protocol in
--- force.
-use Rattle.std.specs.Prelude.{◌≡◌, ℕ, List, [], ◌∷◌, None, Some}
-use Rattle.std.specs.List.{All}
-use Rattle.std.specs.Option.{option_map_or}
+-- A recording of a peer that is answered: the words of the replies to each packet and then its lines; at the end the lines of the
+-- exclusives that are open, of the protocol in force, and of the blocks and profiles.
+use Rattle.std.specs.Prelude.{◌≡◌, ℕ, Bool, List, [], ◌∷◌, ◌++◌, Option, None, Some, unwrap_or, ◌+◌, if◌then◌else◌, Result, Ok, Err}
+use Rattle.std.specs.Option.{option_map, option_map_or, option_to_list}
 use Rattle.ump_words.specs.declared.words.Framed.{Framed}
-use Rattle.ump_words.specs.declared.words.Order.{Order}
 use Rattle.ump_grammar.specs.declared.packet.Packet.{Packet}
 use Rattle.ump_grammar.specs.declared.packet.Packet.TheVariants as packets
-use Rattle.ump_grammar.specs.Replies.{AddsPackets, word_count}
+use Rattle.sysex_groups.specs.Exclusives.{Part, framed}
+use Rattle.function_blocks.specs.Blocks.{has_ci}
 use Rattle.function_blocks.specs.InForce.{message_read, protocol_at}
 use Rattle.function_blocks.specs.Replies.{protocol_after, stream_replies}
 use Rattle.function_blocks.specs.Setups.{Facts}
-use Rattle.midi_lines.specs.EndpointLines.{endpoint_text, protocol_text}
+use Rattle.function_blocks.specs.declared.setup.Block.{Block}
+use Rattle.function_blocks.specs.declared.setup.Profile.{Profile}
+use Rattle.ci_messages.specs.Reading.{ci_fault}
+use Rattle.ci_messages.specs.declared.view.CiFault.{CiFault}
+use Rattle.ci_messages.specs.declared.view.CiFault.TheVariants as faults
+use Rattle.ci_responder.specs.declared.heard.Heard.{Heard}
+use Rattle.ci_responder.specs.declared.heard.Heard.TheVariants as heard
+use Rattle.ci_responder.specs.declared.keys.Key.{Key}
+use Rattle.ci_responder.specs.History.{heard_at, muid_at, on_at, replies_at}
+use Rattle.ci_responder.specs.Keys.{key_of}
+use Rattle.ci_responder.specs.Messages.{Told}
+use Rattle.ci_responder.specs.Read.{told_in}
+use Rattle.voice_state.specs.Listing.{end_lines, line_of}
+use Rattle.voice_state.specs.Parts.{Placed, part_of, parts_of, whole_by}
+use Rattle.voice_state.specs.Refusal.{bad_part}
+use Rattle.midi_lines.specs.EndpointLines.{block_text, endpoint_text, profile_text, protocol_text}
 use Rattle.midi_lines.specs.declared.endpoint.Name.{Name}
 use Rattle.midi_lines.specs.declared.endpoint.Name.TheVariants as names
 use Rattle.down_translator.specs.Recording.{packets_of}
-use Rattle.midi_pass.specs.Pass.{Tail, Work}
+use Rattle.midi_pass.specs.Pass.{Work}
 use Rattle.midi_pass.specs.Put.{Put, in_notes}
-use Rattle.midi_pass.specs.declared.ends.Reason.TheVariants.{NotBuilt}
+use Rattle.midi_engines.specs.Down.{line_puts, refusal_by}
 use Rattle.midi_engines.specs.Options.{EndpointOptions}
-use Rattle.midi_engines.specs.Packets.{all_placed}
+use Rattle.midi_engines.specs.Packets.{all_placed, placed_of}
 use Rattle.midi_engines.specs.Raised.{output_and_notes}
-use Rattle.midi_engines.specs.Up.{AreWritten, AreWrittenAndListed}
+use Rattle.midi_engines.specs.Up.{AreWrittenAndListed}
 
--- ---- one packet, with the protocol that is in force before it
+-- ---- a stream packet, with the protocol that is in force before it
 
--- the replies to a packet: those to the message of a stream packet, where its format is one that its status has
-abbrev pub packet_replies : Facts → ℕ → Packet → List Packet
-packet_replies setup protocol packet = option_map_or (stream_replies setup protocol) (message_read packet) []
+-- the replies to the message of a stream packet, where its format is one that its status has
+abbrev pub stream_packet_replies : Facts → ℕ → Packet → List Packet
+stream_packet_replies setup protocol packet = option_map_or (stream_replies setup protocol) (message_read packet) []
 
 abbrev pub protocol_after_packet : Facts → ℕ → Packet → ℕ
 protocol_after_packet setup protocol packet = option_map_or (protocol_after setup protocol) (message_read packet) protocol
@@ -38,54 +52,137 @@ name_of_replies [] = names.NoAnswer
 name_of_replies (first ∷ more) = names.Answered
 
 -- what the line of a stream packet says
-abbrev pub name_of : Facts → ℕ → Packet → Name
-name_of setup protocol packet = option_map_or (λ message. name_of_replies (stream_replies setup protocol message)) (message_read packet) names.BadFormat
+abbrev pub stream_name : Facts → ℕ → Packet → Name
+stream_name setup protocol packet = option_map_or (λ message. name_of_replies (stream_replies setup protocol message)) (message_read packet) names.BadFormat
 
 -- the line of a packet, if it is a stream packet
-abbrev pub answer_lines : Facts → ℕ → ℕ → Packet → List Put
-answer_lines setup protocol offset (packets.Stream format status low second third fourth) =
-    in_notes (endpoint_text offset None (name_of setup protocol (packets.Stream format status low second third fourth))) ∷ []
-answer_lines setup protocol offset _ = []
+abbrev pub stream_lines : Facts → ℕ → ℕ → Packet → List Put
+stream_lines setup protocol offset (packets.Stream format status low second third fourth) =
+    in_notes (endpoint_text offset None (stream_name setup protocol (packets.Stream format status low second third fourth))) ∷ []
+stream_lines setup protocol offset _ = []
 
--- 7-bit exclusives aren't heard yet
-abbrev pub not_built : ℕ → Packet → Tail
-not_built offset (packets.Exclusive group form bytes) = Some (NotBuilt, offset)
-not_built offset _ = None
+-- ---- an exclusive that a packet ends
+
+-- what a message of a group says, or its first fault
+abbrev pub Said : Type 0
+Said = Result Told CiFault
+
+abbrev pub said_with : Option CiFault → Told → Said
+said_with None told = Ok told
+said_with (Some fault) told = Err fault
+
+abbrev pub said_in : ℕ → List ℕ → Said
+said_in group message = said_with (ci_fault message) (told_in group message)
+
+-- what the exclusive says that a packet ends after these parts, if it ends one
+abbrev pub said_by : ℕ → List Part → Packet → Option Said
+said_by room parts (packets.Exclusive group form bytes) =
+    option_map (λ payload. said_in group (framed payload)) (whole_by (Some room) parts (packets.Exclusive group form bytes))
+said_by room parts _ = None
+
+-- a message without a fault is heard
+abbrev pub told_by : Option Said → List Told
+told_by (Some (Ok told)) = told ∷ []
+told_by _ = []
+
+-- the messages that are heard in these packets; both newest first
+abbrev pub told_in_packets : ℕ → List Placed → List Told
+told_in_packets room [] = []
+told_in_packets room (placed ∷ past) = told_by (said_by room (parts_of past) placed.packet) ++ told_in_packets room past
+
+abbrev pub name_of_heard : Heard → Name
+name_of_heard heard.NoBlock = names.NoBlock
+name_of_heard heard.Silent = names.Silent
+name_of_heard heard.Collision = names.Collision
+name_of_heard heard.OldVersion = names.OldVersion
+name_of_heard heard.NotOurs = names.NotOurs
+name_of_heard heard.Moved = names.Moved
+name_of_heard heard.Report = names.Report
+name_of_heard heard.Broadcast = names.Broadcast
+name_of_heard heard.Answered = names.Answered
+name_of_heard heard.Passed = names.Passed
+name_of_heard heard.Nak = names.Nak
+
+abbrev pub name_of_fault : CiFault → Name
+name_of_fault faults.NotCi = names.NotCi
+name_of_fault faults.Short = names.Short
+name_of_fault faults.BadAddress = names.BadAddress
+name_of_fault faults.ReservedMuid = names.ReservedMuid
+
+-- the replies to a message after those that were heard, and what its line says
+abbrev pub message_replies : Facts → ℕ → List Told → Option Said → List Packet
+message_replies setup room past (Some (Ok told)) = replies_at setup room past told
+message_replies setup room past _ = []
+
+abbrev pub said_name : Facts → List Told → Said → Name
+said_name setup past (Ok told) = name_of_heard (heard_at setup past told)
+said_name setup past (Err fault) = name_of_fault fault
+
+-- the line of the message that a packet of this group ends
+abbrev pub message_lines : Facts → List Told → ℕ → Packet → Option Said → List Put
+message_lines setup past offset (packets.Exclusive group form bytes) (Some said) =
+    in_notes (endpoint_text offset (Some group) (said_name setup past said)) ∷ []
+message_lines setup past offset _ _ = []
+
+-- the line of an exclusive packet that is stray or cuts another exclusive
+abbrev pub exclusive_lines : ℕ → List Part → Placed → List Put
+exclusive_lines room parts placed = option_map_or (λ part. line_puts (option_to_list (line_of (Some room) parts placed))) (part_of 0 placed.packet) []
+
+-- ---- a packet after others
+
+-- the protocol in force after these packets, newest first
+abbrev pub in_force : Facts → List Placed → ℕ
+in_force setup past = protocol_at setup (packets_of past)
+
+module _ (setup : Facts) (room : ℕ) (past : List Placed) (placed : Placed) where
+  abbrev pub packet_replies : List Packet
+  packet_replies =
+      stream_packet_replies setup (in_force setup past) placed.packet
+      ++ message_replies setup room (told_in_packets room past) (said_by room (parts_of past) placed.packet)
+
+  -- the line of what the packet says, and then that of what is lost by it
+  abbrev pub packet_lines : List Put
+  packet_lines =
+      stream_lines setup (in_force setup past) placed.offset placed.packet
+      ++ (message_lines setup (told_in_packets room past) placed.offset placed.packet (said_by room (parts_of past) placed.packet)
+      ++ exclusive_lines room (parts_of past) placed)
+
+-- ---- the end
+
+-- what is put for each of these, which are numbered from a first one on
+abbrev pub for_each : {X : Type 0} → (ℕ → X → List Put) → ℕ → List X → List Put
+for_each put number [] = []
+for_each put number (x ∷ xs) = put number x ++ for_each put (number + 1) xs
+
+-- the line of a block that has MIDI-CI, with the MUID in force
+abbrev pub block_line_of : (ℕ → Option ℕ) → ℕ → Block → List Put
+block_line_of muid number block = if has_ci block then in_notes (block_text number (muid number)) ∷ [] else []
+
+-- the line of a profile: on or off, where that is known, else as the setup says
+abbrev pub profile_line_of : (Key → Option Bool) → ℕ → Profile → List Put
+profile_line_of on number profile = in_notes (profile_text profile (unwrap_or (on (key_of profile)) profile.on)) ∷ []
+
+-- the lines at the end: of the exclusives that are open, of the protocol, of the blocks and of the profiles. A profile is on or off by
+-- the last switch of it that was accepted, else as the setup says.
+abbrev pub closing_lines : Facts → ℕ → List Placed → List Put
+closing_lines setup room past =
+    line_puts (end_lines (Some room) (parts_of past))
+    ++ (in_notes (protocol_text (in_force setup past)) ∷ []
+    ++ (for_each (block_line_of (muid_at setup (told_in_packets room past))) 0 setup.blocks
+    ++ for_each (profile_line_of (on_at setup (told_in_packets room past))) 0 setup.profiles))
 
 -- ---- a recording
 
--- the protocol in force after these packets, the newest first
-abbrev pub in_force : Facts → List (Framed × Packet) → ℕ
-in_force setup past = protocol_at setup (packets_of (all_placed past))
-
 -- What is done with the packets of a peer: the words of the replies to each are put in the output, each packet by one put, and
--- then its line in the notes; at the end the line of the protocol in force.
+-- then its lines in the notes. A packet is refused where it makes its exclusive too long.
 abbrev pub answering : EndpointOptions → Work (Framed × Packet)
 answering options =
     record {
       names = output_and_notes;
-      refusal = λ past item. not_built item.0.offset item.1;
-      IsPut = λ past item puts.
-          AreWrittenAndListed options.order (packet_replies options.setup (in_force options.setup past) item.1)
-          (answer_lines options.setup (in_force options.setup past) item.0.offset item.1) puts;
-      IsPutAtEnd = λ past puts. puts ≡ in_notes (protocol_text (in_force options.setup past)) ∷ [];
+      refusal = λ past item. refusal_by (bad_part (Some options.room) (parts_of (all_placed past)) (part_of 0 item.1)) item.0.offset;
+      IsPut = λ past item puts. AreWrittenAndListed options.order
+          (packet_replies options.setup options.room (all_placed past) (placed_of item))
+          (packet_lines options.setup options.room (all_placed past) (placed_of item)) puts;
+      IsPutAtEnd = λ past puts. puts ≡ closing_lines options.setup options.room (all_placed past);
       Means = λ past puts. Unit {0};
     }
-
--- ---- by what is held
-
--- what is done with these packets: they are written; and then these lines are put
-abbrev pub Written : Order → List Packet → Unit {0} → List Put → Type 0
-Written order packets to puts = AreWritten order packets puts
-
-abbrev pub WrittenAndListed : Order → List Packet → List Put → Unit {0} → List Put → Type 0
-WrittenAndListed order packets lines to puts = AreWrittenAndListed order packets lines puts
-
--- the words of these packets, each of which has so many
-pub record AreWordsOf (size : ℕ) (packets : List Packet) (words : List ℕ) : Type 0 where
-  pub added : AddsPackets packets [] words
-  pub sizes : All (λ packet. word_count packet ≡ size) packets
-
--- the options of an engine
-abbrev pub options_of : Facts → Order → EndpointOptions
-options_of setup order = record { setup = setup; order = order; room = 0 }

@@ -1,6 +1,7 @@
 // From packets to MIDI 1.0 bytes.
 ghost use Rattle.std.specs.Prelude.{◌≡◌, ◌<◌, ◌≤◌, ◌∷◌, IfOk, [], true};
-ghost use Rattle.std.specs.Option.{option_to_list};
+ghost use Rattle.std.specs.Option.{option_map, option_to_list};
+ghost use Rattle.sysex_groups.specs.Table.{Table, begun_in};
 ghost use Rattle.ump_grammar.specs.declared.packet.Packet.{Packet};
 ghost use Rattle.ump_grammar.specs.Ranges.{IsPacket};
 ghost use Rattle.down_translator.specs.Held.{down_after, limit_of, new_down};
@@ -25,6 +26,7 @@ use midi_pass::places::{put_lane, put_notes};
 use midi_pass::{Engine, Reason, RunEnd, drive};
 use std::alloc::Global;
 use std::marker::Model;
+use sysex_groups::Groups;
 use ump_grammar::Packet;
 use ump_grammar::laws::words_spell_one_packet;
 use ump_words::{Framed, Order, fronts_are_cut_as_the_stream, one_cutting};
@@ -274,19 +276,45 @@ fn carry<L: Lanes, W: Sink, N: Sink>(
     }
 }
 
+/// Tells what groups have open.
+pub(crate) trait OpenExclusives {
+    /// What each group has open.
+    ghost table: { Self → Table };
+
+    /// The offset of the packet that began the group's exclusive; `None` exactly when nothing is open.
+    fn begun_at(&self, group: U4) -> Option<u64>
+        ensures { result ≡ option_map (λ begun. begun.start) (begun_in (table self.now) group) };
+}
+
+impl OpenExclusives for Down {
+    ghost table = { λ down. down.exclusives };
+
+    fn begun_at(&self, group: U4) -> Option<u64> {
+        Down::begun_at(self, group)
+    }
+}
+
+impl OpenExclusives for Groups {
+    ghost table = { λ groups. groups };
+
+    fn begun_at(&self, group: U4) -> Option<u64> {
+        Groups::begun_at(self, group)
+    }
+}
+
 // Lists the exclusive of a group, if it is still open.
-fn list_group<L: Lanes, W: Sink, N: Sink>(
-    down: &Down,
+fn list_group<O: OpenExclusives, L: Lanes, W: Sink, N: Sink>(
+    held: &O,
     group: U4,
     lanes: &mut L,
     output: &mut W,
     notes: &mut N,
 ) -> Result<(), RunEnd>
-    ensures { Puts (line_puts (option_to_list (open_line down.now group)))
+    ensures { Puts (line_puts (option_to_list (open_line (O.table held.now) group)))
         (places L.Lanes W.Sink N.Sink lanes.old output.old notes.old)
         (places L.Lanes W.Sink N.Sink lanes.new output.new notes.new) result }
 {
-    match down.begun_at(group) {
+    match held.begun_at(group) {
         Some(offset) => {
             let listed = Listed {
                 offset,
@@ -299,19 +327,19 @@ fn list_group<L: Lanes, W: Sink, N: Sink>(
     }
 }
 
-// Lists the exclusives that are still open, by group.
-fn list_open<L: Lanes, W: Sink, N: Sink>(
-    down: &Down,
+/// Lists the exclusives that are still open, by group.
+pub(crate) fn list_open<O: OpenExclusives, L: Lanes, W: Sink, N: Sink>(
+    held: &O,
     lanes: &mut L,
     output: &mut W,
     notes: &mut N,
 ) -> Result<(), RunEnd>
-    ensures { Puts (open_puts down.now groups)
+    ensures { Puts (open_puts (O.table held.now) groups)
         (places L.Lanes W.Sink N.Sink lanes.old output.old notes.old)
         (places L.Lanes W.Sink N.Sink lanes.new output.new notes.new) result }
 {
     for number in 0..16u8 {
-        match list_group(down, U4::low_bits(number as u32), lanes, output, notes) {
+        match list_group(held, U4::low_bits(number as u32), lanes, output, notes) {
             Ok(()) => {}
             Err(end) => return Err(end),
         }

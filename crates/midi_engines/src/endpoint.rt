@@ -1,89 +1,128 @@
-// The replies of an endpoint to the packets of a peer.
-ghost use Rattle.std.specs.Prelude.{◌≡◌, ◌≤◌, ◌<◌, ℕ, List, [], ◌∷◌, IfOk, None, Ok, length, refl};
-ghost use Rattle.std.specs.List.{All};
-ghost use Rattle.function_blocks.specs.InForce.{message_read};
-ghost use Rattle.function_blocks.specs.Setups.{Facts};
-ghost use Rattle.midi_lines.specs.EndpointLines.{endpoint_text, protocol_text};
-ghost use Rattle.midi_pass.specs.Pass.{Ends, IsDoneUnless, Takes, seen};
+// The endpoint that a peer finds: its replies to stream messages and to MIDI-CI.
+ghost use Rattle.std.specs.Prelude.{◌≡◌, ◌≤◌, [], ◌∷◌, ◌++◌, IfOk, unwrap_or};
+ghost use Rattle.ci_responder.specs.Held.{muid_in};
+ghost use Rattle.ci_responder.specs.History.{held_at};
+ghost use Rattle.ci_responder.specs.Keys.{key_of, state_in};
+ghost use Rattle.function_blocks.specs.Profiles.{profiles_are_distinct};
+ghost use Rattle.midi_lines.specs.EndpointLines.{protocol_text};
+ghost use Rattle.midi_pass.specs.Pass.{Ends, IsDoneUnless, seen};
 ghost use Rattle.midi_pass.specs.Places.{Puts, places};
 ghost use Rattle.midi_pass.specs.Put.{in_notes};
 ghost use Rattle.system_stream.specs.Layout.{IsStream};
+ghost use Rattle.sysex_groups.specs.Table.{empty_table};
 ghost use Rattle.ump_grammar.specs.Ranges.{IsPacket};
-ghost use Rattle.ump_grammar.specs.Replies.{AddsPackets, word_count};
-ghost use Rattle.ump_grammar.specs.declared.packet.Packet.{Packet};
-ghost use Rattle.midi_engines.specs.Endpoint.{AreWordsOf, Written, WrittenAndListed, answer_lines, answering, in_force, name_of, not_built, options_of, packet_replies, protocol_after_packet};
+ghost use Rattle.midi_engines.specs.Endpoint.{
+  answering,
+  block_line_of,
+  for_each,
+  profile_line_of,
+  protocol_after_packet,
+  stream_lines,
+  stream_name,
+  stream_packet_replies,
+};
+ghost use Rattle.midi_engines.specs.EndpointHeld.{
+  AreWordsOf,
+  HoldsEndpoint,
+  IsReadyEndpoint,
+  TakesPacket,
+  WrittenAndListed,
+  answers_nothing,
+  held_closing,
+  options_of,
+  setup_lines,
+};
 ghost use Rattle.midi_engines.specs.EndpointMeans.{answers_last_named, answers_named};
 ghost use Rattle.midi_engines.specs.Packets.{packet_cutting};
-ghost use Rattle.midi_engines.specs.Raised.{Answers, CarriesOut};
+ghost use Rattle.midi_engines.specs.Raised.{CarriesOut};
 
+use crate::down::list_open;
+use crate::hearing::{Listener, take_part};
 use crate::packets::PacketReader;
-use function_blocks::{Config, Setup, protocol_follows_the_requests, replies_have_four_words};
-use midi_edge::{Lanes, NoMemory, Sink, Source};
-use midi_lines::{Line, Name, fill_endpoint_line, protocol_line};
+use crate::replies::ReplyWriter;
+use ci_responder::{Key, ProfileId, Responder, held_is_the_history};
+use down_translator::laws::{spelled_packets_are_in_range, what_is_held_is_the_definition};
+use function_blocks::{
+    Block, Config, Profile, Setup, protocol_follows_the_requests, replies_have_four_words,
+};
+use midi_edge::{Lanes, NoMemory, Sink, Source, U4};
+use midi_lines::{Line, Name, block_line, profile_line, protocol_line};
 use midi_pass::places::put_notes;
-use midi_pass::{Engine, Reason, RunEnd, drive};
+use midi_pass::{Engine, RunEnd, drive};
 use std::alloc::Global;
 use std::marker::Model;
+use sysex_groups::Groups;
 use system_stream::read;
-use ump_grammar::laws::{packets_have_their_words, words_spell_one_packet};
+use ump_grammar::laws::words_spell_one_packet;
 use ump_grammar::{Packet, Replies};
-use ump_words::{Framed, Order, fronts_are_cut_as_the_stream, one_cutting, put_words};
+use ump_words::{Framed, Order, fronts_are_cut_as_the_stream, one_cutting};
 
 /// An endpoint that is ready to answer, with all its memory. A contract sees its options.
 #[derive(Drop)]
 pub struct EndpointRun {
     setup: Setup,
     order: Order,
-    room: u32,
+    listener: Listener,
 }
 
 impl Model for EndpointRun {
+    ghost use Rattle.std.specs.Prelude.{◌≡◌, ◌≤◌, []};
+    ghost use Rattle.ci_responder.specs.History.{held_at};
+    ghost use Rattle.sysex_groups.specs.Table.{empty_table};
     ghost use Rattle.midi_engines.specs.Options.{EndpointOptions};
 
     ghost Value = { EndpointOptions };
 
-    ghost view = { λ r. record { setup = r.setup; order = r.order; room = r.room } };
+    ghost view = { λ r. record { setup = r.setup; order = r.order; room = r.listener.groups.room } };
+
+    ghost invariant = { λ r. (6 ≤ r.listener.groups.room)
+        × (r.listener.groups ≡ empty_table r.listener.groups.room)
+        × (r.listener.responder ≡ held_at r.setup r.listener.groups.room []) };
 }
 
 impl EndpointRun {
     /// An endpoint of this setup; the words that it reads and writes have this order. `room` is the most bytes of an exclusive between
-    /// F0 and F7, 6 to 1,048,576. Takes no memory yet, so `NoMemory` doesn't come.
+    /// F0 and F7, 6 to 1,048,576, for which each group reserves memory; `NoMemory` when there isn't that much. No other call takes
+    /// any.
     pub fn new(
-        _alloc: Global,
+        alloc: Global,
         setup: Setup,
         order: Order,
         room: u32,
     ) -> Result<EndpointRun, NoMemory>
         requires least { 6 ≤ room }
         requires most { room ≤ 1048576 }
-        ensures { result ≡ Ok (record { setup = setup; order = order; room = room }) }
+        ensures { IfOk result (λ run. run ≡ record { setup = setup; order = order; room = room }) }
     {
-        Ok(EndpointRun { setup, order, room })
+        let groups = Groups::new(alloc, room)?;
+        let responder = Responder::new(alloc, &setup, room)?;
+        let listener = Listener { groups, responder };
+        Ok(EndpointRun {
+            setup,
+            order,
+            listener,
+        })
     }
 }
 
-// How many words a stream packet has (M2-104-UM, message types).
-const STREAM_WORDS: usize = 4;
-
-// Puts the words of the replies to each packet in the output and its line in the notes, at the end the line of the protocol in force.
+// Puts the words of the replies to each packet in the output and its lines in the notes, at the end the lines of what is open, of the
+// protocol in force, and of the blocks and profiles.
 #[derive(Drop)]
 struct EndpointEngine {
     setup: Setup,
-    order: Order,
     config: Config,
-    replies: Replies,
-    line: Line,
+    listener: Listener,
+    writer: ReplyWriter,
 }
 
 impl Engine<Framed, Packet> for EndpointEngine {
-    ghost work = { λ first. answering (options_of first.setup first.order) };
+    ghost work = { λ first. answering (options_of first) };
 
-    ghost IsReady = { λ first. first.config.protocol ≡ first.setup.endpoint.protocol };
+    ghost IsReady = { λ first. IsReadyEndpoint first };
 
     ghost UsesLanes = { ⊥ };
 
-    ghost Holds = { λ first now past. (now.setup ≡ first.setup) × (now.order ≡ first.order)
-        × (now.config.protocol ≡ in_force first.setup past) };
+    ghost Holds = { λ first now past. HoldsEndpoint first now past };
 
     ghost Asks = { λ item. IsPacket item.1 };
 
@@ -98,6 +137,9 @@ impl Engine<Framed, Packet> for EndpointEngine {
         notes: &mut N,
     ) -> Result<(), RunEnd> {
         protocol_follows_the_requests();
+        spelled_packets_are_in_range();
+        what_is_held_is_the_definition();
+        held_is_the_history();
         self.take_packet(at.offset, item, lanes, output, notes)
     }
 
@@ -107,27 +149,31 @@ impl Engine<Framed, Packet> for EndpointEngine {
         output: &mut W,
         notes: &mut N,
     ) -> Result<(), RunEnd> {
-        put_protocol(self.config.protocol, lanes, output, notes)
+        what_is_held_is_the_definition();
+        held_is_the_history();
+        self.put_closing(lanes, output, notes)
     }
 
-    ghost puts_are_named = { λ first past item puts put.
-        answers_named (options_of first.setup first.order) past item puts put };
+    ghost puts_are_named = { λ first past item puts put. answers_named (options_of first) past item puts put };
 
-    ghost last_puts_are_named = { λ first past puts put.
-        answers_last_named (options_of first.setup first.order) past puts put };
+    ghost last_puts_are_named = { λ first past puts put. answers_last_named (options_of first) past puts put };
 
-    ghost starts = { λ first ready. (refl, refl, ready) };
+    ghost starts = { λ first ready. answers_nothing first ready };
 
     ghost means = { λ first now past puts holds accepted put. tt };
 }
+
+// How many words a stream packet has (M2-104-UM, message types).
+const STREAM_WORDS: usize = 4;
 
 // Answers a stream packet: its replies, the protocol in force after it, and what its line says.
 fn answer(setup: &Setup, config: &mut Config, replies: &mut Replies, packet: &Packet) -> Name
     requires stream { IsStream packet.now }
     requires packet { IsPacket packet.now }
-    ensures replies { AreWordsOf STREAM_WORDS (packet_replies setup.now config.old.protocol packet.now) replies.new }
+    ensures replies { AreWordsOf STREAM_WORDS
+        (stream_packet_replies setup.now config.old.protocol packet.now) replies.new }
     ensures protocol { config.new.protocol ≡ protocol_after_packet setup.now config.old.protocol packet.now }
-    ensures name { result ≡ name_of setup.now config.old.protocol packet.now }
+    ensures name { result ≡ stream_name setup.now config.old.protocol packet.now }
 {
     replies_have_four_words();
     replies.clear();
@@ -141,52 +187,6 @@ fn answer(setup: &Setup, config: &mut Config, replies: &mut Replies, packet: &Pa
         }
         Err(_) => Name::BadFormat,
     }
-}
-
-// Puts the words of packets in the output, each packet by one put. Each has so many words, one to four.
-fn put_packets<L: Lanes, W: Sink, N: Sink>(
-    words: &[u32],
-    size: usize,
-    order: Order,
-    lanes: &mut L,
-    output: &mut W,
-    notes: &mut N,
-) -> Result<(), RunEnd>
-    requires size { (0 < size) × (size ≤ 4) }
-    requires words { (packets : List Packet) × AreWordsOf size packets words.now }
-    ensures { (packets : List Packet) → AreWordsOf size packets words.now →
-        CarriesOut (Written order packets) tt
-        (places L.Lanes W.Sink N.Sink lanes.old output.old notes.old)
-        (places L.Lanes W.Sink N.Sink lanes.new output.new notes.new) result }
-{
-    packets_have_their_words();
-    let mut rest = words;
-    while !rest.is_empty() {
-        let _first = rest[0];
-        let (packet, more) = rest.split_at(size);
-        match put_words(packet, order, output) {
-            Ok(()) => rest = more,
-            Err(_) => return Err(RunEnd::OutputFault),
-        }
-    }
-    Ok(())
-}
-
-// Puts the line of a stream packet in the notes.
-fn put_name<L: Lanes, W: Sink, N: Sink>(
-    line: &mut Line,
-    offset: u64,
-    name: Name,
-    lanes: &mut L,
-    output: &mut W,
-    notes: &mut N,
-) -> Result<(), RunEnd>
-    ensures { Puts (in_notes (endpoint_text offset None name) ∷ [])
-        (places L.Lanes W.Sink N.Sink lanes.old output.old notes.old)
-        (places L.Lanes W.Sink N.Sink lanes.new output.new notes.new) result }
-{
-    fill_endpoint_line(line, offset, None, name);
-    put_notes(line.as_slice(), lanes, output, notes)
 }
 
 // Puts the line of the protocol in force in the notes.
@@ -204,43 +204,57 @@ fn put_protocol<L: Lanes, W: Sink, N: Sink>(
     put_notes(line.as_slice(), lanes, output, notes)
 }
 
-impl EndpointEngine {
-    // Answers a stream packet: puts the words of its replies in the output, and then its line in the notes.
-    fn put_answer<L: Lanes, W: Sink, N: Sink>(
-        &mut self,
-        offset: u64,
-        packet: &Packet,
-        lanes: &mut L,
-        output: &mut W,
-        notes: &mut N,
-    ) -> Result<(), RunEnd>
-        requires stream { IsStream packet.now }
-        requires packet { IsPacket packet.now }
-        ensures setup { self.new.setup ≡ self.old.setup }
-        ensures order { self.new.order ≡ self.old.order }
-        ensures protocol { self.new.config.protocol ≡
-            protocol_after_packet self.old.setup self.old.config.protocol packet.now }
-        ensures puts { CarriesOut (WrittenAndListed self.old.order
-            (packet_replies self.old.setup self.old.config.protocol packet.now)
-            (answer_lines self.old.setup self.old.config.protocol offset packet.now)) tt
-            (places L.Lanes W.Sink N.Sink lanes.old output.old notes.old)
-            (places L.Lanes W.Sink N.Sink lanes.new output.new notes.new) result }
-    {
-        let name = answer(&self.setup, &mut self.config, &mut self.replies, packet);
-        match put_packets(
-            self.replies.words(),
-            STREAM_WORDS,
-            self.order,
-            lanes,
-            output,
-            notes,
-        ) {
-            Ok(()) => put_name(&mut self.line, offset, name, lanes, output, notes),
-            Err(end) => Err(end),
-        }
+// Puts the line of a block, if it has MIDI-CI.
+fn put_block<L: Lanes, W: Sink, N: Sink>(
+    responder: &Responder,
+    number: u8,
+    block: &Block,
+    lanes: &mut L,
+    output: &mut W,
+    notes: &mut N,
+) -> Result<(), RunEnd>
+    ensures { Puts (block_line_of (muid_in responder.now.blocks) number block.now)
+        (places L.Lanes W.Sink N.Sink lanes.old output.old notes.old)
+        (places L.Lanes W.Sink N.Sink lanes.new output.new notes.new) result }
+{
+    if !block.has_ci() {
+        return Ok(());
     }
+    let line = block_line(number, responder.muid(number));
+    put_notes(line.as_slice(), lanes, output, notes)
+}
 
-    // Takes one more packet: a stream packet is answered, and a 7-bit exclusive refused.
+// Whether a profile is on. The responder knows each profile of the setup.
+fn is_on(responder: &Responder, profile: &Profile) -> bool
+    ensures { result ≡ unwrap_or (state_in responder.now.states (key_of profile.now)) profile.now.on }
+{
+    let id = profile.id;
+    let key = Key {
+        block: profile.block,
+        place: profile.place,
+        id: ProfileId { bytes: id },
+    };
+    responder.profile_is_on(&key).unwrap_or(profile.on)
+}
+
+// Puts the line of a profile.
+fn put_profile<L: Lanes, W: Sink, N: Sink>(
+    responder: &Responder,
+    profile: &Profile,
+    lanes: &mut L,
+    output: &mut W,
+    notes: &mut N,
+) -> Result<(), RunEnd>
+    ensures { Puts (profile_line_of (state_in responder.now.states) 0 profile.now)
+        (places L.Lanes W.Sink N.Sink lanes.old output.old notes.old)
+        (places L.Lanes W.Sink N.Sink lanes.new output.new notes.new) result }
+{
+    let line = profile_line(profile, is_on(responder, profile));
+    put_notes(line.as_slice(), lanes, output, notes)
+}
+
+impl EndpointEngine {
+    // Takes one more packet: a stream packet is answered, and a part of an exclusive joined and, where it ends one, heard.
     fn take_packet<L: Lanes, W: Sink, N: Sink>(
         &mut self,
         offset: u64,
@@ -250,35 +264,169 @@ impl EndpointEngine {
         notes: &mut N,
     ) -> Result<(), RunEnd>
         requires packet { IsPacket packet.now }
-        ensures setup { self.new.setup ≡ self.old.setup }
-        ensures order { self.new.order ≡ self.old.order }
-        ensures protocol { self.new.config.protocol ≡
-            protocol_after_packet self.old.setup self.old.config.protocol packet.now }
-        ensures answers { Answers (not_built offset packet.now) (WrittenAndListed self.old.order
-            (packet_replies self.old.setup self.old.config.protocol packet.now)
-            (answer_lines self.old.setup self.old.config.protocol offset packet.now)) tt
+        ensures { TakesPacket self.old self.new offset packet.now
             (places L.Lanes W.Sink N.Sink lanes.old output.old notes.old)
             (places L.Lanes W.Sink N.Sink lanes.new output.new notes.new) result }
     {
         match packet {
-            Packet::Exclusive { .. } => Err(RunEnd::Refused {
-                reason: Reason::NotBuilt,
+            Packet::Exclusive { group, form, bytes } => take_part(
+                &mut self.listener,
+                &mut self.writer,
                 offset,
-            }),
-            Packet::Stream { .. } => self.put_answer(offset, packet, lanes, output, notes),
+                *group,
+                *form,
+                bytes.as_slice(),
+                lanes,
+                output,
+                notes,
+            ),
+            Packet::Stream { .. } => self.take_stream(offset, packet, lanes, output, notes),
             _ => Ok(()),
+        }
+    }
+
+    // Answers a stream packet: puts the words of its replies in the output, and then its line in the notes.
+    fn take_stream<L: Lanes, W: Sink, N: Sink>(
+        &mut self,
+        offset: u64,
+        packet: &Packet,
+        lanes: &mut L,
+        output: &mut W,
+        notes: &mut N,
+    ) -> Result<(), RunEnd>
+        requires stream { IsStream packet.now }
+        requires packet { IsPacket packet.now }
+        ensures same { self.new ≡ record self.old { config = self.new.config; writer = self.new.writer } }
+        ensures order { self.new.writer.order ≡ self.old.writer.order }
+        ensures protocol { self.new.config.protocol ≡
+            protocol_after_packet self.old.setup self.old.config.protocol packet.now }
+        ensures puts { CarriesOut (WrittenAndListed self.old.writer.order
+            (stream_packet_replies self.old.setup self.old.config.protocol packet.now)
+            (stream_lines self.old.setup self.old.config.protocol offset packet.now)) tt
+            (places L.Lanes W.Sink N.Sink lanes.old output.old notes.old)
+            (places L.Lanes W.Sink N.Sink lanes.new output.new notes.new) result }
+    {
+        let name = answer(
+            &self.setup,
+            &mut self.config,
+            &mut self.writer.replies,
+            packet,
+        );
+        self.writer
+            .put_answer(STREAM_WORDS, offset, None, name, lanes, output, notes)
+    }
+
+    // Puts the line of each block that has MIDI-CI, with the MUID in force.
+    fn put_blocks<L: Lanes, W: Sink, N: Sink>(
+        &self,
+        lanes: &mut L,
+        output: &mut W,
+        notes: &mut N,
+    ) -> Result<(), RunEnd>
+        ensures { Puts (for_each (block_line_of (muid_in self.now.listener.responder.blocks)) 0 self.now.setup.blocks)
+            (places L.Lanes W.Sink N.Sink lanes.old output.old notes.old)
+            (places L.Lanes W.Sink N.Sink lanes.new output.new notes.new) result }
+    {
+        for number in 0..self.setup.block_count() {
+            match self.setup.block(number) {
+                Some(block) => {
+                    let responder = &self.listener.responder;
+                    match put_block(responder, number, block, lanes, output, notes) {
+                        Ok(()) => {}
+                        Err(end) => return Err(end),
+                    }
+                }
+                None => unreachable!(),
+            }
+        }
+        Ok(())
+    }
+
+    // Puts the line of each profile, on or off.
+    fn put_profiles<L: Lanes, W: Sink, N: Sink>(
+        &self,
+        lanes: &mut L,
+        output: &mut W,
+        notes: &mut N,
+    ) -> Result<(), RunEnd>
+        ensures { Puts (for_each (profile_line_of (state_in self.now.listener.responder.states)) 0 self.now.setup.profiles)
+            (places L.Lanes W.Sink N.Sink lanes.old output.old notes.old)
+            (places L.Lanes W.Sink N.Sink lanes.new output.new notes.new) result }
+    {
+        for k in 0..self.setup.profile_count() {
+            match self.setup.profile(k) {
+                Some(profile) => {
+                    match put_profile(&self.listener.responder, profile, lanes, output, notes) {
+                        Ok(()) => {}
+                        Err(end) => return Err(end),
+                    }
+                }
+                None => unreachable!(),
+            }
+        }
+        Ok(())
+    }
+
+    // Puts the lines of the blocks and of the profiles.
+    fn put_setup<L: Lanes, W: Sink, N: Sink>(
+        &self,
+        lanes: &mut L,
+        output: &mut W,
+        notes: &mut N,
+    ) -> Result<(), RunEnd>
+        ensures { Puts (setup_lines self.now)
+            (places L.Lanes W.Sink N.Sink lanes.old output.old notes.old)
+            (places L.Lanes W.Sink N.Sink lanes.new output.new notes.new) result }
+    {
+        match self.put_blocks(lanes, output, notes) {
+            Ok(()) => self.put_profiles(lanes, output, notes),
+            Err(end) => Err(end),
+        }
+    }
+
+    // Puts the line of the protocol in force, and those of the blocks and profiles.
+    fn put_state<L: Lanes, W: Sink, N: Sink>(
+        &self,
+        lanes: &mut L,
+        output: &mut W,
+        notes: &mut N,
+    ) -> Result<(), RunEnd>
+        ensures { Puts (in_notes (protocol_text self.now.config.protocol) ∷ [] ++ setup_lines self.now)
+            (places L.Lanes W.Sink N.Sink lanes.old output.old notes.old)
+            (places L.Lanes W.Sink N.Sink lanes.new output.new notes.new) result }
+    {
+        match put_protocol(self.config.protocol, lanes, output, notes) {
+            Ok(()) => self.put_setup(lanes, output, notes),
+            Err(end) => Err(end),
+        }
+    }
+
+    // Puts the lines of the exclusives that are open, of the protocol in force, and of the blocks and profiles.
+    fn put_closing<L: Lanes, W: Sink, N: Sink>(
+        &self,
+        lanes: &mut L,
+        output: &mut W,
+        notes: &mut N,
+    ) -> Result<(), RunEnd>
+        ensures { Puts (held_closing self.now)
+            (places L.Lanes W.Sink N.Sink lanes.old output.old notes.old)
+            (places L.Lanes W.Sink N.Sink lanes.new output.new notes.new) result }
+    {
+        match list_open(&self.listener.groups, lanes, output, notes) {
+            Ok(()) => self.put_state(lanes, output, notes),
+            Err(end) => Err(end),
         }
     }
 }
 
-/// Answers the packets of a peer, to the end of the recording or to the first packet that is refused (M2-104-UM, UMP stream messages;
-/// the lines are own rule). Puts the words of the replies to each stream packet in the output, each packet by one put, and then
-/// its line in the notes; at the end the line of the protocol in force. Packets of other kinds have no reply and no line. Takes
-/// no memory.
+/// Answers the packets of a peer as an endpoint, to the end of the recording or to the first packet that is refused (M2-104-UM, UMP
+/// stream messages; M2-101-UM; the lines are own rule). Puts the words of the replies to each stream packet, and to each MIDI-CI
+/// message that a packet ends, in the output, each packet by one put, and then the lines of that packet in the notes; at the end the
+/// lines of the exclusives that are open, of the protocol in force, and of the blocks with MIDI-CI and the profiles. Packets of
+/// other kinds have no reply and no line. Takes no memory.
 ///
-/// `Refused` comes for `Truncated`, `InputTooLong`, `BadCount` and `HighBit`, and for `NotBuilt` at each 7-bit exclusive packet, since
-/// MIDI-CI isn't heard yet, with the number of bytes before what is refused. `ReadFault`, `OutputFault` and `NoteFault` come only
-/// where the count of that object rose. The lanes stay as they are.
+/// `Refused` comes for `Truncated`, `InputTooLong`, `BadCount`, `HighBit` and `ExclusiveTooLong`, with the number of bytes before what is
+/// refused. `ReadFault`, `OutputFault` and `NoteFault` come only where the count of that object rose. The lanes stay as they are.
 pub fn run_endpoint<S: Source, L: Lanes, W: Sink, N: Sink>(
     engine: EndpointRun,
     input: &mut S,
@@ -293,38 +441,53 @@ pub fn run_endpoint<S: Source, L: Lanes, W: Sink, N: Sink>(
         (seen S.Source L.Lanes W.Sink N.Sink input.old lanes.old output.old notes.old)
         (seen S.Source L.Lanes W.Sink N.Sink input.new lanes.new output.new notes.new) result }
 {
-    let EndpointRun { setup, order, .. } = engine;
-    answer_all(setup, order, input, lanes, output, notes)
+    let EndpointRun {
+        setup,
+        order,
+        listener,
+    } = engine;
+    answer_all(setup, order, listener, input, lanes, output, notes)
 }
 
-// Answers the packets of a peer by a setup. It stays a function of its own, so that the loops of the other passes keep their
-// registers.
+// Answers the packets of a peer by an endpoint that has heard nothing. It stays a function of its own, so that the loops of the other
+// passes keep their registers.
 #[inline(never)]
 fn answer_all<S: Source, L: Lanes, W: Sink, N: Sink>(
     setup: Setup,
     order: Order,
+    listener: Listener,
     input: &mut S,
     lanes: &mut L,
     output: &mut W,
     notes: &mut N,
 ) -> RunEnd
-    ensures ends { Ends (packet_cutting order) (answering (options_of setup order))
+    requires least { 6 ≤ listener.groups.room }
+    requires empty { listener.groups ≡ empty_table listener.groups.room }
+    requires unheard { listener.responder ≡ held_at setup listener.groups.room [] }
+    ensures ends { Ends (packet_cutting order)
+        (answering (record { setup = setup; order = order; room = listener.groups.room }))
         (seen S.Source L.Lanes W.Sink N.Sink input.old lanes.old output.old notes.old)
         (seen S.Source L.Lanes W.Sink N.Sink input.new lanes.new output.new notes.new) result }
-    ensures complete { IsDoneUnless (packet_cutting order) (answering (options_of setup order))
+    ensures complete { IsDoneUnless (packet_cutting order)
+        (answering (record { setup = setup; order = order; room = listener.groups.room }))
         (seen S.Source L.Lanes W.Sink N.Sink input.old lanes.old output.old notes.old)
         (seen S.Source L.Lanes W.Sink N.Sink input.new lanes.new output.new notes.new) result }
 {
     one_cutting();
     fronts_are_cut_as_the_stream();
     words_spell_one_packet();
+    let _profiles = setup.profile_count();
     let config = setup.config();
-    let engine = EndpointEngine {
-        setup,
+    let writer = ReplyWriter {
         order,
-        config,
         replies: Replies::new(),
         line: Line::new(),
+    };
+    let engine = EndpointEngine {
+        setup,
+        config,
+        listener,
+        writer,
     };
     let reader = PacketReader::new(order);
     drive(reader, engine, input, lanes, output, notes)

@@ -25,7 +25,6 @@ fn reason_text(reason: Reason) -> &'static str
         Reason::DataIncrement => "DataIncrement",
         Reason::DataDecrement => "DataDecrement",
         Reason::ExclusiveTooLong => "ExclusiveTooLong",
-        Reason::NotBuilt => "NotBuilt",
     }
 }
 

@@ -121,7 +121,7 @@ fn messages_are_answered(rt: HostRuntime) -> Result<(), Fail> {
         &DISCOVERY,
         Status::Done,
         &DISCOVERY_REPLIES,
-        "0 - answered\nprotocol 2\n",
+        "0 - answered\nprotocol 2\nblock 0 muid 19088743\nprofile 0 channel 0 2 7E00010100 off\n",
     )?;
     answers(
         &rt,
@@ -129,7 +129,7 @@ fn messages_are_answered(rt: HostRuntime) -> Result<(), Fail> {
         &[0xF010FF03, 0, 0, 0],
         Status::Done,
         &[0xF0118033, 0x00010200, 0, 0, 0xF012004D, 0x61696E00, 0, 0],
-        "0 - answered\nprotocol 2\n",
+        "0 - answered\nprotocol 2\nblock 0 muid 19088743\nprofile 0 channel 0 2 7E00010100 off\n",
     )?;
     answers(
         &rt,
@@ -137,9 +137,16 @@ fn messages_are_answered(rt: HostRuntime) -> Result<(), Fail> {
         &[0xF0050100, 0, 0, 0],
         Status::Done,
         &[0xF0060100, 0, 0, 0],
-        "0 - answered\nprotocol 1\n",
+        "0 - answered\nprotocol 1\nblock 0 muid 19088743\nprofile 0 channel 0 2 7E00010100 off\n",
     )?;
-    answers(&rt, alloc, &[], Status::Done, &[], "protocol 2\n")
+    answers(
+        &rt,
+        alloc,
+        &[],
+        Status::Done,
+        &[],
+        "protocol 2\nblock 0 muid 19088743\nprofile 0 channel 0 2 7E00010100 off\n",
+    )
 }
 
 // The README's example: `examples/peer.ump`.
@@ -158,7 +165,7 @@ fn the_example_is_answered(rt: HostRuntime) -> Result<(), Fail> {
         &packets,
         Status::Done,
         &replies,
-        "0 - answered\n16 - answered\nprotocol 1\n",
+        "0 - answered\n16 - answered\nprotocol 1\nblock 0 muid 19088743\nprofile 0 channel 0 2 7E00010100 off\n",
     )
 }
 
@@ -181,21 +188,16 @@ fn each_stream_packet_has_a_line(rt: HostRuntime) -> Result<(), Fail> {
         &[
             0xF0060200, 0, 0, 0, 0xF0060100, 0, 0, 0, 0xF0060100, 0, 0, 0,
         ],
-        "8 - no-answer\n24 - bad-format\n40 - answered\n56 - answered\n72 - no-answer\n88 - answered\n104 - no-answer\nprotocol 1\n",
+        "8 - no-answer\n24 - bad-format\n40 - answered\n56 - answered\n72 - no-answer\n88 - answered\n104 - no-answer\nprotocol 1\nblock 0 muid 19088743\nprofile 0 channel 0 2 7E00010100 off\n",
     )
 }
 
 #[test]
-fn exclusives_and_bad_packets_are_refused(rt: HostRuntime) -> Result<(), Fail> {
+fn bad_packets_are_refused(rt: HostRuntime) -> Result<(), Fail> {
     let alloc = rt.alloc();
     let request = [0xF0050100, 0, 0, 0];
     let reply = [0xF0060100, 0, 0, 0];
-    let rows: [(&[u32], Reason, &str); 4] = [
-        (
-            &[0x30160102, 0x03040506],
-            Reason::NotBuilt,
-            "0 - answered\nrefused NotBuilt at 16\n",
-        ),
+    let rows: [(&[u32], Reason, &str); 3] = [
         (
             &[0x30170102, 0x03040506],
             Reason::BadCount,
@@ -244,7 +246,7 @@ fn replies_with_the_least_byte_first(rt: HostRuntime) -> Result<(), Fail> {
         given,
         Status::Done,
         &reply,
-        "0 - answered\nprotocol 1\n",
+        "0 - answered\nprotocol 1\nblock 0 muid 19088743\nprofile 0 channel 0 2 7E00010100 off\n",
     )
 }
 
@@ -292,7 +294,14 @@ fn the_longest_setup(rt: HostRuntime) -> Result<(), Fail> {
     let more = 65_536usize.saturating_sub(given.setup.len());
     let comment = vec![in alloc; b'#'; more]?;
     given.setup.extend_from_slice(comment.as_slice())?;
-    leaves(&rt, alloc, given, Status::Done, &[], "protocol 2\n")?;
+    leaves(
+        &rt,
+        alloc,
+        given,
+        Status::Done,
+        &[],
+        "protocol 2\nblock 0 muid 19088743\nprofile 0 channel 0 2 7E00010100 off\n",
+    )?;
     let text = vec![in alloc; b'#'; 65_537]?;
     has_no_setup(
         &rt,
@@ -360,7 +369,7 @@ fn each_read_fails_in_turn(rt: HostRuntime) -> Result<(), Fail> {
     Ok(())
 }
 
-// Each put fails in turn, keeping no byte, and then one: the six replies, the line, and the line of the protocol.
+// Each put fails in turn, keeping no byte, and then one: the six replies, the line, and the lines at the end.
 #[test]
 fn each_put_fails_in_turn(rt: HostRuntime) -> Result<(), Fail> {
     let alloc = rt.alloc();
@@ -379,7 +388,12 @@ fn each_put_fails_in_turn(rt: HostRuntime) -> Result<(), Fail> {
                 "output write failed\n",
             )?;
         }
-        let lines: [(&str, &str); 2] = [("", "0"), ("0 - answered\n", "p")];
+        let lines: [(&str, &str); 4] = [
+            ("", "0"),
+            ("0 - answered\n", "p"),
+            ("0 - answered\nprotocol 2\n", "b"),
+            ("0 - answered\nprotocol 2\nblock 0 muid 19088743\n", "p"),
+        ];
         for (n, (before, first)) in lines.into_iter().enumerate() {
             let part = if kept > 0 { first } else { "" };
             let notes = format!(in alloc; "{before}{part}")?;
@@ -396,4 +410,246 @@ fn each_put_fails_in_turn(rt: HostRuntime) -> Result<(), Fail> {
         }
     }
     Ok(())
+}
+
+// The lines at the end of a run in which no MIDI-CI message changes anything.
+const END: &str = "protocol 2\nblock 0 muid 19088743\nprofile 0 channel 0 2 7E00010100 off\n";
+
+// The words of a MIDI-CI Discovery from MUID 5 in group 0.
+const CI_DISCOVERY: [u32; 10] = [
+    0x30167E7F, 0x0D700205, 0x30260000, 0x007F7F7F, 0x30267F7D, 0x00000100, 0x30260200, 0x01000000,
+    0x30360400, 0x02000000,
+];
+
+// The same from the MUID of the block, 19088743, and its answer: that MUID is invalidated.
+const COLLIDING: [u32; 10] = [
+    0x30167E7F, 0x0D700267, 0x30260A0D, 0x097F7F7F, 0x30267F7D, 0x00000100, 0x30260200, 0x01000000,
+    0x30360400, 0x02000000,
+];
+
+const INVALIDATED: [u32; 6] = [
+    0x30167E7F, 0x0D7E0267, 0x30260A0D, 0x097F7F7F, 0x30357F67, 0x0A0D0900,
+];
+
+// What a message is answered with, whose line and the lines at the end are the notes.
+fn hears(
+    rt: &impl Abort,
+    alloc: Global,
+    packets: &[u32],
+    replies: &[u32],
+    line: &str,
+) -> Result<(), Fail> {
+    let notes = format!(in alloc; "{line}{END}")?;
+    answers(rt, alloc, packets, Status::Done, replies, notes.as_str())
+}
+
+#[test]
+fn inquiries_are_answered(rt: HostRuntime) -> Result<(), Fail> {
+    let alloc = rt.alloc();
+    hears(
+        &rt,
+        alloc,
+        &CI_DISCOVERY,
+        &[
+            0x30167E7F, 0x0D710267, 0x30260A0D, 0x09050000, 0x3026007D, 0x00000100, 0x30260200,
+            0x01000000, 0x30260400, 0x00400000, 0x30310000, 0x00000000,
+        ],
+        "32 0 answered\n",
+    )?;
+    hears(
+        &rt,
+        alloc,
+        &[
+            0x30167E7F, 0x0D720205, 0x30260000, 0x00670A0D, 0x30320900, 0x00000000,
+        ],
+        &[
+            0x30167E7F, 0x0D730267, 0x30260A0D, 0x09050000, 0x30260000, 0x0700534E, 0x30352D30,
+            0x30303100,
+        ],
+        "16 0 answered\n",
+    )?;
+    hears(
+        &rt,
+        alloc,
+        &[
+            0x30167E7F, 0x0D400205, 0x30260000, 0x00670A0D, 0x30310900, 0x00000000,
+        ],
+        &[
+            0x30167E7F, 0x0D7F0267, 0x30260A0D, 0x09050000, 0x30260040, 0x00000000, 0x30350000,
+            0x00000000,
+        ],
+        "16 0 nak\n",
+    )?;
+    hears(
+        &rt,
+        alloc,
+        &[
+            0x30167E02, 0x0D200205, 0x30260000, 0x00670A0D, 0x30310900, 0x00000000,
+        ],
+        &[
+            0x30167E02, 0x0D210267, 0x30260A0D, 0x09050000, 0x30260000, 0x0001007E, 0x30340001,
+            0x01000000,
+        ],
+        "16 0 answered\n",
+    )
+}
+
+// The README's example: `examples/profile.ump`.
+#[test]
+fn a_profile_is_switched(rt: HostRuntime) -> Result<(), Fail> {
+    let alloc = rt.alloc();
+    answers(
+        &rt,
+        alloc,
+        &[
+            0x30167E02, 0x0D220205, 0x30260000, 0x00670A0D, 0x3026097E, 0x00010100, 0x30320100,
+            0x00000000,
+        ],
+        Status::Done,
+        &[
+            0x30167E02, 0x0D240267, 0x30260A0D, 0x097F7F7F, 0x30267F7E, 0x00010100, 0x30320100,
+            0x00000000,
+        ],
+        "24 0 answered\nprotocol 2\nblock 0 muid 19088743\nprofile 0 channel 0 2 7E00010100 on\n",
+    )
+}
+
+// After a collision the block has its next MUID: a switch to the old one isn't for it, and one to the new one is.
+#[test]
+fn a_profile_is_switched_after_a_collision(rt: HostRuntime) -> Result<(), Fail> {
+    let alloc = rt.alloc();
+    let mut given = given_of(alloc, &COLLIDING)?;
+    let switches = bytes_of(
+        alloc,
+        &[
+            0x30167E02, 0x0D220205, 0x30260000, 0x00670A0D, 0x3026097E, 0x00010100, 0x30320100,
+            0x00000000, 0x30167E02, 0x0D220205, 0x30260000, 0x002C0200, 0x3026007E, 0x00010100,
+            0x30320100, 0x00000000,
+        ],
+    )?;
+    given.input.extend_from_slice(switches.as_slice())?;
+    let output = bytes_of(
+        alloc,
+        &[
+            0x30167E7F, 0x0D7E0267, 0x30260A0D, 0x097F7F7F, 0x30357F67, 0x0A0D0900, 0x30167E02,
+            0x0D24022C, 0x30260200, 0x007F7F7F, 0x30267F7E, 0x00010100, 0x30320100, 0x00000000,
+        ],
+    )?;
+    leaves(
+        &rt,
+        alloc,
+        given,
+        Status::Done,
+        output.as_slice(),
+        "32 0 collision\n64 0 not-ours\n96 0 answered\nprotocol 2\nblock 0 muid 300\nprofile 0 channel 0 2 7E00010100 on\n",
+    )
+}
+
+// A block whose MUIDs are used up hears nothing more.
+#[test]
+fn a_block_becomes_silent(rt: HostRuntime) -> Result<(), Fail> {
+    let alloc = rt.alloc();
+    let mut given = given_of(alloc, &COLLIDING)?;
+    let more = bytes_of(
+        alloc,
+        &[
+            0x30167E7F, 0x0D70022C, 0x30260200, 0x007F7F7F, 0x30267F7D, 0x00000100, 0x30260200,
+            0x01000000, 0x30360400, 0x02000000,
+        ],
+    )?;
+    given.input.extend_from_slice(more.as_slice())?;
+    let last = bytes_of(alloc, &CI_DISCOVERY)?;
+    given.input.extend_from_slice(last.as_slice())?;
+    let mut output = bytes_of(alloc, &INVALIDATED)?;
+    let second = bytes_of(
+        alloc,
+        &[
+            0x30167E7F, 0x0D7E022C, 0x30260200, 0x007F7F7F, 0x30357F2C, 0x02000000,
+        ],
+    )?;
+    output.extend_from_slice(second.as_slice())?;
+    leaves(
+        &rt,
+        alloc,
+        given,
+        Status::Done,
+        output.as_slice(),
+        "32 0 collision\n72 0 collision\n112 0 silent\nprotocol 2\nblock 0 silent\nprofile 0 channel 0 2 7E00010100 off\n",
+    )
+}
+
+#[test]
+fn hostile_messages_have_no_reply(rt: HostRuntime) -> Result<(), Fail> {
+    let alloc = rt.alloc();
+    hears(
+        &rt,
+        alloc,
+        &[
+            0x30000000, 0x00000000, 0x30047E7F, 0x0D700000, 0x30167E10, 0x0D200205, 0x30260000,
+            0x007F7F7F, 0x30317F00, 0x00000000, 0x30167E7F, 0x0D200200, 0x30267E7F, 0x7F7F7F7F,
+            0x30317F00, 0x00000000,
+        ],
+        &[],
+        "0 0 not-ci\n8 0 short\n32 0 bad-address\n56 0 reserved-muid\n",
+    )?;
+    let mut elsewhere = CI_DISCOVERY;
+    for word in [0usize, 2, 4, 6, 8] {
+        elsewhere[word] |= 0x01000000;
+    }
+    hears(&rt, alloc, &elsewhere, &[], "32 1 no-block\n")
+}
+
+// A stray part, an exclusive that another one cuts, one that a whole one cuts, whose line comes before that of the cut, and one
+// that is open at the end.
+#[test]
+fn lost_exclusives_are_listed(rt: HostRuntime) -> Result<(), Fail> {
+    let alloc = rt.alloc();
+    hears(
+        &rt,
+        alloc,
+        &[
+            0x30310900, 0x00000000, 0x30167E7F, 0x0D700205, 0x30167E7F, 0x0D700205, 0x30000000,
+            0x00000000, 0x33160102, 0x03040506,
+        ],
+        &[],
+        "0 0 stray-exclusive\n8 0 cut-exclusive\n24 0 not-ci\n16 0 cut-exclusive\n32 3 open-exclusive\n",
+    )
+}
+
+#[test]
+fn an_exclusive_fits_the_room(rt: HostRuntime) -> Result<(), Fail> {
+    let alloc = rt.alloc();
+    let seven = [0x30160102, 0x03040506, 0x30310700, 0x00000000];
+    let given = given_with(alloc, &["endpoint", "a.toml", "--room", "6"], &seven)?;
+    leaves(
+        &rt,
+        alloc,
+        given,
+        refused(Reason::ExclusiveTooLong, 8),
+        &[],
+        "refused ExclusiveTooLong at 8\n",
+    )?;
+    hears(&rt, alloc, &seven, &[], "8 0 not-ci\n")
+}
+
+// All sixteen groups begin an exclusive, and end it in the opposite order.
+#[test]
+fn groups_end_in_the_opposite_order(rt: HostRuntime) -> Result<(), Fail> {
+    let alloc = rt.alloc();
+    let mut given = given_of(alloc, &[])?;
+    let mut lines = String::new(alloc);
+    for group in 0..16u32 {
+        let first = bytes_of(alloc, &[0x30160102 + group * 0x01000000, 0x03040506])?;
+        given.input.extend_from_slice(first.as_slice())?;
+    }
+    for k in 0..16u32 {
+        let group = 15 - k;
+        let last = bytes_of(alloc, &[0x30310700 + group * 0x01000000, 0x00000000])?;
+        given.input.extend_from_slice(last.as_slice())?;
+        let offset = 128 + 8 * k;
+        let line = format!(in alloc; "{offset} {group} not-ci\n")?;
+        lines.push_str(line.as_str())?;
+    }
+    lines.push_str(END)?;
+    leaves(&rt, alloc, given, Status::Done, &[], lines.as_str())
 }

@@ -1,5 +1,6 @@
 use Rattle.std.proofs.Common.{◌≡◌, ◌+◌, ◌<◌, ◌∷◌, [], ◌++◌, ℕ, List, take, drop, ap, sym, ◌∙◌, subst, arith}
 use Rattle.std.specs.Option.{option_to_list}
+use Rattle.sysex_groups.specs.Table.{Table}
 use Rattle.voice_state.specs.Listing.{groups}
 use Rattle.midi_pass.specs.Put.{Put}
 use Rattle.midi_pass.specs.Places.{FailsAt, after_puts, places}
@@ -13,7 +14,7 @@ loop-number-preserved g c =
     let n : ℕ = c.loop-number.number in
     let below : n < 16 = omega arith in
     let number : c.low_bits.result ≡ n = omega (arith, c.low_bits.ensures) in
-    let state = c.args.down.now in
+    let state : Table = g.O.OpenExclusives.table c.args.held.now in
     let old = places g.L.Lanes g.W.Sink g.N.Sink c.args.lanes.now c.args.output.now c.args.notes.now in
     let mid = places g.L.Lanes g.W.Sink g.N.Sink c.loop-number.lanes c.loop-number.output c.loop-number.notes in
     let new = places g.L.Lanes g.W.Sink g.N.Sink c.list_group.new.lanes c.list_group.new.output c.list_group.new.notes in
@@ -28,7 +29,7 @@ returns-in-Err g c =
     let n : ℕ = c.loop-number.number in
     let below : n < 16 = omega arith in
     let number : c.low_bits.result ≡ n = omega (arith, c.low_bits.ensures) in
-    let state = c.args.down.now in
+    let state : Table = g.O.OpenExclusives.table c.args.held.now in
     let old = places g.L.Lanes g.W.Sink g.N.Sink c.args.lanes.now c.args.output.now c.args.notes.now in
     let mid = places g.L.Lanes g.W.Sink g.N.Sink c.loop-number.lanes c.loop-number.output c.loop-number.notes in
     let new = places g.L.Lanes g.W.Sink g.N.Sink c.list_group.new.lanes c.list_group.new.output c.list_group.new.notes in

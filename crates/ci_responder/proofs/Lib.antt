@@ -1,0 +1,6 @@
+pub mod BlockLaws
+pub mod Histories
+pub mod KeyLaws
+pub mod ListLaws
+pub mod PacketLaws
+pub mod ToldLaws

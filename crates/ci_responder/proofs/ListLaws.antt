@@ -1,0 +1,34 @@
+-- Items of a list by their places.
+use Rattle.std.proofs.Common.{arith, ◌≡◌, ◌<◌, ◌+◌, ◌-◌, ◌∙◌, ap, sym, refl, ℕ, zero, suc, List, [], ◌∷◌, ◌++◌, length, length-append, take, drop, get_or, slice_get, None, Some, is_some, true≢false}
+use Rattle.std.proofs.lemmas.List.{take_more}
+
+-- the item at a place
+pub got : {X : Type 0} (xs : List X) (k : ℕ) (x d : X) → Some x ≡ slice_get xs k → (k < length xs) × (x ≡ get_or xs k d)
+got [] k x d is = absurd (true≢false (ap is_some is))
+got (y ∷ ys) zero x d is = (omega arith, cc)
+got (y ∷ ys) (suc k) x d is =
+    let rest = got ys k x d is in
+    (omega (arith, rest.0), rest.1)
+
+-- one more item from the front
+pub take-next : {X : Type 0} (xs : List X) (k : ℕ) (x : X) → Some x ≡ slice_get xs k → take (k + 1) xs ≡ take k xs ++ x ∷ []
+take-next xs k x is =
+    let at = got xs k x x is in
+    take_more xs k x at.0 ∙ ap (λ y. take k xs ++ y ∷ []) (sym at.1)
+
+pub past : {X : Type 0} (xs : List X) (k : ℕ) → None ≡ slice_get xs k → k < length xs → ⊥
+past [] k none within = omega (arith, within)
+past (x ∷ xs) zero none within = true≢false (sym (ap is_some none))
+past (x ∷ xs) (suc k) none within = past xs k none (omega (arith, within))
+
+take-front : (xs ys : List ℕ) → take (length xs) (xs ++ ys) ≡ xs
+take-front [] ys = refl
+take-front (x ∷ xs) ys = ap (λ rest. x ∷ rest) (take-front xs ys)
+
+-- what stands between the first item and the last
+pub between : (payload message : List ℕ) (first last : ℕ) → message ≡ first ∷ (payload ++ last ∷ []) → take (length message - 1 - 1) (drop 1 message) ≡ payload
+between payload message first last is =
+    let count : length (first ∷ (payload ++ last ∷ [])) - 1 - 1 ≡ length payload = omega (arith, length-append payload (last ∷ [])) in
+    ap (λ m. take (length m - 1 - 1) (drop 1 m)) is
+    ∙ ap (λ n. take n (payload ++ last ∷ [])) count
+    ∙ take-front payload (last ∷ [])

@@ -1,0 +1,40 @@
+-- What holds of all histories of messages, which are listed the newest first.
+use Rattle.std.specs.Prelude.{◌≡◌, ℕ, Bool, true, false, List, ◌∷◌, Some}
+use Rattle.function_blocks.specs.Profiles.{profiles_are_distinct}
+use Rattle.function_blocks.specs.Setups.{Facts}
+use Rattle.ci_responder.specs.declared.keys.Key.{Key}
+use Rattle.ci_messages.specs.declared.view.CiView.{CiView}
+use Rattle.ci_messages.specs.Reading.{CiSpells}
+use Rattle.ci_responder.specs.Keys.{same_key, state_in}
+use Rattle.ci_responder.specs.Messages.{Told, told_of}
+use Rattle.ci_responder.specs.Read.{told_in}
+use Rattle.ci_responder.specs.Held.{after, heard_in, muid_in, replies_in}
+use Rattle.ci_responder.specs.History.{accepted_at, heard_at, held_at, muid_at, on_at, replies_at}
+
+-- What is held after a history is what the history says: `heard`, `replies`, `muid` and `on` of it are those of the history, and
+-- one more message leaves what the longer history says.
+pub record HeldIsTheHistory : Type 0 where
+  pub heard : (setup : Facts) (room : ℕ) (past : List Told) (told : Told) →
+      heard_in (held_at setup room past) told ≡ heard_at setup past told
+  pub replies : (setup : Facts) (room : ℕ) (past : List Told) (told : Told) →
+      replies_in (held_at setup room past) told ≡ replies_at setup room past told
+  pub after : (setup : Facts) (room : ℕ) (past : List Told) (told : Told) →
+      profiles_are_distinct setup.profiles ≡ true →
+      after (held_at setup room past) told ≡ held_at setup room (told ∷ past)
+  pub muid : (setup : Facts) (room : ℕ) (past : List Told) (block : ℕ) →
+      muid_in (held_at setup room past).blocks block ≡ muid_at setup past block
+  pub on : (setup : Facts) (room : ℕ) (past : List Told) (key : Key) →
+      state_in (held_at setup room past).states key ≡ on_at setup past key
+
+-- an accepted switch of one profile leaves each other as it was
+abbrev pub SwitchesStandAlone : Type 0
+SwitchesStandAlone =
+    (setup : Facts) (past : List Told) (told : Told) (one other : Key) (on : Bool) →
+    accepted_at setup past told one ≡ Some on → same_key one other ≡ false →
+    on_at setup (told ∷ past) other ≡ on_at setup past other
+
+-- a view tells what the bytes tell that spell it
+abbrev pub ViewsTellTheirBytes : Type 0
+ViewsTellTheirBytes =
+    (group : ℕ) (message : List ℕ) (view : CiView) → CiSpells view message →
+    told_of group view ≡ told_in group message

@@ -1,0 +1,9 @@
+pub mod Keys
+pub mod SameKeys
+pub mod Messages
+pub mod Read
+pub mod Rows
+pub mod Replies
+pub mod Held
+pub mod History
+pub mod Laws

@@ -1,0 +1,122 @@
+-- The replies (M2-101-UM), a row for each, and how they are sent.
+use Rattle.std.specs.Prelude.{ℕ, Bool, true, false, ◌==◌, ◌&&◌, not, if◌then◌else◌, List, [], ◌∷◌, ◌++◌, replicate, Option, Some, None}
+use Rattle.std.proofs.Common.{zero, suc}
+use Rattle.std.specs.List.{flat_map}
+use Rattle.std.specs.Fork.{slice_chunk}
+use Rattle.ump_grammar.specs.declared.packet.Packet.{Packet}
+use Rattle.ump_grammar.specs.declared.packet.Packet.TheVariants as packet
+use Rattle.sysex_groups.specs.Cut.{form_at, part_count}
+use Rattle.ci_messages.specs.declared.kind.Kind.{Kind}
+use Rattle.ci_messages.specs.declared.kind.Kind.TheVariants as kind
+use Rattle.ci_messages.specs.declared.view.Address.{Address}
+use Rattle.ci_messages.specs.declared.view.Address.TheVariants as address
+use Rattle.ci_messages.specs.declared.view.CiView.{CiView}
+use Rattle.ci_messages.specs.Places.{bytes4}
+use Rattle.ci_messages.specs.Fields.{Value, number, list, bytes_of_fields}
+use Rattle.ci_messages.specs.Messages.{fields_of}
+use Rattle.ci_messages.specs.Writing.{address_number, body_bytes}
+use Rattle.function_blocks.specs.declared.setup.Identity.{Identity}
+use Rattle.function_blocks.specs.declared.setup.Place.{Place}
+use Rattle.function_blocks.specs.Profiles.{same_place}
+use Rattle.ci_responder.specs.declared.heard.Heard.{Heard}
+use Rattle.ci_responder.specs.declared.heard.Heard.TheVariants as heard
+use Rattle.ci_responder.specs.declared.keys.Key.{Key}
+use Rattle.ci_responder.specs.Messages.{Said, Message, Told, discovery, endpoint, profiles, switch, place_at}
+use Rattle.ci_responder.specs.Rows.{broadcast}
+
+-- who replies: the device, a block with its MUID in force, and its profiles
+pub record Sender : Type 0 where
+  pub identity : Identity
+  pub product_id : List ℕ
+  pub room : ℕ
+  pub block : ℕ
+  pub muid : ℕ
+  pub states : List (Key × Bool)
+
+-- the bytes between F0 and F7 of a message of version 02
+abbrev pub payload : Address → ℕ → ℕ → ℕ → Kind → List Value → List ℕ
+payload address sub source destination kind values =
+    0x7E ∷ address_number address ∷ 0x0D ∷ sub ∷ 2
+    ∷ ((bytes4 source ++ bytes4 destination) ++ bytes_of_fields (fields_of kind) values)
+
+-- the same of a view
+abbrev pub payload_of : CiView → List ℕ
+payload_of view =
+    0x7E ∷ address_number view.address ∷ 0x0D ∷ view.sub ∷ view.version
+    ∷ ((bytes4 view.source ++ bytes4 view.destination) ++ body_bytes view.body)
+
+-- a profile of this block and place that is on, or off
+abbrev pub is_listed : Bool → ℕ → Place → (Key × Bool) → Bool
+is_listed on block place state =
+    state.0.block == block && (same_place state.0.place place && (if on then state.1 else not state.1))
+
+-- its id, where it is
+abbrev pub listed : Bool → ℕ → Place → (Key × Bool) → List ℕ
+listed on block place state = if is_listed on block place state then state.0.id.bytes else []
+
+-- the ids of the profiles of a place that are on, or off, in the setup's order
+abbrev pub ids_of : Bool → ℕ → Place → List (Key × Bool) → List ℕ
+ids_of on block place states = flat_map (listed on block place) states
+
+-- a profile of a channel is for one channel (own rule)
+abbrev pub channels_of : Address → ℕ
+channels_of (address.Channel channel) = 1
+channels_of _ = 0
+
+-- the reply to what is answered; 04 is the category of profiles
+abbrev pub answer_to : Sender → Told → Said → Option (List ℕ)
+answer_to sender told (discovery path) =
+    Some (payload address.Block 0x71 sender.muid told.message.source kind.DiscoveryReply
+    (list sender.identity.manufacturer ∷ list sender.identity.family ∷ list sender.identity.model
+    ∷ list sender.identity.revision ∷ number 4 ∷ number sender.room ∷ number path ∷ number sender.block ∷ []))
+answer_to sender told (endpoint status) =
+    Some (payload told.message.address 0x73 sender.muid told.message.source kind.EndpointReply
+    (number 0 ∷ list sender.product_id ∷ []))
+answer_to sender told profiles =
+    Some (payload told.message.address 0x21 sender.muid told.message.source kind.ProfileReply
+    (list (ids_of true sender.block (place_at told.message.address told.group) sender.states)
+    ∷ list (ids_of false sender.block (place_at told.message.address told.group) sender.states) ∷ []))
+answer_to sender told (switch id true) =
+    Some (payload told.message.address 0x24 sender.muid broadcast kind.EnabledReport
+    (list id.bytes ∷ number (channels_of told.message.address) ∷ []))
+answer_to sender told (switch id false) =
+    Some (payload told.message.address 0x25 sender.muid broadcast kind.DisabledReport
+    (list id.bytes ∷ number (channels_of told.message.address) ∷ []))
+answer_to sender told _ = None
+
+-- the old MUID is invalidated for all
+abbrev pub invalidation : Sender → List ℕ
+invalidation sender = payload address.Block 0x7E sender.muid broadcast kind.Invalidate (number sender.muid ∷ [])
+
+-- the sub-id that is refused, and nine zeros
+abbrev pub refusal : Sender → Message → List ℕ
+refusal sender message =
+    payload message.address 0x7F sender.muid message.source kind.Nak
+    (number message.sub ∷ number 0 ∷ number 0 ∷ list (replicate 5 0) ∷ list [] ∷ [])
+
+-- the first packets of a payload that is sent on a group
+abbrev pub first_packets : ℕ → List ℕ → ℕ → List Packet
+first_packets group bytes zero = []
+first_packets group bytes (suc k) =
+    first_packets group bytes k
+    ++ packet.Exclusive group (form_at (part_count bytes) k) (slice_chunk bytes 6 k) ∷ []
+
+-- all of them, where there is a payload
+abbrev pub packets_of : ℕ → List ℕ → List Packet
+packets_of group bytes = first_packets group bytes (part_count bytes)
+
+abbrev pub sent : ℕ → Option (List ℕ) → List Packet
+sent group None = []
+sent group (Some bytes) = packets_of group bytes
+
+-- the payload of the reply to a message that is heard so
+abbrev pub reply_to : Sender → Heard → Told → Option (List ℕ)
+reply_to sender heard.Collision told = Some (invalidation sender)
+reply_to sender heard.Answered told = answer_to sender told told.message.said
+reply_to sender heard.Nak told = Some (refusal sender told.message)
+reply_to sender _ told = None
+
+-- The reply goes out on the message's group. There is none without a MUID in force.
+abbrev pub replies_by : Option Sender → Heard → Told → List Packet
+replies_by None heard told = []
+replies_by (Some sender) heard told = sent told.group (reply_to sender heard told)

@@ -1,0 +1,75 @@
+-- What is done with a message (M2-101-UM), a row for each: the first that applies.
+use Rattle.std.specs.Prelude.{ℕ, Bool, true, false, ◌==◌, ◌&&◌, ◌||◌, not, nat_le, nat_lt, if◌then◌else◌, List, Option, Some, None, is_some}
+use Rattle.ci_responder.specs.declared.heard.Heard.{Heard}
+use Rattle.ci_responder.specs.declared.heard.Heard.TheVariants as heard
+use Rattle.ci_responder.specs.declared.keys.Key.{Key}
+use Rattle.ci_responder.specs.Keys.{state_in}
+use Rattle.ci_responder.specs.Messages.{Said, Message, Told, key_at, discovery, endpoint, invalidate, profiles, switch}
+
+abbrev pub broadcast : ℕ
+broadcast = 0x0FFFFFFF
+
+-- a reply, a report, an ACK or a NAK
+abbrev pub is_report : ℕ → Bool
+is_report sub =
+    sub == 0x71 || sub == 0x73 || sub == 0x21 || (nat_le 0x24 sub && nat_le sub 0x27) || sub == 0x29
+    || sub == 0x7D || sub == 0x7F
+
+-- Property Exchange
+abbrev pub is_property : ℕ → Bool
+is_property sub = nat_le 0x30 sub && nat_le sub 0x3F
+
+-- a message is for the block with this MUID
+abbrev pub is_for : ℕ → ℕ → Bool
+is_for muid destination = destination == muid || destination == broadcast
+
+-- it invalidates a MUID, and that one isn't this
+abbrev pub is_of_another : ℕ → Said → Bool
+is_of_another muid (invalidate target) = not (target == muid)
+is_of_another muid _ = false
+
+abbrev pub is_invalidate : Said → Bool
+is_invalidate (invalidate target) = true
+is_invalidate _ = false
+
+abbrev pub is_discovery : Said → Bool
+is_discovery (discovery path) = true
+is_discovery _ = false
+
+-- It is answered. A switch is, where the setup names its profile.
+abbrev pub is_answered : Bool → Said → Bool
+is_answered named (discovery path) = true
+is_answered named (endpoint status) = status == 0
+is_answered named profiles = true
+is_answered named (switch id on) = named
+is_answered named _ = false
+
+-- the row of a message for a block in which this MUID is in force
+abbrev pub row_of : ℕ → Bool → Message → Heard
+row_of muid named message =
+    if message.source == muid then heard.Collision
+    else if nat_lt message.version 2 then heard.OldVersion
+    else if not (is_for muid message.destination) then heard.NotOurs
+    else if is_of_another muid message.said then heard.NotOurs
+    else if is_invalidate message.said then heard.Moved
+    else if is_report message.sub then heard.Report
+    else if message.destination == broadcast && not (is_discovery message.said) then heard.Broadcast
+    else if is_answered named message.said then heard.Answered
+    else if is_property message.sub then heard.Passed
+    else heard.Nak
+
+-- the same by the MUID in force, if there is one
+abbrev pub heard_by : Option ℕ → Bool → Message → Heard
+heard_by None named message = heard.Silent
+heard_by (Some muid) named message = row_of muid named message
+
+-- a message switches a profile that is named
+abbrev pub names : List (Key × Bool) → ℕ → Told → Said → Bool
+names states block told (switch id on) = is_some (state_in states (key_at block told id))
+names states block told _ = false
+
+-- a block loses its MUID by a message that it hears so
+abbrev pub loses_muid : Heard → Bool
+loses_muid heard.Collision = true
+loses_muid heard.Moved = true
+loses_muid _ = false

@@ -1,0 +1,94 @@
+// The function blocks as the responder keeps them.
+ghost use Rattle.std.specs.Prelude.{◌≡◌, ◌<◌, ◌≤◌, ◌+◌, ◌^◌, length, true, is_some, IfSome};
+ghost use Rattle.std.specs.List.{All};
+ghost use Rattle.function_blocks.specs.Blocks.{IsBlock};
+ghost use Rattle.ci_responder.specs.Held.{
+  IsCiBlock,
+  block_in,
+  change_at,
+  has_group as has_group_of,
+  muid_in,
+  muid_of as muid_of_block,
+  next,
+};
+ghost use Rattle.ci_responder.specs.History.{kept};
+
+use crate::kept::CiBlock;
+use function_blocks::Block;
+use midi_edge::{ShortList, U4};
+
+/// A block of the setup that has used up none of its MUIDs.
+pub(crate) fn kept_block(block: &Block) -> CiBlock
+    requires { IsBlock block.now }
+    ensures value { result ≡ kept 0 block.now }
+    ensures fits { IsCiBlock result }
+{
+    let mut muids = ShortList::new();
+    muids.extend(block.muids.as_slice());
+    CiBlock {
+        has_ci: block.has_ci(),
+        first: block.first,
+        count: block.count,
+        muids,
+        spent: 0,
+    }
+}
+
+// Whether a block has MIDI-CI, and this group.
+fn has_group(block: &CiBlock, group: u8) -> bool
+    requires { IsCiBlock block.now }
+    ensures { result ≡ has_group_of group block.now }
+{
+    block.has_ci && block.first <= group && group < block.first + block.count
+}
+
+/// The number of the block of a group.
+pub(crate) fn block_of(blocks: &[CiBlock], group: U4) -> Option<usize>
+    requires { All IsCiBlock blocks.now }
+    ensures value { result ≡ block_in blocks.now group }
+    ensures within { IfSome result (λ block. block < length blocks.now) }
+{
+    let number = group.get();
+    blocks.iter().position(|block| has_group(block, number))
+}
+
+fn muid_in_force(block: &CiBlock) -> Option<u32>
+    requires { IsCiBlock block.now }
+    ensures value { result ≡ muid_of_block block.now }
+    ensures fits { IfSome result (λ muid. muid < 2 ^ 28) }
+{
+    if !block.has_ci {
+        return None;
+    }
+    block.muids.as_slice().get(block.spent).copied()
+}
+
+/// The MUID in force of the block of a number, if it has MIDI-CI and isn't silent.
+pub(crate) fn muid_of(blocks: &[CiBlock], number: usize) -> Option<u32>
+    requires { All IsCiBlock blocks.now }
+    ensures value { result ≡ muid_in blocks.now number }
+    ensures fits { IfSome result (λ muid. muid < 2 ^ 28) }
+{
+    match blocks.get(number) {
+        Some(block) => muid_in_force(block),
+        None => None,
+    }
+}
+
+// Uses up the MUID in force.
+fn use_up(block: &mut CiBlock)
+    requires { block.old.spent < 16 }
+    ensures { block.new ≡ next block.old }
+{
+    block.spent += 1;
+}
+
+/// Uses up the MUID in force of a block.
+pub(crate) fn spend(blocks: &mut [CiBlock], number: usize)
+    requires blocks { All IsCiBlock blocks.old }
+    requires in_force { is_some (muid_in blocks.old number) ≡ true }
+    ensures value { blocks.new ≡ change_at next number blocks.old }
+    ensures fits { All IsCiBlock blocks.new }
+{
+    use_up(&mut blocks[number]);
+}

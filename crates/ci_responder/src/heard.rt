@@ -1,0 +1,28 @@
+// What is done with a message.
+
+/// What is done with a MIDI-CI message (M2-101-UM): the first of these that applies. The order is own rule.
+#[derive(Clone, Copy, Debug, PartialEq, Eq)]
+pub enum Heard {
+    /// No active function block with MIDI-CI has the group. Nothing is done.
+    NoBlock,
+    /// The block has used up its MUIDs. Nothing is done.
+    Silent,
+    /// The source is the block's own MUID. It is invalidated, and the block takes the next of its list or becomes silent.
+    Collision,
+    /// Version 00 or 01 of the message format. Nothing is done.
+    OldVersion,
+    /// The destination is neither the block's MUID nor broadcast, or another MUID is invalidated. Nothing is done.
+    NotOurs,
+    /// The block's MUID is invalidated. It takes the next of its list or becomes silent, without a reply.
+    Moved,
+    /// A reply, a report, an ACK or a NAK. Nothing is done.
+    Report,
+    /// To broadcast, and not Discovery. Nothing is done.
+    Broadcast,
+    /// An inquiry that is answered, or a switch of a profile that the setup names there.
+    Answered,
+    /// Property Exchange, 30 to 3F, unread. Nothing is done.
+    Passed,
+    /// Anything else: a NAK is sent.
+    Nak,
+}

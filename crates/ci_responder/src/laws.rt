@@ -1,0 +1,20 @@
+// Laws over the definitions alone.
+ghost use Rattle.ci_responder.specs.Laws.{HeldIsTheHistory, SwitchesStandAlone, ViewsTellTheirBytes};
+
+/// What a responder holds after any messages, of all groups, is what their history says, searched from the newest message back:
+/// the MUID in force of each block, what one more message is heard as, the reply to it, and whether each profile is on. Where
+/// no two profiles have the same key, hearing one more message leaves what the longer history says; so a switch leaves all
+/// other profiles as they were, and a change of MUID all of them.
+pub fn held_is_the_history()
+    ensures { HeldIsTheHistory }
+{}
+
+/// A switch that is accepted leaves each profile of another key as it was.
+pub fn switches_stand_alone()
+    ensures { SwitchesStandAlone }
+{}
+
+/// What a view of a message tells is a function of the message's bytes and its group, by the places of M2-101-UM.
+pub fn views_tell_their_bytes()
+    ensures { ViewsTellTheirBytes }
+{}

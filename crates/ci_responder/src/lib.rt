@@ -1,0 +1,24 @@
+//! A responder of MIDI-CI for the function blocks of a setup: MUIDs, discovery and profiles.
+#![tactic(auto)]
+
+mod blocks;
+pub mod heard;
+pub mod kept;
+pub mod keys;
+pub mod laws;
+mod opening;
+mod packets;
+mod profiles;
+mod replying;
+pub mod responder;
+mod rows;
+
+pub use crate::heard::Heard;
+pub use crate::keys::Key;
+pub use crate::laws::{held_is_the_history, switches_stand_alone, views_tell_their_bytes};
+pub use crate::responder::Responder;
+pub use ci_messages::ProfileId;
+pub use function_blocks::Place;
+
+#[cfg(test)]
+mod tests;

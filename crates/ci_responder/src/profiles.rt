@@ -1,0 +1,104 @@
+// The profiles, by their keys.
+ghost use Rattle.std.specs.Prelude.{◌≡◌, ◌≤◌, ◌+◌, ◌*◌, ◌%◌, ◌==◌, ◌&&◌, ◌++◌, length, true, false};
+ghost use Rattle.std.specs.Map.{set_value};
+ghost use Rattle.ci_messages.specs.Fields.{IsData};
+ghost use Rattle.function_blocks.specs.Profiles.{same_place};
+ghost use Rattle.ci_responder.specs.Keys.{same_key, state_in};
+ghost use Rattle.ci_responder.specs.Messages.{place_at};
+ghost use Rattle.ci_responder.specs.Replies.{ids_of, listed};
+
+use crate::keys::Key;
+use ci_messages::{Address, ProfileId};
+use function_blocks::Place;
+use indexmap::IndexMap;
+use midi_edge::ShortList;
+use voice_messages::U4;
+
+/// The place of an address (M2-101-UM, device id).
+pub(crate) fn place_of(address: Address, group: U4) -> Place
+    ensures { result ≡ place_at address group }
+{
+    match address {
+        Address::Channel(channel) => Place::Channel(group, channel),
+        Address::Group => Place::Group(group),
+        Address::Block => Place::Function,
+    }
+}
+
+/// Whether a profile is on; `None` exactly where it isn't named.
+pub(crate) fn state(states: &IndexMap<Key, bool>, key: &Key) -> Option<bool>
+    ensures { result ≡ state_in states.now.entries key.now }
+{
+    states.get(key).copied()
+}
+
+/// Switches a profile, where it is named. All others stay.
+pub(crate) fn switch(states: &mut IndexMap<Key, bool>, key: &Key, on: bool)
+    ensures value { states.new.entries ≡ set_value (same_key key.now) states.old.entries on }
+    ensures count { length states.new.entries ≡ length states.old.entries }
+{
+    match states.get_mut(key) {
+        Some(state) => *state = on,
+        None => {}
+    }
+}
+
+// Whether a profile stands at this place of this block.
+fn is_at(key: &Key, block: u8, place: &Place) -> bool
+    ensures { result ≡ (key.now.block == block && same_place key.now.place place.now) }
+{
+    key.block == block && key.place == *place
+}
+
+/// The ids of the profiles of one place, each of five bytes.
+#[derive(Debug, PartialEq, Eq, Drop)]
+pub(crate) struct Ids {
+    pub(crate) on: ShortList<u8, 320>,
+    pub(crate) off: ShortList<u8, 320>,
+}
+
+// Adds the id of a profile that stands at this place of this block.
+fn add_listed(ids: &mut Ids, key: &Key, on: bool, block: u8, place: &Place)
+    requires { length ids.old.on + length ids.old.off + 5 ≤ 320 }
+    ensures on { ids.new.on ≡ ids.old.on ++ listed true block place.now (key.now, on) }
+    ensures off { ids.new.off ≡ ids.old.off ++ listed false block place.now (key.now, on) }
+    ensures few { length ids.new.on + length ids.new.off ≤ length ids.old.on + length ids.old.off + 5 }
+    ensures on_fives { length ids.old.on % 5 ≡ 0 → length ids.new.on % 5 ≡ 0 }
+    ensures off_fives { length ids.old.off % 5 ≡ 0 → length ids.new.off % 5 ≡ 0 }
+    ensures on_data { IsData ids.old.on → IsData ids.new.on }
+    ensures off_data { IsData ids.old.off → IsData ids.new.off }
+{
+    if !is_at(key, block, place) {
+        return;
+    }
+    let id = key.id.data_bytes();
+    if on {
+        ids.on.extend(&id);
+    } else {
+        ids.off.extend(&id);
+    }
+}
+
+/// The ids of the profiles of a block and place, those that are on and those that are off, in the setup's order.
+pub(crate) fn ids_at(states: &IndexMap<Key, bool>, block: u8, place: &Place) -> Ids
+    requires { length states.now.entries ≤ 64 }
+    ensures on { result.on ≡ ids_of true block place.now states.now.entries }
+    ensures off { result.off ≡ ids_of false block place.now states.now.entries }
+    ensures few { length result.on + length result.off ≤ 320 }
+    ensures on_fives { length result.on % 5 ≡ 0 }
+    ensures off_fives { length result.off % 5 ≡ 0 }
+    ensures on_data { IsData result.on }
+    ensures off_data { IsData result.off }
+{
+    let mut ids = Ids {
+        on: ShortList::new(),
+        off: ShortList::new(),
+    };
+    for k in 0..states.len() {
+        match states.get_index(k) {
+            Some((key, on)) => add_listed(&mut ids, key, *on, block, place),
+            None => unreachable!(),
+        }
+    }
+    ids
+}

@@ -1,0 +1,281 @@
+// The replies, by the row of the message.
+ghost use Rattle.std.specs.Prelude.{◌≡◌, ◌<◌, ◌≤◌, ◌^◌, ℕ, Some, true, false, [], length};
+ghost use Rattle.ump_grammar.specs.Replies.{AddsPackets};
+ghost use Rattle.ci_messages.specs.Fields.{IsData};
+ghost use Rattle.ci_messages.specs.Writing.{IsView};
+ghost use Rattle.ci_responder.specs.Held.{sender_of};
+ghost use Rattle.ci_responder.specs.Messages.{
+  discovery,
+  endpoint,
+  message_of,
+  profiles,
+  said_in,
+  switch,
+  told_of,
+};
+ghost use Rattle.ci_responder.specs.Replies.{
+  answer_to,
+  channels_of as channels_of_address,
+  invalidation,
+  refusal,
+  reply_to,
+  sent,
+};
+
+use crate::heard::Heard;
+use crate::packets::push_message;
+use crate::profiles::{ids_at, place_of};
+use crate::responder::Responder;
+use crate::rows::BROADCAST;
+use ci_messages::{Address, Body, CiView, ProfileId};
+use function_blocks::Identity;
+use midi_edge::U4;
+use ump_grammar::Replies;
+
+/// The version of the message format that is written.
+const VERSION: u8 = 2;
+
+/// The bit of the profiles among the categories of MIDI-CI.
+const PROFILES: u8 = 4;
+
+/// The function block that a message is for, with its MUID in force, and the group on which it replies.
+#[derive(Clone, Copy, Debug, PartialEq, Eq)]
+pub(crate) struct Owner {
+    pub(crate) group: U4,
+    pub(crate) block: u8,
+    pub(crate) muid: u32,
+}
+
+// The number of channels that a report tells: one for a channel, none for a group or a function block (own rule).
+fn channels_of(address: Address) -> u16
+    ensures value { result ≡ channels_of_address address }
+    ensures fits { result < 2 ^ 14 }
+{
+    match address {
+        Address::Channel(_) => 1,
+        Address::Group => 0,
+        Address::Block => 0,
+    }
+}
+
+impl Responder {
+    /// Adds the reply of a block to a message that is heard so.
+    pub(crate) fn reply(
+        &self,
+        owner: &Owner,
+        heard: Heard,
+        view: &CiView<'_>,
+        replies: &mut Replies,
+    )
+        requires view { IsView view.now }
+        requires muid { owner.now.muid < 2 ^ 28 }
+        requires block { owner.now.block < 128 }
+        requires empty { replies.old ≡ [] }
+        ensures packets { AddsPackets (sent owner.now.group
+            (reply_to (sender_of self.now owner.now.block owner.now.muid) heard
+            (told_of owner.now.group view.now))) [] replies.new }
+        ensures few { length replies.new ≤ 114 }
+    {
+        match heard {
+            Heard::Collision => self.invalidate(owner, replies),
+            Heard::Answered => self.answer(owner, view, replies),
+            Heard::Nak => self.refuse(owner, view, replies),
+            _ => {}
+        }
+    }
+
+    fn invalidate(&self, owner: &Owner, replies: &mut Replies)
+        requires muid { owner.now.muid < 2 ^ 28 }
+        requires empty { replies.old ≡ [] }
+        ensures packets { AddsPackets (sent owner.now.group
+            (Some (invalidation (sender_of self.now owner.now.block owner.now.muid)))) [] replies.new }
+        ensures few { length replies.new ≤ 114 }
+    {
+        let message = CiView {
+            address: Address::Block,
+            sub: 0x7E,
+            version: VERSION,
+            source: owner.muid,
+            destination: BROADCAST,
+            body: Body::Invalidate { target: owner.muid },
+        };
+        push_message(replies, owner.group, &message);
+    }
+
+    fn refuse(&self, owner: &Owner, view: &CiView<'_>, replies: &mut Replies)
+        requires view { IsView view.now }
+        requires muid { owner.now.muid < 2 ^ 28 }
+        requires empty { replies.old ≡ [] }
+        ensures packets { AddsPackets (sent owner.now.group
+            (Some (refusal (sender_of self.now owner.now.block owner.now.muid) (message_of view.now))))
+            [] replies.new }
+        ensures few { length replies.new ≤ 114 }
+    {
+        let message = CiView {
+            address: view.address,
+            sub: 0x7F,
+            version: VERSION,
+            source: owner.muid,
+            destination: view.source,
+            body: Body::Nak {
+                original: view.sub,
+                code: 0,
+                value: 0,
+                details: [0; 5],
+                text: &[],
+            },
+        };
+        push_message(replies, owner.group, &message);
+    }
+
+    fn answer(&self, owner: &Owner, view: &CiView<'_>, replies: &mut Replies)
+        requires view { IsView view.now }
+        requires muid { owner.now.muid < 2 ^ 28 }
+        requires block { owner.now.block < 128 }
+        requires empty { replies.old ≡ [] }
+        ensures packets { AddsPackets (sent owner.now.group
+            (answer_to (sender_of self.now owner.now.block owner.now.muid)
+            (told_of owner.now.group view.now) (said_in view.now.body))) [] replies.new }
+        ensures few { length replies.new ≤ 114 }
+    {
+        match &view.body {
+            Body::Discovery { path, .. } => self.tell_device(owner, view, *path, replies),
+            Body::EndpointInquiry { .. } => self.tell_product_id(owner, view, replies),
+            Body::ProfileInquiry => self.tell_profiles(owner, view, replies),
+            Body::SetOn { id, .. } => self.report_on(owner, view, *id, replies),
+            Body::SetOff { id } => self.report_off(owner, view, *id, replies),
+            _ => {}
+        }
+    }
+
+    fn tell_device(&self, owner: &Owner, view: &CiView<'_>, path: u8, replies: &mut Replies)
+        requires view { IsView view.now }
+        requires path { path < 128 }
+        requires muid { owner.now.muid < 2 ^ 28 }
+        requires block { owner.now.block < 128 }
+        requires empty { replies.old ≡ [] }
+        ensures packets { AddsPackets (sent owner.now.group
+            (answer_to (sender_of self.now owner.now.block owner.now.muid)
+            (told_of owner.now.group view.now) (discovery path))) [] replies.new }
+        ensures few { length replies.new ≤ 114 }
+    {
+        let Identity {
+            manufacturer,
+            family,
+            model,
+            revision,
+        } = self.identity;
+        let message = CiView {
+            address: Address::Block,
+            sub: 0x71,
+            version: VERSION,
+            source: owner.muid,
+            destination: view.source,
+            body: Body::DiscoveryReply {
+                manufacturer,
+                family,
+                model,
+                revision,
+                category: PROFILES,
+                size: self.room,
+                path,
+                block: owner.block,
+            },
+        };
+        push_message(replies, owner.group, &message);
+    }
+
+    fn tell_product_id(&self, owner: &Owner, view: &CiView<'_>, replies: &mut Replies)
+        requires view { IsView view.now }
+        requires muid { owner.now.muid < 2 ^ 28 }
+        requires empty { replies.old ≡ [] }
+        ensures packets { (status : ℕ) → AddsPackets (sent owner.now.group
+            (answer_to (sender_of self.now owner.now.block owner.now.muid)
+            (told_of owner.now.group view.now) (endpoint status))) [] replies.new }
+        ensures few { length replies.new ≤ 114 }
+    {
+        let message = CiView {
+            address: view.address,
+            sub: 0x73,
+            version: VERSION,
+            source: owner.muid,
+            destination: view.source,
+            body: Body::EndpointReply {
+                status: 0,
+                text: self.product_id.as_slice(),
+            },
+        };
+        push_message(replies, owner.group, &message);
+    }
+
+    fn tell_profiles(&self, owner: &Owner, view: &CiView<'_>, replies: &mut Replies)
+        requires view { IsView view.now }
+        requires muid { owner.now.muid < 2 ^ 28 }
+        requires empty { replies.old ≡ [] }
+        ensures packets { AddsPackets (sent owner.now.group
+            (answer_to (sender_of self.now owner.now.block owner.now.muid)
+            (told_of owner.now.group view.now) profiles)) [] replies.new }
+        ensures few { length replies.new ≤ 114 }
+    {
+        let place = place_of(view.address, owner.group);
+        let ids = ids_at(&self.states, owner.block, &place);
+        let message = CiView {
+            address: view.address,
+            sub: 0x21,
+            version: VERSION,
+            source: owner.muid,
+            destination: view.source,
+            body: Body::ProfileReply {
+                on: ids.on.as_slice(),
+                off: ids.off.as_slice(),
+            },
+        };
+        push_message(replies, owner.group, &message);
+    }
+
+    // Reports for all that a profile is on.
+    fn report_on(&self, owner: &Owner, view: &CiView<'_>, id: ProfileId, replies: &mut Replies)
+        requires view { IsView view.now }
+        requires muid { owner.now.muid < 2 ^ 28 }
+        requires id { (length id.bytes ≡ 5) × IsData id.bytes }
+        requires empty { replies.old ≡ [] }
+        ensures packets { AddsPackets (sent owner.now.group
+            (answer_to (sender_of self.now owner.now.block owner.now.muid)
+            (told_of owner.now.group view.now) (switch id true))) [] replies.new }
+        ensures few { length replies.new ≤ 114 }
+    {
+        let channels = channels_of(view.address);
+        let message = CiView {
+            address: view.address,
+            sub: 0x24,
+            version: VERSION,
+            source: owner.muid,
+            destination: BROADCAST,
+            body: Body::EnabledReport { id, channels },
+        };
+        push_message(replies, owner.group, &message);
+    }
+
+    // Reports for all that a profile is off.
+    fn report_off(&self, owner: &Owner, view: &CiView<'_>, id: ProfileId, replies: &mut Replies)
+        requires view { IsView view.now }
+        requires muid { owner.now.muid < 2 ^ 28 }
+        requires id { (length id.bytes ≡ 5) × IsData id.bytes }
+        requires empty { replies.old ≡ [] }
+        ensures packets { AddsPackets (sent owner.now.group
+            (answer_to (sender_of self.now owner.now.block owner.now.muid)
+            (told_of owner.now.group view.now) (switch id false))) [] replies.new }
+        ensures few { length replies.new ≤ 114 }
+    {
+        let channels = channels_of(view.address);
+        let message = CiView {
+            address: view.address,
+            sub: 0x25,
+            version: VERSION,
+            source: owner.muid,
+            destination: BROADCAST,
+            body: Body::DisabledReport { id, channels },
+        };
+        push_message(replies, owner.group, &message);
+    }
+}

@@ -1,0 +1,188 @@
+// The responder.
+ghost use Rattle.std.specs.Prelude.{◌≡◌, ◌≤◌, [], true, length, is_some, IfOk};
+ghost use Rattle.ump_grammar.specs.Replies.{AddsPackets};
+ghost use Rattle.ci_messages.specs.Writing.{IsView};
+ghost use Rattle.ci_responder.specs.declared.heard.Heard.TheVariants as heard;
+ghost use Rattle.ci_responder.specs.Held.{after, blocks_by, heard_in, muid_in, replies_in, states_by};
+ghost use Rattle.ci_responder.specs.History.{held_at};
+ghost use Rattle.ci_responder.specs.Keys.{state_in};
+ghost use Rattle.ci_responder.specs.Messages.{key_at as key_at_place, said_in, told_of};
+ghost use Rattle.ci_responder.specs.Rows.{loses_muid, names};
+
+use crate::blocks::{block_of, muid_of, spend};
+use crate::heard::Heard;
+use crate::kept::CiBlock;
+use crate::keys::Key;
+use crate::opening::{first_states, kept_blocks};
+use crate::profiles::{place_of, state, switch};
+use crate::replying::Owner;
+use crate::rows::row_of;
+use ci_messages::{Body, CiView, ProfileId};
+use function_blocks::{Identity, Setup};
+use indexmap::IndexMap;
+use midi_edge::{NoMemory, ShortList, U4};
+use std::alloc::Global;
+use std::marker::Model;
+use ump_grammar::Replies;
+
+/// Answers the MIDI-CI messages for the function blocks of a setup (M2-101-UM). To a contract it is what it holds: for each
+/// block how many of its MUIDs are used up, and for each profile whether it is on.
+#[derive(Drop)]
+pub struct Responder {
+    blocks: Vec<CiBlock>,
+    pub(crate) states: IndexMap<Key, bool>,
+    pub(crate) identity: Identity,
+    pub(crate) product_id: ShortList<u8, 42>,
+    pub(crate) room: u32,
+}
+
+impl Model for Responder {
+    ghost use Rattle.ci_responder.specs.Held.{Held, IsHeld};
+
+    ghost Value = { Held };
+
+    ghost view = { λ r. record {
+      blocks = r.blocks.items;
+      states = r.states.entries;
+      identity = r.identity;
+      product_id = r.product_id;
+      room = r.room;
+    } };
+
+    ghost invariant = { λ r. IsHeld (record {
+      blocks = r.blocks.items;
+      states = r.states.entries;
+      identity = r.identity;
+      product_id = r.product_id;
+      room = r.room;
+    }) };
+}
+
+// The key of the profile with this id at a message's place in a block.
+fn key_at(owner: &Owner, view: &CiView<'_>, id: ProfileId) -> Key
+    ensures { result ≡ key_at_place owner.now.block (told_of owner.now.group view.now) id }
+{
+    Key {
+        block: owner.block,
+        place: place_of(view.address, owner.group),
+        id,
+    }
+}
+
+impl Responder {
+    /// A responder that has used up no MUID, with its profiles as the setup has them. `room` is the most bytes of a System
+    /// Exclusive message that it tells to take, 6 to 1,048,576. Takes all memory that it ever takes; `NoMemory` where there
+    /// isn't so much.
+    pub fn new(alloc: Global, setup: &Setup, room: u32) -> Result<Responder, NoMemory>
+        requires least { 6 ≤ room }
+        requires most { room ≤ 1048576 }
+        ensures { IfOk result (λ responder. responder ≡ held_at setup.now room []) }
+    {
+        let blocks = kept_blocks(alloc, setup)?;
+        let states = first_states(alloc, setup)?;
+        let mut product_id = ShortList::new();
+        product_id.extend(setup.product_id().as_bytes());
+        Ok(Responder {
+            blocks,
+            states,
+            identity: setup.identity(),
+            product_id,
+            room,
+        })
+    }
+
+    /// The MUID in force of a function block, counted from 0. `None` exactly where it has no MIDI-CI or has used up its MUIDs,
+    /// or where there is no such block.
+    pub fn muid(&self, block: u8) -> Option<u32>
+        ensures { result ≡ muid_in self.now.blocks block }
+    {
+        muid_of(self.blocks.as_slice(), block as usize)
+    }
+
+    /// Whether a profile is on; `None` exactly where the setup doesn't name it.
+    pub fn profile_is_on(&self, key: &Key) -> Option<bool>
+        ensures { result ≡ state_in self.now.states key.now }
+    {
+        state(&self.states, key)
+    }
+
+    /// Hears a message that `ci_messages::read` gives, on its group, and adds the reply to `replies`, which is empty. Takes no
+    /// memory. The reply goes out on the same group, and has at most 114 words.
+    pub fn hear(&mut self, group: U4, view: &CiView<'_>, replies: &mut Replies) -> Heard
+        requires view { IsView view.now }
+        requires empty { replies.old ≡ [] }
+        ensures heard { result ≡ heard_in self.old (told_of group view.now) }
+        ensures after { self.new ≡ after self.old (told_of group view.now) }
+        ensures replies { AddsPackets (replies_in self.old (told_of group view.now)) [] replies.new }
+        ensures few { length replies.new ≤ 114 }
+    {
+        let Some(number) = block_of(self.blocks.as_slice(), group) else {
+            return Heard::NoBlock;
+        };
+        let Some(muid) = muid_of(self.blocks.as_slice(), number) else {
+            return Heard::Silent;
+        };
+        let owner = Owner {
+            group,
+            block: number as u8,
+            muid,
+        };
+        let heard = row_of(muid, self.is_named(&owner, view), view);
+        self.reply(&owner, heard, view, replies);
+        self.change(&owner, heard, view);
+        heard
+    }
+
+    // Whether a message switches a profile that the setup names at its place in the block.
+    fn is_named(&self, owner: &Owner, view: &CiView<'_>) -> bool
+        ensures { result ≡ names self.now.states owner.now.block (told_of owner.now.group view.now)
+            (said_in view.now.body) }
+    {
+        match &view.body {
+            Body::SetOn { id, .. } => self.has(key_at(owner, view, *id)),
+            Body::SetOff { id } => self.has(key_at(owner, view, *id)),
+            _ => false,
+        }
+    }
+
+    fn has(&self, key: Key) -> bool
+        ensures { result ≡ is_some (state_in self.now.states key) }
+    {
+        state(&self.states, &key).is_some()
+    }
+
+    // What a message that is heard so does to its block and to the profiles.
+    fn change(&mut self, owner: &Owner, heard: Heard, view: &CiView<'_>)
+        requires { loses_muid heard ≡ true → is_some (muid_in self.old.blocks owner.now.block) ≡ true }
+        ensures { self.new ≡ record self.old {
+          blocks = blocks_by heard owner.now.block self.old.blocks;
+          states = states_by heard (said_in view.now.body) owner.now.block (told_of owner.now.group view.now)
+              self.old.states;
+        } }
+    {
+        match heard {
+            Heard::Collision => spend(self.blocks.as_mut_slice(), owner.block as usize),
+            Heard::Moved => spend(self.blocks.as_mut_slice(), owner.block as usize),
+            Heard::Answered => self.switch(owner, view),
+            _ => {}
+        }
+    }
+
+    // Switches the profile that a message names, if any.
+    fn switch(&mut self, owner: &Owner, view: &CiView<'_>)
+        ensures { self.new ≡ record self.old {
+          states = states_by heard.Answered (said_in view.now.body) owner.now.block
+              (told_of owner.now.group view.now) self.old.states;
+        } }
+    {
+        match &view.body {
+            Body::SetOn { id, .. } => {
+                switch(&mut self.states, &key_at(owner, view, *id), true);
+            }
+            Body::SetOff { id } => {
+                switch(&mut self.states, &key_at(owner, view, *id), false);
+            }
+            _ => {}
+        }
+    }
+}

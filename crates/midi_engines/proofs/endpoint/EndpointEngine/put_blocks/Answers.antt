@@ -1,0 +1,42 @@
+use Rattle.std.proofs.Common.{◌≡◌, ◌++◌, ◌+◌, ℕ, List, take, drop, suc, Some, None, ap, sym, ◌∙◌, subst, arith}
+use Rattle.std.specs.Prelude.{slice_get}
+use Rattle.std.specs.Option.{option_map}
+use Rattle.ci_responder.specs.Held.{muid_in}
+use Rattle.midi_pass.specs.Places.{FailsAt, after_puts, places}
+use Rattle.midi_pass.specs.Put.{Put}
+use Rattle.midi_pass.specs.PutLaws.{stops_more, then_put, then_stops}
+use Rattle.midi_engines.specs.Endpoint.{block_line_of, for_each}
+use Rattle.midi_engines.proofs.EndpointLaws.{all_each, next_each, not_past}
+use Rattle.midi_engines.proofs.endpoint.EndpointEngine.put_blocks.Goals as goal
+
+pub unreachable-requires : goal.unreachable-requires
+unreachable-requires g c =
+    not_past c.loop-number.number c.args.self.now.setup.blocks (sym (ap (option_map (λ b. b.now)) (sym c.in-None.is) ∙ c.block.ensures.value)) (omega (arith, c.loop-number-test.true, c.block_count-number-end.ensures.value))
+
+pub loop-number-preserved : goal.loop-number-preserved
+loop-number-preserved g c =
+    let old = places g.L.Lanes g.W.Sink g.N.Sink c.args.lanes.now c.args.output.now c.args.notes.now in
+    let mid = places g.L.Lanes g.W.Sink g.N.Sink c.loop-number.lanes c.loop-number.output c.loop-number.notes in
+    let new = places g.L.Lanes g.W.Sink g.N.Sink c.put_block.new.lanes c.put_block.new.output c.put_block.new.notes in
+    let n : ℕ = c.loop-number.number in
+    let all = c.args.self.now.setup.blocks in
+    let one = c.in-Some.block.now in
+    let put = block_line_of (muid_in c.args.self.now.listener.responder.blocks) in
+    let D : List Put → Type 0 = λ puts. new ≡ after_puts puts old in
+    subst D (sym (next_each put all n one (sym c.in-Some.ensures.value)))
+    (then_put (for_each put 0 (take n all)) (put n one) old mid new c.loop-number.invariant c.in-Ok.ensures)
+
+pub returns-in-Err : goal.returns-in-Err
+returns-in-Err g c =
+    let old = places g.L.Lanes g.W.Sink g.N.Sink c.args.lanes.now c.args.output.now c.args.notes.now in
+    let mid = places g.L.Lanes g.W.Sink g.N.Sink c.loop-number.lanes c.loop-number.output c.loop-number.notes in
+    let new = places g.L.Lanes g.W.Sink g.N.Sink c.put_block.new.lanes c.put_block.new.output c.put_block.new.notes in
+    let n : ℕ = c.loop-number.number in
+    let all = c.args.self.now.setup.blocks in
+    let one = c.in-Some.block.now in
+    let put = block_line_of (muid_in c.args.self.now.listener.responder.blocks) in
+    let F : List Put → Type 0 = λ puts. FailsAt puts c.in-Err.end old new in
+    let rest : List Put = for_each put (n + 1) (drop (suc n) all) in
+    subst F (sym (all_each put all n one (sym c.in-Some.ensures.value)))
+    (then_stops (for_each put 0 (take n all)) (put n one ++ rest) c.in-Err.end old mid new c.loop-number.invariant
+    (stops_more (put n one) rest c.in-Err.end mid new c.in-Err.ensures))
