@@ -1,29 +1,30 @@
 -- What the code of a step does is a step of the work.
 use Rattle.std.proofs.Common.{◌≡◌, List, None, Some, refl, sym, subst}
-use Rattle.std.specs.Prelude.{Result, Ok, Err}
+use Rattle.std.proofs.lemmas.Bool.{false≢true}
+use Rattle.std.specs.Prelude.{Bool, true, false, Result, Ok, Err}
 use Rattle.midi_pass.specs.Pass.{Tail, Work, StepEnds, Steps, Takes}
 use Rattle.midi_pass.specs.Places.{Places, FailsAt, Puts}
 use Rattle.midi_pass.specs.Put.{Put, in_lane, in_output, in_notes, fault_of}
 use Rattle.midi_pass.specs.declared.ends.RunEnd.{RunEnd}
 use Rattle.midi_pass.specs.declared.ends.RunEnd.TheVariants.{Done, Refused, ReadFault, LaneFault, OutputFault, NoteFault}
 
--- an end that a put makes which failed
-abbrev pub IsPutFault : RunEnd → Type 0
-IsPutFault LaneFault = Unit {0}
-IsPutFault OutputFault = Unit {0}
-IsPutFault NoteFault = Unit {0}
-IsPutFault Done = ⊥
-IsPutFault ReadFault = ⊥
-IsPutFault (Refused reason offset) = ⊥
+-- whether a failed put ends a run so; what stands then is `FailsAt`
+abbrev pub is_put_fault : RunEnd → Bool
+is_put_fault LaneFault = true
+is_put_fault OutputFault = true
+is_put_fault NoteFault = true
+is_put_fault Done = false
+is_put_fault ReadFault = false
+is_put_fault (Refused reason offset) = false
 
-fault_of-is : (put : Put) → IsPutFault (fault_of put)
-fault_of-is (in_lane lane piece) = tt
-fault_of-is (in_output text) = tt
-fault_of-is (in_notes text) = tt
+fault_of-is : (put : Put) → is_put_fault (fault_of put) ≡ true
+fault_of-is (in_lane lane piece) = refl
+fault_of-is (in_output text) = refl
+fault_of-is (in_notes text) = refl
 
 -- where a put failed, the end is that of a place
-pub place_failed : (puts : List Put) (end : RunEnd) (old new : Places) → FailsAt puts end old new → IsPutFault end
-place_failed puts end old new stops = subst IsPutFault (sym stops.end_is) (fault_of-is stops.failed)
+pub place_failed : (puts : List Put) (end : RunEnd) (old new : Places) → FailsAt puts end old new → is_put_fault end ≡ true
+place_failed puts end old new stops = subst (λ e. is_put_fault e ≡ true) (sym stops.end_is) (fault_of-is stops.failed)
 
 -- what the code of a step does is a step of the work
 pub takes_steps : {I : Type 0} (work : Work I) (past : List I) (item : I) (old new : Places) (Then : Type 0) (result : Result (Unit {0}) RunEnd) (puts : List Put)
@@ -31,7 +32,7 @@ pub takes_steps : {I : Type 0} (work : Work I) (past : List I) (item : I) (old n
 takes_steps work past item old new Then result puts takes fine = by_refusal (work.refusal past item) refl takes
   where
     by_end : (end : RunEnd) → work.refusal past item ≡ None → FailsAt puts end old new → StepEnds work past old new item end
-    by_end (Refused reason offset) e stops = absurd (place_failed puts (Refused reason offset) old new stops)
+    by_end (Refused reason offset) e stops = absurd (false≢true (place_failed puts (Refused reason offset) old new stops))
     by_end Done e stops = (e, (puts, (fine e).0, stops))
     by_end ReadFault e stops = (e, (puts, (fine e).0, stops))
     by_end LaneFault e stops = (e, (puts, (fine e).0, stops))
