@@ -11,7 +11,7 @@ use Rattle.midi_pass.specs.declared.ends.Reason.{Reason}
 use Rattle.midi_pass.specs.declared.ends.RunEnd.{RunEnd}
 use Rattle.midi_pass.specs.declared.ends.RunEnd.TheVariants.{Done, Refused, ReadFault, LaneFault, OutputFault, NoteFault}
 use Rattle.midi_pass.specs.PutLaws.{after_puts-none, then_put}
-use Rattle.midi_pass.specs.StepLaws.{place_failed}
+use Rattle.midi_pass.specs.StepLaws.{no_other_end}
 
 pub reverse-push : {A : Type 0} (xs : List A) (x : A) → reverse (xs ++ x ∷ []) ≡ x ∷ reverse xs
 reverse-push xs x = reverse-append xs (x ∷ [])
@@ -76,8 +76,8 @@ module _ {I : Type 0} (IsCut : Cutting I) (work : Work I) (Has : List I → Type
       by_told : (all : Option (List ℕ)) → IfSome all (λ bytes. IsFront IsCut bytes (so_far.items ++ item ∷ [])) → IfSome all (λ bytes. IsFirstRefusal IsCut work bytes so_far.items reason offset)
       by_told None front = tt
       by_told (Some bytes) front = inr (item, front, ends.0)
-  ends_at_step item Done new front reads ends = absurd (place_failed ends.1.0 Done now.places new.places ends.1.2)
-  ends_at_step item ReadFault new front reads ends = absurd (place_failed ends.1.0 ReadFault now.places new.places ends.1.2)
+  ends_at_step item Done new front reads ends = absurd (no_other_end ends.1.0 Done now.places new.places ends.1.2 refl)
+  ends_at_step item ReadFault new front reads ends = absurd (no_other_end ends.1.0 ReadFault now.places new.places ends.1.2 refl)
   ends_at_step item LaneFault new front reads ends = put_failed LaneFault new ends.1.0 (inl (item, front, ends.0, ends.1.1)) ends.1.2 reads
   ends_at_step item OutputFault new front reads ends = put_failed OutputFault new ends.1.0 (inl (item, front, ends.0, ends.1.1)) ends.1.2 reads
   ends_at_step item NoteFault new front reads ends = put_failed NoteFault new ends.1.0 (inl (item, front, ends.0, ends.1.1)) ends.1.2 reads
@@ -92,9 +92,9 @@ module _ {I : Type 0} (IsCut : Cutting I) (work : Work I) (Has : List I → Type
       by_told (Some bytes) cut = cut.0
 
       by_end : (e : RunEnd) → FailsAt closes.0 e now.places new.places → Stands IsCut work old new e
-      by_end Done stops = absurd (place_failed closes.0 Done now.places new.places stops)
-      by_end (Refused reason offset) stops = absurd (place_failed closes.0 (Refused reason offset) now.places new.places stops)
-      by_end ReadFault stops = absurd (place_failed closes.0 ReadFault now.places new.places stops)
+      by_end Done stops = absurd (no_other_end closes.0 Done now.places new.places stops refl)
+      by_end (Refused reason offset) stops = absurd (no_other_end closes.0 (Refused reason offset) now.places new.places stops refl)
+      by_end ReadFault stops = absurd (no_other_end closes.0 ReadFault now.places new.places stops refl)
       by_end LaneFault stops = put_failed LaneFault new closes.0 (inr (by_told old.left cut, closes.1)) stops reads
       by_end OutputFault stops = put_failed OutputFault new closes.0 (inr (by_told old.left cut, closes.1)) stops reads
       by_end NoteFault stops = put_failed NoteFault new closes.0 (inr (by_told old.left cut, closes.1)) stops reads

@@ -1,5 +1,5 @@
 -- What the code of a step does is a step of the work.
-use Rattle.std.proofs.Common.{◌≡◌, List, None, Some, refl, sym, subst}
+use Rattle.std.proofs.Common.{◌≡◌, List, None, Some, refl, sym, ◌∙◌, subst}
 use Rattle.std.proofs.lemmas.Bool.{false≢true}
 use Rattle.std.specs.Prelude.{Bool, true, false, Result, Ok, Err}
 use Rattle.midi_pass.specs.Pass.{Tail, Work, StepEnds, Steps, Takes}
@@ -22,9 +22,10 @@ fault_of-is (in_lane lane piece) = refl
 fault_of-is (in_output text) = refl
 fault_of-is (in_notes text) = refl
 
--- where a put failed, the end is that of a place
-pub place_failed : (puts : List Put) (end : RunEnd) (old new : Places) → FailsAt puts end old new → is_put_fault end ≡ true
-place_failed puts end old new stops = subst (λ e. is_put_fault e ≡ true) (sym stops.end_is) (fault_of-is stops.failed)
+-- where a put failed, no other end comes
+pub no_other_end : (puts : List Put) (end : RunEnd) (old new : Places) → FailsAt puts end old new → is_put_fault end ≡ false → ⊥
+no_other_end puts end old new stops other =
+    false≢true (sym other ∙ subst (λ e. is_put_fault e ≡ true) (sym stops.end_is) (fault_of-is stops.failed))
 
 -- what the code of a step does is a step of the work
 pub takes_steps : {I : Type 0} (work : Work I) (past : List I) (item : I) (old new : Places) (Then : Type 0) (result : Result (Unit {0}) RunEnd) (puts : List Put)
@@ -32,7 +33,7 @@ pub takes_steps : {I : Type 0} (work : Work I) (past : List I) (item : I) (old n
 takes_steps work past item old new Then result puts takes fine = by_refusal (work.refusal past item) refl takes
   where
     by_end : (end : RunEnd) → work.refusal past item ≡ None → FailsAt puts end old new → StepEnds work past old new item end
-    by_end (Refused reason offset) e stops = absurd (false≢true (place_failed puts (Refused reason offset) old new stops))
+    by_end (Refused reason offset) e stops = absurd (no_other_end puts (Refused reason offset) old new stops refl)
     by_end Done e stops = (e, (puts, (fine e).0, stops))
     by_end ReadFault e stops = (e, (puts, (fine e).0, stops))
     by_end LaneFault e stops = (e, (puts, (fine e).0, stops))
