@@ -20,13 +20,15 @@ pub record BackWords : Type 0 where
   pub group : ℕ
   pub room : ℕ
 
--- `show`: little endian or not, and the most bytes of an exclusive
+-- `show`: with the state at the end or not, little endian or not, and the most bytes of an exclusive
 pub record ShowWords : Type 0 where
+  pub state : Bool
   pub little : Bool
   pub room : ℕ
 
--- `show --bytes`: the most bytes of an exclusive
+-- `show --bytes`: with the state at the end or not, and the most bytes of an exclusive
 pub record ShowBytesWords : Type 0 where
+  pub state : Bool
   pub room : ℕ
 
 -- `endpoint`: the name of the setup, little endian or not, and the most bytes of an exclusive
@@ -48,8 +50,8 @@ abbrev pub asked_of : Command → Asked
 asked_of (Down folder little room) = down (record { folder = folder.now; little = little; room = room })
 asked_of (Up group little room) = up (record { group = group; little = little; room = room })
 asked_of (Back group room) = back (record { group = group; room = room })
-asked_of (Show little room) = show (record { little = little; room = room })
-asked_of (ShowBytes room) = show_bytes (record { room = room })
+asked_of (Show state little room) = show (record { state = state; little = little; room = room })
+asked_of (ShowBytes state room) = show_bytes (record { state = state; room = room })
 asked_of (Endpoint setup little room) = endpoint (record { setup = setup.now; little = little; room = room })
 
 -- the room for an exclusive, 6 to 1,048,576 bytes

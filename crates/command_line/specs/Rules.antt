@@ -55,11 +55,11 @@ translate_of direction folder group little room =
     else (if bytes_eq direction (codes "up") then up_of folder group little room
     else (if bytes_eq direction (codes "back") then back_of folder group little room else None))
 
--- bytes, little, room: not both flags
-abbrev pub show_of : Bool → Bool → Option Text → Option Asked
-show_of true true room = None
-show_of true false room = option_map (λ r. show_bytes (record { room = r })) (room_in room)
-show_of false little room = option_map (λ r. show (record { little = little; room = r })) (room_in room)
+-- bytes, state, little, room: not both bytes and little
+abbrev pub show_of : Bool → Bool → Bool → Option Text → Option Asked
+show_of true state true room = None
+show_of true state false room = option_map (λ r. show_bytes (record { state = state; room = r })) (room_in room)
+show_of false state little room = option_map (λ r. show (record { state = state; little = little; room = r })) (room_in room)
 
 -- setup, little, room: a setup may have any name
 abbrev pub endpoint_of : Text → Bool → Option Text → Option Asked
@@ -71,7 +71,8 @@ asked_in name rows =
     let at : Text → Option Text = λ id. first_of id rows in
     if bytes_eq name (codes "translate") then option_and_then (λ d. translate_of d (at (codes "folder")) (at (codes "group"))
     (is_set (codes "little") rows) (at (codes "room"))) (at (codes "direction"))
-    else (if bytes_eq name (codes "show") then show_of (is_set (codes "bytes") rows) (is_set (codes "little") rows) (at (codes "room"))
+    else (if bytes_eq name (codes "show") then show_of (is_set (codes "bytes") rows) (is_set (codes "state") rows)
+    (is_set (codes "little") rows) (at (codes "room"))
     else (if bytes_eq name (codes "endpoint") then option_and_then (λ s. endpoint_of s (is_set (codes "little") rows) (at (codes "room")))
     (at (codes "setup"))
     else None))

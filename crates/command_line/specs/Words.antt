@@ -28,9 +28,9 @@ abbrev pub translate_app : App
 translate_app = with_rules (new_app (codes "translate")) (positional (codes "direction") ∷ option (codes "folder") ∷ option (codes "group")
     ∷ flag (codes "little") ∷ option (codes "room") ∷ [])
 
--- show [--bytes] [--little] [--room R]
+-- show [--bytes] [--state] [--little] [--room R]
 abbrev pub show_app : App
-show_app = with_rules (new_app (codes "show")) (flag (codes "bytes") ∷ flag (codes "little") ∷ option (codes "room") ∷ [])
+show_app = with_rules (new_app (codes "show")) (flag (codes "bytes") ∷ flag (codes "state") ∷ flag (codes "little") ∷ option (codes "room") ∷ [])
 
 -- endpoint SETUP [--little] [--room R]
 abbrev pub endpoint_app : App

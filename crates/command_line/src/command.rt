@@ -1,8 +1,9 @@
 // What a command line asks for.
 use midi_edge::U4;
 
-/// What a command line asks for. `little` says that each word of a recording has its least significant byte first, and
-/// `room` is the greatest number of bytes of an exclusive between F0 and F7, 6 to 1,048,576.
+/// What a command line asks for. `little` says that each word of a recording has its least significant byte first, `state` that
+/// the lines end with those of the state that the input leaves, and `room` is the greatest number of bytes of an exclusive between
+/// F0 and F7, 6 to 1,048,576.
 #[derive(Clone, Copy, Debug, PartialEq, Eq)]
 pub enum Command<'a> {
     /// `translate down`: words become a MIDI 1.0 stream for each group, in this folder.
@@ -24,11 +25,13 @@ pub enum Command<'a> {
     },
     /// `show`: the packets of words become lines.
     Show {
+        state: bool,
         little: bool,
         room: u32,
     },
     /// `show --bytes`: the messages of MIDI 1.0 bytes become lines.
     ShowBytes {
+        state: bool,
         room: u32,
     },
     /// `endpoint`: the exclusives and stream messages in words are answered by the endpoint of this setup. The name of the

@@ -32,13 +32,14 @@ pub fn back_is_taken()
 
 /// `show`, of words and of bytes, alone and with all that may be left out.
 pub fn show_is_taken()
-    ensures words { command_of (codes "show" ∷ []) ≡ Some (show (record { little = false; room = 1048576 })) }
-    ensures most_words { command_of (codes "show" ∷ codes "--little" ∷ codes "--room" ∷ codes "6" ∷ [])
-        ≡ Some (show (record { little = true; room = 6 })) }
+    ensures words { command_of (codes "show" ∷ [])
+        ≡ Some (show (record { state = false; little = false; room = 1048576 })) }
+    ensures most_words { command_of (codes "show" ∷ codes "--state" ∷ codes "--little" ∷ codes "--room" ∷ codes "6" ∷ [])
+        ≡ Some (show (record { state = true; little = true; room = 6 })) }
     ensures bytes { command_of (codes "show" ∷ codes "--bytes" ∷ [])
-        ≡ Some (show_bytes (record { room = 1048576 })) }
-    ensures most_bytes { command_of (codes "show" ∷ codes "--bytes" ∷ codes "--room" ∷ codes "6" ∷ [])
-        ≡ Some (show_bytes (record { room = 6 })) }
+        ≡ Some (show_bytes (record { state = false; room = 1048576 })) }
+    ensures most_bytes { command_of (codes "show" ∷ codes "--bytes" ∷ codes "--state" ∷ codes "--room" ∷ codes "6" ∷ [])
+        ≡ Some (show_bytes (record { state = true; room = 6 })) }
 {}
 
 /// `endpoint` with its setup, alone and with all that may be left out.

@@ -70,6 +70,7 @@ fn show_command<'a>(alloc: Global) -> Result<Command<'a>, AllocError>
 {
     let command = Command::new(alloc, "show");
     let command = with_arg(command, flag(alloc, "bytes"))?;
+    let command = with_arg(command, flag(alloc, "state"))?;
     let command = with_arg(command, flag(alloc, "little"))?;
     let command = with_arg(command, option(alloc, "room"))?;
     Ok(command)

@@ -96,8 +96,8 @@ fn translate<'a>(
     }
 }
 
-fn show<'a>(bytes: bool, little: bool, room_text: Option<&str>) -> Option<Command<'a>>
-    ensures command { option_map asked_of result ≡ show_of bytes little (option_copied room_text.entry) }
+fn show<'a>(bytes: bool, state: bool, little: bool, room_text: Option<&str>) -> Option<Command<'a>>
+    ensures command { option_map asked_of result ≡ show_of bytes state little (option_copied room_text.entry) }
     ensures range { IfSome result (λ c. IsInRange (asked_of c)) }
 {
     if bytes && little {
@@ -105,9 +105,13 @@ fn show<'a>(bytes: bool, little: bool, room_text: Option<&str>) -> Option<Comman
     }
     let room = room(room_text)?;
     if bytes {
-        Some(Command::ShowBytes { room })
+        Some(Command::ShowBytes { state, room })
     } else {
-        Some(Command::Show { little, room })
+        Some(Command::Show {
+            state,
+            little,
+            room,
+        })
     }
 }
 
@@ -140,6 +144,7 @@ fn command_in<'a>(name: &str, matches: &ArgMatches<'a>) -> Option<Command<'a>>
     } else if name == "show" {
         show(
             is_flag_set(matches, "bytes"),
+            is_flag_set(matches, "state"),
             is_flag_set(matches, "little"),
             text(matches, "room"),
         )

@@ -123,28 +123,38 @@ fn words_of_translate_back(rt: HostRuntime) -> Result<(), Fail> {
 #[test]
 fn words_of_show(rt: HostRuntime) -> Result<(), Fail> {
     let alloc = rt.alloc();
-    for (line, little, room) in [
-        ("show", false, MOST),
-        ("show --little", true, MOST),
-        ("show --room 6", false, 6),
-        ("show --little --room 8", true, 8),
-        ("show --room 8 --little", true, 8),
+    for (line, state, little, room) in [
+        ("show", false, false, MOST),
+        ("show --little", false, true, MOST),
+        ("show --room 6", false, false, 6),
+        ("show --little --room 8", false, true, 8),
+        ("show --room 8 --little", false, true, 8),
+        ("show --state", true, false, MOST),
+        ("show --state --little", true, true, MOST),
+        ("show --state --room 6", true, false, 6),
+        ("show --state --little --room 8", true, true, 8),
+        ("show --room 8 --little --state", true, true, 8),
     ] {
         let words = words_of(alloc, line)?;
-        assert_eq!(rt;
-            command_line(alloc, &words),
-            Ok(Command::Show { little, room })
-        );
+        let command = Command::Show {
+            state,
+            little,
+            room,
+        };
+        assert_eq!(rt; command_line(alloc, &words), Ok(command));
     }
-    for (line, room) in [
-        ("show --bytes", MOST),
-        ("show --bytes --room 11", 11),
-        ("show --room 11 --bytes", 11),
+    for (line, state, room) in [
+        ("show --bytes", false, MOST),
+        ("show --bytes --room 11", false, 11),
+        ("show --room 11 --bytes", false, 11),
+        ("show --bytes --state", true, MOST),
+        ("show --bytes --state --room 11", true, 11),
+        ("show --room 11 --state --bytes", true, 11),
     ] {
         let words = words_of(alloc, line)?;
         assert_eq!(rt;
             command_line(alloc, &words),
-            Ok(Command::ShowBytes { room })
+            Ok(Command::ShowBytes { state, room })
         );
     }
     Ok(())
@@ -201,7 +211,7 @@ fn other_words(rt: HostRuntime) -> Result<(), Fail> {
     asks_back(&rt, alloc, "translate -- back", 0, MOST)
 }
 
-const NO_COMMAND: [&str; 63] = [
+const NO_COMMAND: [&str; 68] = [
     "",
     "--help",
     "-h",
@@ -237,7 +247,12 @@ const NO_COMMAND: [&str; 63] = [
     "endpoint S --little --little",
     "endpoint --help",
     "selftest 1",
-    "show --state",
+    "--state",
+    "show --state --state",
+    "show --state=true",
+    "show --bytes --state --little",
+    "translate up --state",
+    "endpoint S --state",
     "translate down --folder F --compact",
     "translate up --paired",
     "translate down",

@@ -1,6 +1,6 @@
 -- Texts that are joined packet by packet.
 use Rattle.std.proofs.Common.{◌≡◌, ◌≤◌, ◌==◌, ℕ, Bool, true, false, nat_le, List, [], ◌∷◌, ◌++◌, length, Option, None, Some, refl, ap, sym, ◌∙◌, subst, arith}
-use Rattle.std.specs.Prelude.{if◌then◌else◌, reverse, Result, Ok, Err}
+use Rattle.std.specs.Prelude.{if◌then◌else◌, reverse}
 use Rattle.std.specs.Option.{option_and_then}
 use Rattle.std.proofs.lemmas.List.{length-reverse}
 use Rattle.std.proofs.lemmas.Bool.{leb-true}
@@ -13,13 +13,6 @@ use Rattle.system_stream.specs.Joined.{joined_view}
 use Rattle.system_stream.specs.Joining.{State, after_part, answer_of, answer_to, joined_with, limited, state_after}
 use Rattle.system_stream.specs.Parts.{Answer, Part, answer_at, bad, ends, finished, held, whole}
 use Rattle.system_stream.specs.Texts.{is_text, limit_of, without_leading_zeros, without_trailing_zeros}
-use Rattle.midi_pass.specs.Pass.{Steps, Tail, Takes, Work}
-use Rattle.midi_pass.specs.Places.{Places, Puts}
-use Rattle.midi_pass.specs.Put.{Put}
-use Rattle.midi_pass.specs.PutLaws.{stops_more, then_puts}
-use Rattle.midi_pass.specs.StepLaws.{takes_steps}
-use Rattle.midi_pass.specs.declared.ends.RunEnd.{RunEnd}
-use Rattle.midi_pass.specs.declared.ends.RunEnd.TheVariants.{Refused}
 use Rattle.midi_lines.specs.TextLines.{IsWithinLimit, joined_text}
 use Rattle.midi_engines.specs.declared.texts.Texts.{Texts}
 use Rattle.midi_engines.specs.Texts.{AreOfTheirKinds, joined_of, line_of_text, of_kind, parts_of_kind, text_line, text_of, texts_after, texts_of}
@@ -111,19 +104,3 @@ line-is answers past packet = by_text (text_of packet)
     by_text : (text : Option (TextKind × Part)) → line_of_text text (texts_of past) ≡ option_and_then (λ (t : TextKind × Part). joined_text t.0 (answer_at t.0 (parts_of_kind t.0 past) t.1)) text
     by_text None = refl
     by_text (Some text) = ap (λ s. joined_text text.0 (answer_to s text.1)) (joined-are text.0 past) ∙ ap (joined_text text.0) (answers text.0 (parts_of_kind text.0 past) text.1)
-
--- ---- the line of a packet, and then that of a text
-
-pub takes_then : (refusal : Tail) (ps qs : List Put) (a b c : Places) (result : Result (Unit {0}) RunEnd) → Takes refusal ps a b (Ok tt) → Puts qs b c result → Takes refusal (ps ++ qs) a c result
-takes_then (Some refusal) ps qs a b c result takes puts = absurd (let e : Ok tt ≡ Err (Refused refusal.0 refusal.1) = takes.0 in cc)
-takes_then None ps qs a b c result takes puts = then_puts ps qs a b c result takes puts
-
-pub takes_stops : (refusal : Tail) (ps qs : List Put) (a b : Places) (end : RunEnd) → Takes refusal ps a b (Err end) → Takes refusal (ps ++ qs) a b (Err end)
-takes_stops (Some refusal) ps qs a b end takes = takes
-takes_stops None ps qs a b end stops = stops_more ps qs end a b stops
-
--- a step that says what is held only where all was put
-pub steps_when_put : {I : Type 0} (work : Work I) (past : List I) (item : I) (old new : Places) (Then : Type 0) (result : Result (Unit {0}) RunEnd) (puts : List Put)
-    → Takes (work.refusal past item) puts old new result → (work.refusal past item ≡ None → work.IsPut past item puts) → (result ≡ Ok tt → Then) → Steps work past old new Then item result
-steps_when_put work past item old new Then (Ok done) puts takes fine behind = takes_steps work past item old new Then (Ok done) puts takes (λ e. (fine e, behind refl))
-steps_when_put work past item old new Then (Err end) puts takes fine behind = takes_steps work past item old new (Unit {0}) (Err end) puts takes (λ e. (fine e, tt))

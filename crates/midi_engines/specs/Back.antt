@@ -1,6 +1,6 @@
 -- A stream of bytes whose packets come down again: the pieces of the packets of each byte, and its lines; at the end the line of what
 -- is open.
-use Rattle.std.specs.Prelude.{◌≡◌, ℕ, ◌<◌, ◌≤◌, List, [], ◌∷◌, ◌++◌, reverse, take, None, Some}
+use Rattle.std.specs.Prelude.{◌≡◌, ℕ, false, ◌<◌, ◌≤◌, List, [], ◌∷◌, ◌++◌, reverse, take, None, Some}
 use Rattle.ump_grammar.specs.declared.packet.Packet.{Packet}
 use Rattle.ump_grammar.specs.Ranges.{IsPacket}
 use Rattle.voice_state.specs.Back.{SameState, back, back_of_bytes}
@@ -27,17 +27,20 @@ piece_puts (byte ∷ bytes) = in_output (byte ∷ bytes) ∷ []
 -- the plain pieces of packets, in the order in which they come after others, which are the newest first
 abbrev pub plain_puts : List Packet → List Packet → List Put
 plain_puts past [] = []
-plain_puts past (packet ∷ packets) = piece_puts (plain_piece (whole_of past packet) packet) ++ plain_puts (packet ∷ past) packets
+plain_puts past (packet ∷ packets) =
+    piece_puts (plain_piece (whole_of past packet) packet) ++ plain_puts (packet ∷ past) packets
 
 -- the pieces of the packets of a byte
 abbrev pub byte_pieces : ℕ → ℕ → List (ℕ × ℕ) → ℕ × ℕ → List Put
-byte_pieces room group past item = plain_puts (reverse (packets_up (Some room) group (bytes_of past))) (byte_packets room group past item)
+byte_pieces room group past item =
+    plain_puts (reverse (packets_up (Some room) group (bytes_of past))) (byte_packets room group past item)
 
 -- after each of these bytes, the newest first, the pieces so far leave a receiver in the state in which the bytes so far leave it,
 -- registers aside
 abbrev pub ReturnedMean : ℕ → ℕ → List ℕ → Type 0
 ReturnedMean room group past =
-    (count : ℕ) → SameState (mean1 (back_of_bytes (Some room) group (take count (reverse past)))) (mean1 (take count (reverse past)))
+    (count : ℕ) → SameState (mean1 (back_of_bytes (Some room) group (take count (reverse past))))
+    (mean1 (take count (reverse past)))
 
 -- What is done with a stream whose packets come down again. What is put in the output is the plain pieces of all packets; after each
 -- byte the pieces so far mean what the bytes so far mean.
@@ -45,10 +48,16 @@ abbrev pub returning : BackOptions → Work (ℕ × ℕ)
 returning options =
     record {
       names = output_and_notes;
+      grows = false;
       refusal = λ past item. refusal_at options.room past item;
-      IsPut = λ past item puts. puts ≡ byte_pieces options.room options.group past item ++ byte_lines options.room options.group past item;
+      IsPut =
+          λ past item puts. puts
+          ≡ byte_pieces options.room options.group past item
+          ++ byte_lines options.room options.group past item;
       IsPutAtEnd = λ past puts. puts ≡ last_lines options.room options.group past;
-      Means = λ past puts. (output_in puts ≡ back (Some options.room) options.group (bytes_of past)) × ReturnedMean options.room options.group (bytes_of past);
+      Means =
+          λ past puts. (output_in puts ≡ back (Some options.room) options.group (bytes_of past))
+          × ReturnedMean options.room options.group (bytes_of past);
     }
 
 -- ---- by what the translator down holds
@@ -59,7 +68,8 @@ ComesDown from packet = IsPacket packet × (refusal_in from packet ≡ None)
 
 -- its piece is put
 abbrev pub PutsDown : ℕ → DownState → Packet → DownState → List Put → Type 0
-PutsDown offset from packet to puts = (to ≡ down_after offset packet from) × (puts ≡ piece_puts (plain_piece (whole_in from packet) packet))
+PutsDown offset from packet to puts =
+    (to ≡ down_after offset packet from) × (puts ≡ piece_puts (plain_piece (whole_in from packet) packet))
 
 -- ---- from the first to the last
 

@@ -32,15 +32,18 @@ plain_named : (past packets : List Packet) → AreNamed output_and_notes (plain_
 plain_named past [] = tt
 plain_named past (packet ∷ packets) =
     let piece : List ℕ = plain_piece (whole_of past packet) packet in
-    named-then (piece_puts piece) (plain_puts (packet ∷ past) packets) (piece_named piece) (plain_named (packet ∷ past) packets)
+    named-then (piece_puts piece) (plain_puts (packet ∷ past) packets) (piece_named piece)
+    (plain_named (packet ∷ past) packets)
 
-pub returns_named : (options : BackOptions) (past : List (ℕ × ℕ)) (item : ℕ × ℕ) (puts : List Put) → (returning options).IsPut past item puts → AreNamed output_and_notes puts
+pub returns_named : (options : BackOptions) (past : List (ℕ × ℕ)) (item : ℕ × ℕ) (puts : List Put) →
+    (returning options).IsPut past item puts → AreNamed output_and_notes puts
 returns_named options past item puts put =
     let A : List Put → Type 0 = λ ps. AreNamed output_and_notes ps in
     let before : List Packet = reverse (packets_up (Some options.room) options.group (bytes_of past)) in
     let lines : List Listed = lines_at (Some options.room) options.group (bytes_of past) item.1 in
     subst A (sym put)
-    (named-then (byte_pieces options.room options.group past item) (line_puts lines) (plain_named before (byte_packets options.room options.group past item)) (lines_named lines))
+    (named-then (byte_pieces options.room options.group past item) (line_puts lines)
+    (plain_named before (byte_packets options.room options.group past item)) (lines_named lines))
 
 -- ---- the bytes in the output
 
@@ -60,7 +63,8 @@ output-lines : (lines : List Listed) → output_in (line_puts lines) ≡ []
 output-lines [] = refl
 output-lines (line ∷ lines) = output-lines lines
 
-output-byte : (options : BackOptions) (past : List (ℕ × ℕ)) (item : ℕ × ℕ) (puts : List Put) → (returning options).IsPut past item puts
+output-byte : (options : BackOptions) (past : List (ℕ × ℕ)) (item : ℕ × ℕ) (puts : List Put) →
+    (returning options).IsPut past item puts
     → output_in puts ≡ back_at (Some options.room) options.group (bytes_of past) item.1
 output-byte options past item puts put =
     let before : List Packet = reverse (packets_up (Some options.room) options.group (bytes_of past)) in
@@ -69,19 +73,23 @@ output-byte options past item puts put =
     let lines : List Put = byte_lines options.room options.group past item in
     ap output_in put
     ∙ flat_map-append output_of pieces lines
-    ∙ ap (λ xs. output_in pieces ++ xs) (output-lines (lines_at (Some options.room) options.group (bytes_of past) item.1))
+    ∙ ap (λ xs. output_in pieces ++ xs)
+    (output-lines (lines_at (Some options.room) options.group (bytes_of past) item.1))
     ∙ append-nil (output_in pieces)
     ∙ output-plain before packets
 
-output-all : (options : BackOptions) (past : List (ℕ × ℕ)) (puts : List Put) → ArePut (returning options) past puts
+output-all : (options : BackOptions) (past : List (ℕ × ℕ)) (puts : List Put) →
+    ArePut (returning options) past puts
     → output_in puts ≡ back (Some options.room) options.group (bytes_of past)
 output-all options [] puts put = ap output_in put
 output-all options (item ∷ past) puts put =
     ap output_in put.4
     ∙ flat_map-append output_of put.0 put.1
     ∙ ap (λ xs. xs ++ output_in put.1) (output-all options past put.0 put.2)
-    ∙ ap (λ xs. back (Some options.room) options.group (bytes_of past) ++ xs) (output-byte options past item put.1 put.3)
+    ∙ ap (λ xs. back (Some options.room) options.group (bytes_of past) ++ xs)
+    (output-byte options past item put.1 put.3)
 
 pub returned_means : (options : BackOptions) (up : UpState) (down : DownState) (past : List (ℕ × ℕ)) (puts : List Put) → HoldsBack options up down past → ArePut (returning options) past puts
     → (returning options).Means past puts
-returned_means options up down past puts holds put = (output-all options past puts put, holds.law (bytes_of past) holds.accepted)
+returned_means options up down past puts holds put =
+    (output-all options past puts put, holds.law (bytes_of past) holds.accepted)

@@ -1,6 +1,6 @@
 -- A recording of a peer that is answered: the words of the replies to each packet and then its lines; at the end the lines of the
 -- exclusives that are open, of the protocol in force, and of the blocks and profiles.
-use Rattle.std.specs.Prelude.{◌≡◌, ℕ, Bool, List, [], ◌∷◌, ◌++◌, Option, None, Some, unwrap_or, ◌+◌, if◌then◌else◌, Result, Ok, Err}
+use Rattle.std.specs.Prelude.{◌≡◌, ℕ, Bool, false, List, [], ◌∷◌, ◌++◌, Option, None, Some, unwrap_or, ◌+◌, if◌then◌else◌, Result, Ok, Err}
 use Rattle.std.specs.Option.{option_map, option_map_or, option_to_list}
 use Rattle.ump_words.specs.declared.words.Framed.{Framed}
 use Rattle.ump_grammar.specs.declared.packet.Packet.{Packet}
@@ -41,10 +41,12 @@ use Rattle.midi_engines.specs.Up.{AreWrittenAndListed}
 
 -- the replies to the message of a stream packet, where its format is one that its status has
 abbrev pub stream_packet_replies : Facts → ℕ → Packet → List Packet
-stream_packet_replies setup protocol packet = option_map_or (stream_replies setup protocol) (message_read packet) []
+stream_packet_replies setup protocol packet =
+    option_map_or (stream_replies setup protocol) (message_read packet) []
 
 abbrev pub protocol_after_packet : Facts → ℕ → Packet → ℕ
-protocol_after_packet setup protocol packet = option_map_or (protocol_after setup protocol) (message_read packet) protocol
+protocol_after_packet setup protocol packet =
+    option_map_or (protocol_after setup protocol) (message_read packet) protocol
 
 -- what the line of a message says: whether there are replies
 abbrev pub name_of_replies : List Packet → Name
@@ -53,12 +55,15 @@ name_of_replies (first ∷ more) = names.Answered
 
 -- what the line of a stream packet says
 abbrev pub stream_name : Facts → ℕ → Packet → Name
-stream_name setup protocol packet = option_map_or (λ message. name_of_replies (stream_replies setup protocol message)) (message_read packet) names.BadFormat
+stream_name setup protocol packet =
+    option_map_or (λ message. name_of_replies (stream_replies setup protocol message))
+    (message_read packet) names.BadFormat
 
 -- the line of a packet, if it is a stream packet
 abbrev pub stream_lines : Facts → ℕ → ℕ → Packet → List Put
 stream_lines setup protocol offset (packets.Stream format status low second third fourth) =
-    in_notes (endpoint_text offset None (stream_name setup protocol (packets.Stream format status low second third fourth))) ∷ []
+    in_notes (endpoint_text offset None
+    (stream_name setup protocol (packets.Stream format status low second third fourth))) ∷ []
 stream_lines setup protocol offset _ = []
 
 -- ---- an exclusive that a packet ends
@@ -77,7 +82,8 @@ said_in group message = said_with (ci_fault message) (told_in group message)
 -- what the exclusive says that a packet ends after these parts, if it ends one
 abbrev pub said_by : ℕ → List Part → Packet → Option Said
 said_by room parts (packets.Exclusive group form bytes) =
-    option_map (λ payload. said_in group (framed payload)) (whole_by (Some room) parts (packets.Exclusive group form bytes))
+    option_map (λ payload. said_in group (framed payload))
+    (whole_by (Some room) parts (packets.Exclusive group form bytes))
 said_by room parts _ = None
 
 -- a message without a fault is heard
@@ -88,7 +94,8 @@ told_by _ = []
 -- the messages that are heard in these packets; both newest first
 abbrev pub told_in_packets : ℕ → List Placed → List Told
 told_in_packets room [] = []
-told_in_packets room (placed ∷ past) = told_by (said_by room (parts_of past) placed.packet) ++ told_in_packets room past
+told_in_packets room (placed ∷ past) =
+    told_by (said_by room (parts_of past) placed.packet) ++ told_in_packets room past
 
 abbrev pub name_of_heard : Heard → Name
 name_of_heard heard.NoBlock = names.NoBlock
@@ -126,7 +133,9 @@ message_lines setup past offset _ _ = []
 
 -- the line of an exclusive packet that is stray or cuts another exclusive
 abbrev pub exclusive_lines : ℕ → List Part → Placed → List Put
-exclusive_lines room parts placed = option_map_or (λ part. line_puts (option_to_list (line_of (Some room) parts placed))) (part_of 0 placed.packet) []
+exclusive_lines room parts placed =
+    option_map_or (λ part. line_puts (option_to_list (line_of (Some room) parts placed)))
+    (part_of 0 placed.packet) []
 
 -- ---- a packet after others
 
@@ -144,7 +153,8 @@ module _ (setup : Facts) (room : ℕ) (past : List Placed) (placed : Placed) whe
   abbrev pub packet_lines : List Put
   packet_lines =
       stream_lines setup (in_force setup past) placed.offset placed.packet
-      ++ (message_lines setup (told_in_packets room past) placed.offset placed.packet (said_by room (parts_of past) placed.packet)
+      ++ (message_lines setup (told_in_packets room past) placed.offset placed.packet
+      (said_by room (parts_of past) placed.packet)
       ++ exclusive_lines room (parts_of past) placed)
 
 -- ---- the end
@@ -160,7 +170,8 @@ block_line_of muid number block = if has_ci block then in_notes (block_text numb
 
 -- the line of a profile: on or off, where that is known, else as the setup says
 abbrev pub profile_line_of : (Key → Option Bool) → ℕ → Profile → List Put
-profile_line_of on number profile = in_notes (profile_text profile (unwrap_or (on (key_of profile)) profile.on)) ∷ []
+profile_line_of on number profile =
+    in_notes (profile_text profile (unwrap_or (on (key_of profile)) profile.on)) ∷ []
 
 -- the lines at the end: of the exclusives that are open, of the protocol, of the blocks and of the profiles. A profile is on or off by
 -- the last switch of it that was accepted, else as the setup says.
@@ -179,6 +190,7 @@ abbrev pub answering : EndpointOptions → Work (Framed × Packet)
 answering options =
     record {
       names = output_and_notes;
+      grows = false;
       refusal = λ past item. refusal_by (bad_part (Some options.room) (parts_of (all_placed past)) (part_of 0 item.1)) item.0.offset;
       IsPut = λ past item puts. AreWrittenAndListed options.order
           (packet_replies options.setup options.room (all_placed past) (placed_of item))

@@ -77,17 +77,21 @@ part_replies held (Some said) = said_replies held said
 
 abbrev pub said_lines : Held → ℕ → ℕ → Option Said → List Put
 said_lines held group offset None = []
-said_lines held group offset (Some said) = in_notes (endpoint_text offset (Some group) (said_name_in held said)) ∷ []
+said_lines held group offset (Some said) =
+    in_notes (endpoint_text offset (Some group) (said_name_in held said)) ∷ []
 
 -- the line of a part that is stray or cuts another exclusive
 abbrev pub lost_by : ℕ → ℕ → Answer → List Listed
 lost_by group offset stray = record { offset = offset; group = Some group; kind = kinds.StrayExclusive } ∷ []
-lost_by group offset (restarted at) = record { offset = at; group = Some group; kind = kinds.CutExclusive } ∷ []
-lost_by group offset (restarted_whole at message) = record { offset = at; group = Some group; kind = kinds.CutExclusive } ∷ []
+lost_by group offset (restarted at) =
+    record { offset = at; group = Some group; kind = kinds.CutExclusive } ∷ []
+lost_by group offset (restarted_whole at message) =
+    record { offset = at; group = Some group; kind = kinds.CutExclusive } ∷ []
 lost_by group offset _ = []
 
 abbrev pub part_lines : Held → ℕ → ℕ → Answer → List Put
-part_lines held group offset answer = said_lines held group offset (said_of group answer) ++ line_puts (lost_by group offset answer)
+part_lines held group offset answer =
+    said_lines held group offset (said_of group answer) ++ line_puts (lost_by group offset answer)
 
 -- ---- one packet
 
@@ -96,12 +100,14 @@ placed_part group offset form bytes = record { group = group; form = form; bytes
 
 -- what the exclusive says that a packet ends
 abbrev pub said_of_packet : Table → Packet → Option Said
-said_of_packet table (packets.Exclusive group form bytes) = said_of group (answer_to table (placed_part group 0 form bytes))
+said_of_packet table (packets.Exclusive group form bytes) =
+    said_of group (answer_to table (placed_part group 0 form bytes))
 said_of_packet table _ = None
 
 -- the lines of an exclusive packet
 abbrev pub packet_part_lines : Table → Held → ℕ → Packet → List Put
-packet_part_lines table held offset (packets.Exclusive group form bytes) = part_lines held group offset (answer_to table (placed_part group offset form bytes))
+packet_part_lines table held offset (packets.Exclusive group form bytes) =
+    part_lines held group offset (answer_to table (placed_part group offset form bytes))
 packet_part_lines table held offset _ = []
 
 -- what is done with one more packet: it is answered and its lines are put, or it is refused; and what is held then
@@ -113,8 +119,10 @@ pub record TakesPacket (now later : EndpointEngine) (offset : ℕ) (packet : Pac
   pub responder_is : later.listener.responder ≡ after_part now.listener.responder (said_of_packet now.listener.groups packet)
   pub answers : Answers (refusal_by (bad_join now.listener.groups packet) offset)
       (WrittenAndListed now.writer.order
-      (stream_packet_replies now.setup now.config.protocol packet ++ part_replies now.listener.responder (said_of_packet now.listener.groups packet))
-      (stream_lines now.setup now.config.protocol offset packet ++ packet_part_lines now.listener.groups now.listener.responder offset packet)) tt old new result
+      (stream_packet_replies now.setup now.config.protocol packet ++ part_replies now.listener.responder
+      (said_of_packet now.listener.groups packet))
+      (stream_lines now.setup now.config.protocol offset packet
+      ++ packet_part_lines now.listener.groups now.listener.responder offset packet)) tt old new result
 
 -- ---- the end
 
@@ -132,7 +140,8 @@ held_closing now =
 -- ---- from the first to the last
 
 abbrev pub options_of : EndpointEngine → EndpointOptions
-options_of first = record { setup = first.setup; order = first.writer.order; room = first.listener.groups.room }
+options_of first =
+    record { setup = first.setup; order = first.writer.order; room = first.listener.groups.room }
 
 -- an endpoint that has heard nothing
 pub record IsReadyEndpoint (first : EndpointEngine) : Type 0 where
@@ -152,7 +161,8 @@ pub record HoldsEndpoint (first now : EndpointEngine) (past : List (Framed × Pa
   pub range : AreInRange (all_placed past)
   pub groups_are : now.listener.groups ≡ table_after first.listener.groups.room (parts_of (all_placed past))
   pub responder_is : now.listener.responder ≡
-      held_at first.setup first.listener.groups.room (told_in_packets first.listener.groups.room (all_placed past))
+      held_at first.setup first.listener.groups.room
+      (told_in_packets first.listener.groups.room (all_placed past))
 
 pub answers_nothing : (first : EndpointEngine) → IsReadyEndpoint first → HoldsEndpoint first first []
 answers_nothing first ready = record {

@@ -28,7 +28,8 @@ use Rattle.midi_engines.specs.UpMeans.{written_named}
 abbrev Fine : List Put → Type 0
 Fine puts = AreNamed output_and_notes puts
 
-stream_named : (setup : Facts) (protocol offset : ℕ) (packet : Packet) → Fine (stream_lines setup protocol offset packet)
+stream_named : (setup : Facts) (protocol offset : ℕ) (packet : Packet) →
+    Fine (stream_lines setup protocol offset packet)
 stream_named setup protocol offset (packets.Stream f s l w x y) = (refl, tt)
 stream_named setup protocol offset (packets.Utility s v) = tt
 stream_named setup protocol offset (packets.System g m) = tt
@@ -39,7 +40,8 @@ stream_named setup protocol offset (packets.Data8 g w) = tt
 stream_named setup protocol offset (packets.Flex g w) = tt
 stream_named setup protocol offset (packets.Reserved w) = tt
 
-message_named : (setup : Facts) (told : List Told) (offset : ℕ) (packet : Packet) (said : Option Said) → Fine (message_lines setup told offset packet said)
+message_named : (setup : Facts) (told : List Told) (offset : ℕ) (packet : Packet) (said : Option Said) →
+    Fine (message_lines setup told offset packet said)
 message_named setup told offset (packets.Exclusive g f b) (Some said) = (refl, tt)
 message_named setup told offset (packets.Exclusive g f b) None = tt
 message_named setup told offset (packets.Stream f s l w x y) said = tt
@@ -51,8 +53,11 @@ message_named setup told offset (packets.Data8 g w) said = tt
 message_named setup told offset (packets.Flex g w) said = tt
 message_named setup told offset (packets.Reserved w) said = tt
 
-lost_named : (room : ℕ) (parts : List Part) (offset : ℕ) (packet : Packet) → Fine (exclusive_lines room parts (record { offset = offset; packet = packet }))
-lost_named room parts offset (packets.Exclusive g f b) = lines_named (option_to_list (line_of (Some room) parts (record { offset = offset; packet = packets.Exclusive g f b })))
+lost_named : (room : ℕ) (parts : List Part) (offset : ℕ) (packet : Packet) →
+    Fine (exclusive_lines room parts (record { offset = offset; packet = packet }))
+lost_named room parts offset (packets.Exclusive g f b) =
+    lines_named (option_to_list
+    (line_of (Some room) parts (record { offset = offset; packet = packets.Exclusive g f b })))
 lost_named room parts offset (packets.Stream f s l w x y) = tt
 lost_named room parts offset (packets.Utility s v) = tt
 lost_named room parts offset (packets.System g m) = tt
@@ -74,14 +79,19 @@ answers_named options past item puts put =
     let lost : List Put = exclusive_lines options.room (parts_of before) placed in
     subst Fine (sym put.2)
     (named-then put.0 (stream ++ (message ++ lost)) (written_named options.order _ put.0 put.1)
-    (named-then stream (message ++ lost) (stream_named setup (in_force setup before) placed.offset placed.packet)
-    (named-then message lost (message_named setup told placed.offset placed.packet said) (lost_named options.room (parts_of before) placed.offset placed.packet))))
+    (named-then stream (message ++ lost)
+    (stream_named setup (in_force setup before) placed.offset placed.packet)
+    (named-then message lost (message_named setup told placed.offset placed.packet said)
+    (lost_named options.room (parts_of before) placed.offset placed.packet))))
 
 -- ---- the end
 
-each_named : {X : Type 0} (put : ℕ → X → List Put) → ((n : ℕ) (x : X) → Fine (put n x)) → (number : ℕ) (xs : List X) → Fine (for_each put number xs)
+each_named : {X : Type 0} (put : ℕ → X → List Put) → ((n : ℕ) (x : X) → Fine (put n x)) →
+    (number : ℕ) (xs : List X) → Fine (for_each put number xs)
 each_named put fine number [] = tt
-each_named put fine number (x ∷ xs) = named-then (put number x) (for_each put (number + 1) xs) (fine number x) (each_named put fine (number + 1) xs)
+each_named put fine number (x ∷ xs) =
+    named-then (put number x) (for_each put (number + 1) xs) (fine number x)
+    (each_named put fine (number + 1) xs)
 
 block_named : (muid : ℕ → Option ℕ) (number : ℕ) (block : Block) → Fine (block_line_of muid number block)
 block_named muid number block = by_ci (has_ci block)
@@ -90,10 +100,12 @@ block_named muid number block = by_ci (has_ci block)
     by_ci true = (refl, tt)
     by_ci false = tt
 
-profile_named : (on : Key → Option Bool) (number : ℕ) (profile : Profile) → Fine (profile_line_of on number profile)
+profile_named : (on : Key → Option Bool) (number : ℕ) (profile : Profile) →
+    Fine (profile_line_of on number profile)
 profile_named on number profile = (refl, tt)
 
-pub answers_last_named : (options : EndpointOptions) (past : List (Framed × Packet)) (puts : List Put) → (answering options).IsPutAtEnd past puts → Fine puts
+pub answers_last_named : (options : EndpointOptions) (past : List (Framed × Packet)) (puts : List Put) →
+    (answering options).IsPutAtEnd past puts → Fine puts
 answers_last_named options past puts put =
     let setup : Facts = options.setup in
     let before : List Placed = all_placed past in
@@ -103,6 +115,8 @@ answers_last_named options past puts put =
     subst Fine (sym put)
     (named-then _ _ (lines_named (end_lines (Some options.room) (parts_of before))) (
       refl,
-      named-then blocks profiles (each_named (block_line_of (muid_at setup told)) (block_named (muid_at setup told)) 0 setup.blocks)
-          (each_named (profile_line_of (on_at setup told)) (profile_named (on_at setup told)) 0 setup.profiles),
+      named-then blocks profiles
+          (each_named (block_line_of (muid_at setup told)) (block_named (muid_at setup told)) 0 setup.blocks)
+          (each_named (profile_line_of (on_at setup told))
+          (profile_named (on_at setup told)) 0 setup.profiles),
     ))

@@ -19,13 +19,15 @@ pub record BackOptions : Type 0 where
   pub group : ℕ
   pub room : ℕ
 
--- a recording whose packets are shown
+-- a recording whose packets are shown, with the state at its end or without
 pub record PacketLineOptions : Type 0 where
+  pub state : Bool
   pub order : Order
   pub room : ℕ
 
--- a stream of MIDI 1.0 bytes whose messages are shown
+-- a stream of MIDI 1.0 bytes whose messages are shown, with the state at its end or without
 pub record ByteLineOptions : Type 0 where
+  pub state : Bool
   pub room : ℕ
 
 -- a recording of a peer that is answered by an endpoint of this setup
@@ -40,6 +42,11 @@ pub data ShowOptions : Type 0 where
   of_bytes : ByteLineOptions → ShowOptions
 
 -- lines of bytes, which have no order of words, or of packets
-abbrev pub show_options : Bool → Order → ℕ → ShowOptions
-show_options true order room = of_bytes (record { room = room })
-show_options false order room = of_packets (record { order = order; room = room })
+abbrev pub show_options : Bool → Bool → Order → ℕ → ShowOptions
+show_options true state order room = of_bytes (record { state = state; room = room })
+show_options false state order room = of_packets (record { state = state; order = order; room = room })
+
+-- whether the state is asked for
+abbrev pub asks_state : ShowOptions → Bool
+asks_state (of_packets options) = options.state
+asks_state (of_bytes options) = options.state

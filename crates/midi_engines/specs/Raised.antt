@@ -47,7 +47,8 @@ byte_lines room group past item = line_puts (lines_at (Some room) group (bytes_o
 
 -- the put of the line of what is open at the end
 abbrev pub last_lines : ℕ → ℕ → List (ℕ × ℕ) → List Put
-last_lines room group past = line_puts (map (line_up group) (kinds_at_end (open_pair (Some room) (bytes_of past))))
+last_lines room group past =
+    line_puts (map (line_up group) (kinds_at_end (open_pair (Some room) (bytes_of past))))
 
 -- ---- one packet after the other
 
@@ -59,13 +60,16 @@ Doing Held = Held → Packet → Held → List Put → Type 0
 abbrev pub AreDone : {Held : Type 0} → Doing Held → Held → List Packet → Held → List Put → Type 0
 AreDone IsDone from [] to puts = (to ≡ from) × (puts ≡ [])
 AreDone {Held = Held} IsDone from (packet ∷ packets) to puts =
-    (between : Held) × (first : List Put) × (rest : List Put) × IsDone from packet between first × AreDone IsDone between packets to rest × (puts ≡ first ++ rest)
+    (between : Held) × (first : List Put) × (rest : List Put) × IsDone from packet between first
+    × AreDone IsDone between packets to rest × (puts ≡ first ++ rest)
 
 -- each of these packets is accepted by what is held once those before it are done
 abbrev pub AreTaken : {Held : Type 0} → (Held → Packet → Type 0) → Doing Held → Held → List Packet → Type 0
 AreTaken Accepts IsDone from [] = Unit {0}
 AreTaken {Held = Held} Accepts IsDone from (packet ∷ packets) =
-    Accepts from packet × ((between : Held) (puts : List Put) → IsDone from packet between puts → AreTaken Accepts IsDone between packets)
+    Accepts from packet
+    × ((between : Held) (puts : List Put) → IsDone from packet between puts →
+    AreTaken Accepts IsDone between packets)
 
 -- there is something to be done with each packet of an exclusive that is accepted
 abbrev pub CanBeDone : {Held : Type 0} → (Held → Packet → Type 0) → Doing Held → Type 0
@@ -76,15 +80,19 @@ CanBeDone {Held = Held} Accepts IsDone =
 -- the packets of a byte are done, and then its lines are put in the notes
 abbrev pub ByteIsDone : {Held : Type 0} → Doing Held → Held → Raised → Held → List Put → Type 0
 ByteIsDone IsDone from raised to puts =
-    (written : List Put) × AreDone IsDone from (packets_in raised) to written × (puts ≡ written ++ line_puts (lines_in raised))
+    (written : List Put) × AreDone IsDone from (packets_in raised) to written
+    × (puts ≡ written ++ line_puts (lines_in raised))
 
 -- what is to be done, which ends with what is held and with what is put, is done, or one of these puts failed
-abbrev pub CarriesOut : {Held : Type 0} → (Held → List Put → Type 0) → Held → Places → Places → Result (Unit {0}) RunEnd → Type 0
+abbrev pub CarriesOut : {Held : Type 0} → (Held → List Put → Type 0) → Held → Places → Places →
+    Result (Unit {0}) RunEnd → Type 0
 CarriesOut Does to old new (Ok done) = (puts : List Put) × Does to puts × (new ≡ after_puts puts old)
-CarriesOut {Held = Held} Does to old new (Err end) = (meant : Held) × (puts : List Put) × Does meant puts × FailsAt puts end old new
+CarriesOut {Held = Held} Does to old new (Err end) =
+    (meant : Held) × (puts : List Put) × Does meant puts × FailsAt puts end old new
 
 -- it is refused, and nothing is put; or it is done, or a put failed
-abbrev pub Answers : {Held : Type 0} → Tail → (Held → List Put → Type 0) → Held → Places → Places → Result (Unit {0}) RunEnd → Type 0
+abbrev pub Answers : {Held : Type 0} → Tail → (Held → List Put → Type 0) → Held → Places → Places →
+    Result (Unit {0}) RunEnd → Type 0
 Answers (Some refusal) Does to old new result = (result ≡ Err (Refused refusal.0 refusal.1)) × (new ≡ old)
 Answers None Does to old new result = CarriesOut Does to old new result
 
@@ -96,8 +104,11 @@ byte_refusal up offset byte = refusal_by (refusal_of_step (step_in up offset byt
 
 -- the packets and lines of a byte at its offset, which the translator up accepts, are done
 abbrev pub RaisedIsDone : {Held : Type 0} → Doing Held → UpState → ℕ × ℕ → Held → Held → List Put → Type 0
-RaisedIsDone IsDone up item from to puts = (raised : Raised) × Raises up item.0 item.1 (Ok raised) × ByteIsDone IsDone from raised to puts
+RaisedIsDone IsDone up item from to puts =
+    (raised : Raised) × Raises up item.0 item.1 (Ok raised) × ByteIsDone IsDone from raised to puts
 
 -- the line of what is open at the end, by what the translator up holds
 abbrev pub open_puts : UpState → List Put
-open_puts up = line_puts (map (line_up up.group) (kinds_at_end (option_map (λ begun. (begun.start, begun.kind)) (open_of up.parsing))))
+open_puts up =
+    line_puts (map (line_up up.group)
+    (kinds_at_end (option_map (λ begun. (begun.start, begun.kind)) (open_of up.parsing))))

@@ -10,7 +10,8 @@ use Rattle.midi_pass.specs.Put.{Put, in_lane, in_notes, in_output}
 use Rattle.midi_engines.specs.Down.{line_puts}
 use Rattle.midi_engines.specs.Raised.{last_lines, output_and_notes, output_puts}
 
-pub named-then : (ps qs : List Put) → AreNamed output_and_notes ps → AreNamed output_and_notes qs → AreNamed output_and_notes (ps ++ qs)
+pub named-then : (ps qs : List Put) → AreNamed output_and_notes ps → AreNamed output_and_notes qs →
+    AreNamed output_and_notes (ps ++ qs)
 named-then [] qs first second = second
 named-then (p ∷ ps) qs first second = (first.0, named-then ps qs first.1 second)
 
@@ -18,10 +19,12 @@ pub lines_named : (lines : List Listed) → AreNamed output_and_notes (line_puts
 lines_named [] = tt
 lines_named (line ∷ lines) = (refl, lines_named lines)
 
-pub last_named : (room group : ℕ) (past : List (ℕ × ℕ)) (puts : List Put) → puts ≡ last_lines room group past → AreNamed output_and_notes puts
+pub last_named : (room group : ℕ) (past : List (ℕ × ℕ)) (puts : List Put) →
+    puts ≡ last_lines room group past → AreNamed output_and_notes puts
 last_named room group past puts put =
     let A : List Put → Type 0 = λ ps. AreNamed output_and_notes ps in
-    subst A (sym put) (lines_named (map (line_up group) (kinds_at_end (open_pair (Some room) (bytes_of past)))))
+    subst A (sym put)
+    (lines_named (map (line_up group) (kinds_at_end (open_pair (Some room) (bytes_of past)))))
 
 -- ---- the puts in the output among others
 
@@ -36,6 +39,8 @@ output-lines [] = refl
 output-lines (line ∷ lines) = output-lines lines
 
 -- those of a byte are those before its lines
-pub output-listed : (written puts : List Put) (lines : List Listed) → puts ≡ written ++ line_puts lines → output_puts puts ≡ output_puts written
+pub output-listed : (written puts : List Put) (lines : List Listed) → puts ≡ written ++ line_puts lines →
+    output_puts puts ≡ output_puts written
 output-listed written puts lines e =
-    ap output_puts e ∙ output-then written (line_puts lines) ∙ ap (λ xs. output_puts written ++ xs) (output-lines lines) ∙ append-nil (output_puts written)
+    ap output_puts e ∙ output-then written (line_puts lines)
+    ∙ ap (λ xs. output_puts written ++ xs) (output-lines lines) ∙ append-nil (output_puts written)

@@ -1,10 +1,14 @@
 -- Lines that are ready to begin: their options, and what each end says.
-use Rattle.std.specs.Prelude.{◌≡◌, ◌≤◌}
+use Rattle.std.specs.Prelude.{◌≡◌, ◌≤◌, Bool, Result, Ok, Err}
 use Rattle.sysex_groups.specs.Table.{empty_table}
 use Rattle.midi1_bytes.specs.Parsing.{idle}
+use Rattle.voice_state.specs.Messages.{as_they_come, raised}
+use Rattle.voice_state.specs.States.{first_states}
 use Rattle.midi_pass.specs.Bytes.{byte_cutting}
 use Rattle.midi_pass.specs.Pass.{Ends, IsDoneUnless, Seen}
 use Rattle.midi_pass.specs.declared.ends.RunEnd.{RunEnd}
+use Rattle.midi_pass.specs.declared.ends.RunEnd.TheVariants as end
+use Rattle.midi_engines.specs.KeptState.{Kept, StandsFor}
 use Rattle.midi_engines.specs.Options.{ShowOptions, of_packets, of_bytes}
 use Rattle.midi_engines.specs.Packets.{packet_cutting}
 use Rattle.midi_engines.specs.ShowBytes.{showing_bytes}
@@ -12,13 +16,19 @@ use Rattle.midi_engines.specs.ShowPackets.{showing}
 use Rattle.midi_engines.specs.declared.show.Lines.{Lines}
 use Rattle.midi_engines.specs.declared.show.Lines.TheVariants.{Packets, Bytes}
 
-abbrev pub options_in : Lines → ShowOptions
-options_in (Packets groups order) = of_packets (record { order = order; room = groups.room })
-options_in (Bytes parser) = of_bytes (record { room = parser.room })
+abbrev pub options_in : Lines → Bool → ShowOptions
+options_in (Packets groups order) state = of_packets (record { state = state; order = order; room = groups.room })
+options_in (Bytes parser) state = of_bytes (record { state = state; room = parser.room })
 
-abbrev pub HasNothingOpen : Lines → Type 0
-HasNothingOpen (Packets groups order) = (groups ≡ empty_table groups.room) × (6 ≤ groups.room)
-HasNothingOpen (Bytes parser) = parser ≡ idle parser.room
+-- nothing is open, and what is kept stands for the first states
+abbrev pub IsNew : Lines → Kept → Type 0
+IsNew (Packets groups order) kept = (groups ≡ empty_table groups.room) × (6 ≤ groups.room) × StandsFor raised kept (first_states raised)
+IsNew (Bytes parser) kept = (parser ≡ idle parser.room) × StandsFor as_they_come kept (first_states as_they_come)
+
+-- want of memory is one of the ends
+abbrev pub end_of : {E : Type 0} → Result RunEnd E → RunEnd
+end_of (Ok end) = end
+end_of (Err no_memory) = end.NoMemory
 
 -- what each end of lines says
 abbrev pub ShowEnds : ShowOptions → Seen → Seen → RunEnd → Type 0
@@ -27,5 +37,6 @@ ShowEnds (of_bytes options) old new end = Ends byte_cutting (showing_bytes optio
 
 -- where nothing is refused and nothing fails, it is done
 abbrev pub IsDoneShowing : ShowOptions → Seen → Seen → RunEnd → Type 0
-IsDoneShowing (of_packets options) old new end = IsDoneUnless (packet_cutting options.order) (showing options) old new end
+IsDoneShowing (of_packets options) old new end =
+    IsDoneUnless (packet_cutting options.order) (showing options) old new end
 IsDoneShowing (of_bytes options) old new end = IsDoneUnless byte_cutting (showing_bytes options) old new end

@@ -19,7 +19,8 @@ use Rattle.midi_engines.specs.declared.texts.Texts.{Texts}
 abbrev pub text_in : StreamMessage → Option (TextKind × Part)
 text_in (stream.Name form text) = Some (kinds.EndpointName, record { form = form; block = 0; bytes = text })
 text_in (stream.ProductId form text) = Some (kinds.ProductId, record { form = form; block = 0; bytes = text })
-text_in (stream.BlockName form block text) = Some (kinds.BlockName, record { form = form; block = block; bytes = text })
+text_in (stream.BlockName form block text) =
+    Some (kinds.BlockName, record { form = form; block = block; bytes = text })
 text_in _ = None
 
 abbrev pub text_of : Packet → Option (TextKind × Part)
@@ -43,7 +44,9 @@ parts_of_kind kind past = flat_map (λ packet. of_kind kind (text_of packet)) pa
 
 -- the line of the text that a packet ends, if it ends one
 abbrev pub text_line : List Packet → Packet → Option (List ℕ)
-text_line past packet = option_and_then (λ text. joined_text text.0 (answer_at text.0 (parts_of_kind text.0 past) text.1)) (text_of packet)
+text_line past packet =
+    option_and_then (λ text. joined_text text.0 (answer_at text.0 (parts_of_kind text.0 past) text.1))
+    (text_of packet)
 
 abbrev pub text_puts : Option (List ℕ) → List Put
 text_puts line = option_to_list (option_map in_output line)
@@ -55,7 +58,8 @@ part_view part = (part.kind, record { form = part.form; block = part.block; byte
 
 -- nothing is open
 abbrev pub new_texts : Texts
-new_texts = record { names = idle kinds.EndpointName; products = idle kinds.ProductId; blocks = idle kinds.BlockName }
+new_texts =
+    record { names = idle kinds.EndpointName; products = idle kinds.ProductId; blocks = idle kinds.BlockName }
 
 abbrev pub joined_of : TextKind → Texts → State
 joined_of kinds.EndpointName texts = texts.names

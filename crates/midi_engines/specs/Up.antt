@@ -1,5 +1,5 @@
 -- A stream of bytes that is raised: the words of the packets of each byte, and its lines; at the end the line of what is open.
-use Rattle.std.specs.Prelude.{◌≡◌, ℕ, ◌<◌, List, [], ◌∷◌, ◌++◌, reverse, take, Some}
+use Rattle.std.specs.Prelude.{◌≡◌, ℕ, false, ◌<◌, List, [], ◌∷◌, ◌++◌, reverse, take, Some}
 use Rattle.std.specs.List.{flat_map}
 use Rattle.ump_words.specs.Cut.{word_bytes}
 use Rattle.ump_words.specs.declared.words.Order.{Order}
@@ -20,22 +20,26 @@ use Rattle.midi_engines.specs.Raised.{byte_lines, byte_packets, last_lines, outp
 
 -- one put in the output: the bytes of words that encode the packet
 abbrev pub IsWritten : Order → Packet → List Put → Type 0
-IsWritten order packet puts = (words : List ℕ) × Encodes packet words × (puts ≡ in_output (flat_map (word_bytes order) words) ∷ [])
+IsWritten order packet puts =
+    (words : List ℕ) × Encodes packet words × (puts ≡ in_output (flat_map (word_bytes order) words) ∷ [])
 
 -- the same for each of these packets, one after the other
 abbrev pub AreWritten : Order → List Packet → List Put → Type 0
 AreWritten order [] puts = puts ≡ []
 AreWritten order (packet ∷ packets) puts =
-    (first : List Put) × (rest : List Put) × IsWritten order packet first × AreWritten order packets rest × (puts ≡ first ++ rest)
+    (first : List Put) × (rest : List Put) × IsWritten order packet first × AreWritten order packets rest
+    × (puts ≡ first ++ rest)
 
 -- these packets are written, and then these lines are put in the notes
 abbrev pub AreWrittenAndListed : Order → List Packet → List Put → List Put → Type 0
-AreWrittenAndListed order packets lines puts = (written : List Put) × AreWritten order packets written × (puts ≡ written ++ lines)
+AreWrittenAndListed order packets lines puts =
+    (written : List Put) × AreWritten order packets written × (puts ≡ written ++ lines)
 
 -- after each of these bytes, the newest first, the packets so far mean what the bytes so far mean
 abbrev pub RaisedMean : ℕ → ℕ → List ℕ → Type 0
 RaisedMean room group past =
-    (count : ℕ) → Agrees (mean1 (take count (reverse past))) (mean2 (packets_of_bytes (Some room) group (take count (reverse past))) group)
+    (count : ℕ) → Agrees (mean1 (take count (reverse past)))
+    (mean2 (packets_of_bytes (Some room) group (take count (reverse past))) group)
 
 -- What is done with a stream that is raised. What is put in the output is the words of all packets; after each byte the packets so
 -- far mean what the bytes so far mean.
@@ -43,12 +47,15 @@ abbrev pub raising : UpOptions → Work (ℕ × ℕ)
 raising options =
     record {
       names = output_and_notes;
+      grows = false;
       refusal = λ past item. refusal_at options.room past item;
       IsPut = λ past item puts.
-          AreWrittenAndListed options.order (byte_packets options.room options.group past item) (byte_lines options.room options.group past item) puts;
+          AreWrittenAndListed options.order (byte_packets options.room options.group past item)
+          (byte_lines options.room options.group past item) puts;
       IsPutAtEnd = λ past puts. puts ≡ last_lines options.room options.group past;
       Means = λ past puts.
-          AreWritten options.order (packets_up (Some options.room) options.group (bytes_of past)) (output_puts puts) × RaisedMean options.room options.group (bytes_of past);
+          AreWritten options.order (packets_up (Some options.room) options.group (bytes_of past))
+          (output_puts puts) × RaisedMean options.room options.group (bytes_of past);
     }
 
 -- the options of an engine

@@ -20,21 +20,27 @@ use Rattle.midi_engines.specs.Up.{AreWritten, HoldsRaised, raising}
 
 -- ---- written packets
 
-pub written_named : (order : Order) (packets : List Packet) (puts : List Put) → AreWritten order packets puts → AreNamed output_and_notes puts
+pub written_named : (order : Order) (packets : List Packet) (puts : List Put) →
+    AreWritten order packets puts → AreNamed output_and_notes puts
 written_named order [] puts written =
     let A : List Put → Type 0 = λ ps. AreNamed output_and_notes ps in subst A (sym written) tt
 written_named order (packet ∷ packets) puts written =
     let A : List Put → Type 0 = λ ps. AreNamed output_and_notes ps in
-    subst A (sym written.4) (named-then written.0 written.1 (subst A (sym written.2.2) (refl, tt)) (written_named order packets written.1 written.3))
+    subst A (sym written.4)
+    (named-then written.0 written.1 (subst A (sym written.2.2) (refl, tt))
+    (written_named order packets written.1 written.3))
 
-pub raises_named : (options : UpOptions) (past : List (ℕ × ℕ)) (item : ℕ × ℕ) (puts : List Put) → (raising options).IsPut past item puts → AreNamed output_and_notes puts
+pub raises_named : (options : UpOptions) (past : List (ℕ × ℕ)) (item : ℕ × ℕ) (puts : List Put) →
+    (raising options).IsPut past item puts → AreNamed output_and_notes puts
 raises_named options past item puts put =
     let A : List Put → Type 0 = λ ps. AreNamed output_and_notes ps in
     let packets : List Packet = packets_at (Some options.room) options.group (bytes_of past) item.1 in
     let lines : List Listed = lines_at (Some options.room) options.group (bytes_of past) item.1 in
-    subst A (sym put.2) (named-then put.0 (line_puts lines) (written_named options.order packets put.0 put.1) (lines_named lines))
+    subst A (sym put.2)
+    (named-then put.0 (line_puts lines) (written_named options.order packets put.0 put.1) (lines_named lines))
 
-output-written : (order : Order) (packets : List Packet) (puts : List Put) → AreWritten order packets puts → output_puts puts ≡ puts
+output-written : (order : Order) (packets : List Packet) (puts : List Put) → AreWritten order packets puts →
+    output_puts puts ≡ puts
 output-written order [] puts written = ap output_puts written ∙ sym written
 output-written order (packet ∷ packets) puts written =
     let one : output_puts written.0 ≡ written.0 = ap output_puts written.2.2 ∙ sym written.2.2 in
@@ -44,7 +50,8 @@ output-written order (packet ∷ packets) puts written =
     ∙ ap (λ xs. written.0 ++ xs) (output-written order packets written.1 written.3)
     ∙ sym written.4
 
-pub written-then : (order : Order) (packets others : List Packet) (ps qs : List Put) → AreWritten order packets ps → AreWritten order others qs → AreWritten order (packets ++ others) (ps ++ qs)
+pub written-then : (order : Order) (packets others : List Packet) (ps qs : List Put) →
+    AreWritten order packets ps → AreWritten order others qs → AreWritten order (packets ++ others) (ps ++ qs)
 written-then order [] others ps qs first second =
     let W : List Put → Type 0 = λ xs. AreWritten order others xs in subst W (sym (ap (λ xs. xs ++ qs) first)) second
 written-then order (packet ∷ packets) others ps qs first second = (
@@ -55,8 +62,10 @@ written-then order (packet ∷ packets) others ps qs first second = (
   ap (λ xs. xs ++ qs) first.4 ∙ append_assoc first.0 first.1 qs,
 )
 
-written-all : (options : UpOptions) (past : List (ℕ × ℕ)) (puts : List Put) → ArePut (raising options) past puts
-    → AreWritten options.order (packets_up (Some options.room) options.group (bytes_of past)) (output_puts puts)
+written-all : (options : UpOptions) (past : List (ℕ × ℕ)) (puts : List Put) →
+    ArePut (raising options) past puts
+    → AreWritten options.order (packets_up (Some options.room) options.group (bytes_of past))
+    (output_puts puts)
 written-all options [] puts put = ap output_puts put
 written-all options (item ∷ past) puts put =
     let bytes : List ℕ = bytes_of past in
@@ -66,7 +75,10 @@ written-all options (item ∷ past) puts put =
     let now : output_puts put.1 ≡ put.3.0 = output-listed put.3.0 put.1 lines put.3.2 ∙ output-written options.order packets put.3.0 put.3.1 in
     let all : output_puts puts ≡ output_puts put.0 ++ put.3.0 = ap output_puts put.4 ∙ output-then put.0 put.1 ∙ ap (λ xs. output_puts put.0 ++ xs) now in
     subst W (sym all)
-    (written-then options.order (packets_up (Some options.room) options.group bytes) packets (output_puts put.0) put.3.0 (written-all options past put.0 put.2) put.3.1)
+    (written-then options.order (packets_up (Some options.room) options.group bytes) packets
+    (output_puts put.0) put.3.0 (written-all options past put.0 put.2) put.3.1)
 
-pub raised_means : (options : UpOptions) (up : UpState) (past : List (ℕ × ℕ)) (puts : List Put) → HoldsRaised options up past → ArePut (raising options) past puts → (raising options).Means past puts
-raised_means options up past puts holds put = (written-all options past puts put, holds.law (bytes_of past) holds.accepted)
+pub raised_means : (options : UpOptions) (up : UpState) (past : List (ℕ × ℕ)) (puts : List Put) →
+    HoldsRaised options up past → ArePut (raising options) past puts → (raising options).Means past puts
+raised_means options up past puts holds put =
+    (written-all options past puts put, holds.law (bytes_of past) holds.accepted)

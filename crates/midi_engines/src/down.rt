@@ -110,13 +110,15 @@ impl Engine<Framed, Packet> for DownEngine {
         list_open(&self.down, lanes, output, notes)
     }
 
-    ghost puts_are_named = { λ first past item puts put. carries_named (options_of first.down) past item puts put };
+    ghost puts_are_named = { λ first past item puts put.
+        carries_named (options_of first.down) past item puts put };
 
     ghost last_puts_are_named = { λ first past puts put. ends_named (options_of first.down) past puts put };
 
     ghost starts = { λ first ready. carries_nothing first.down ready };
 
-    ghost means = { λ first now past puts holds accepted put. carries_means first.down now.down past puts holds put };
+    ghost means = { λ first now past puts holds accepted put.
+        carries_means first.down now.down past puts holds put };
 }
 
 /// Translates a recording down, to its end or to the first packet that is refused (M2-104-UM, default translation; what that
@@ -160,7 +162,8 @@ fn translate<S: Source, L: Lanes, W: Sink, N: Sink>(
     ensures ends { Ends (packet_cutting order) (carrying (record { order = order; room = limit_of down }))
         (seen S.Source L.Lanes W.Sink N.Sink input.old lanes.old output.old notes.old)
         (seen S.Source L.Lanes W.Sink N.Sink input.new lanes.new output.new notes.new) result }
-    ensures complete { IsDoneUnless (packet_cutting order) (carrying (record { order = order; room = limit_of down }))
+    ensures complete { IsDoneUnless (packet_cutting order)
+        (carrying (record { order = order; room = limit_of down }))
         (seen S.Source L.Lanes W.Sink N.Sink input.old lanes.old output.old notes.old)
         (seen S.Source L.Lanes W.Sink N.Sink input.new lanes.new output.new notes.new) result }
 {

@@ -154,9 +154,11 @@ impl Engine<Framed, Packet> for EndpointEngine {
         self.put_closing(lanes, output, notes)
     }
 
-    ghost puts_are_named = { λ first past item puts put. answers_named (options_of first) past item puts put };
+    ghost puts_are_named = { λ first past item puts put.
+        answers_named (options_of first) past item puts put };
 
-    ghost last_puts_are_named = { λ first past puts put. answers_last_named (options_of first) past puts put };
+    ghost last_puts_are_named = { λ first past puts put.
+        answers_last_named (options_of first) past puts put };
 
     ghost starts = { λ first ready. answers_nothing first ready };
 
@@ -323,7 +325,8 @@ impl EndpointEngine {
         output: &mut W,
         notes: &mut N,
     ) -> Result<(), RunEnd>
-        ensures { Puts (for_each (block_line_of (muid_in self.now.listener.responder.blocks)) 0 self.now.setup.blocks)
+        ensures { Puts (for_each (block_line_of (muid_in self.now.listener.responder.blocks)) 0
+            self.now.setup.blocks)
             (places L.Lanes W.Sink N.Sink lanes.old output.old notes.old)
             (places L.Lanes W.Sink N.Sink lanes.new output.new notes.new) result }
     {
@@ -349,7 +352,8 @@ impl EndpointEngine {
         output: &mut W,
         notes: &mut N,
     ) -> Result<(), RunEnd>
-        ensures { Puts (for_each (profile_line_of (state_in self.now.listener.responder.states)) 0 self.now.setup.profiles)
+        ensures { Puts (for_each (profile_line_of (state_in self.now.listener.responder.states)) 0
+            self.now.setup.profiles)
             (places L.Lanes W.Sink N.Sink lanes.old output.old notes.old)
             (places L.Lanes W.Sink N.Sink lanes.new output.new notes.new) result }
     {

@@ -167,7 +167,8 @@ pub(crate) fn take_part<L: Lanes, W: Sink, N: Sink>(
     ensures after { listener.new.responder ≡ after_part listener.old.responder
         (said_of group (answer_to listener.old.groups (placed_part group offset form bytes.now))) }
     ensures answers { Answers
-        (refusal_by (bad_answer (answer_to listener.old.groups (placed_part group offset form bytes.now))) offset)
+        (refusal_by
+        (bad_answer (answer_to listener.old.groups (placed_part group offset form bytes.now))) offset)
         (WrittenAndListed writer.old.order
         (part_replies listener.old.responder
         (said_of group (answer_to listener.old.groups (placed_part group offset form bytes.now))))

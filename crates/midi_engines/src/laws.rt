@@ -17,9 +17,12 @@ use ump_words::{fronts_are_cut_as_the_stream, one_cutting};
 /// A recording has one first refusal: after packets that are accepted it is refused at one offset and for one reason, whichever
 /// cutting tells it.
 pub fn a_recording_has_one_first_refusal()
-    ensures carried { (options : DownOptions) → HasOneFirstRefusal (packet_cutting options.order) (carrying options) }
-    ensures shown { (options : PacketLineOptions) → HasOneFirstRefusal (packet_cutting options.order) (showing options) }
-    ensures answered { (options : EndpointOptions) → HasOneFirstRefusal (packet_cutting options.order) (answering options) }
+    ensures carried { (options : DownOptions) →
+        HasOneFirstRefusal (packet_cutting options.order) (carrying options) }
+    ensures shown { (options : PacketLineOptions) →
+        HasOneFirstRefusal (packet_cutting options.order) (showing options) }
+    ensures answered { (options : EndpointOptions) →
+        HasOneFirstRefusal (packet_cutting options.order) (answering options) }
 {
     one_cutting();
     fronts_are_cut_as_the_stream();

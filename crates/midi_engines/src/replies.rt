@@ -86,7 +86,8 @@ impl ReplyWriter {
         requires words { (packets : List Packet) × AreWordsOf size packets self.old.replies }
         ensures order { self.new.order ≡ self.old.order }
         ensures puts { (packets : List Packet) → AreWordsOf size packets self.old.replies →
-            CarriesOut (WrittenAndListed self.old.order packets (in_notes (endpoint_text offset group name) ∷ [])) tt
+            CarriesOut (WrittenAndListed self.old.order packets
+            (in_notes (endpoint_text offset group name) ∷ [])) tt
             (places L.Lanes W.Sink N.Sink lanes.old output.old notes.old)
             (places L.Lanes W.Sink N.Sink lanes.new output.new notes.new) result }
     {

@@ -1,42 +1,62 @@
 // From a stream of MIDI 1.0 bytes to lines.
-ghost use Rattle.std.specs.Prelude.{◌≡◌, ◌<◌, ◌∷◌, ℕ, List, [], None, Some, length};
+ghost use Rattle.std.specs.Prelude.{◌≡◌, ◌<◌, ◌∷◌, ◌++◌, ℕ, List, [], None, Some, Ok, length, is_some};
 ghost use Rattle.midi1_bytes.specs.Answers.{step_view};
-ghost use Rattle.midi1_bytes.specs.Parsing.{held_behind, idle, open_of, parse};
+ghost use Rattle.midi1_bytes.specs.Parsing.{idle, open_of, parse};
 ghost use Rattle.midi1_bytes.specs.Steps.{cut};
+ghost use Rattle.voice_state.specs.Messages.{as_they_come};
+ghost use Rattle.voice_state.specs.States.{first_states};
 ghost use Rattle.midi_lines.specs.StepLines.{HasBothEnds, byte_listing_text};
-ghost use Rattle.midi_pass.specs.Bytes.{bytes_of, byte_cutting};
-ghost use Rattle.midi_pass.specs.Pass.{Ends, IsDoneUnless, Takes, Work, seen};
+ghost use Rattle.midi_pass.specs.Bytes.{byte_cutting};
+ghost use Rattle.midi_pass.specs.Pass.{Ends, IsDoneUnless, Takes, TakesIn, seen};
 ghost use Rattle.midi_pass.specs.Places.{Puts, places};
 ghost use Rattle.midi_pass.specs.Put.{in_output};
-ghost use Rattle.midi_engines.specs.ShowBytes.{open_puts, puts_after, refusal_of, showing_bytes, shown_puts, shows_last_named, shows_named};
-ghost use Rattle.midi_engines.specs.Starting.{nothing_held};
+ghost use Rattle.midi_engines.specs.KeptState.{KeepsStep, StandsFor, fact_puts};
+ghost use Rattle.midi_engines.specs.ShowBytes.{
+  HoldsBytes,
+  IsReadyBytes,
+  open_puts,
+  options_of,
+  puts_after,
+  refusal_of,
+  showing_bytes,
+  shown_puts,
+  shows_last_named,
+  shows_named,
+  shows_no_bytes,
+};
 
-use midi_edge::{ByteReader, Lanes, Sink, Source};
+use crate::kept_state::{facts_of, keep_step, put_facts};
+use midi_edge::{ByteReader, Lanes, NoMemory, Sink, Source};
 use midi_lines::{Line, fill_byte_listing, fill_step_line};
 use midi_pass::laws::bytes_are_cut_once;
 use midi_pass::places::put_output;
 use midi_pass::{Engine, LIMIT, Reason, RunEnd, drive};
 use midi1_bytes::laws::parsed_bytes_are_the_definition;
 use midi1_bytes::{AfterCut, CutKind, Parser, Step};
+use std::alloc::Global;
 use up_translator::{kind_of_cut, kind_of_open};
-use voice_state::Kind;
+use voice_state::state_laws::bytes_are_kept;
+use voice_state::up_laws::rooms_that_are_not_reached_do_not_matter_in_bytes;
+use voice_state::{Fact, Kind, VoiceState};
 
 // Puts a line for each message that the bytes of a stream complete, and for each byte that belongs to nothing or cuts something
-// off, and at the end a line for what is still open.
+// off, and at the end a line for what is still open and, where a state is kept, those of what it tells.
 #[derive(Drop)]
 struct ShowBytes {
     parser: Parser,
     line: Line,
+    state: Option<VoiceState>,
+    alloc: Global,
 }
 
 impl Engine<u64, u8> for ShowBytes {
-    ghost work = { λ first. showing_bytes (record { room = first.parser.room }) };
+    ghost work = { λ first. showing_bytes (options_of first.parser first.state) };
 
-    ghost IsReady = { λ first. first.parser ≡ idle first.parser.room };
+    ghost IsReady = { λ first. IsReadyBytes first.parser first.state };
 
     ghost UsesLanes = { ⊥ };
 
-    ghost Holds = { λ first now past. now.parser ≡ held_behind first.parser.room (bytes_of past) };
+    ghost Holds = { λ first now past. HoldsBytes first.parser now.parser first.state now.state past };
 
     ghost Asks = { λ item. Unit {0} };
 
@@ -52,9 +72,12 @@ impl Engine<u64, u8> for ShowBytes {
         notes: &mut N,
     ) -> Result<(), RunEnd> {
         parsed_bytes_are_the_definition();
+        rooms_that_are_not_reached_do_not_matter_in_bytes();
+        bytes_are_kept();
         put_byte(
             &mut self.line,
             &mut self.parser,
+            &mut self.state,
             *item,
             *at,
             lanes,
@@ -70,39 +93,49 @@ impl Engine<u64, u8> for ShowBytes {
         notes: &mut N,
     ) -> Result<(), RunEnd> {
         parsed_bytes_are_the_definition();
-        put_open(&self.parser, lanes, output, notes)
+        match facts_of(&self.state, self.alloc) {
+            Ok(facts) => put_end(&self.parser, &facts, lanes, output, notes),
+            Err(NoMemory) => Err(RunEnd::NoMemory),
+        }
     }
 
-    ghost puts_are_named = { λ first past item puts put. shows_named (record { room = first.parser.room }) past item puts put };
+    ghost puts_are_named = { λ first past item puts put. shows_named (options_of first.parser first.state) past item puts put };
 
-    ghost last_puts_are_named = { λ first past puts put. shows_last_named (record { room = first.parser.room }) past puts put };
+    ghost last_puts_are_named = { λ first past puts put. shows_last_named (options_of first.parser first.state) past puts put };
 
-    ghost starts = { λ first ready. nothing_held first.parser ready };
+    ghost starts = { λ first ready. shows_no_bytes first.parser first.state ready };
 
     ghost means = { λ first now past puts holds accepted put. tt };
 }
 
-/// Puts the lines of a stream, to its end or to the first byte that is refused. Nothing is open in the parser.
+/// Puts the lines of a stream, to its end or to the first byte that is refused, and where a state is kept, those of what it tells.
+/// Nothing is open in the parser, and the state has taken nothing.
 #[inline(never)]
 pub(crate) fn show_bytes<S: Source, L: Lanes, W: Sink, N: Sink>(
     parser: Parser,
+    state: Option<VoiceState>,
+    alloc: Global,
     input: &mut S,
     lanes: &mut L,
     output: &mut W,
     notes: &mut N,
 ) -> RunEnd
-    requires { parser ≡ idle parser.room }
-    ensures ends { Ends byte_cutting (showing_bytes (record { room = parser.room }))
+    requires empty { parser ≡ idle parser.room }
+    requires new { StandsFor as_they_come state (first_states as_they_come) }
+    ensures ends { Ends byte_cutting (showing_bytes (options_of parser state))
         (seen S.Source L.Lanes W.Sink N.Sink input.old lanes.old output.old notes.old)
         (seen S.Source L.Lanes W.Sink N.Sink input.new lanes.new output.new notes.new) result }
-    ensures complete { IsDoneUnless byte_cutting (showing_bytes (record { room = parser.room }))
+    ensures complete { IsDoneUnless byte_cutting (showing_bytes (options_of parser state))
         (seen S.Source L.Lanes W.Sink N.Sink input.old lanes.old output.old notes.old)
         (seen S.Source L.Lanes W.Sink N.Sink input.new lanes.new output.new notes.new) result }
 {
     bytes_are_cut_once();
+    bytes_are_kept();
     let engine = ShowBytes {
         parser,
         line: Line::new(),
+        state,
+        alloc,
     };
     drive(ByteReader::new(LIMIT), engine, input, lanes, output, notes)
 }
@@ -124,26 +157,33 @@ fn put_kind<L: Lanes, W: Sink, N: Sink>(
     put_output(line.as_slice(), lanes, output, notes)
 }
 
-// Feeds one more byte to the parser, and puts the lines of what it does, which are made in the place of another one. Most bytes
-// are held, and of those the step is not copied.
+// Feeds one more byte to the parser, keeps what it does, where a state is kept, and puts the lines of it, which are made in the place
+// of another one. Most bytes are held, and of those the step is not copied.
 #[inline(always)]
 fn put_byte<L: Lanes, W: Sink, N: Sink>(
     line: &mut Line,
     parser: &mut Parser,
+    state: &mut Option<VoiceState>,
     byte: u8,
     offset: u64,
     lanes: &mut L,
     output: &mut W,
     notes: &mut N,
 ) -> Result<(), RunEnd>
-    ensures takes { Takes (refusal_of (parse parser.old offset byte).step offset) (shown_puts (parse parser.old offset byte).step offset)
+    ensures takes { TakesIn (is_some state.old)
+        (refusal_of (parse parser.old offset byte).step offset)
+        (shown_puts (parse parser.old offset byte).step offset)
         (places L.Lanes W.Sink N.Sink lanes.old output.old notes.old)
         (places L.Lanes W.Sink N.Sink lanes.new output.new notes.new) result }
     ensures after { parser.new ≡ (parse parser.old offset byte).after }
+    ensures state { result ≡ Ok tt → KeepsStep (parse parser.old offset byte).step state.old state.new }
 {
     match parser.byte(byte, offset) {
         Step::Held => Ok(()),
-        step => put_step(line, &step, offset, lanes, output, notes),
+        step => match keep_step(state, &step) {
+            Ok(()) => put_step(line, &step, offset, lanes, output, notes),
+            Err(NoMemory) => Err(RunEnd::NoMemory),
+        },
     }
 }
 
@@ -249,5 +289,23 @@ fn put_open<L: Lanes, W: Sink, N: Sink>(
             put_kind(&mut line, kind_of_open(what), start, lanes, output, notes)
         }
         None => Ok(()),
+    }
+}
+
+// Puts the line of what is still open, if anything is, and then that of each of these facts.
+fn put_end<L: Lanes, W: Sink, N: Sink>(
+    parser: &Parser,
+    facts: &[Fact],
+    lanes: &mut L,
+    output: &mut W,
+    notes: &mut N,
+) -> Result<(), RunEnd>
+    ensures { Puts (open_puts (open_of parser.now) ++ fact_puts facts.now)
+        (places L.Lanes W.Sink N.Sink lanes.old output.old notes.old)
+        (places L.Lanes W.Sink N.Sink lanes.new output.new notes.new) result }
+{
+    match put_open(parser, lanes, output, notes) {
+        Ok(()) => put_facts(facts, lanes, output, notes),
+        Err(end) => Err(end),
     }
 }

@@ -1,49 +1,59 @@
 // From packets to lines.
-ghost use Rattle.std.specs.Prelude.{◌≡◌, ◌≤◌, ◌∷◌, [], Ok, length};
+ghost use Rattle.std.specs.Prelude.{◌≡◌, ◌≤◌, ◌∷◌, [], Ok, Some, None, length, is_some, IfOk, IfErr, OnOk};
 ghost use Rattle.ump_grammar.specs.Ranges.{IsPacket};
 ghost use Rattle.down_translator.specs.Held.{with_part_of};
+ghost use Rattle.voice_state.specs.Messages.{raised};
 ghost use Rattle.voice_state.specs.Parts.{part_of};
+ghost use Rattle.voice_state.specs.States.{first_states};
 ghost use Rattle.sysex_groups.specs.Table.{empty_table};
-ghost use Rattle.midi_pass.specs.Pass.{Ends, IsDoneUnless, Takes, seen};
-ghost use Rattle.midi_pass.specs.Places.{places};
+ghost use Rattle.midi_pass.specs.Pass.{Ends, IsDoneUnless, TakesIn, seen};
+ghost use Rattle.midi_pass.specs.Places.{Puts, places};
 ghost use Rattle.midi_pass.specs.Put.{in_output};
 ghost use Rattle.midi_lines.specs.PacketLines.{packet_text};
 ghost use Rattle.midi_engines.specs.Down.{refusal_by};
+ghost use Rattle.midi_engines.specs.KeptState.{KeepsPacket, StandsFor, ended_in};
 ghost use Rattle.midi_engines.specs.Packets.{packet_cutting};
 ghost use Rattle.midi_engines.specs.ShowPackets.{HoldsShow, IsReadyShow, bad_join, options_of, showing, shows_last_named, shows_named, shows_nothing};
 ghost use Rattle.midi_engines.specs.Texts.{AreOfTheirKinds, line_of_text, text_of, text_puts, texts_after};
 
 use crate::down::refused;
+use crate::kept_state::{facts_of, keep_packet, put_facts};
 use crate::packets::PacketReader;
 use crate::texts::{Texts, put_text};
 use down_translator::laws::{spelled_packets_are_in_range, what_is_held_is_the_definition};
-use midi_edge::{Lanes, Sink, Source};
+use midi_edge::{Lanes, NoMemory, Sink, Source, U4};
 use midi_lines::{Line, fill_packet_line};
 use midi_pass::places::put_output;
-use midi_pass::{Engine, Reason, RunEnd, drive};
+use midi_pass::{Engine, RunEnd, drive};
+use std::alloc::Global;
 use sysex_groups::{Fed, Groups};
 use system_stream::joined_parts_are_the_definition;
 use ump_grammar::Packet;
 use ump_grammar::laws::words_spell_one_packet;
 use ump_words::{Framed, Order, fronts_are_cut_as_the_stream, one_cutting};
-use voice_state::BadStep;
+use voice_state::laws::{joined_bytes_know_no_offsets, rooms_that_are_not_passed_do_not_matter};
+use voice_state::state_laws::packets_are_kept;
+use voice_state::{BadStep, VoiceState};
 
-// Puts a line for each packet of a recording, and one for each text that stream packets carry.
+// Puts a line for each packet of a recording, and one for each text that stream packets carry; where a state is kept, at the end those
+// of what it tells.
 #[derive(Drop)]
 struct ShowPackets {
     groups: Groups,
     texts: Texts,
     line: Line,
+    state: Option<VoiceState>,
+    alloc: Global,
 }
 
 impl Engine<Framed, Packet> for ShowPackets {
-    ghost work = { λ first. showing (options_of first.groups) };
+    ghost work = { λ first. showing (options_of first.groups first.state) };
 
-    ghost IsReady = { λ first. IsReadyShow first.groups first.texts };
+    ghost IsReady = { λ first. IsReadyShow first.groups first.texts first.state };
 
     ghost UsesLanes = { ⊥ };
 
-    ghost Holds = { λ first now past. HoldsShow first.groups now.groups now.texts past };
+    ghost Holds = { λ first now past. HoldsShow first.groups now.groups now.texts first.state now.state past };
 
     ghost Asks = { λ item. IsPacket item.1 };
 
@@ -60,41 +70,40 @@ impl Engine<Framed, Packet> for ShowPackets {
         what_is_held_is_the_definition();
         spelled_packets_are_in_range();
         joined_parts_are_the_definition();
-        put_lines(
-            &mut self.groups,
-            &mut self.texts,
-            &mut self.line,
-            at,
-            item,
-            lanes,
-            output,
-            notes,
-        )
+        rooms_that_are_not_passed_do_not_matter();
+        joined_bytes_know_no_offsets();
+        packets_are_kept();
+        self.take_packet(at, item, lanes, output, notes)
     }
 
     fn close<L: Lanes, W: Sink, N: Sink>(
         &self,
-        _lanes: &mut L,
-        _output: &mut W,
-        _notes: &mut N,
+        lanes: &mut L,
+        output: &mut W,
+        notes: &mut N,
     ) -> Result<(), RunEnd> {
-        Ok(())
+        match facts_of(&self.state, self.alloc) {
+            Ok(facts) => put_facts(&facts, lanes, output, notes),
+            Err(NoMemory) => Err(RunEnd::NoMemory),
+        }
     }
 
-    ghost puts_are_named = { λ first past item puts put. shows_named (options_of first.groups) past item puts put };
+    ghost puts_are_named = { λ first past item puts put. shows_named (options_of first.groups first.state) past item puts put };
 
-    ghost last_puts_are_named = { λ first past puts put. shows_last_named (options_of first.groups) past puts put };
+    ghost last_puts_are_named = { λ first past puts put. shows_last_named (options_of first.groups first.state) past puts put };
 
-    ghost starts = { λ first ready. shows_nothing first.groups first.texts ready };
+    ghost starts = { λ first ready. shows_nothing first.groups first.texts first.state ready };
 
     ghost means = { λ first now past puts holds accepted put. tt };
 }
 
-/// Puts the lines of a recording, whose words have this order, to its end or to the first packet that is refused. Nothing is open
-/// in the groups.
+/// Puts the lines of a recording, whose words have this order, to its end or to the first packet that is refused, and where a state is
+/// kept, those of what it tells. Nothing is open in the groups, and the state has taken nothing.
 #[inline(never)]
 pub(crate) fn show_packets<S: Source, L: Lanes, W: Sink, N: Sink>(
     groups: Groups,
+    state: Option<VoiceState>,
+    alloc: Global,
     order: Order,
     input: &mut S,
     lanes: &mut L,
@@ -103,10 +112,13 @@ pub(crate) fn show_packets<S: Source, L: Lanes, W: Sink, N: Sink>(
 ) -> RunEnd
     requires empty { groups ≡ empty_table groups.room }
     requires least { 6 ≤ groups.room }
-    ensures ends { Ends (packet_cutting order) (showing (record { order = order; room = groups.room }))
+    requires new { StandsFor raised state (first_states raised) }
+    ensures ends { Ends (packet_cutting order)
+        (showing (record { state = is_some state; order = order; room = groups.room }))
         (seen S.Source L.Lanes W.Sink N.Sink input.old lanes.old output.old notes.old)
         (seen S.Source L.Lanes W.Sink N.Sink input.new lanes.new output.new notes.new) result }
-    ensures complete { IsDoneUnless (packet_cutting order) (showing (record { order = order; room = groups.room }))
+    ensures complete { IsDoneUnless (packet_cutting order)
+        (showing (record { state = is_some state; order = order; room = groups.room }))
         (seen S.Source L.Lanes W.Sink N.Sink input.old lanes.old output.old notes.old)
         (seen S.Source L.Lanes W.Sink N.Sink input.new lanes.new output.new notes.new) result }
 {
@@ -118,30 +130,35 @@ pub(crate) fn show_packets<S: Source, L: Lanes, W: Sink, N: Sink>(
         groups,
         texts: Texts::new(),
         line: Line::new(),
+        state,
+        alloc,
     };
     drive(reader, engine, input, lanes, output, notes)
 }
 
-// Joins the exclusives of one more packet. Why it is refused: it passes the room.
-fn join(groups: &mut Groups, packet: &Packet, offset: u64) -> Option<BadStep>
+// Joins the exclusives of one more packet: the group of the exclusive that it ends, if it ends one. It is refused where it passes the
+// room.
+fn join(groups: &mut Groups, packet: &Packet, offset: u64) -> Result<Option<U4>, BadStep>
     requires { IsPacket packet.now }
     ensures behind { groups.new ≡ with_part_of (part_of offset packet.now) groups.old }
-    ensures bad { result ≡ bad_join groups.old packet.now }
+    ensures ended { IfOk result (λ ended.
+        (bad_join groups.old packet.now ≡ None) × (ended ≡ ended_in groups.old packet.now)) }
+    ensures bad { IfErr result (λ bad. bad_join groups.old packet.now ≡ Some bad) }
 {
     match packet {
         Packet::Exclusive { group, form, bytes } => {
             match groups.feed(*group, *form, bytes.as_slice(), offset) {
-                Fed::TooLong => Some(BadStep::ExclusiveTooLong),
-                _ => None,
+                Fed::TooLong => Err(BadStep::ExclusiveTooLong),
+                Fed::Whole(_) | Fed::RestartedWhole { .. } => Ok(Some(*group)),
+                _ => Ok(None),
             }
         }
-        _ => None,
+        _ => Ok(None),
     }
 }
 
-// Puts the line of one more packet, unless it is refused.
+// Puts the line of one more packet.
 fn put_packet<L: Lanes, W: Sink, N: Sink>(
-    groups: &mut Groups,
     line: &mut Line,
     framed: &Framed,
     packet: &Packet,
@@ -150,24 +167,16 @@ fn put_packet<L: Lanes, W: Sink, N: Sink>(
     notes: &mut N,
 ) -> Result<(), RunEnd>
     requires { IsPacket packet.now }
-    ensures behind { groups.new ≡ with_part_of (part_of framed.now.offset packet.now) groups.old }
-    ensures takes { Takes (refusal_by (bad_join groups.old packet.now) framed.now.offset)
-        (in_output (packet_text packet.now framed.now.words framed.now.offset) ∷ [])
+    ensures { Puts (in_output (packet_text packet.now framed.now.words framed.now.offset) ∷ [])
         (places L.Lanes W.Sink N.Sink lanes.old output.old notes.old)
         (places L.Lanes W.Sink N.Sink lanes.new output.new notes.new) result }
 {
-    match join(groups, packet, framed.offset) {
-        Some(bad) => Err(refused(bad, framed.offset)),
-        None => {
-            fill_packet_line(line, packet, framed.words.as_slice(), framed.offset);
-            put_output(line.as_slice(), lanes, output, notes)
-        }
-    }
+    fill_packet_line(line, packet, framed.words.as_slice(), framed.offset);
+    put_output(line.as_slice(), lanes, output, notes)
 }
 
-// Puts the line of one more packet, and then that of the text that it ends, if it ends one; nothing where it is refused.
+// Puts the line of one more packet, and then that of the text that it ends, if it ends one.
 fn put_lines<L: Lanes, W: Sink, N: Sink>(
-    groups: &mut Groups,
     texts: &mut Texts,
     line: &mut Line,
     framed: &Framed,
@@ -178,16 +187,56 @@ fn put_lines<L: Lanes, W: Sink, N: Sink>(
 ) -> Result<(), RunEnd>
     requires packet { IsPacket packet.now }
     requires kinds { AreOfTheirKinds texts.old }
-    ensures behind { groups.new ≡ with_part_of (part_of framed.now.offset packet.now) groups.old }
     ensures after { result ≡ Ok tt → texts.new ≡ texts_after (text_of packet.now) texts.old }
-    ensures takes { Takes (refusal_by (bad_join groups.old packet.now) framed.now.offset)
-        (in_output (packet_text packet.now framed.now.words framed.now.offset)
+    ensures puts { Puts (in_output (packet_text packet.now framed.now.words framed.now.offset)
         ∷ text_puts (line_of_text (text_of packet.now) texts.old))
         (places L.Lanes W.Sink N.Sink lanes.old output.old notes.old)
         (places L.Lanes W.Sink N.Sink lanes.new output.new notes.new) result }
 {
-    match put_packet(groups, line, framed, packet, lanes, output, notes) {
+    match put_packet(line, framed, packet, lanes, output, notes) {
         Ok(()) => put_text(texts, line, packet, lanes, output, notes),
         Err(end) => Err(end),
+    }
+}
+
+impl ShowPackets {
+    // Takes one more packet: keeps it, where a state is kept, and puts its lines; nothing of both where it is refused.
+    fn take_packet<L: Lanes, W: Sink, N: Sink>(
+        &mut self,
+        framed: &Framed,
+        packet: &Packet,
+        lanes: &mut L,
+        output: &mut W,
+        notes: &mut N,
+    ) -> Result<(), RunEnd>
+        requires packet { IsPacket packet.now }
+        requires kinds { AreOfTheirKinds self.old.texts }
+        ensures groups { self.new.groups ≡
+            with_part_of (part_of framed.now.offset packet.now) self.old.groups }
+        ensures texts { result ≡ Ok tt → self.new.texts ≡ texts_after (text_of packet.now) self.old.texts }
+        ensures state { result ≡ Ok tt →
+            KeepsPacket (ended_in self.old.groups packet.now) packet.now self.old.state self.new.state }
+        ensures takes { TakesIn (is_some self.old.state)
+            (refusal_by (bad_join self.old.groups packet.now) framed.now.offset)
+            (in_output (packet_text packet.now framed.now.words framed.now.offset)
+            ∷ text_puts (line_of_text (text_of packet.now) self.old.texts))
+            (places L.Lanes W.Sink N.Sink lanes.old output.old notes.old)
+            (places L.Lanes W.Sink N.Sink lanes.new output.new notes.new) result }
+    {
+        match join(&mut self.groups, packet, framed.offset) {
+            Ok(ended) => match keep_packet(&mut self.state, packet, ended) {
+                Ok(()) => put_lines(
+                    &mut self.texts,
+                    &mut self.line,
+                    framed,
+                    packet,
+                    lanes,
+                    output,
+                    notes,
+                ),
+                Err(NoMemory) => Err(RunEnd::NoMemory),
+            },
+            Err(bad) => Err(refused(bad, framed.offset)),
+        }
     }
 }

@@ -58,5 +58,6 @@ state_word false = codes "off"
 -- the number of a profile's block, its place, its five bytes in hexadecimal digits, and whether it is on
 abbrev pub profile_text : Profile → Bool → List ℕ
 profile_text profile on =
-    codes "profile " ++ decimal profile.block ++ codes " " ++ place_text profile.place ++ codes " " ++ hex_bytes profile.id
+    codes "profile " ++ decimal profile.block ++ codes " " ++ place_text profile.place ++ codes " "
+    ++ hex_bytes profile.id
     ++ codes " " ++ state_word on ++ codes "\n"

@@ -1,4 +1,5 @@
 pub mod EndpointLines
+pub mod FactLines
 pub mod Fields
 pub mod ListingLines
 pub mod PacketLines

@@ -35,4 +35,5 @@ group_text (Some group) = decimal group
 -- the whole line
 abbrev pub listing_text : Listed → List ℕ
 listing_text listed =
-    decimal listed.offset ++ codes " " ++ group_text listed.group ++ codes " " ++ listed_word listed.kind ++ codes "\n"
+    decimal listed.offset ++ codes " " ++ group_text listed.group ++ codes " " ++ listed_word listed.kind
+    ++ codes "\n"

@@ -19,7 +19,8 @@ form_word End = codes "end"
 
 abbrev pub exclusive : ℕ → Form → List ℕ → List ℕ
 exclusive group form bytes =
-    codes "exclusive" ++ field (codes "group") group ++ word_field (codes "form") (form_word form) ++ codes " bytes=" ++ hex_bytes bytes
+    codes "exclusive" ++ field (codes "group") group ++ word_field (codes "form") (form_word form)
+    ++ codes " bytes=" ++ hex_bytes bytes
 
 abbrev pub data8 : ℕ → List ℕ
 data8 group = codes "data8" ++ field (codes "group") group
@@ -45,4 +46,5 @@ packet_fields (packet.Reserved words) = codes "reserved"
 
 -- the whole line
 abbrev pub packet_text : Packet → List ℕ → ℕ → List ℕ
-packet_text packet words offset = decimal offset ++ hex_words words ++ codes " " ++ packet_fields packet ++ codes "\n"
+packet_text packet words offset =
+    decimal offset ++ hex_words words ++ codes " " ++ packet_fields packet ++ codes "\n"

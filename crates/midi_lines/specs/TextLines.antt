@@ -21,7 +21,8 @@ spaced_bytes (byte ∷ bytes) = codes " " ++ hex_bytes (byte ∷ bytes)
 -- the line of a text that has ended; of one that is held there is none
 abbrev pub joined_text : TextKind → Answer → Option (List ℕ)
 joined_text kind held = None
-joined_text kind (whole bytes) = Some (codes "text " ++ text_kind_word kind ++ spaced_bytes bytes ++ codes "\n")
+joined_text kind (whole bytes) =
+    Some (codes "text " ++ text_kind_word kind ++ spaced_bytes bytes ++ codes "\n")
 joined_text kind bad = Some (codes "text " ++ text_kind_word kind ++ codes " bad" ++ codes "\n")
 
 -- a text has no more bytes than its kind

@@ -9,19 +9,23 @@ use Rattle.voice_messages.specs.declared.voice1.System.TheVariants as system
 
 abbrev pub m1_note_off : Option ℕ → ℕ → ℕ → ℕ → List ℕ
 m1_note_off group channel note velocity =
-    codes "m1-note-off" ++ group_and_channel group channel ++ field (codes "note") note ++ field (codes "velocity") velocity
+    codes "m1-note-off" ++ group_and_channel group channel ++ field (codes "note") note
+    ++ field (codes "velocity") velocity
 
 abbrev pub m1_note_on : Option ℕ → ℕ → ℕ → ℕ → List ℕ
 m1_note_on group channel note velocity =
-    codes "m1-note-on" ++ group_and_channel group channel ++ field (codes "note") note ++ field (codes "velocity") velocity
+    codes "m1-note-on" ++ group_and_channel group channel ++ field (codes "note") note
+    ++ field (codes "velocity") velocity
 
 abbrev pub m1_poly : Option ℕ → ℕ → ℕ → ℕ → List ℕ
 m1_poly group channel note value =
-    codes "m1-poly" ++ group_and_channel group channel ++ field (codes "note") note ++ field (codes "value") value
+    codes "m1-poly" ++ group_and_channel group channel ++ field (codes "note") note
+    ++ field (codes "value") value
 
 abbrev pub m1_control : Option ℕ → ℕ → ℕ → ℕ → List ℕ
 m1_control group channel index value =
-    codes "m1-control" ++ group_and_channel group channel ++ field (codes "index") index ++ field (codes "value") value
+    codes "m1-control" ++ group_and_channel group channel ++ field (codes "index") index
+    ++ field (codes "value") value
 
 abbrev pub m1_program : Option ℕ → ℕ → ℕ → List ℕ
 m1_program group channel program =

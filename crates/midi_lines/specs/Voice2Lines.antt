@@ -14,11 +14,14 @@ kind_word Assignable = codes "assignable"
 
 -- the kind of a parameter, and the MSB (`bank`) and the LSB (`index`) of its number
 unfoldable pub param_fields : Param → List ℕ
-param_fields param = word_field (codes "kind") (kind_word param.kind) ++ field (codes "bank") param.bank ++ field (codes "index") param.index
+param_fields param =
+    word_field (codes "kind") (kind_word param.kind) ++ field (codes "bank") param.bank
+    ++ field (codes "index") param.index
 
 -- the kind, the note and the index of a note controller
 unfoldable pub controller_fields : ParamKind → ℕ → ℕ → List ℕ
-controller_fields kind note index = word_field (codes "kind") (kind_word kind) ++ field (codes "note") note ++ field (codes "index") index
+controller_fields kind note index =
+    word_field (codes "kind") (kind_word kind) ++ field (codes "note") note ++ field (codes "index") index
 
 -- ` bank=MSB/LSB`, or ` bank=none`
 unfoldable pub bank_field : Option Bank → List ℕ
@@ -27,23 +30,30 @@ bank_field (Some bank) = codes " bank=" ++ decimal bank.msb ++ codes "/" ++ deci
 
 abbrev pub note_off : Option ℕ → ℕ → ℕ → ℕ → ℕ → ℕ → List ℕ
 note_off group channel note velocity attribute_type attribute =
-    codes "note-off" ++ group_and_channel group channel ++ field (codes "note") note ++ field (codes "velocity") velocity ++ field (codes "type") attribute_type ++ field (codes "attribute") attribute
+    codes "note-off" ++ group_and_channel group channel ++ field (codes "note") note
+    ++ field (codes "velocity") velocity ++ field (codes "type") attribute_type
+    ++ field (codes "attribute") attribute
 
 abbrev pub note_on : Option ℕ → ℕ → ℕ → ℕ → ℕ → ℕ → List ℕ
 note_on group channel note velocity attribute_type attribute =
-    codes "note-on" ++ group_and_channel group channel ++ field (codes "note") note ++ field (codes "velocity") velocity ++ field (codes "type") attribute_type ++ field (codes "attribute") attribute
+    codes "note-on" ++ group_and_channel group channel ++ field (codes "note") note
+    ++ field (codes "velocity") velocity ++ field (codes "type") attribute_type
+    ++ field (codes "attribute") attribute
 
 abbrev pub poly : Option ℕ → ℕ → ℕ → ℕ → List ℕ
 poly group channel note value =
-    codes "poly" ++ group_and_channel group channel ++ field (codes "note") note ++ field (codes "value") value
+    codes "poly" ++ group_and_channel group channel ++ field (codes "note") note
+    ++ field (codes "value") value
 
 abbrev pub note_bend : Option ℕ → ℕ → ℕ → ℕ → List ℕ
 note_bend group channel note value =
-    codes "note-bend" ++ group_and_channel group channel ++ field (codes "note") note ++ field (codes "value") value
+    codes "note-bend" ++ group_and_channel group channel ++ field (codes "note") note
+    ++ field (codes "value") value
 
 abbrev pub control : Option ℕ → ℕ → ℕ → ℕ → List ℕ
 control group channel index value =
-    codes "control" ++ group_and_channel group channel ++ field (codes "index") index ++ field (codes "value") value
+    codes "control" ++ group_and_channel group channel ++ field (codes "index") index
+    ++ field (codes "value") value
 
 abbrev pub parameter : Option ℕ → ℕ → Param → ℕ → List ℕ
 parameter group channel param value =
@@ -67,15 +77,19 @@ bend group channel value =
 
 abbrev pub note_controller : Option ℕ → ℕ → ParamKind → ℕ → ℕ → ℕ → List ℕ
 note_controller group channel kind note index value =
-    codes "note-controller" ++ group_and_channel group channel ++ controller_fields kind note index ++ field (codes "value") value
+    codes "note-controller" ++ group_and_channel group channel ++ controller_fields kind note index
+    ++ field (codes "value") value
 
 abbrev pub note_management : Option ℕ → ℕ → ℕ → ℕ → List ℕ
 note_management group channel note flags =
-    codes "note-management" ++ group_and_channel group channel ++ field (codes "note") note ++ field (codes "flags") flags
+    codes "note-management" ++ group_and_channel group channel ++ field (codes "note") note
+    ++ field (codes "flags") flags
 
 abbrev pub voice2_fields : Option ℕ → Voice2 → List ℕ
-voice2_fields group (voice2.NoteOff channel note velocity attribute_type attribute) = note_off group channel note velocity attribute_type attribute
-voice2_fields group (voice2.NoteOn channel note velocity attribute_type attribute) = note_on group channel note velocity attribute_type attribute
+voice2_fields group (voice2.NoteOff channel note velocity attribute_type attribute) =
+    note_off group channel note velocity attribute_type attribute
+voice2_fields group (voice2.NoteOn channel note velocity attribute_type attribute) =
+    note_on group channel note velocity attribute_type attribute
 voice2_fields group (voice2.PolyPressure channel note value) = poly group channel note value
 voice2_fields group (voice2.Control channel index value) = control group channel index value
 voice2_fields group (voice2.Set channel param value) = parameter group channel param value
@@ -83,6 +97,7 @@ voice2_fields group (voice2.Shift channel param value) = relative group channel 
 voice2_fields group (voice2.Program channel number bank) = program group channel number bank
 voice2_fields group (voice2.Pressure channel value) = pressure group channel value
 voice2_fields group (voice2.Bend channel value) = bend group channel value
-voice2_fields group (voice2.NoteController channel kind note index value) = note_controller group channel kind note index value
+voice2_fields group (voice2.NoteController channel kind note index value) =
+    note_controller group channel kind note index value
 voice2_fields group (voice2.NoteBend channel note value) = note_bend group channel note value
 voice2_fields group (voice2.NoteManagement channel note flags) = note_management group channel note flags

@@ -2,6 +2,7 @@
 #![tactic(auto)]
 
 mod endpoint;
+mod facts;
 mod line;
 mod listing;
 mod packets;
@@ -16,6 +17,7 @@ pub use crate::endpoint::{
     Name, block_line, endpoint_line, fill_block_line, fill_endpoint_line, fill_profile_line,
     fill_protocol_line, profile_line, protocol_line,
 };
+pub use crate::facts::{fact_line, fill_fact_line};
 pub use crate::line::Line;
 pub use crate::listing::{byte_listing, fill_byte_listing, fill_listing_line, listing_line};
 pub use crate::packets::{fill_packet_line, packet_line};

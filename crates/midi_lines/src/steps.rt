@@ -66,7 +66,8 @@ fn fill_system_line(line: &mut Line, message: &System, offset: u64)
 }
 
 fn fill_exclusive_line(line: &mut Line, size: usize, offset: u64)
-    ensures text { line.new ≡ decimal offset ++ codes " " ++ codes "exclusive" ++ field (codes "length") size ++ codes "\n" }
+    ensures text { line.new
+        ≡ decimal offset ++ codes " " ++ codes "exclusive" ++ field (codes "length") size ++ codes "\n" }
     ensures some { 0 < length line.new }
 {
     begin(line, offset);

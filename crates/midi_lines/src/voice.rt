@@ -36,7 +36,8 @@ pub fn put_voice(line: &mut Line, kind: &str, group: Option<U4>, channel: U4)
 #[inline(always)]
 pub fn put_value(line: &mut Line, kind: &str, group: Option<U4>, channel: U4, value: u32)
     requires { length line.old + length kind.now ≤ 150 }
-    ensures text { line.new ≡ line.old ++ kind.now ++ group_and_channel group channel ++ field (codes "value") value }
+    ensures text { line.new
+        ≡ line.old ++ kind.now ++ group_and_channel group channel ++ field (codes "value") value }
     ensures room { length line.new ≤ 240 }
 {
     put_voice(line, kind, group, channel);
@@ -55,7 +56,8 @@ pub fn put_note_value(
 )
     requires { length line.old + length kind.now ≤ 100 }
     ensures text { line.new
-        ≡ line.old ++ kind.now ++ group_and_channel group channel ++ field (codes "note") note ++ field (codes "value") value }
+        ≡ line.old ++ kind.now ++ group_and_channel group channel
+        ++ field (codes "note") note ++ field (codes "value") value }
     ensures room { length line.new ≤ 240 }
 {
     put_voice(line, kind, group, channel);
@@ -75,7 +77,8 @@ pub fn put_control(
 )
     requires { length line.old + length kind.now ≤ 100 }
     ensures text { line.new
-        ≡ line.old ++ kind.now ++ group_and_channel group channel ++ field (codes "index") index ++ field (codes "value") value }
+        ≡ line.old ++ kind.now ++ group_and_channel group channel
+        ++ field (codes "index") index ++ field (codes "value") value }
     ensures room { length line.new ≤ 240 }
 {
     put_voice(line, kind, group, channel);

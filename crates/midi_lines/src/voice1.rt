@@ -44,7 +44,8 @@ pub fn put_voice1(line: &mut Line, group: Option<U4>, message: &Voice1)
 fn put_note(line: &mut Line, kind: &str, group: Option<U4>, channel: U4, note: U7, velocity: U7)
     requires { length line.old + length kind.now ≤ 100 }
     ensures text { line.new
-        ≡ line.old ++ kind.now ++ group_and_channel group channel ++ field (codes "note") note ++ field (codes "velocity") velocity }
+        ≡ line.old ++ kind.now ++ group_and_channel group channel
+        ++ field (codes "note") note ++ field (codes "velocity") velocity }
     ensures room { length line.new ≤ 240 }
 {
     put_voice(line, kind, group, channel);

@@ -136,7 +136,8 @@ fn put_channel_message(line: &mut Line, group: Option<U4>, message: &Voice2)
 fn put_note(line: &mut Line, note: U7, velocity: u16, attribute_type: u8, attribute: u16)
     requires { length line.old ≤ 125 }
     ensures text { line.new
-        ≡ line.old ++ field (codes "note") note ++ field (codes "velocity") velocity ++ field (codes "type") attribute_type ++ field (codes "attribute") attribute }
+        ≡ line.old ++ field (codes "note") note ++ field (codes "velocity") velocity
+        ++ field (codes "type") attribute_type ++ field (codes "attribute") attribute }
     ensures room { length line.new ≤ 240 }
 {
     put_field(line, " note=", note.get() as u32);
@@ -172,7 +173,8 @@ fn put_param_fields(line: &mut Line, param: Param)
 fn put_param(line: &mut Line, kind: &str, group: Option<U4>, channel: U4, param: Param, value: u32)
     requires { length line.old + length kind.now ≤ 80 }
     ensures text { line.new
-        ≡ line.old ++ kind.now ++ group_and_channel group channel ++ param_fields param ++ field (codes "value") value }
+        ≡ line.old ++ kind.now ++ group_and_channel group channel ++ param_fields param
+        ++ field (codes "value") value }
     ensures room { length line.new ≤ 240 }
 {
     put_voice(line, kind, group, channel);

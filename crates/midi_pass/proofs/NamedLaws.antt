@@ -6,7 +6,7 @@ use Rattle.midi_pass.specs.Pass.{Seen, Cutting, Work, ArePut, IsNextPut, PutFail
 use Rattle.midi_pass.specs.Places.{Places, with_more, after_puts, with_faults, FailsAt, Fails}
 use Rattle.midi_pass.specs.Put.{Put, in_lane, in_output, in_notes, pairs_in, output_in, notes_in, IsPartOf, fault_of}
 use Rattle.midi_pass.specs.declared.ends.RunEnd.{RunEnd}
-use Rattle.midi_pass.specs.declared.ends.RunEnd.TheVariants.{Done, Refused, ReadFault, LaneFault, OutputFault, NoteFault}
+use Rattle.midi_pass.specs.declared.ends.RunEnd.TheVariants.{Done, Refused, ReadFault, LaneFault, OutputFault, NoteFault, NoMemory}
 use Rattle.midi_pass.specs.PutLaws.{with_more-none}
 
 named-front : (named : Named) (ps : List Put) (failed : Put) (after : List Put) → AreNamed named (ps ++ failed ∷ after) → AreNamed named ps × (is_named named failed ≡ true)
@@ -140,6 +140,11 @@ module _ {I : Type 0} (IsCut : Cutting I) (work : Work I) (each : (past : List I
     is,
     spares_put work.names is.puts ReadFault old.places new.places (are_named work each (reverse is.items) is.puts is.done.put) is.places
         (λ e. (let f : ReadFault ≡ LaneFault = e in cc)) (λ e. (let f : ReadFault ≡ OutputFault = e in cc)) (λ e. (let f : ReadFault ≡ NoteFault = e in cc)),
+  )
+  stands_ends NoMemory is = (
+    is,
+    spares_put work.names is.puts NoMemory old.places new.places (are_named work each (reverse is.items) is.puts is.done.put) is.places
+        (λ e. (let f : NoMemory ≡ LaneFault = e in cc)) (λ e. (let f : NoMemory ≡ OutputFault = e in cc)) (λ e. (let f : NoMemory ≡ NoteFault = e in cc)),
   )
   stands_ends LaneFault is = (is, put_fails LaneFault is)
   stands_ends OutputFault is = (is, put_fails OutputFault is)

@@ -1,15 +1,15 @@
 -- What a pass has done so far, and what each end says of it.
-use Rattle.std.proofs.Common.{◌≡◌, ℕ, List, [], ◌∷◌, ◌++◌, Option, None, Some, refl, sym, ◌∙◌, subst, inl, inr}
-use Rattle.std.specs.Prelude.{IfSome, Result, Ok, Err, reverse}
+use Rattle.std.proofs.Common.{◌≡◌, ℕ, Bool, true, false, List, [], ◌∷◌, ◌++◌, Option, None, Some, refl, sym, ◌∙◌, subst, inl, inr}
+use Rattle.std.specs.Prelude.{◌⊎◌, IfSome, Result, Ok, Err, reverse}
 use Rattle.std.proofs.lemmas.List.{reverse-append}
 use Rattle.midi_edge.specs.Outside.{Rose}
-use Rattle.midi_pass.specs.Pass.{Seen, Cutting, Work, AreAccepted, ArePut, IsWork, StepEnds, Steps, Closes, end_of, IsFront, HasGivenUp, IsFirstRefusal, IsRefused, IsNextPut, PutFails, Stands}
+use Rattle.midi_pass.specs.Pass.{Seen, Cutting, Work, AreAccepted, ArePut, IsWork, PutsIn, StepEnds, Steps, Closes, end_of, IsFront, HasGivenUp, IsFirstRefusal, IsRefused, IsNextPut, PutFails, WantsMemory, Stands}
 use Rattle.midi_pass.specs.Places.{Places, after_puts, FailsAt, Puts}
 use Rattle.midi_pass.specs.Put.{Put}
 use Rattle.midi_pass.specs.declared.pass.Next.TheVariants as next
 use Rattle.midi_pass.specs.declared.ends.Reason.{Reason}
 use Rattle.midi_pass.specs.declared.ends.RunEnd.{RunEnd}
-use Rattle.midi_pass.specs.declared.ends.RunEnd.TheVariants.{Done, Refused, ReadFault, LaneFault, OutputFault, NoteFault}
+use Rattle.midi_pass.specs.declared.ends.RunEnd.TheVariants.{Done, Refused, ReadFault, LaneFault, OutputFault, NoteFault, NoMemory}
 use Rattle.midi_pass.specs.PutLaws.{after_puts-none, then_put}
 use Rattle.midi_pass.specs.StepLaws.{no_other_end}
 
@@ -60,6 +60,13 @@ module _ {I : Type 0} (IsCut : Cutting I) (work : Work I) (Has : List I → Type
       let S : Places → Type 0 = λ s. FailsAt next end s new.places in
       record { items = so_far.items; puts = so_far.puts; next = next; is_next = is_next; done = done; places = subst S so_far.places stops; reads = reads ∙ so_far.reads }
 
+  -- there was no memory
+  wants_memory : (new : Seen) → work.grows ≡ true → ((item : I) × IfSome old.left (λ bytes. IsFront IsCut bytes (so_far.items ++ item ∷ []))) ⊎ IfSome old.left (λ bytes. IsCut bytes so_far.items None)
+      → new.places ≡ now.places → new.reads ≡ now.reads → WantsMemory IsCut work old new
+  unfolding done
+  wants_memory new grows wanted places reads =
+      record { grows = grows; items = so_far.items; puts = so_far.puts; wanted = wanted; done = done; places = places ∙ so_far.places; reads = reads ∙ so_far.reads }
+
   -- the next item ends the pass
   pub ends_at_step : (item : I) (end : RunEnd) (new : Seen) → IfSome old.left (λ bytes. IsFront IsCut bytes (so_far.items ++ item ∷ [])) → new.reads ≡ now.reads
       → StepEnds work (reverse so_far.items) now.places new.places item end → Stands IsCut work old new end
@@ -76,6 +83,7 @@ module _ {I : Type 0} (IsCut : Cutting I) (work : Work I) (Has : List I → Type
       by_told : (all : Option (List ℕ)) → IfSome all (λ bytes. IsFront IsCut bytes (so_far.items ++ item ∷ [])) → IfSome all (λ bytes. IsFirstRefusal IsCut work bytes so_far.items reason offset)
       by_told None front = tt
       by_told (Some bytes) front = inr (item, front, ends.0)
+  ends_at_step item NoMemory new front reads ends = wants_memory new ends.0 (inl (item, front)) ends.1 reads
   ends_at_step item Done new front reads ends = absurd (no_other_end ends.1.0 Done now.places new.places ends.1.2 refl)
   ends_at_step item ReadFault new front reads ends = absurd (no_other_end ends.1.0 ReadFault now.places new.places ends.1.2 refl)
   ends_at_step item LaneFault new front reads ends = put_failed LaneFault new ends.1.0 (inl (item, front, ends.0, ends.1.1)) ends.1.2 reads
@@ -85,7 +93,7 @@ module _ {I : Type 0} (IsCut : Cutting I) (work : Work I) (Has : List I → Type
   -- the input ends, and the pass is closed
   pub ends_at_close : (result : Result (Unit {0}) RunEnd) (new : Seen) → IfSome old.left (λ bytes. IsCut bytes so_far.items None × (new.left ≡ Some [])) → new.reads ≡ now.reads
       → Closes work (reverse so_far.items) now.places new.places result → Stands IsCut work old new (end_of result)
-  ends_at_close result new cut reads closes = by_result result closes.2
+  ends_at_close result new cut reads closes = by_memory work.grows refl closes.2
     where
       by_told : (all : Option (List ℕ)) → IfSome all (λ bytes. IsCut bytes so_far.items None × (new.left ≡ Some [])) → IfSome all (λ bytes. IsCut bytes so_far.items None)
       by_told None cut = tt
@@ -95,6 +103,7 @@ module _ {I : Type 0} (IsCut : Cutting I) (work : Work I) (Has : List I → Type
       by_end Done stops = absurd (no_other_end closes.0 Done now.places new.places stops refl)
       by_end (Refused reason offset) stops = absurd (no_other_end closes.0 (Refused reason offset) now.places new.places stops refl)
       by_end ReadFault stops = absurd (no_other_end closes.0 ReadFault now.places new.places stops refl)
+      by_end NoMemory stops = absurd (no_other_end closes.0 NoMemory now.places new.places stops refl)
       by_end LaneFault stops = put_failed LaneFault new closes.0 (inr (by_told old.left cut, closes.1)) stops reads
       by_end OutputFault stops = put_failed OutputFault new closes.0 (inr (by_told old.left cut, closes.1)) stops reads
       by_end NoteFault stops = put_failed NoteFault new closes.0 (inr (by_told old.left cut, closes.1)) stops reads
@@ -112,6 +121,13 @@ module _ {I : Type 0} (IsCut : Cutting I) (work : Work I) (Has : List I → Type
             reads = reads ∙ so_far.reads;
           }
       by_result (Err end) stops = by_end end stops
+
+      by_memory : (grows : Bool) → work.grows ≡ grows → PutsIn grows closes.0 now.places new.places result → Stands IsCut work old new (end_of result)
+      by_memory false e puts = by_result result puts
+      by_memory true e (inl puts) = by_result result puts
+      by_memory true e (inr none) =
+          let S : Result (Unit {0}) RunEnd → Type 0 = λ r. Stands IsCut work old new (end_of r) in
+          subst S (sym none.0) (wants_memory new e (inr (by_told old.left cut)) none.1 reads)
 
   -- the reading is refused
   pub ends_refused : (reason : Reason) (offset : ℕ) (new : Seen) → IfSome old.left (λ bytes. IsCut bytes so_far.items (Some (reason, offset))) → new.places ≡ now.places → new.reads ≡ now.reads

@@ -5,7 +5,7 @@ use Rattle.midi_edge.specs.declared.outside.Lanes as lanes
 use Rattle.midi_edge.specs.declared.outside.Sink as sink
 use Rattle.midi_pass.specs.Put.{Put, pairs_in, output_in, notes_in, IsPartOf, fault_of}
 use Rattle.midi_pass.specs.declared.ends.RunEnd.{RunEnd}
-use Rattle.midi_pass.specs.declared.ends.RunEnd.TheVariants.{Done, Refused, ReadFault, LaneFault, OutputFault, NoteFault}
+use Rattle.midi_pass.specs.declared.ends.RunEnd.TheVariants.{Done, Refused, ReadFault, LaneFault, OutputFault, NoteFault, NoMemory}
 
 -- the counts of faults of the lanes, the output and the notes
 pub record Counts : Type 0 where
@@ -59,6 +59,7 @@ Fails NoteFault old new = Rose old.notes new.notes × (new ≡ record old { note
 Fails Done old new = ⊥
 Fails (Refused reason offset) old new = ⊥
 Fails ReadFault old new = ⊥
+Fails NoMemory old new = ⊥
 
 -- One of these failed: those before it are put, and of it perhaps a part; its place's count rose, and nothing else changed.
 pub record FailsAt (puts : List Put) (end : RunEnd) (old new : Places) : Type 0 where

@@ -6,7 +6,7 @@ use Rattle.midi_pass.specs.Pass.{Tail, Work, StepEnds, Steps, Takes}
 use Rattle.midi_pass.specs.Places.{Places, FailsAt, Puts}
 use Rattle.midi_pass.specs.Put.{Put, in_lane, in_output, in_notes, fault_of}
 use Rattle.midi_pass.specs.declared.ends.RunEnd.{RunEnd}
-use Rattle.midi_pass.specs.declared.ends.RunEnd.TheVariants.{Done, Refused, ReadFault, LaneFault, OutputFault, NoteFault}
+use Rattle.midi_pass.specs.declared.ends.RunEnd.TheVariants.{Done, Refused, ReadFault, LaneFault, OutputFault, NoteFault, NoMemory}
 
 -- whether a failed put ends a run so; what stands then is `FailsAt`
 abbrev pub is_put_fault : RunEnd → Bool
@@ -16,6 +16,7 @@ is_put_fault NoteFault = true
 is_put_fault Done = false
 is_put_fault ReadFault = false
 is_put_fault (Refused reason offset) = false
+is_put_fault NoMemory = false
 
 fault_of-is : (put : Put) → is_put_fault (fault_of put) ≡ true
 fault_of-is (in_lane lane piece) = refl
@@ -34,6 +35,7 @@ takes_steps work past item old new Then result puts takes fine = by_refusal (wor
   where
     by_end : (end : RunEnd) → work.refusal past item ≡ None → FailsAt puts end old new → StepEnds work past old new item end
     by_end (Refused reason offset) e stops = absurd (no_other_end puts (Refused reason offset) old new stops refl)
+    by_end NoMemory e stops = absurd (no_other_end puts NoMemory old new stops refl)
     by_end Done e stops = (e, (puts, (fine e).0, stops))
     by_end ReadFault e stops = (e, (puts, (fine e).0, stops))
     by_end LaneFault e stops = (e, (puts, (fine e).0, stops))

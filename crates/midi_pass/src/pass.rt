@@ -43,7 +43,8 @@ pub trait Items<A, I> {
     fn next<S: Source>(&mut self, input: &mut S) -> Next<A, I>
         ensures answer { (first : Self) (all : Option (List ℕ)) (items : List (A × I)) →
             HasGiven first self.old all (S.left input.old) items →
-            GivesNext (IsCut first) Promises (HasGiven first self.new all (S.left input.new)) all (S.left input.new) items result }
+            GivesNext (IsCut first) Promises (HasGiven first self.new all (S.left input.new)) all
+            (S.left input.new) items result }
         ensures nearer { ComesNearer (to_go self.old) (to_go self.new) result }
         ensures cause { NextCause (S.faults input.old) (S.faults input.new) result };
 
@@ -81,9 +82,11 @@ pub trait Engine<A, I> {
         notes: &mut N,
     ) -> Result<(), RunEnd>
         requires item { Asks (at.now, item.now) }
-        requires holds { (first : Self) × (past : List (A × I)) × Holds first self.old past × AsksAfter past (at.now, item.now) }
+        requires holds { (first : Self) × (past : List (A × I)) × Holds first self.old past
+            × AsksAfter past (at.now, item.now) }
         requires begun { UsesLanes → L.begun lanes.old ≡ true }
-        ensures { (first : Self) (past : List (A × I)) → Holds first self.old past → AsksAfter past (at.now, item.now) →
+        ensures { (first : Self) (past : List (A × I)) → Holds first self.old past →
+            AsksAfter past (at.now, item.now) →
             Steps (work first) past
             (places L.Lanes W.Sink N.Sink lanes.old output.old notes.old)
             (places L.Lanes W.Sink N.Sink lanes.new output.new notes.new)
@@ -113,8 +116,8 @@ pub trait Engine<A, I> {
     ghost starts: { (first : Self) → IsReady first → Holds first first [] };
 
     /// What is put for items means what they mean.
-    ghost means: { (first now : Self) (past : List (A × I)) (puts : List Put) → Holds first now past → AreAccepted (work first) past →
-        ArePut (work first) past puts → (work first).Means past puts };
+    ghost means: { (first now : Self) (past : List (A × I)) (puts : List Put) → Holds first now past →
+        AreAccepted (work first) past → ArePut (work first) past puts → (work first).Means past puts };
 }
 
 // The end where what is put at the end of the input is put, or failed.
@@ -148,7 +151,8 @@ pub fn drive<
 ) -> RunEnd
     requires new { R.IsNew reader }
     requires ready { E.IsReady engine }
-    requires items { (past : List (A × I)) (item : A × I) → R.Promises past item → E.Asks item × E.AsksAfter past item }
+    requires items { (past : List (A × I)) (item : A × I) → R.Promises past item →
+        E.Asks item × E.AsksAfter past item }
     requires begun { E.UsesLanes → L.begun lanes.old ≡ true }
     ensures { Ends (R.IsCut reader) (E.work engine)
         (seen S.Source L.Lanes W.Sink N.Sink input.old lanes.old output.old notes.old)

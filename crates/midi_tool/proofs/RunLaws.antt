@@ -35,6 +35,7 @@ counts_rise end.NoteFault old new fails first =
 counts_rise end.Done old new fails first = absurd fails
 counts_rise (end.Refused reason offset) old new fails first = absurd fails
 counts_rise end.ReadFault old new fails first = absurd fails
+counts_rise end.NoMemory old new fails first = absurd fails
 
 puts_rise : (puts : List Put) (old new : Places) (answer : Result (Unit {0}) RunEnd) → Puts puts old new answer → (first : ℕ)
     → (Rose first old.faults.lanes → Rose first new.faults.lanes) × (Rose first old.faults.output → Rose first new.faults.output) × (Rose first old.faults.notes → Rose first new.faults.notes)

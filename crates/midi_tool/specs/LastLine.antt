@@ -19,7 +19,8 @@ reason_text ExclusiveTooLong = codes "ExclusiveTooLong"
 -- the text for a status, without its line feed, or none where there is no last line
 abbrev pub last_text : Status → Option (List ℕ)
 last_text Done = None
-last_text (Refused reason offset) = Some (codes "refused " ++ reason_text reason ++ codes " at " ++ decimal offset)
+last_text (Refused reason offset) =
+    Some (codes "refused " ++ reason_text reason ++ codes " at " ++ decimal offset)
 last_text ReadFault = Some (codes "read failed")
 last_text LaneFault = Some (codes "lane write failed")
 last_text OutputFault = Some (codes "output write failed")

@@ -33,7 +33,8 @@ pub record Objects : Type 0 where
   pub seen : Seen
   pub shelf : ShelfSeen
 
-abbrev pub objects : {S L W N K : Type 0} → source.Ghosts S → lanes.Ghosts L → sink.Ghosts W → sink.Ghosts N → shelf.Ghosts K → S → L → W → N → K → Objects
+abbrev pub objects : {S L W N K : Type 0} → source.Ghosts S → lanes.Ghosts L → sink.Ghosts W → sink.Ghosts N →
+    shelf.Ghosts K → S → L → W → N → K → Objects
 objects S L W N K s l w n k = record { seen = seen S L W N s l w n; shelf = shelf_seen K k }
 
 -- ---- a pass
@@ -46,28 +47,40 @@ status_after end.ReadFault = ReadFault
 status_after end.LaneFault = LaneFault
 status_after end.OutputFault = OutputFault
 status_after end.NoteFault = NoteFault
+status_after end.NoMemory = NoMemory
 
 -- the pass ran to the end that the status tells, or there was no memory and nothing changed
 abbrev pub Runs : Pass → Seen → Seen → Status → Type 0
-Runs pass old new status = ((end : RunEnd) × (status ≡ status_after end) × Ends pass.IsCut pass.work old new end) ⊎ ((status ≡ NoMemory) × (new ≡ old))
+Runs pass old new status =
+    ((end : RunEnd) × (status ≡ status_after end) × Ends pass.IsCut pass.work old new end)
+    ⊎ ((status ≡ NoMemory) × (new ≡ old))
 
 -- ---- a pass into a folder
 
 -- the lanes are opened in the folder
 abbrev pub opened : List ℕ → Seen → Seen
-opened folder old = record old { places = record old.places { begun = true; folder = Some (kept_bytes folder) } }
+opened folder old =
+    record old { places = record old.places { begun = true; folder = Some (kept_bytes folder) } }
 
 -- they could not be opened there, and the count of their faults rose; or there was no memory for it
 abbrev pub FailsToOpen : List ℕ → Seen → Seen → Status → Type 0
 FailsToOpen folder old new LaneFault =
-    (new ≡ record old { places = record old.places { folder = Some (kept_bytes folder); faults = new.places.faults } }) × Fails end.LaneFault old.places.faults new.places.faults
-FailsToOpen folder old new NoMemory = new ≡ record old { places = record old.places { folder = Some (kept_bytes folder) } }
+    (new ≡ record old {
+      places = record old.places {
+        folder = Some (kept_bytes folder);
+        faults = new.places.faults;
+      };
+    })
+    × Fails end.LaneFault old.places.faults new.places.faults
+FailsToOpen folder old new NoMemory =
+    new ≡ record old { places = record old.places { folder = Some (kept_bytes folder) } }
 FailsToOpen folder old new _ = ⊥
 
 -- the lanes were opened and then the pass ran, or they could not be opened, or there was no memory before that
 abbrev pub RunsInto : List ℕ → Pass → Seen → Seen → Status → Type 0
 RunsInto folder pass old new status =
-    ((end : RunEnd) × (status ≡ status_after end) × Ends pass.IsCut pass.work (opened folder old) new end) ⊎ FailsToOpen folder old new status ⊎ ((status ≡ NoMemory) × (new ≡ old))
+    ((end : RunEnd) × (status ≡ status_after end) × Ends pass.IsCut pass.work (opened folder old) new end)
+    ⊎ FailsToOpen folder old new status ⊎ ((status ≡ NoMemory) × (new ≡ old))
 
 -- ---- a pass with a setup
 
@@ -82,26 +95,33 @@ IsNamed old name text = IfSome old.texts (λ texts. texts name ≡ Some text)
 -- The shelf was asked for a name: its text is a setup; or it could not be read, and the count of the shelf's faults rose; or it is
 -- no TOML, or breaks this rule first; or there was no memory for it.
 abbrev pub FindsSetup : List ℕ → ShelfSeen → ShelfSeen → Result Facts Status → Type 0
-FindsSetup name old new (Ok setup) = (text : List ℕ) × IsNamed old name text × (setup_of text ≡ Ok setup) × (new ≡ asked_for name old)
-FindsSetup name old new (Err ShelfFault) = (new ≡ record (asked_for name old) { faults = new.faults }) × Rose old.faults new.faults
-FindsSetup name old new (Err SetupSyntax) = (text : List ℕ) × IsNamed old name text × (setup_of text ≡ Err fault.Syntax) × (new ≡ asked_for name old)
+FindsSetup name old new (Ok setup) =
+    (text : List ℕ) × IsNamed old name text × (setup_of text ≡ Ok setup) × (new ≡ asked_for name old)
+FindsSetup name old new (Err ShelfFault) =
+    (new ≡ record (asked_for name old) { faults = new.faults }) × Rose old.faults new.faults
+FindsSetup name old new (Err SetupSyntax) =
+    (text : List ℕ) × IsNamed old name text × (setup_of text ≡ Err fault.Syntax) × (new ≡ asked_for name old)
 FindsSetup name old new (Err (SetupField rule)) =
-    (text : List ℕ) × IsNamed old name text × (setup_of text ≡ Err (fault.Field rule)) × (new ≡ asked_for name old)
+    (text : List ℕ) × IsNamed old name text × (setup_of text ≡ Err (fault.Field rule))
+    × (new ≡ asked_for name old)
 FindsSetup name old new (Err NoMemory) = new ≡ asked_for name old
 FindsSetup name old new (Err _) = ⊥
 
 -- the setup was found and then its pass ran, or it wasn't found, or there was no memory before that
 abbrev pub RunsWith : List ℕ → (Facts → Pass) → Objects → Objects → Status → Type 0
 RunsWith name pass old new status =
-    ((setup : Facts) × FindsSetup name old.shelf new.shelf (Ok setup) × Runs (pass setup) old.seen new.seen status)
-    ⊎ (FindsSetup name old.shelf new.shelf (Err status) × (new.seen ≡ old.seen)) ⊎ ((status ≡ NoMemory) × (new ≡ old))
+    ((setup : Facts) × FindsSetup name old.shelf new.shelf (Ok setup)
+    × Runs (pass setup) old.seen new.seen status)
+    ⊎ (FindsSetup name old.shelf new.shelf (Err status) × (new.seen ≡ old.seen))
+    ⊎ ((status ≡ NoMemory) × (new ≡ old))
 
 -- ---- a run
 
 -- what the command asks for is done, as far as the status says
 abbrev pub Does : Plan → Objects → Objects → Status → Type 0
 Does (by_pass pass) old new status = Runs pass old.seen new.seen status × (new.shelf ≡ old.shelf)
-Does (into_folder folder pass) old new status = RunsInto folder pass old.seen new.seen status × (new.shelf ≡ old.shelf)
+Does (into_folder folder pass) old new status =
+    RunsInto folder pass old.seen new.seen status × (new.shelf ≡ old.shelf)
 Does (with_setup name pass) old new status = RunsWith name pass old new status
 
 -- Where the words are no command nothing changes.
@@ -118,12 +138,14 @@ HasLastLine old new status =
 -- where nothing is refused and nothing fails, a pass is done, or there was no memory
 abbrev pub IsDonePass : Pass → Seen → Seen → Status → Type 0
 IsDonePass pass old new status =
-    IfSome old.left (λ bytes. HasNoRefusal pass.IsCut pass.work bytes → NothingFails old new → (status ≡ Done) ⊎ (status ≡ NoMemory))
+    IfSome old.left (λ bytes. HasNoRefusal pass.IsCut pass.work bytes → NothingFails old new → (status ≡ Done)
+    ⊎ (status ≡ NoMemory))
 
 -- the same, for the setup of the text that the shelf has by a name
 abbrev pub IsDoneWith : List ℕ → (Facts → Pass) → Objects → Objects → Status → Type 0
 IsDoneWith name pass old new status =
-    IfSome old.shelf.texts (λ texts. (text : List ℕ) (setup : Facts) → texts name ≡ Some text → setup_of text ≡ Ok setup
+    IfSome old.shelf.texts
+    (λ texts. (text : List ℕ) (setup : Facts) → texts name ≡ Some text → setup_of text ≡ Ok setup
     → (Rose old.shelf.faults new.shelf.faults → ⊥) → IsDonePass (pass setup) old.seen new.seen status)
 
 abbrev pub IsDonePlan : Plan → Objects → Objects → Status → Type 0

@@ -30,7 +30,8 @@ fn reason_text(reason: Reason) -> &'static str
 
 // The line of a refusal.
 fn refusal_line(reason: Reason, offset: u64) -> Line
-    ensures text { result ≡ codes "refused " ++ text_for reason ++ codes " at " ++ decimal offset ++ codes "\n" }
+    ensures text { result
+        ≡ codes "refused " ++ text_for reason ++ codes " at " ++ decimal offset ++ codes "\n" }
 {
     let mut line = Line::new();
     put_text(&mut line, "refused ");

@@ -45,7 +45,8 @@ use ump_words::Order;
 /// `translate down --folder F` turns the recording of Universal MIDI Packets in `input` into a MIDI 1.0 stream for each group, in
 /// `lanes`, and lists in `notes` what has no counterpart. `translate up` turns the MIDI 1.0 stream in `input` into the words of
 /// packets of one group, in `output`, and `translate back` into the stream that these packets give on the way down; both list in
-/// `notes` what gave no packet. `show` puts a line for each packet of a recording in `output`, `show --bytes` the lines of a stream.
+/// `notes` what gave no packet. `show` puts a line for each packet of a recording in `output`, `show --bytes` the lines of a stream; with
+/// `--state` those of what the input leaves in a receiver follow.
 /// `endpoint SETUP` reads the setup of that name from the shelf and answers the packets of a peer in `input`: the words of the replies
 /// come in `output`, and a line for each message in `notes`.
 /// `--group` is 0 to 15, at first 0; `--room`, the most bytes of an exclusive between F0 and F7, is 6 to 1,048,576, at first
@@ -55,7 +56,7 @@ use ump_words::Order;
 /// its offset, the number of input bytes before it. `ReadFault`, `LaneFault`, `OutputFault`, `NoteFault` and `ShelfFault` come only for
 /// an object that the command names and whose count of faults rose in this call. `Usage` comes where the words are no command,
 /// `SetupSyntax` where the text of the setup isn't UTF-8 or no TOML, `SetupField` with the number of the first rule that it breaks
-/// (`function_blocks::Rule`). `NoMemory` is free in its cause, and comes before the first read. What stands in the lanes, the output
+/// (`function_blocks::Rule`). `NoMemory` is free in its cause, and comes before the first read, but for `--state`. What stands in the lanes, the output
 /// and the notes after each of these is told by the clauses; docs/passes.md has it as a table. Whatever the status but `Done` and
 /// `NoteFault`, a last line in the notes tells it.
 pub fn run<S: Source, L: Lanes, W: Sink, N: Sink, K: Shelf>(
@@ -74,19 +75,23 @@ pub fn run<S: Source, L: Lanes, W: Sink, N: Sink, K: Shelf>(
     // What the words ask for is done, as far as the status says; then comes the last line. `Done`: the input was read to its end,
     // none of its items is refused, exactly their puts stand, and these mean what the items mean. `Refused`: the first refusal, and
     // exactly the puts of the items before it. A read failed: exactly the puts of the items that lie wholly in what the source
-    // gave. A place failed: the puts before the one that failed, and of that one a front that isn't all of it. The setup can't be
-    // had, or is none: nothing is read or put. An object that the command doesn't name stays as it is. `plan_of` tells how each
-    // command cuts its input, and what it refuses, puts and means.
+    // gave. A place failed: the puts before the one that failed, and of that one a front that isn't all of it. There is no memory:
+    // nothing is read or put; where a state is kept (`grows`), exactly the puts of the items before the one that wanted it. The setup
+    // can't be had, or is none: nothing is read or put. An object that the command doesn't name stays as it is. `plan_of` tells how
+    // each command cuts its input, and what it refuses, puts and means.
     ensures says { (unended : Objects)
         × RunSays (command_of (map string_bytes words.now))
-        (objects S.Source L.Lanes W.Sink N.Sink K.Shelf input.old lanes.old output.old notes.old shelf.old) unended result
+        (objects S.Source L.Lanes W.Sink N.Sink K.Shelf input.old lanes.old output.old notes.old shelf.old)
+        unended result
         × HasLastLine unended
-        (objects S.Source L.Lanes W.Sink N.Sink K.Shelf input.new lanes.new output.new notes.new shelf.new) result }
+        (objects S.Source L.Lanes W.Sink N.Sink K.Shelf input.new lanes.new output.new notes.new shelf.new)
+        result }
 
     // Where nothing is refused and nothing fails it is done, unless there is no memory.
     ensures complete { IsDoneOrNoMemory (command_of (map string_bytes words.now))
         (objects S.Source L.Lanes W.Sink N.Sink K.Shelf input.old lanes.old output.old notes.old shelf.old)
-        (objects S.Source L.Lanes W.Sink N.Sink K.Shelf input.new lanes.new output.new notes.new shelf.new) result }
+        (objects S.Source L.Lanes W.Sink N.Sink K.Shelf input.new lanes.new output.new notes.new shelf.new)
+        result }
 {
     let status = answer(alloc, words, input, lanes, output, notes, shelf);
     put_last(status, lanes, output, notes);
@@ -107,10 +112,12 @@ fn answer<S: Source, L: Lanes, W: Sink, N: Sink, K: Shelf>(
     requires asked { K.asked shelf.old ≡ None }
     ensures says { RunSays (command_of (map string_bytes words.now))
         (objects S.Source L.Lanes W.Sink N.Sink K.Shelf input.old lanes.old output.old notes.old shelf.old)
-        (objects S.Source L.Lanes W.Sink N.Sink K.Shelf input.new lanes.new output.new notes.new shelf.new) result }
+        (objects S.Source L.Lanes W.Sink N.Sink K.Shelf input.new lanes.new output.new notes.new shelf.new)
+        result }
     ensures complete { IsDoneOrNoMemory (command_of (map string_bytes words.now))
         (objects S.Source L.Lanes W.Sink N.Sink K.Shelf input.old lanes.old output.old notes.old shelf.old)
-        (objects S.Source L.Lanes W.Sink N.Sink K.Shelf input.new lanes.new output.new notes.new shelf.new) result }
+        (objects S.Source L.Lanes W.Sink N.Sink K.Shelf input.new lanes.new output.new notes.new shelf.new)
+        result }
 {
     match command_line(alloc, words) {
         Ok(command) => perform(alloc, &command, input, lanes, output, notes, shelf),
@@ -134,10 +141,12 @@ fn perform<S: Source, L: Lanes, W: Sink, N: Sink, K: Shelf>(
     requires asked { K.asked shelf.old ≡ None }
     ensures says { Does (plan_of (asked_of command.now))
         (objects S.Source L.Lanes W.Sink N.Sink K.Shelf input.old lanes.old output.old notes.old shelf.old)
-        (objects S.Source L.Lanes W.Sink N.Sink K.Shelf input.new lanes.new output.new notes.new shelf.new) result }
+        (objects S.Source L.Lanes W.Sink N.Sink K.Shelf input.new lanes.new output.new notes.new shelf.new)
+        result }
     ensures complete { IsDonePlan (plan_of (asked_of command.now))
         (objects S.Source L.Lanes W.Sink N.Sink K.Shelf input.old lanes.old output.old notes.old shelf.old)
-        (objects S.Source L.Lanes W.Sink N.Sink K.Shelf input.new lanes.new output.new notes.new shelf.new) result }
+        (objects S.Source L.Lanes W.Sink N.Sink K.Shelf input.new lanes.new output.new notes.new shelf.new)
+        result }
 {
     match command {
         Command::Down {
@@ -145,10 +154,14 @@ fn perform<S: Source, L: Lanes, W: Sink, N: Sink, K: Shelf>(
             little,
             room,
         } => translate_down(alloc, folder, *little, *room, input, lanes, output, notes),
-        Command::Show { little, room } => {
-            put_packet_lines(alloc, *little, *room, input, lanes, output, notes)
+        Command::Show {
+            state,
+            little,
+            room,
+        } => put_packet_lines(alloc, *state, *little, *room, input, lanes, output, notes),
+        Command::ShowBytes { state, room } => {
+            put_byte_lines(alloc, *state, *room, input, lanes, output, notes)
         }
-        Command::ShowBytes { room } => { put_byte_lines(alloc, *room, input, lanes, output, notes) }
         Command::Up {
             group,
             little,
@@ -186,6 +199,7 @@ fn status_of(end: RunEnd) -> Status
         RunEnd::LaneFault => Status::LaneFault,
         RunEnd::OutputFault => Status::OutputFault,
         RunEnd::NoteFault => Status::NoteFault,
+        RunEnd::NoMemory => Status::NoMemory,
     }
 }
 
@@ -274,9 +288,10 @@ fn bring_back<S: Source, L: Lanes, W: Sink, N: Sink>(
     }
 }
 
-// Shows the packets of a recording.
+// Shows the packets of a recording, and where it is asked for, the state that they leave.
 fn put_packet_lines<S: Source, L: Lanes, W: Sink, N: Sink>(
     alloc: Global,
+    state: bool,
     little: bool,
     room: u32,
     input: &mut S,
@@ -286,26 +301,27 @@ fn put_packet_lines<S: Source, L: Lanes, W: Sink, N: Sink>(
 ) -> Status
     requires room { IsRoom room }
     ensures says { Runs
-        (packet_pass (order_in little) (showing (record { order = order_in little; room = room })))
+        (packet_pass (order_in little) (showing (record { state = state; order = order_in little; room = room })))
         (seen S.Source L.Lanes W.Sink N.Sink input.old lanes.old output.old notes.old)
         (seen S.Source L.Lanes W.Sink N.Sink input.new lanes.new output.new notes.new) result }
     ensures complete { IsDonePass
-        (packet_pass (order_in little) (showing (record { order = order_in little; room = room })))
+        (packet_pass (order_in little) (showing (record { state = state; order = order_in little; room = room })))
         (seen S.Source L.Lanes W.Sink N.Sink input.old lanes.old output.old notes.old)
         (seen S.Source L.Lanes W.Sink N.Sink input.new lanes.new output.new notes.new) result }
 {
-    match ShowRun::new(alloc, false, false, order_of(little), room) {
+    match ShowRun::new(alloc, false, state, order_of(little), room) {
         Ok(engine) => match run_show(alloc, engine, input, lanes, output, notes) {
             Ok(end) => status_of(end),
-            Err(_) => unreachable!(),
+            Err(_) => Status::NoMemory,
         },
         Err(_) => Status::NoMemory,
     }
 }
 
-// Shows the messages of a stream.
+// Shows the messages of a stream, and where it is asked for, the state that they leave.
 fn put_byte_lines<S: Source, L: Lanes, W: Sink, N: Sink>(
     alloc: Global,
+    state: bool,
     room: u32,
     input: &mut S,
     lanes: &mut L,
@@ -314,18 +330,18 @@ fn put_byte_lines<S: Source, L: Lanes, W: Sink, N: Sink>(
 ) -> Status
     requires room { IsRoom room }
     ensures says { Runs
-        (byte_pass (showing_bytes (record { room = room })))
+        (byte_pass (showing_bytes (record { state = state; room = room })))
         (seen S.Source L.Lanes W.Sink N.Sink input.old lanes.old output.old notes.old)
         (seen S.Source L.Lanes W.Sink N.Sink input.new lanes.new output.new notes.new) result }
     ensures complete { IsDonePass
-        (byte_pass (showing_bytes (record { room = room })))
+        (byte_pass (showing_bytes (record { state = state; room = room })))
         (seen S.Source L.Lanes W.Sink N.Sink input.old lanes.old output.old notes.old)
         (seen S.Source L.Lanes W.Sink N.Sink input.new lanes.new output.new notes.new) result }
 {
-    match ShowRun::new(alloc, true, false, Order::Big, room) {
+    match ShowRun::new(alloc, true, state, Order::Big, room) {
         Ok(engine) => match run_show(alloc, engine, input, lanes, output, notes) {
             Ok(end) => status_of(end),
-            Err(_) => unreachable!(),
+            Err(_) => Status::NoMemory,
         },
         Err(_) => Status::NoMemory,
     }
@@ -365,11 +381,13 @@ fn answer_peer<S: Source, L: Lanes, W: Sink, N: Sink>(
 ) -> Status
     requires room { IsRoom room }
     ensures says { Runs
-        (packet_pass (order_in little) (answering (record { setup = setup; order = order_in little; room = room })))
+        (packet_pass (order_in little)
+        (answering (record { setup = setup; order = order_in little; room = room })))
         (seen S.Source L.Lanes W.Sink N.Sink input.old lanes.old output.old notes.old)
         (seen S.Source L.Lanes W.Sink N.Sink input.new lanes.new output.new notes.new) result }
     ensures complete { IsDonePass
-        (packet_pass (order_in little) (answering (record { setup = setup; order = order_in little; room = room })))
+        (packet_pass (order_in little)
+        (answering (record { setup = setup; order = order_in little; room = room })))
         (seen S.Source L.Lanes W.Sink N.Sink input.old lanes.old output.old notes.old)
         (seen S.Source L.Lanes W.Sink N.Sink input.new lanes.new output.new notes.new) result }
 {

@@ -15,3 +15,10 @@ pub mod Silent
 pub mod Translation
 pub mod Up
 pub mod UpRows
+pub mod Told
+pub mod Counts
+pub mod KeptParams
+pub mod Entries
+pub mod KeptChannel
+pub mod KeptGroups
+pub mod StateLaws

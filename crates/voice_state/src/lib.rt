@@ -1,10 +1,31 @@
-//! What the bytes of a MIDI 1.0 stream and the packets of a group mean, and when they mean the same.
+//! What the bytes of a MIDI 1.0 stream and the packets of a group mean, when they mean the same, and a state that is kept while
+//! they come.
 #![tactic(auto)]
 
+mod acts;
+mod channel;
+mod control;
+pub mod fact;
+mod group;
 pub mod laws;
 pub mod listed;
 pub mod meaning_rows;
+mod note_act;
+mod param_map;
+mod params;
+mod registers;
+mod role;
+pub mod running;
+pub mod state_laws;
+mod table;
 pub mod up_laws;
 pub mod up_rows;
+mod voice;
+mod width;
 
+pub use crate::fact::Fact;
 pub use crate::listed::{BadStep, Kind, Listed};
+pub use crate::running::VoiceState;
+
+#[cfg(test)]
+mod tests;

@@ -1,4 +1,5 @@
 // What the README shows, on `run`: its worked examples, and what it compares with other translators.
+use super::state_rows::shows_stream;
 use super::word_rows::gives;
 use super::{Left, carries, case_of, leaves, refused};
 use crate::status::Status;
@@ -96,6 +97,34 @@ fn the_examples_are_shown(rt: HostRuntime) -> Result<(), Fail> {
     let mut given = case_of(alloc, &["show", "--bytes"], &[])?;
     given.input.extend_from_slice(&KEYBOARD)?;
     leaves(&rt, alloc, given, stream)
+}
+
+#[test]
+fn the_example_leaves_a_state(rt: HostRuntime) -> Result<(), Fail> {
+    let alloc = rt.alloc();
+    shows_stream(
+        &rt,
+        alloc,
+        &KEYBOARD,
+        "2 m1-note-on channel=0 note=60 velocity=100\n\
+         4 system status=F8\n\
+         5 m1-note-on channel=0 note=62 velocity=100\n\
+         8 m1-control channel=0 index=101 value=0\n\
+         10 m1-control channel=0 index=100 value=0\n\
+         12 m1-control channel=0 index=6 value=2\n\
+         14 m1-control channel=0 index=38 value=5\n\
+         16 m1-program channel=0 program=5\n\
+         21 exclusive length=3\n\
+         24 m1-note-on channel=0 note=60 velocity=0\n\
+         25 open-message\n\
+         state 0 0 on 60 100\n\
+         state 0 0 on 62 100\n\
+         state 0 0 off 60 64\n\
+         state 0 0 program 5 bank none\n\
+         state 0 0 registered 0 0 261\n\
+         state 0 system 1\n\
+         state 0 real-time 1\n",
+    )
 }
 
 const WHOLE: [u8; 9] = [0xF0, 1, 2, 3, 4, 5, 6, 7, 0xF7];

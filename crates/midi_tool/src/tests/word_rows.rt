@@ -22,7 +22,7 @@ const FIRST_LINE: &str = "0 30160102 03040506 exclusive group=0 form=start bytes
 #[test]
 fn the_table_of_words(rt: HostRuntime) -> Result<(), Fail> {
     let alloc = rt.alloc();
-    let rows: [&[&str]; 25] = [
+    let rows: [&[&str]; 31] = [
         &["translate", "down", "--folder", "F"],
         &["translate", "down", "--folder", "F", "--little"],
         &["translate", "down", "--folder", "F", "--room", "6"],
@@ -49,6 +49,12 @@ fn the_table_of_words(rt: HostRuntime) -> Result<(), Fail> {
         &["show", "--room", "6"],
         &["show", "--little", "--room", "1048576"],
         &["show", "--room", "1048576", "--little"],
+        &["show", "--state"],
+        &["show", "--state", "--little", "--room", "1048576"],
+        &["show", "--room", "6", "--state"],
+        &["show", "--bytes", "--state"],
+        &["show", "--bytes", "--state", "--room", "6"],
+        &["show", "--room", "1048576", "--state", "--bytes"],
         &["show", "--bytes"],
         &["show", "--bytes", "--room", "6"],
         &["show", "--bytes", "--room", "1048576"],

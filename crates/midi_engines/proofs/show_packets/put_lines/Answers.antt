@@ -2,23 +2,21 @@ use Rattle.std.proofs.Common.{[], ◌∷◌}
 use Rattle.midi_lines.specs.PacketLines.{packet_text}
 use Rattle.midi_pass.specs.Places.{places}
 use Rattle.midi_pass.specs.Put.{in_output}
-use Rattle.midi_engines.specs.Down.{refusal_by}
-use Rattle.midi_engines.specs.ShowPackets.{bad_join}
+use Rattle.midi_pass.specs.PutLaws.{stops_more, then_puts}
 use Rattle.midi_engines.specs.Texts.{line_of_text, text_of, text_puts}
-use Rattle.midi_engines.proofs.TextLaws.{takes_stops, takes_then}
 use Rattle.midi_engines.proofs.show_packets.put_lines.Goals as goal
 
-pub returns-in-Ok-clause-takes : goal.returns-in-Ok-clause-takes
-returns-in-Ok-clause-takes g c =
+pub returns-in-Ok-clause-puts : goal.returns-in-Ok-clause-puts
+returns-in-Ok-clause-puts g c =
     let packet = c.args.packet.now in
     let framed = c.args.framed.now in
-    takes_then (refusal_by (bad_join c.args.groups.now packet) framed.offset) (in_output (packet_text packet framed.words framed.offset) ∷ []) (text_puts (line_of_text (text_of packet) c.args.texts.now))
+    then_puts (in_output (packet_text packet framed.words framed.offset) ∷ []) (text_puts (line_of_text (text_of packet) c.args.texts.now))
     (places g.L.Lanes g.W.Sink g.N.Sink c.args.lanes.now c.args.output.now c.args.notes.now)
-    (places g.L.Lanes g.W.Sink g.N.Sink c.put_packet.new.lanes c.put_packet.new.output c.put_packet.new.notes) _ _ c.in-Ok.ensures.takes c.put_text.ensures.puts
+    (places g.L.Lanes g.W.Sink g.N.Sink c.put_packet.new.lanes c.put_packet.new.output c.put_packet.new.notes) _ _ c.in-Ok.ensures c.put_text.ensures.puts
 
-pub returns-in-Err-clause-takes : goal.returns-in-Err-clause-takes
-returns-in-Err-clause-takes g c =
+pub returns-in-Err-clause-puts : goal.returns-in-Err-clause-puts
+returns-in-Err-clause-puts g c =
     let packet = c.args.packet.now in
     let framed = c.args.framed.now in
-    takes_stops (refusal_by (bad_join c.args.groups.now packet) framed.offset) (in_output (packet_text packet framed.words framed.offset) ∷ []) (text_puts (line_of_text (text_of packet) c.args.texts.now))
-    (places g.L.Lanes g.W.Sink g.N.Sink c.args.lanes.now c.args.output.now c.args.notes.now) _ c.in-Err.end c.in-Err.ensures.takes
+    stops_more (in_output (packet_text packet framed.words framed.offset) ∷ []) (text_puts (line_of_text (text_of packet) c.args.texts.now)) c.in-Err.end
+    (places g.L.Lanes g.W.Sink g.N.Sink c.args.lanes.now c.args.output.now c.args.notes.now) _ c.in-Err.ensures

@@ -1,4 +1,5 @@
 use Rattle.std.proofs.Common.{ap, subst}
+use Rattle.std.specs.Prelude.{is_some}
 use Rattle.ump_words.specs.declared.words.Order.{Order}
 use Rattle.midi_pass.specs.Pass.{Ends, seen}
 use Rattle.midi_pass.specs.DoneLaws.{is_done_unless}
@@ -10,12 +11,13 @@ use Rattle.midi_engines.proofs.show_packets.show_packets.Goals as goal
 pub returns-clause-ends : goal.returns-clause-ends
 returns-clause-ends g c =
     let E : Order → Type 0 =
-    λ order. Ends (packet_cutting order) (showing (record { order = c.args.order; room = c.args.groups.room }))
+    λ order. Ends (packet_cutting order) (showing (record { state = is_some c.args.state; order = c.args.order; room = c.args.groups.room }))
     (seen g.S.Source g.L.Lanes g.W.Sink g.N.Sink c.args.input.now c.args.lanes.now c.args.output.now c.args.notes.now)
     (seen g.S.Source g.L.Lanes g.W.Sink g.N.Sink c.drive.new.input c.drive.new.lanes c.drive.new.output c.drive.new.notes) c.drive.result in
     subst E (ap (λ words. words.order) c.new-reader.ensures) c.drive.ensures
 
 pub returns-clause-complete : goal.returns-clause-complete
 returns-clause-complete g c =
-    is_done_unless (packet_cutting c.args.order) (showing (record { order = c.args.order; room = c.args.groups.room })) (packets_once c.one_cutting.ensures c.fronts_are_cut_as_the_stream.ensures c.words_spell_one_packet.ensures c.args.order) _ _ c.drive.result
+    is_done_unless (packet_cutting c.args.order) (showing (record { state = is_some c.args.state; order = c.args.order; room = c.args.groups.room }))
+    (packets_once c.one_cutting.ensures c.fronts_are_cut_as_the_stream.ensures c.words_spell_one_packet.ensures c.args.order) _ _ c.drive.result
     (returns-clause-ends g c)

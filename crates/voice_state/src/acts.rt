@@ -1,0 +1,62 @@
+// The notes and channel mode messages that came.
+ghost use Rattle.std.specs.Prelude.{◌≡◌, [], ◌∷◌, ◌++◌, OnOk, OnErr, map};
+ghost use Rattle.voice_state.specs.Acts.{act_of};
+ghost use Rattle.voice_state.specs.Facts.{act_fact};
+
+use crate::fact::{Fact, put};
+use crate::note_act::NoteAct;
+use midi_edge::{NoMemory, U4};
+use std::alloc::Global;
+use std::marker::Model;
+
+/// The notes and channel mode messages of a channel, as they came. To a contract it is the list of them.
+#[derive(Drop)]
+pub(crate) struct Acts {
+    acts: Vec<NoteAct>,
+}
+
+impl Model for Acts {
+    ghost use Rattle.std.specs.Prelude.{List, map};
+    ghost use Rattle.voice_state.specs.State.{Act};
+    ghost use Rattle.voice_state.specs.Acts.{act_of};
+
+    ghost Value = { List Act };
+
+    ghost view = { λ a. map act_of a.acts.items };
+}
+
+impl Acts {
+    pub(crate) fn new(alloc: Global) -> Acts
+        ensures { result ≡ [] }
+    {
+        Acts {
+            acts: Vec::new(alloc),
+        }
+    }
+
+    /// Adds one at the end. After `NoMemory` nothing has changed.
+    pub(crate) fn add(&mut self, act: NoteAct) -> Result<(), NoMemory>
+        ensures added { OnOk result (self.new ≡ self.old ++ act_of act ∷ []) }
+        ensures unchanged { OnErr result (self.new ≡ self.old) }
+    {
+        match self.acts.push(act) {
+            Ok(()) => Ok(()),
+            Err(_) => Err(NoMemory),
+        }
+    }
+
+    /// Adds the facts of them, as they came.
+    pub(crate) fn put_facts(
+        &self,
+        facts: &mut Vec<Fact>,
+        group: U4,
+        channel: U4,
+    ) -> Result<(), NoMemory>
+        ensures { OnOk result (facts.new.items ≡ facts.old.items ++ map (act_fact group channel) self.now) }
+    {
+        for act in &self.acts {
+            put(facts, Some(act.fact(group, channel)))?;
+        }
+        Ok(())
+    }
+}

@@ -1,0 +1,165 @@
+// What is kept of a channel.
+ghost use Rattle.std.specs.Prelude.{◌≡◌, ◌++◌, IfOk, OnOk, OnErr};
+ghost use Rattle.std.specs.Option.{option_map, option_to_list};
+ghost use Rattle.voice_state.specs.Acts.{act_of};
+ghost use Rattle.voice_state.specs.Facts.{bend_facts, channel_facts, pressure_facts, program_fact, value_facts};
+ghost use Rattle.voice_state.specs.Kept.{KeepsChannel};
+ghost use Rattle.voice_state.specs.Messages.{Scale, as_they_come, raised, start_channel};
+ghost use Rattle.voice_state.specs.State as definition;
+ghost use Rattle.voice_state.specs.Widths.{scale_of};
+
+use crate::acts::Acts;
+use crate::fact::{Fact, put};
+use crate::note_act::NoteAct;
+use crate::params::Params;
+use crate::registers::Registers;
+use crate::table::{Content, Table};
+use crate::width::Width;
+use midi_edge::{NoMemory, U4};
+use std::alloc::Global;
+use voice_messages::{Bank, U7};
+
+/// A program change, with the bank that it took.
+#[derive(Clone, Copy, Debug)]
+pub(crate) struct ProgramChange {
+    pub program: U7,
+    pub bank: Option<Bank>,
+}
+
+/// What messages have left in a channel. The bend is none where it is at its centre.
+#[derive(Drop)]
+pub(crate) struct Channel {
+    pub acts: Acts,
+    pub poly: Table,
+    pub controllers: Table,
+    pub pressure: u32,
+    pub bend: Option<u32>,
+    pub program: Option<ProgramChange>,
+    pub params: Params,
+    pub registers: Registers,
+}
+
+impl Channel {
+    /// A channel that has no message yet.
+    pub(crate) fn new(alloc: Global) -> Result<Channel, NoMemory>
+        ensures midi1 { IfOk result (λ channel. KeepsChannel as_they_come channel (start_channel as_they_come)) }
+        ensures packets { IfOk result (λ channel. KeepsChannel raised channel (start_channel raised)) }
+    {
+        let Ok(poly) = Table::new(alloc) else {
+            return Err(NoMemory);
+        };
+        let Ok(controllers) = Table::new(alloc) else {
+            return Err(NoMemory);
+        };
+        Ok(Channel {
+            acts: Acts::new(alloc),
+            poly,
+            controllers,
+            pressure: 0,
+            bend: None,
+            program: None,
+            params: Params::new(alloc),
+            registers: Registers::unset(),
+        })
+    }
+
+    /// Takes a note or a channel mode message. After `NoMemory` nothing has changed.
+    pub(crate) fn act(&mut self, act: NoteAct) -> Result<(), NoMemory>
+        ensures step { OnOk result ((scale : Scale) (state : definition.Channel) → KeepsChannel scale self.old state
+            → KeepsChannel scale self.new (definition.with_act (act_of act) state)) }
+        ensures unchanged { OnErr result (self.new ≡ self.old) }
+    {
+        self.acts.add(act)
+    }
+
+    /// Takes a bend, which isn't kept where it is at its centre.
+    pub(crate) fn set_bend(&mut self, width: Width, value: u32)
+        ensures { (state : definition.Channel) → KeepsChannel (scale_of width) self.old state
+            → KeepsChannel (scale_of width) self.new (definition.with_bend value state) }
+    {
+        self.bend = if value == width.centre() {
+            None
+        } else {
+            Some(value)
+        };
+    }
+
+    /// Takes a program change, with the bank as it stands.
+    pub(crate) fn set_program(&mut self, program: U7)
+        ensures { (scale : Scale) (state : definition.Channel) → KeepsChannel scale self.old state
+            → KeepsChannel scale self.new (definition.with_program program state) }
+    {
+        let bank = self.registers.bank();
+        self.program = Some(ProgramChange { program, bank });
+    }
+
+    /// Adds the facts of the channel.
+    pub(crate) fn put_facts(
+        &self,
+        facts: &mut Vec<Fact>,
+        group: U4,
+        channel: U4,
+    ) -> Result<(), NoMemory>
+        ensures { OnOk result ((scale : Scale) (state : definition.Channel) → KeepsChannel scale self.now state
+            → facts.new.items ≡ facts.old.items ++ channel_facts scale group channel state) }
+    {
+        self.acts.put_facts(facts, group, channel)?;
+        self.poly
+            .put_facts(Content::KeyPressures, facts, group, channel)?;
+        self.controllers
+            .put_facts(Content::Controllers, facts, group, channel)?;
+        self.put_value_facts(facts, group, channel)?;
+        self.params.put_facts(facts, group, channel)
+    }
+
+    // Adds the facts of the pressure, the bend and the program.
+    fn put_value_facts(&self, facts: &mut Vec<Fact>, group: U4, channel: U4) -> Result<(), NoMemory>
+        ensures { OnOk result ((scale : Scale) (state : definition.Channel) → KeepsChannel scale self.now state
+            → facts.new.items ≡ facts.old.items ++ value_facts scale group channel state) }
+    {
+        put(facts, self.pressure_fact(group, channel))?;
+        put(facts, self.bend_fact(group, channel))?;
+        put(facts, self.program_fact(group, channel))
+    }
+
+    fn pressure_fact(&self, group: U4, channel: U4) -> Option<Fact>
+        ensures { (scale : Scale) (state : definition.Channel) → KeepsChannel scale self.now state
+            → option_to_list result ≡ pressure_facts group channel state.pressure }
+    {
+        let value = self.pressure;
+        if value == 0 {
+            None
+        } else {
+            Some(Fact::Pressure {
+                group,
+                channel,
+                value,
+            })
+        }
+    }
+
+    fn bend_fact(&self, group: U4, channel: U4) -> Option<Fact>
+        ensures { (scale : Scale) (state : definition.Channel) → KeepsChannel scale self.now state
+            → option_to_list result ≡ bend_facts (scale.wide 8192) group channel state.bend }
+    {
+        let value = self.bend?;
+        Some(Fact::Bend {
+            group,
+            channel,
+            value,
+        })
+    }
+
+    fn program_fact(&self, group: U4, channel: U4) -> Option<Fact>
+        ensures { (scale : Scale) (state : definition.Channel) → KeepsChannel scale self.now state
+            → result ≡ option_map (program_fact group channel) state.program }
+    {
+        let ProgramChange { program, bank } = self.program?;
+        Some(Fact::Program {
+            group,
+            channel,
+            program,
+            bank,
+        })
+    }
+}

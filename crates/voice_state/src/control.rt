@@ -1,0 +1,159 @@
+// What a control change does to a channel.
+ghost use Rattle.std.specs.Prelude.{◌≡◌, OnOk, OnErr};
+ghost use Rattle.voice_state.specs.Controllers.{role_of};
+ghost use Rattle.voice_state.specs.Kept.{KeepsChannel, with_controllers_reset};
+ghost use Rattle.voice_state.specs.Messages as messages;
+ghost use Rattle.voice_state.specs.Messages.{raised};
+ghost use Rattle.voice_state.specs.Packets.{control2};
+ghost use Rattle.voice_state.specs.Registers.{selected};
+ghost use Rattle.voice_state.specs.Roles.{role_in};
+ghost use Rattle.voice_state.specs.State as definition;
+ghost use Rattle.voice_state.specs.Widths.{scale_of};
+
+use crate::channel::Channel;
+use crate::note_act::NoteAct;
+use crate::role::ControlRole;
+use crate::width::Width;
+use midi_edge::NoMemory;
+use voice_messages::U7;
+
+impl Channel {
+    /// Takes a control change of the MIDI 1.0 protocol (MIDI 1.0 Detailed Specification, control change; RP-015). After
+    /// `NoMemory` nothing has changed.
+    pub(crate) fn control(&mut self, width: Width, index: U7, value: U7) -> Result<(), NoMemory>
+        ensures step { OnOk result ((state : definition.Channel) → KeepsChannel (scale_of width) self.old state
+            → KeepsChannel (scale_of width) self.new (messages.control (scale_of width) (role_of index) index value state)) }
+        ensures unchanged { OnErr result (self.new ≡ self.old) }
+    {
+        self.control_as(width, ControlRole::of(index), index, value)
+    }
+
+    fn control_as(
+        &mut self,
+        width: Width,
+        role: ControlRole,
+        index: U7,
+        value: U7,
+    ) -> Result<(), NoMemory>
+        ensures step { OnOk result ((state : definition.Channel) → KeepsChannel (scale_of width) self.old state
+            → KeepsChannel (scale_of width) self.new (messages.control (scale_of width) (role_in role) index value state)) }
+        ensures unchanged { OnErr result (self.new ≡ self.old) }
+    {
+        match role {
+            ControlRole::BankMsb
+            | ControlRole::BankLsb
+            | ControlRole::NumberMsb(_)
+            | ControlRole::NumberLsb(_) => {
+                self.registers.take(role, value);
+                Ok(())
+            }
+            ControlRole::DataMsb => self.enter_msb(width, value),
+            ControlRole::DataLsb => self.enter_lsb(width, value),
+            ControlRole::DataStep => Ok(()),
+            ControlRole::ResetAll => self.reset_all(width, index, width.value(value)),
+            ControlRole::ChannelMode => {
+                let value = width.value(value);
+                self.act(NoteAct::Mode { index, value })
+            }
+            ControlRole::Plain => {
+                self.controllers.set(index, width.controller(value));
+                Ok(())
+            }
+        }
+    }
+
+    /// Takes a control change of the MIDI 2.0 protocol (M2-104-UM, MIDI 2.0 control change): the indexes of banks, data entry and
+    /// parameter numbers do nothing. After `NoMemory` nothing has changed.
+    pub(crate) fn control2(&mut self, index: U7, value: u32) -> Result<(), NoMemory>
+        ensures step { OnOk result ((state : definition.Channel) → KeepsChannel raised self.old state
+            → KeepsChannel raised self.new (control2 (role_of index) index value state)) }
+        ensures unchanged { OnErr result (self.new ≡ self.old) }
+    {
+        self.control2_as(ControlRole::of(index), index, value)
+    }
+
+    fn control2_as(&mut self, role: ControlRole, index: U7, value: u32) -> Result<(), NoMemory>
+        ensures step { OnOk result ((state : definition.Channel) → KeepsChannel raised self.old state
+            → KeepsChannel raised self.new (control2 (role_in role) index value state)) }
+        ensures unchanged { OnErr result (self.new ≡ self.old) }
+    {
+        match role {
+            ControlRole::ResetAll => self.reset_all(Width::Midi2, index, value),
+            ControlRole::ChannelMode => self.act(NoteAct::Mode { index, value }),
+            ControlRole::Plain => {
+                self.controllers.set(index, value);
+                Ok(())
+            }
+            _ => Ok(()),
+        }
+    }
+
+    // A data entry of the MSB of the selected parameter.
+    fn enter_msb(&mut self, width: Width, value: U7) -> Result<(), NoMemory>
+        ensures step { OnOk result ((state : definition.Channel) → KeepsChannel (scale_of width) self.old state
+            → KeepsChannel (scale_of width) self.new
+            (messages.enter_msb (scale_of width) (selected state.registers) value state)) }
+        ensures unchanged { OnErr result (self.new ≡ self.old) }
+    {
+        match self.registers.selected() {
+            Some(param) => self.params.set(&param, width.of_msb(value)),
+            None => Ok(()),
+        }
+    }
+
+    // A data entry of the LSB of the selected parameter, which keeps its MSB.
+    fn enter_lsb(&mut self, width: Width, value: U7) -> Result<(), NoMemory>
+        ensures step { OnOk result ((state : definition.Channel) → KeepsChannel (scale_of width) self.old state
+            → KeepsChannel (scale_of width) self.new
+            (messages.enter_lsb (scale_of width) (selected state.registers) value state)) }
+        ensures unchanged { OnErr result (self.new ≡ self.old) }
+    {
+        match self.registers.selected() {
+            Some(param) => {
+                let old = self.params.value(&param);
+                self.params
+                    .set_value(&param, width.with_new_lsb(old, value))
+            }
+            None => Ok(()),
+        }
+    }
+
+    // Reset all controllers (RP-015), which is a channel mode message too.
+    fn reset_all(&mut self, width: Width, index: U7, value: u32) -> Result<(), NoMemory>
+        ensures step { OnOk result ((state : definition.Channel) → KeepsChannel (scale_of width) self.old state
+            → KeepsChannel (scale_of width) self.new
+            (messages.reset (scale_of width) (definition.with_act (definition.mode index value) state))) }
+        ensures unchanged { OnErr result (self.new ≡ self.old) }
+    {
+        self.act(NoteAct::Mode { index, value })?;
+        self.reset(width);
+        Ok(())
+    }
+
+    // What it does besides.
+    fn reset(&mut self, width: Width)
+        ensures { (state : definition.Channel) → KeepsChannel (scale_of width) self.old state
+            → KeepsChannel (scale_of width) self.new (messages.reset (scale_of width) state) }
+    {
+        self.reset_controllers(width);
+        self.poly.clear();
+        self.pressure = width.value(U7::low_bits(0));
+        self.bend = None;
+        self.registers.take(ControlRole::ResetAll, U7::low_bits(0));
+    }
+
+    // Expression at its greatest; modulation, hold, portamento, sostenuto and soft pedal at 0.
+    fn reset_controllers(&mut self, width: Width)
+        ensures { (state : definition.Channel) → KeepsChannel (scale_of width) self.old state
+            → KeepsChannel (scale_of width) self.new (with_controllers_reset (scale_of width) state) }
+    {
+        let zero = width.controller(U7::low_bits(0));
+        self.controllers.set(U7::low_bits(1), zero);
+        self.controllers.set(U7::low_bits(64), zero);
+        self.controllers.set(U7::low_bits(65), zero);
+        self.controllers.set(U7::low_bits(66), zero);
+        self.controllers.set(U7::low_bits(67), zero);
+        self.controllers
+            .set(U7::low_bits(11), width.controller(U7::low_bits(127)));
+    }
+}

@@ -1,0 +1,179 @@
+// What is kept of a group.
+ghost use Rattle.std.specs.Prelude.{◌≡◌, ◌++◌, IfOk, OnOk, OnErr};
+ghost use Rattle.std.specs.Option.{option_to_list};
+ghost use Rattle.voice_messages.specs.declared.voice1.System as system;
+ghost use Rattle.midi1_bytes.specs.Messages.{Message};
+ghost use Rattle.voice_state.specs.declared.fact.Fact.TheVariants as fact;
+ghost use Rattle.voice_state.specs.Facts.{count_facts, facts_of_channels, group_facts};
+ghost use Rattle.voice_state.specs.Kept.{KeepsGroup};
+ghost use Rattle.voice_state.specs.Messages.{Scale, as_they_come, channel_of, raised, start};
+ghost use Rattle.voice_state.specs.Packets.{channel2};
+ghost use Rattle.voice_state.specs.State.{GroupState, with_common, with_real_time};
+ghost use Rattle.voice_state.specs.States.{after_voice1, after_voice2};
+ghost use Rattle.voice_state.specs.Widths.{scale_of};
+
+use crate::channel::Channel;
+use crate::fact::{Fact, put};
+use crate::width::Width;
+use midi_edge::{NoMemory, U4};
+use std::alloc::Global;
+use std::marker::Model;
+use voice_messages::{Voice1, Voice2};
+
+// The channel of a message.
+fn channel_of(message: &Voice1) -> U4
+    ensures { result ≡ channel_of message.now }
+{
+    match *message {
+        Voice1::NoteOff { channel, .. }
+        | Voice1::NoteOn { channel, .. }
+        | Voice1::PolyPressure { channel, .. }
+        | Voice1::Control { channel, .. }
+        | Voice1::Program { channel, .. }
+        | Voice1::Pressure { channel, .. }
+        | Voice1::Bend { channel, .. } => channel,
+    }
+}
+
+// The channel of a message of the MIDI 2.0 protocol.
+fn channel2(message: &Voice2) -> U4
+    ensures { result ≡ channel2 message.now }
+{
+    match *message {
+        Voice2::NoteOff { channel, .. }
+        | Voice2::NoteOn { channel, .. }
+        | Voice2::PolyPressure { channel, .. }
+        | Voice2::Control { channel, .. }
+        | Voice2::Set { channel, .. }
+        | Voice2::Shift { channel, .. }
+        | Voice2::Program { channel, .. }
+        | Voice2::Pressure { channel, .. }
+        | Voice2::Bend { channel, .. }
+        | Voice2::NoteController { channel, .. }
+        | Voice2::NoteBend { channel, .. }
+        | Voice2::NoteManagement { channel, .. } => channel,
+    }
+}
+
+/// What messages have left in the sixteen channels of a group, and how many system messages came. To a contract it is a record
+/// of these.
+#[derive(Drop)]
+pub(crate) struct Group {
+    channels: Vec<Channel>,
+    commons: u64,
+    real_times: u64,
+}
+
+impl Model for Group {
+    ghost use Rattle.std.specs.Prelude.{◌≡◌, length};
+    ghost use Rattle.voice_state.specs.Kept.{KeptGroup};
+
+    ghost Value = { KeptGroup };
+
+    ghost view = { λ g. record { channels = g.channels.items; commons = g.commons; real_times = g.real_times } };
+
+    ghost invariant = { λ g. length g.channels.items ≡ 16 };
+}
+
+impl Group {
+    /// A group that has no message yet.
+    pub(crate) fn new(alloc: Global) -> Result<Group, NoMemory>
+        ensures midi1 { IfOk result (λ group. KeepsGroup as_they_come group (start as_they_come)) }
+        ensures packets { IfOk result (λ group. KeepsGroup raised group (start raised)) }
+    {
+        let Ok(mut channels) = Vec::with_capacity(alloc, 16) else {
+            return Err(NoMemory);
+        };
+        for _ in 0..16usize {
+            let Ok(channel) = Channel::new(alloc) else {
+                return Err(NoMemory);
+            };
+            if channels.push(channel).is_err() {
+                return Err(NoMemory);
+            }
+        }
+        Ok(Group {
+            channels,
+            commons: 0,
+            real_times: 0,
+        })
+    }
+
+    /// Takes a message of the MIDI 1.0 protocol. After `NoMemory` nothing has changed.
+    pub(crate) fn voice1(&mut self, width: Width, message: &Voice1) -> Result<(), NoMemory>
+        ensures step { OnOk result ((state : GroupState) → KeepsGroup (scale_of width) self.old state
+            → KeepsGroup (scale_of width) self.new (after_voice1 (scale_of width) message.now state)) }
+        ensures unchanged { OnErr result (self.new ≡ self.old) }
+    {
+        let channel = &mut self.channels[channel_of(message).get() as usize];
+        channel.voice1(width, message)
+    }
+
+    /// Takes a message of the MIDI 2.0 protocol. After `NoMemory` nothing has changed.
+    pub(crate) fn voice2(&mut self, message: &Voice2) -> Result<(), NoMemory>
+        ensures step { OnOk result ((state : GroupState) → KeepsGroup raised self.old state
+            → KeepsGroup raised self.new (after_voice2 message.now state)) }
+        ensures unchanged { OnErr result (self.new ≡ self.old) }
+    {
+        let channel = &mut self.channels[channel2(message).get() as usize];
+        channel.voice2(message)
+    }
+
+    /// Counts a system common message or an exclusive.
+    pub(crate) fn count_common(&mut self)
+        ensures { (scale : Scale) (state : GroupState) (message : Message) → KeepsGroup scale self.old state
+            → KeepsGroup scale self.new (with_common message state) }
+    {
+        self.commons = self.commons.saturating_add(1);
+    }
+
+    /// Counts a system Real Time message.
+    pub(crate) fn count_real_time(&mut self)
+        ensures { (scale : Scale) (state : GroupState) (message : system.System) → KeepsGroup scale self.old state
+            → KeepsGroup scale self.new (with_real_time message state) }
+    {
+        self.real_times = self.real_times.saturating_add(1);
+    }
+
+    /// Adds the facts of the group: those of its channels, then the counts that aren't 0.
+    pub(crate) fn put_facts(&self, facts: &mut Vec<Fact>, group: U4) -> Result<(), NoMemory>
+        ensures { OnOk result ((scale : Scale) (state : GroupState) → KeepsGroup scale self.now state
+            → facts.new.items ≡ facts.old.items ++ group_facts scale group state) }
+    {
+        self.put_channel_facts(facts, group)?;
+        put(facts, self.system_fact(group))?;
+        put(facts, self.real_time_fact(group))
+    }
+
+    fn put_channel_facts(&self, facts: &mut Vec<Fact>, group: U4) -> Result<(), NoMemory>
+        ensures { OnOk result ((scale : Scale) (state : GroupState) → KeepsGroup scale self.now state
+            → facts.new.items ≡ facts.old.items ++ facts_of_channels 16 scale group state) }
+    {
+        for index in 0..16u8 {
+            self.channels[index as usize].put_facts(facts, group, U4::low_bits(index as u32))?;
+        }
+        Ok(())
+    }
+
+    fn system_fact(&self, group: U4) -> Option<Fact>
+        ensures { option_to_list result ≡ count_facts (fact.System group) self.now.commons }
+    {
+        let count = self.commons;
+        if count == 0 {
+            None
+        } else {
+            Some(Fact::System { group, count })
+        }
+    }
+
+    fn real_time_fact(&self, group: U4) -> Option<Fact>
+        ensures { option_to_list result ≡ count_facts (fact.RealTime group) self.now.real_times }
+    {
+        let count = self.real_times;
+        if count == 0 {
+            None
+        } else {
+            Some(Fact::RealTime { group, count })
+        }
+    }
+}

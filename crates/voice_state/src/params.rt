@@ -1,0 +1,125 @@
+// The parameters of a channel.
+ghost use Rattle.std.specs.Prelude.{◌≡◌, ◌<◌, ◌++◌, true, OnOk, OnErr};
+ghost use Rattle.voice_messages.specs.declared.voice2.ParamKind.TheVariants.{Registered, Assignable};
+ghost use Rattle.voice_state.specs.Facts.{params_in_order};
+ghost use Rattle.voice_state.specs.KeptParams.{state_in, KeepsParams, Puts};
+ghost use Rattle.voice_state.specs.Messages as messages;
+ghost use Rattle.voice_state.specs.State as definition;
+
+use crate::fact::Fact;
+use crate::param_map::{ParamMap, ParamState};
+use midi_edge::{NoMemory, U4};
+use std::alloc::Global;
+use voice_messages::{Param, ParamKind};
+
+/// The parameters of a channel that were set or changed.
+#[derive(Drop)]
+pub(crate) struct Params {
+    pub registered: ParamMap,
+    pub assignable: ParamMap,
+}
+
+impl Params {
+    pub(crate) fn new(alloc: Global) -> Params
+        ensures { (scale : messages.Scale) → KeepsParams result (messages.start_channel scale) }
+    {
+        Params {
+            registered: ParamMap::new(alloc),
+            assignable: ParamMap::new(alloc),
+        }
+    }
+
+    /// The value of a parameter, where it was set.
+    pub(crate) fn value(&self, param: &Param) -> Option<u32>
+        ensures { (state : definition.Channel) → KeepsParams self.now state → result ≡ state.params param.now }
+    {
+        match self.get(param) {
+            Some(state) => state.value,
+            None => None,
+        }
+    }
+
+    // Whether a relative change came since a parameter was set.
+    fn is_loose(&self, param: &Param) -> bool
+        ensures { (state : definition.Channel) → KeepsParams self.now state → result ≡ state.loose param.now }
+    {
+        match self.get(param) {
+            Some(state) => state.loose,
+            None => false,
+        }
+    }
+
+    /// A parameter has a value, and isn't loose. After `NoMemory` nothing has changed.
+    pub(crate) fn set(&mut self, param: &Param, value: u32) -> Result<(), NoMemory>
+        ensures set { OnOk result ((state : definition.Channel) → KeepsParams self.old state
+            → KeepsParams self.new (definition.with_param param.now value state)) }
+        ensures unchanged { OnErr result (self.new ≡ self.old) }
+    {
+        let state = ParamState {
+            value: Some(value),
+            loose: false,
+        };
+        self.put(param, state)
+    }
+
+    /// A parameter has a value, and is as loose as before. After `NoMemory` nothing has changed.
+    pub(crate) fn set_value(&mut self, param: &Param, value: u32) -> Result<(), NoMemory>
+        ensures set { OnOk result ((state : definition.Channel) → KeepsParams self.old state
+            → KeepsParams self.new (definition.with_value param.now value state)) }
+        ensures unchanged { OnErr result (self.new ≡ self.old) }
+    {
+        let loose = self.is_loose(param);
+        let state = ParamState {
+            value: Some(value),
+            loose,
+        };
+        self.put(param, state)
+    }
+
+    /// A parameter is loose, and keeps its value. After `NoMemory` nothing has changed.
+    pub(crate) fn loosen(&mut self, param: &Param) -> Result<(), NoMemory>
+        ensures loosened { OnOk result ((state : definition.Channel) → KeepsParams self.old state
+            → KeepsParams self.new (definition.with_looseness true param.now state)) }
+        ensures unchanged { OnErr result (self.new ≡ self.old) }
+    {
+        let value = self.value(param);
+        self.put(param, ParamState { value, loose: true })
+    }
+
+    fn get(&self, param: &Param) -> Option<ParamState>
+        ensures state { result ≡ state_in self.now param.now }
+        ensures in_range { param.now.index < 128 }
+    {
+        match param.kind {
+            ParamKind::Registered => self.registered.get(param.bank, param.index),
+            ParamKind::Assignable => self.assignable.get(param.bank, param.index),
+        }
+    }
+
+    fn put(&mut self, param: &Param, state: ParamState) -> Result<(), NoMemory>
+        ensures put { OnOk result (Puts self.old self.new param.now state) }
+        ensures in_range { param.now.index < 128 }
+        ensures unchanged { OnErr result (self.new ≡ self.old) }
+    {
+        match param.kind {
+            ParamKind::Registered => self.registered.put(param.bank, param.index, state),
+            ParamKind::Assignable => self.assignable.put(param.bank, param.index, state),
+        }
+    }
+
+    /// Adds the facts of the parameters: the registered ones, then the assignable ones, each by their numbers.
+    pub(crate) fn put_facts(
+        &self,
+        facts: &mut Vec<Fact>,
+        group: U4,
+        channel: U4,
+    ) -> Result<(), NoMemory>
+        ensures { OnOk result ((state : definition.Channel) → KeepsParams self.now state → facts.new.items
+            ≡ facts.old.items ++ params_in_order group channel Registered state ++ params_in_order group channel Assignable state) }
+    {
+        self.registered
+            .put_facts(ParamKind::Registered, facts, group, channel)?;
+        self.assignable
+            .put_facts(ParamKind::Assignable, facts, group, channel)
+    }
+}

@@ -1,0 +1,175 @@
+// What messages or packets have left in a receiver, kept while they come.
+ghost use Rattle.std.specs.Prelude.{◌≡◌, true, false, None, IfOk, OnOk, OnErr};
+ghost use Rattle.voice_messages.specs.declared.voice1.System as system;
+ghost use Rattle.midi1_bytes.specs.Messages.{Message, message_of, voice};
+ghost use Rattle.voice_state.specs.Facts.{facts_of};
+ghost use Rattle.voice_state.specs.Kept.{Keeps};
+ghost use Rattle.voice_state.specs.Messages.{Scale, as_they_come, raised};
+ghost use Rattle.voice_state.specs.State.{with_common, with_real_time};
+ghost use Rattle.voice_state.specs.States.{States, after_message, after_packet, after_voice1, after_voice2, at_group, first_states, is_real_time};
+ghost use Rattle.voice_state.specs.Widths.{scale_of};
+
+use crate::fact::Fact;
+use crate::group::Group;
+use crate::width::Width;
+use midi_edge::{NoMemory, U4};
+use std::alloc::Global;
+use std::marker::Model;
+use ump_grammar::Packet;
+use voice_messages::{System, Voice1, Voice2};
+
+/// What the messages of a MIDI 1.0 stream, or the packets of a recording, have left in a receiver: the states of sixteen groups,
+/// with counts in place of the lists of system messages. To a contract it is what is kept of each group; `Keeps` says which
+/// states that stands for. One state takes either messages, of 7 and 14 bits, or packets, of 16 and 32 bits.
+///
+/// Notes and channel mode messages are kept as the list of all that came, and parameters in a map by their numbers. All other
+/// memory is taken when it is made.
+#[derive(Drop)]
+pub struct VoiceState {
+    groups: Vec<Group>,
+}
+
+impl Model for VoiceState {
+    ghost use Rattle.std.specs.Prelude.{◌≡◌, List, length};
+    ghost use Rattle.voice_state.specs.Kept.{KeptGroup};
+
+    ghost Value = { List KeptGroup };
+
+    ghost view = { λ s. s.groups.items };
+
+    ghost invariant = { λ s. length s.groups.items ≡ 16 };
+}
+
+impl VoiceState {
+    /// The state before the first message or packet. `NoMemory` where there is none for its tables.
+    pub fn new(alloc: Global) -> Result<VoiceState, NoMemory>
+        ensures messages { IfOk result (λ state. Keeps as_they_come state (first_states as_they_come)) }
+        ensures packets { IfOk result (λ state. Keeps raised state (first_states raised)) }
+    {
+        let Ok(mut groups) = Vec::with_capacity(alloc, 16) else {
+            return Err(NoMemory);
+        };
+        for _ in 0..16usize {
+            let Ok(group) = Group::new(alloc) else {
+                return Err(NoMemory);
+            };
+            if groups.push(group).is_err() {
+                return Err(NoMemory);
+            }
+        }
+        Ok(VoiceState { groups })
+    }
+
+    /// Takes a channel voice message of a MIDI 1.0 stream in a group (MIDI 1.0 Detailed Specification, channel voice messages;
+    /// RP-015). After `NoMemory` nothing has changed.
+    pub fn apply1(&mut self, group: U4, m: &Voice1) -> Result<(), NoMemory>
+        ensures step { OnOk result ((states : States) → Keeps as_they_come self.old states
+            → Keeps as_they_come self.new (after_message group (voice m.now) states)) }
+        ensures unchanged { OnErr result (self.new ≡ self.old) }
+    {
+        self.voice1(Width::Midi1, group, m)
+    }
+
+    /// Takes a packet (M2-104-UM). A packet of an exclusive changes nothing: whole exclusives are counted by `system`. After
+    /// `NoMemory` nothing has changed.
+    pub fn apply2(&mut self, p: &Packet) -> Result<(), NoMemory>
+        ensures step { OnOk result ((states : States) → Keeps raised self.old states
+            → Keeps raised self.new (after_packet p.now None states)) }
+        ensures unchanged { OnErr result (self.new ≡ self.old) }
+    {
+        match p {
+            Packet::System { group, message } => {
+                self.system(*group, is_real_time(message));
+                Ok(())
+            }
+            Packet::Voice1 { group, message } => self.voice1(Width::Midi2, *group, message),
+            Packet::Voice2 { group, message } => self.voice2(*group, message),
+            Packet::Utility { .. }
+            | Packet::Exclusive { .. }
+            | Packet::Data8 { .. }
+            | Packet::Flex { .. }
+            | Packet::Stream { .. }
+            | Packet::Reserved { .. } => Ok(()),
+        }
+    }
+
+    /// Counts a system message of a group: a Real Time message, or else a common message or a whole exclusive. The counts stop
+    /// at their greatest value.
+    pub fn system(&mut self, group: U4, real_time: bool)
+        ensures common { real_time ≡ false → (scale : Scale) (states : States) (message : Message)
+            → Keeps scale self.old states → Keeps scale self.new (at_group group (with_common message) states) }
+        ensures real_time { real_time ≡ true → (scale : Scale) (states : States) (message : system.System)
+            → Keeps scale self.old states → Keeps scale self.new (at_group group (with_real_time message) states) }
+    {
+        if real_time {
+            self.count_real_time(group);
+        } else {
+            self.count_common(group);
+        }
+    }
+
+    // Takes a message of the MIDI 1.0 protocol.
+    fn voice1(&mut self, width: Width, group: U4, message: &Voice1) -> Result<(), NoMemory>
+        ensures step { OnOk result ((states : States) → Keeps (scale_of width) self.old states
+            → Keeps (scale_of width) self.new (at_group group (after_voice1 (scale_of width) message.now) states)) }
+        ensures unchanged { OnErr result (self.new ≡ self.old) }
+    {
+        let group = &mut self.groups[group.get() as usize];
+        group.voice1(width, message)
+    }
+
+    // Takes a message of the MIDI 2.0 protocol.
+    fn voice2(&mut self, group: U4, message: &Voice2) -> Result<(), NoMemory>
+        ensures step { OnOk result ((states : States) → Keeps raised self.old states
+            → Keeps raised self.new (at_group group (after_voice2 message.now) states)) }
+        ensures unchanged { OnErr result (self.new ≡ self.old) }
+    {
+        let group = &mut self.groups[group.get() as usize];
+        group.voice2(message)
+    }
+
+    fn count_common(&mut self, group: U4)
+        ensures { (scale : Scale) (states : States) (message : Message)
+            → Keeps scale self.old states → Keeps scale self.new (at_group group (with_common message) states) }
+    {
+        let group = &mut self.groups[group.get() as usize];
+        group.count_common();
+    }
+
+    fn count_real_time(&mut self, group: U4)
+        ensures { (scale : Scale) (states : States) (message : system.System)
+            → Keeps scale self.old states → Keeps scale self.new (at_group group (with_real_time message) states) }
+    {
+        let group = &mut self.groups[group.get() as usize];
+        group.count_real_time();
+    }
+
+    /// What isn't at its first value, in order (own rule): by group and channel; of a channel the notes and mode messages as they
+    /// came, then poly pressures by note, controllers by index, the pressure, the bend, the program, registered and assignable
+    /// parameters by bank and index; after a group's channels its counts.
+    pub fn facts(&self, alloc: Global) -> Result<Vec<Fact>, NoMemory>
+        ensures { IfOk result (λ facts. (scale : Scale) (states : States) → Keeps scale self.now states
+            → facts.items ≡ facts_of scale states) }
+    {
+        let mut facts = Vec::new(alloc);
+        for index in 0..16u8 {
+            self.groups[index as usize].put_facts(&mut facts, U4::low_bits(index as u32))?;
+        }
+        Ok(facts)
+    }
+}
+
+// Whether a system message is a Real Time message.
+fn is_real_time(message: &System) -> bool
+    ensures { result ≡ is_real_time (message_of message.now) }
+{
+    match message {
+        System::Quarter(_) | System::Position(_) | System::Song(_) | System::Tune => false,
+        System::Clock
+        | System::Start
+        | System::Continue
+        | System::Stop
+        | System::Sensing
+        | System::Reset => true,
+    }
+}
