@@ -4,7 +4,7 @@ use Rattle.std.proofs.lemmas.List.{length-replicate}
 use Rattle.std.proofs.Math.Nat.{mod-add-div}
 use Rattle.std.proofs.Math.Seq.{drop-append_seam}
 use Rattle.ci_messages.specs.Places.{part_at, number2_at, bytes2}
-use Rattle.ci_messages.specs.Fields.{Field, Value, byte, number2, number4, bytes, counted, reserved, unread, number, list, nothing, HasField, HasFields, FitsField, FitsFields, size_at, end_of_fields, bytes_of_field, bytes_of_fields}
+use Rattle.ci_messages.specs.Fields.{Field, Value, byte, number2, number4, bytes, counted, reserved, absent, unread, number, list, nothing, HasField, HasFields, FitsField, FitsFields, size_at, end_of_fields, bytes_of_field, bytes_of_fields}
 use Rattle.ci_messages.proofs.PlaceLaws.{byte_at-byte, number2_at-bytes2, number4_at-bytes4, part_at-list}
 
 -- nothing follows the bytes that are left unread
@@ -44,6 +44,7 @@ field-again (counted size) (list xs) before at is fits after last =
     (count-again size xs before after at is fits.0)
     )
 field-again (reserved size) nothing before at is fits after last = tt
+field-again (absent only) value before at is fits after last = fits
 field-again unread (list xs) before at is fits after last =
     sym (
     ap (λ k. drop k (before ++ (xs ++ after))) is
@@ -64,6 +65,7 @@ size-again (bytes size) (list xs) before at is fits after last = sym fits.0
 size-again (counted size) (list xs) before at is fits after last =
     ap (λ n. 2 + n) (count-again size xs before after at is fits.0) ∙ sym (length-append (bytes2 (length xs / size)) xs)
 size-again (reserved size) nothing before at is fits after last = sym (length-replicate size 0)
+size-again (absent only) value before at is fits after last = refl
 size-again unread (list xs) before at is fits after last =
     omega (arith, is, ap length (last refl), length-append before (xs ++ after), length-append xs after)
 size-again _ _ before at is fits after last = absurd fits
@@ -83,6 +85,7 @@ closed-rest number4 fields closed = closed
 closed-rest (bytes size) fields closed = closed
 closed-rest (counted size) fields closed = closed
 closed-rest (reserved size) fields closed = closed
+closed-rest (absent only) fields closed = closed
 
 -- the fields hold the values, and end where the body does
 abbrev pub FillBody : List Field → List Value → List ℕ → ℕ → Type 0

@@ -5,15 +5,16 @@ use Rattle.std.proofs.Math.Nat.{mul-mod_right}
 use Rattle.std.proofs.lemmas.Bool.{ltb-false, ltb-true}
 use Rattle.std.proofs.lemmas.List.{length-take-le}
 use Rattle.std.proofs.lemmas.List.Elements.{All-get_or, All-take, All-drop}
+use Rattle.ci_messages.specs.declared.kind.Format.{Format}
 use Rattle.ci_messages.specs.declared.view.Address.{Address}
 use Rattle.ci_messages.specs.declared.view.Address.TheVariants as address
 use Rattle.ci_messages.specs.declared.view.CiFault.{CiFault}
 use Rattle.ci_messages.specs.declared.view.CiFault.TheVariants as fault
 use Rattle.ci_messages.specs.declared.view.CiView.{CiView}
 use Rattle.ci_messages.specs.Places.{byte_at, part_at, number2_at, number4_at}
-use Rattle.ci_messages.specs.Fields.{Field, Value, IsData, byte, number2, number4, bytes, counted, reserved, unread, number, list, nothing, HasField, HasFields, FitsField, FitsFields, size_at, end_of_fields}
-use Rattle.ci_messages.specs.Messages.{fields_of, values_of}
-use Rattle.ci_messages.specs.Reading.{CiSpells, IsExclusive, address_of, body_of, ci_fault, is_not_ci, is_reserved, is_short, is_short_body, message_kind}
+use Rattle.ci_messages.specs.Fields.{Field, Value, IsData, byte, number2, number4, bytes, counted, reserved, absent, unread, number, list, nothing, HasField, HasFields, FitsField, FitsFields, size_at, end_of_fields}
+use Rattle.ci_messages.specs.Messages.{body_kind, fields_of, format_of, values_of}
+use Rattle.ci_messages.specs.Reading.{CiSpells, IsExclusive, address_of, body_of, ci_fault, is_not_ci, is_reserved, is_short, is_short_body, message_format, message_kind}
 use Rattle.ci_messages.specs.Writing.{IsAddress, IsView}
 use Rattle.ci_messages.proofs.DataLaws.{body_is_data}
 
@@ -66,6 +67,7 @@ field-fits (counted size) (list xs) body at data_bytes within holds =
       subst IsData (sym holds) (part_at-data body (at + 2) (size * number2_at body at) data_bytes),
     )
 field-fits (reserved size) nothing body at data_bytes within holds = tt
+field-fits (absent only) value body at data_bytes within holds = holds
 field-fits unread (list xs) body at data_bytes within holds =
     subst IsData (sym holds) (All-drop (λ b. b < 128) at body data_bytes)
 field-fits _ _ body at data_bytes within holds = absurd holds
@@ -150,16 +152,19 @@ read-fits message view (payload, is, data_bytes) none spells =
     let tests : (is_short message ≡ false) × (is_reserved (number4_at message 6) ≡ false) =
     no-fault (is_not_ci message) (is_short message) (is_none (address_of (byte_at message 2))) (is_reserved (number4_at message 6))
     fault.NotCi fault.Short fault.BadAddress fault.ReservedMuid none in
-    let lengths : (nat_lt (length message) 15 ≡ false) × (is_short_body (message_kind message) (body_of message) ≡ false) =
-    neither (nat_lt (length message) 15) (is_short_body (message_kind message) (body_of message)) tests.0 in
+    let form : Format = message_format message in
+    let lengths : (nat_lt (length message) 15 ≡ false) × (is_short_body form (message_kind message) (body_of message) ≡ false) =
+    neither (nat_lt (length message) 15) (is_short_body form (message_kind message) (body_of message)) tests.0 in
     let long : 15 ≤ length message = ltb-false (length message) 15 lengths.0 in
     let head : HeadFits message =
     head-fits payload data_bytes (omega (arith, ap length is, length-append payload (0xF7 ∷ []), long)) message is in
-    let body : FitsFields (fields_of (message_kind message)) (values_of view.body) =
-    fields-fit (fields_of (message_kind message)) (values_of view.body) (body_of message) 0
+    let body : FitsFields (fields_of form (message_kind message)) (values_of view.body) =
+    fields-fit (fields_of form (message_kind message)) (values_of view.body) (body_of message) 0
     (body_is_data message (payload, is, data_bytes) long)
-    (ltb-false (length (body_of message)) (end_of_fields (fields_of (message_kind message)) (body_of message) 0) lengths.1)
+    (ltb-false (length (body_of message)) (end_of_fields (fields_of form (message_kind message)) (body_of message) 0) lengths.1)
     spells.body.fields in
+    let of_kind : FitsFields (fields_of form (body_kind view.body)) (values_of view.body) =
+    subst (λ kind. FitsFields (fields_of form kind) (values_of view.body)) (sym spells.body.same_kind) body in
     record {
       address = address-fits (byte_at message 2) view.address spells.address;
       sub = subst (λ n. n < 128) (sym spells.sub) head.0;
@@ -167,5 +172,6 @@ read-fits message view (payload, is, data_bytes) none spells =
       source = subst (λ n. n < 2 ^ 28) (sym spells.source) head.2;
       destination = subst (λ n. n < 2 ^ 28) (sym spells.destination) head.3;
       kind = rw (spells.sub, spells.version) spells.body.same_kind;
-      body = subst (λ kind. FitsFields (fields_of kind) (values_of view.body)) (sym spells.body.same_kind) body;
+      body = subst (λ version. FitsFields (fields_of (format_of version) (body_kind view.body)) (values_of view.body))
+          (sym spells.version) of_kind;
     }

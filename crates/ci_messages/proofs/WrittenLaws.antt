@@ -5,6 +5,8 @@ use Rattle.std.proofs.Math.Nat.{div-le_self}
 use Rattle.std.proofs.Math.Seq.{take-append_seam}
 use Rattle.std.proofs.lemmas.Bool.{lt-ltb, le-ltb, lt-leb}
 use Rattle.std.proofs.lemmas.List.Elements.{All-nil, All-cons, All-append, All-replicate}
+use Rattle.ci_messages.specs.declared.kind.Format.{Format}
+use Rattle.ci_messages.specs.declared.kind.Format.TheVariants as format
 use Rattle.ci_messages.specs.declared.kind.Kind.{Kind}
 use Rattle.ci_messages.specs.declared.kind.Kind.TheVariants as kind
 use Rattle.ci_messages.specs.declared.view.Address.{Address}
@@ -13,8 +15,8 @@ use Rattle.ci_messages.specs.declared.view.Body.{Body}
 use Rattle.ci_messages.specs.declared.view.CiFault.{CiFault}
 use Rattle.ci_messages.specs.declared.view.CiView.{CiView}
 use Rattle.ci_messages.specs.Places.{bytes2, bytes4}
-use Rattle.ci_messages.specs.Fields.{Field, Value, IsData, byte, number2, number4, bytes, counted, reserved, unread, number, list, nothing, FitsField, FitsFields, end_of_fields, bytes_of_field, bytes_of_fields}
-use Rattle.ci_messages.specs.Messages.{fields_of, body_kind, kind_of, values_of}
+use Rattle.ci_messages.specs.Fields.{Field, Value, IsData, byte, number2, number4, bytes, counted, reserved, absent, unread, number, list, nothing, FitsField, FitsFields, end_of_fields, bytes_of_field, bytes_of_fields}
+use Rattle.ci_messages.specs.Messages.{fields_of, body_kind, format_of, kind_of, values_of}
 use Rattle.ci_messages.specs.Reading.{CiSpells, IsExclusive, Reads, SpellsBody, address_of, body_of, ci_fault, is_short_body}
 use Rattle.ci_messages.specs.Writing.{FitsBody, IsAddress, IsView, SameView, address_number, body_bytes, head_bytes, message_bytes}
 use Rattle.ci_messages.proofs.PlaceLaws.{number4-bytes4}
@@ -51,6 +53,7 @@ field-data (counted size) (list xs) fits small =
     omega (arith, div-le_self (length xs) size, small, length-append (bytes2 (length xs / size)) xs) in
     data-append (bytes2 (length xs / size)) xs (data2 (length xs / size) count) fits.1
 field-data (reserved size) nothing fits small = All-replicate (λ b. b < 128) size 0 (omega arith)
+field-data (absent only) value fits small = data-nil
 field-data unread (list xs) fits small = fits
 field-data _ _ fits small = absurd fits
 
@@ -76,7 +79,7 @@ pub written-is_exclusive : (view : CiView) → IsView view → length (message_b
 written-is_exclusive view is small =
     let address : ℕ = address_number view.address in
     let muids : List ℕ = bytes4 view.source ++ bytes4 view.destination in
-    let body : List ℕ = body_bytes view.body in
+    let body : List ℕ = body_bytes (format_of view.version) view.body in
     let sizes : length (body ++ 0xF7 ∷ []) ≡ length body + 1 = length-append body (0xF7 ∷ []) in
     let muids_data : IsData muids =
     data-append (bytes4 view.source) (bytes4 view.destination)
@@ -89,27 +92,35 @@ written-is_exclusive view is small =
     (data-cons view.sub (view.version ∷ muids) is.sub
     (data-cons view.version muids is.version muids_data)))) in
     let body_data : IsData body =
-    fields-data (fields_of (body_kind view.body)) (values_of view.body) is.body (omega (arith, sizes, small)) in (
+    fields-data (fields_of (format_of view.version) (body_kind view.body)) (values_of view.body) is.body
+    (omega (arith, sizes, small)) in (
       (0x7E ∷ address ∷ 0x0D ∷ view.sub ∷ view.version ∷ muids) ++ body,
       refl,
       data-append (0x7E ∷ address ∷ 0x0D ∷ view.sub ∷ view.version ∷ muids) body head_data body_data,
     )
 
-closed : (kind : Kind) → IsClosed (fields_of kind)
-closed kind.Discovery = tt
-closed kind.DiscoveryReply = tt
-closed kind.EndpointInquiry = tt
-closed kind.EndpointReply = tt
-closed kind.Invalidate = tt
-closed kind.Nak = tt
-closed kind.ProfileInquiry = tt
-closed kind.ProfileReply = tt
-closed kind.SetOn = tt
-closed kind.SetOff = tt
-closed kind.EnabledReport = tt
-closed kind.DisabledReport = tt
-closed kind.Property = refl
-closed kind.Other = refl
+closed : (form : Format) (kind : Kind) → IsClosed (fields_of form kind)
+closed format.Short kind.Discovery = tt
+closed format.Full kind.Discovery = tt
+closed format.Short kind.DiscoveryReply = tt
+closed format.Full kind.DiscoveryReply = tt
+closed format.Short kind.Nak = tt
+closed format.Full kind.Nak = tt
+closed format.Short kind.SetOn = tt
+closed format.Full kind.SetOn = tt
+closed format.Short kind.SetOff = tt
+closed format.Full kind.SetOff = tt
+closed format.Short kind.EnabledReport = tt
+closed format.Full kind.EnabledReport = tt
+closed format.Short kind.DisabledReport = tt
+closed format.Full kind.DisabledReport = tt
+closed form kind.EndpointInquiry = tt
+closed form kind.EndpointReply = tt
+closed form kind.Invalidate = tt
+closed form kind.ProfileInquiry = tt
+closed form kind.ProfileReply = tt
+closed form kind.Property = refl
+closed form kind.Other = refl
 
 address-again : (place : Address) → IsAddress place → address_of (address_number place) ≡ Some place
 address-again (address.Channel channel) within = rw (lt-ltb channel 16 within) refl
@@ -123,18 +134,23 @@ body-again view body =
     ap (λ n. take n (body ++ 0xF7 ∷ [])) size ∙ take-append_seam body (0xF7 ∷ [])
 
 -- the body that is written, read as one of its kind
-written-body : (body : Body) → FitsBody body → FillBody (fields_of (body_kind body)) (values_of body) (body_bytes body) 0
-written-body body fits =
-    fields-again (fields_of (body_kind body)) (values_of body) [] 0 refl fits (closed (body_kind body))
+written-body : (form : Format) (body : Body) → FitsBody form body →
+    FillBody (fields_of form (body_kind body)) (values_of body) (body_bytes form body) 0
+written-body form body fits =
+    fields-again (fields_of form (body_kind body)) (values_of body) [] 0 refl fits (closed form (body_kind body))
+
+-- the body of a view, as it is written
+abbrev written : CiView → List ℕ
+written view = body_bytes (format_of view.version) view.body
 
 body-fills : (view : CiView) → IsView view →
-    FillBody (fields_of (kind_of view.sub view.version)) (values_of view.body) (body_bytes view.body) 0
+    FillBody (fields_of (format_of view.version) (kind_of view.sub view.version)) (values_of view.body) (written view) 0
 body-fills view is =
-    subst (λ kind. FillBody (fields_of kind) (values_of view.body) (body_bytes view.body) 0) is.kind
-    (written-body view.body is.body)
+    subst (λ kind. FillBody (fields_of (format_of view.version) kind) (values_of view.body) (written view) 0) is.kind
+    (written-body (format_of view.version) view.body is.body)
 
 body-spells : (view : CiView) → IsView view →
-    SpellsBody (kind_of view.sub view.version) view.body (body_bytes view.body)
+    SpellsBody (format_of view.version) (kind_of view.sub view.version) view.body (written view)
 body-spells view is = record { same_kind = is.kind; fields = (body-fills view is).0 }
 
 pub written-spells : (view : CiView) → IsView view → CiSpells view (message_bytes view)
@@ -144,18 +160,19 @@ written-spells view is = record {
   version = refl;
   source = sym (number4-bytes4 view.source);
   destination = sym (number4-bytes4 view.destination);
-  body = subst (SpellsBody (kind_of view.sub view.version) view.body) (sym (body-again view (body_bytes view.body)))
-      (body-spells view is);
+  body = subst (SpellsBody (format_of view.version) (kind_of view.sub view.version) view.body)
+      (sym (body-again view (written view))) (body-spells view is);
 }
 
 long-enough : (view : CiView) (n : ℕ) → n ≤ 15 → nat_lt (length (message_bytes view)) n ≡ false
 long-enough view n small =
-    le-ltb (length (message_bytes view)) n (omega (arith, small, length-append (body_bytes view.body) (0xF7 ∷ [])))
+    le-ltb (length (message_bytes view)) n (omega (arith, small, length-append (written view) (0xF7 ∷ [])))
 
 whole-body : (view : CiView) → IsView view →
-    is_short_body (kind_of view.sub view.version) (body_bytes view.body) ≡ false
+    is_short_body (format_of view.version) (kind_of view.sub view.version) (written view) ≡ false
 whole-body view is =
-    le-ltb (length (body_bytes view.body)) (end_of_fields (fields_of (kind_of view.sub view.version)) (body_bytes view.body) 0)
+    le-ltb (length (written view))
+    (end_of_fields (fields_of (format_of view.version) (kind_of view.sub view.version)) (written view) 0)
     (omega (arith, (body-fills view is).1))
 
 pub written-has_no_fault : (view : CiView) → IsView view → view.source < 0x0FFFFF00 →
@@ -164,7 +181,7 @@ written-has_no_fault view is allowed =
     rw (
       long-enough view 6 (omega arith),
       long-enough view 15 (omega arith),
-      body-again view (body_bytes view.body),
+      body-again view (written view),
       whole-body view is,
       address-again view.address is.address,
       number4-bytes4 view.source,

@@ -2,6 +2,12 @@
 use Rattle.std.specs.Prelude.{◌≡◌, ℕ, ◌+◌, ◌-◌, ◌*◌, ◌/◌, ◌%◌, ◌<◌, ◌^◌, List, [], ◌∷◌, ◌++◌, length, drop, replicate, All}
 use Rattle.ci_messages.specs.Places.{byte_at, part_at, number2_at, number4_at, bytes2, bytes4}
 
+-- what a field holds
+pub data Value : Type 0 where
+  number : ℕ → Value
+  list : List ℕ → Value
+  nothing : Value
+
 pub data Field : Type 0 where
   byte : Field
   number2 : Field  -- a number of two bytes
@@ -9,13 +15,8 @@ pub data Field : Type 0 where
   bytes : ℕ → Field  -- this many bytes, as they stand
   counted : ℕ → Field  -- a count of two bytes, and that many items of this many bytes
   reserved : ℕ → Field  -- this many bytes that say nothing; written as zeros
+  absent : Value → Field  -- no bytes: what it holds is always this value
   unread : Field  -- all bytes that follow
-
--- what a field holds
-pub data Value : Type 0 where
-  number : ℕ → Value
-  list : List ℕ → Value
-  nothing : Value
 
 -- data bytes have seven bits
 abbrev pub IsData : List ℕ → Type 0
@@ -29,6 +30,7 @@ size_at number4 body at = 4
 size_at (bytes size) body at = size
 size_at (counted size) body at = 2 + size * number2_at body at
 size_at (reserved size) body at = size
+size_at (absent only) body at = 0
 size_at unread body at = length body - at
 
 -- the place after fields, of which the first begins at a place
@@ -44,6 +46,7 @@ HasField number4 (number value) body at = value ≡ number4_at body at
 HasField (bytes size) (list value) body at = value ≡ part_at body at size
 HasField (counted size) (list value) body at = value ≡ part_at body (at + 2) (size * number2_at body at)
 HasField (reserved size) nothing body at = Unit {0}
+HasField (absent only) value body at = value ≡ only
 HasField unread (list value) body at = value ≡ drop at body
 HasField _ _ body at = ⊥
 
@@ -62,6 +65,7 @@ FitsField number4 (number value) = value < 2 ^ 28
 FitsField (bytes size) (list value) = (length value ≡ size) × IsData value
 FitsField (counted size) (list value) = (length value % size ≡ 0) × IsData value
 FitsField (reserved size) nothing = Unit {0}
+FitsField (absent only) value = value ≡ only
 FitsField unread (list value) = IsData value
 FitsField _ _ = ⊥
 
@@ -78,6 +82,7 @@ bytes_of_field number4 (number value) = bytes4 value
 bytes_of_field (bytes size) (list value) = value
 bytes_of_field (counted size) (list value) = bytes2 (length value / size) ++ value
 bytes_of_field (reserved size) nothing = replicate size 0
+bytes_of_field (absent only) value = []
 bytes_of_field unread (list value) = value
 bytes_of_field _ _ = []
 

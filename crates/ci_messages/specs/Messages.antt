@@ -1,16 +1,21 @@
 -- The messages of MIDI-CI (M2-101-UM), a row for each.
-use Rattle.std.specs.Prelude.{ℕ, ◌==◌, nat_le, nat_lt, ◌&&◌, if◌then◌else◌, List, [], ◌∷◌}
+use Rattle.std.specs.Prelude.{ℕ, ◌==◌, nat_le, Bool, ◌&&◌, ◌||◌, not, if◌then◌else◌, List, [], ◌∷◌, replicate}
+use Rattle.ci_messages.specs.declared.kind.Format.{Format}
+use Rattle.ci_messages.specs.declared.kind.Format.TheVariants as format
 use Rattle.ci_messages.specs.declared.kind.Kind.{Kind}
 use Rattle.ci_messages.specs.declared.kind.Kind.TheVariants as kind
 use Rattle.ci_messages.specs.declared.view.Body.{Body}
 use Rattle.ci_messages.specs.declared.view.Body.TheVariants as body
-use Rattle.ci_messages.specs.Fields.{Field, Value, byte, number2, number4, bytes, counted, reserved, unread, number, list, nothing}
+use Rattle.ci_messages.specs.Fields.{Field, Value, byte, number2, number4, bytes, counted, reserved, absent, unread, number, list, nothing}
 
--- The kind of a message, by its sub-id and version. Versions above 02 are read as 02; 00 and 01 are left
--- unread (own rule).
+-- Version 00 has no rows, and version 01 none for the messages of the endpoint: such a body is left unread (own rule).
+abbrev pub has_row : ℕ → ℕ → Bool
+has_row sub version = not (version == 0 || (version == 1 && (sub == 0x72 || sub == 0x73)))
+
+-- The kind of a message, by its sub-id and version.
 abbrev pub kind_of : ℕ → ℕ → Kind
 kind_of sub version =
-    if nat_lt version 2 then kind.Other
+    if not (has_row sub version) then kind.Other
     else if sub == 0x70 then kind.Discovery
     else if sub == 0x71 then kind.DiscoveryReply
     else if sub == 0x72 then kind.EndpointInquiry
@@ -26,24 +31,49 @@ kind_of sub version =
     else if nat_le 0x30 sub && nat_le sub 0x3F then kind.Property
     else kind.Other
 
--- The fields of a body of version 02, in their order. This is the one table of places: it decides which
+-- Messages of version 01 are in the short format (own rule), all others in the full one of version 02.
+abbrev pub format_of : ℕ → Format
+format_of version = if version == 1 then format.Short else format.Full
+
+-- a field that the short format has no place for: there it always holds this value (own rule)
+abbrev pub full_only : Format → Field → Value → Field
+full_only format.Full field only = field
+full_only format.Short field only = absent only
+
+abbrev pub path_in : Format → Field
+path_in form = full_only form byte (number 0)
+
+-- 7F is no function block
+abbrev pub block_in : Format → Field
+block_in form = full_only form byte (number 0x7F)
+
+abbrev pub channels_in : Format → Field
+channels_in form = full_only form number2 (number 0)
+
+-- a byte of a NAK
+abbrev pub nak_byte_in : Format → Field
+nak_byte_in form = full_only form byte (number 0)
+
+-- The fields of a body in each format, in their order. This is the one table of places: it decides which
 -- messages are too short, what is read, which values fit, and what is written.
-abbrev pub fields_of : Kind → List Field
-fields_of kind.Discovery = bytes 3 ∷ bytes 2 ∷ bytes 2 ∷ bytes 4 ∷ byte ∷ number4 ∷ byte ∷ []
-fields_of kind.DiscoveryReply =
-    bytes 3 ∷ bytes 2 ∷ bytes 2 ∷ bytes 4 ∷ byte ∷ number4 ∷ byte ∷ byte ∷ []
-fields_of kind.EndpointInquiry = byte ∷ []
-fields_of kind.EndpointReply = byte ∷ counted 1 ∷ []
-fields_of kind.Invalidate = number4 ∷ []
-fields_of kind.Nak = byte ∷ byte ∷ byte ∷ bytes 5 ∷ counted 1 ∷ []
-fields_of kind.ProfileInquiry = []
-fields_of kind.ProfileReply = counted 5 ∷ counted 5 ∷ []
-fields_of kind.SetOn = bytes 5 ∷ number2 ∷ []
-fields_of kind.SetOff = bytes 5 ∷ reserved 2 ∷ []
-fields_of kind.EnabledReport = bytes 5 ∷ number2 ∷ []
-fields_of kind.DisabledReport = bytes 5 ∷ number2 ∷ []
-fields_of kind.Property = unread ∷ []
-fields_of kind.Other = unread ∷ []
+abbrev pub fields_of : Format → Kind → List Field
+fields_of form kind.Discovery = bytes 3 ∷ bytes 2 ∷ bytes 2 ∷ bytes 4 ∷ byte ∷ number4 ∷ path_in form ∷ []
+fields_of form kind.DiscoveryReply =
+    bytes 3 ∷ bytes 2 ∷ bytes 2 ∷ bytes 4 ∷ byte ∷ number4 ∷ path_in form ∷ block_in form ∷ []
+fields_of form kind.EndpointInquiry = byte ∷ []
+fields_of form kind.EndpointReply = byte ∷ counted 1 ∷ []
+fields_of form kind.Invalidate = number4 ∷ []
+fields_of form kind.Nak =
+    nak_byte_in form ∷ nak_byte_in form ∷ nak_byte_in form
+    ∷ full_only form (bytes 5) (list (replicate 5 0)) ∷ full_only form (counted 1) (list []) ∷ []
+fields_of form kind.ProfileInquiry = []
+fields_of form kind.ProfileReply = counted 5 ∷ counted 5 ∷ []
+fields_of form kind.SetOn = bytes 5 ∷ channels_in form ∷ []
+fields_of form kind.SetOff = bytes 5 ∷ full_only form (reserved 2) nothing ∷ []
+fields_of form kind.EnabledReport = bytes 5 ∷ channels_in form ∷ []
+fields_of form kind.DisabledReport = bytes 5 ∷ channels_in form ∷ []
+fields_of form kind.Property = unread ∷ []
+fields_of form kind.Other = unread ∷ []
 
 -- what a body says for each of its fields
 abbrev pub values_of : Body → List Value

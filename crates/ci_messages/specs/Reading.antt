@@ -1,5 +1,6 @@
 -- What reading a message answers.
-use Rattle.std.specs.Prelude.{◌≡◌, ℕ, ◌-◌, ◌==◌, nat_le, nat_lt, Bool, true, false, ◌||◌, not, if◌then◌else◌, List, [], ◌∷◌, ◌++◌, length, Option, Some, None, is_none, Result, MatchResult}
+use Rattle.std.specs.Prelude.{◌≡◌, ℕ, ◌<◌, ◌≤◌, ◌-◌, ◌==◌, nat_le, nat_lt, Bool, true, false, ◌||◌, not, if◌then◌else◌, List, [], ◌∷◌, ◌++◌, length, Option, Some, None, is_none, Result, MatchResult}
+use Rattle.ci_messages.specs.declared.kind.Format.{Format}
 use Rattle.ci_messages.specs.declared.kind.Kind.{Kind}
 use Rattle.ci_messages.specs.declared.view.Address.{Address}
 use Rattle.ci_messages.specs.declared.view.Address.TheVariants as address
@@ -8,8 +9,8 @@ use Rattle.ci_messages.specs.declared.view.CiFault.{CiFault}
 use Rattle.ci_messages.specs.declared.view.CiFault.TheVariants as fault
 use Rattle.ci_messages.specs.declared.view.CiView.{CiView}
 use Rattle.ci_messages.specs.Places.{byte_at, part_at, number4_at}
-use Rattle.ci_messages.specs.Fields.{IsData, HasFields, end_of_fields}
-use Rattle.ci_messages.specs.Messages.{fields_of, body_kind, kind_of, values_of}
+use Rattle.ci_messages.specs.Fields.{Field, Value, IsData, HasFields, end_of_fields}
+use Rattle.ci_messages.specs.Messages.{fields_of, body_kind, format_of, kind_of, values_of}
 
 -- F0, data bytes, F7
 abbrev pub IsExclusive : List ℕ → Type 0
@@ -31,17 +32,23 @@ body_of message = part_at message 14 (length message - 15)
 abbrev pub message_kind : List ℕ → Kind
 message_kind message = kind_of (byte_at message 4) (byte_at message 5)
 
+-- the format that its version tells
+abbrev pub message_format : List ℕ → Format
+message_format message = format_of (byte_at message 5)
+
 -- an exclusive isn't universal, non-realtime and of MIDI-CI
 abbrev pub is_not_ci : List ℕ → Bool
 is_not_ci message =
     nat_lt (length message) 6 || not (byte_at message 1 == 0x7E) || not (byte_at message 3 == 0x0D)
 
 -- a body ends before its fields do
-abbrev pub is_short_body : Kind → List ℕ → Bool
-is_short_body kind body = nat_lt (length body) (end_of_fields (fields_of kind) body 0)
+abbrev pub is_short_body : Format → Kind → List ℕ → Bool
+is_short_body form kind body = nat_lt (length body) (end_of_fields (fields_of form kind) body 0)
 
 abbrev pub is_short : List ℕ → Bool
-is_short message = nat_lt (length message) 15 || is_short_body (message_kind message) (body_of message)
+is_short message =
+    nat_lt (length message) 15
+    || is_short_body (message_format message) (message_kind message) (body_of message)
 
 -- 0FFFFF00 to 0FFFFFFE are reserved, and 0FFFFFFF is broadcast
 abbrev pub is_reserved : ℕ → Bool
@@ -57,9 +64,9 @@ ci_fault message =
     else None
 
 -- bytes spell a body of a kind: the fields of that kind hold what the body says
-pub record SpellsBody (kind : Kind) (body : Body) (bytes : List ℕ) : Type 0 where
+pub record SpellsBody (form : Format) (kind : Kind) (body : Body) (bytes : List ℕ) : Type 0 where
   pub same_kind : body_kind body ≡ kind
-  pub fields : HasFields (fields_of kind) (values_of body) bytes 0
+  pub fields : HasFields (fields_of form kind) (values_of body) bytes 0
 
 -- the bytes of a message spell a view
 pub record CiSpells (view : CiView) (message : List ℕ) : Type 0 where
@@ -68,7 +75,7 @@ pub record CiSpells (view : CiView) (message : List ℕ) : Type 0 where
   pub version : view.version ≡ byte_at message 5
   pub source : view.source ≡ number4_at message 6
   pub destination : view.destination ≡ number4_at message 10
-  pub body : SpellsBody (message_kind message) view.body (body_of message)
+  pub body : SpellsBody (message_format message) (message_kind message) view.body (body_of message)
 
 -- the view that the message spells where it has no fault, and otherwise the fault
 abbrev pub Reads : List ℕ → Result CiView CiFault → Type 0
@@ -78,6 +85,13 @@ Reads message result =
     (λ fault. ci_fault message ≡ Some fault)
 
 -- the body of a kind that bytes spell, where they are long enough
-abbrev pub ReadsBody : Kind → List ℕ → Option Body → Type 0
-ReadsBody kind bytes (Some body) = (is_short_body kind bytes ≡ false) × SpellsBody kind body bytes
-ReadsBody kind bytes None = is_short_body kind bytes ≡ true
+abbrev pub ReadsBody : Format → Kind → List ℕ → Option Body → Type 0
+ReadsBody form kind bytes (Some body) =
+    (is_short_body form kind bytes ≡ false) × SpellsBody form kind body bytes
+ReadsBody form kind bytes None = is_short_body form kind bytes ≡ true
+
+-- the values that fields hold from a place on, where the bytes are long enough
+abbrev pub ReadsFields : List Field → List ℕ → ℕ → Option (List Value) → Type 0
+ReadsFields fields bytes at (Some values) =
+    (end_of_fields fields bytes at ≤ length bytes) × HasFields fields values bytes at
+ReadsFields fields bytes at None = length bytes < end_of_fields fields bytes at

@@ -1,4 +1,6 @@
-// What a message is.
+// What a message is, and in which format.
+ghost use Rattle.std.specs.Prelude.{◌≡◌};
+ghost use Rattle.ci_messages.specs.Messages.{has_row as has_row_of};
 
 /// What a message is, by its sub-id and version: a kind for each variant of a body.
 #[derive(Clone, Copy, Debug, PartialEq, Eq)]
@@ -19,6 +21,17 @@ pub enum Kind {
     Other,
 }
 
+// Whether a message of this sub-id and version has fields of its own.
+fn has_row(sub: u8, version: u8) -> bool
+    ensures { result ≡ has_row_of sub version }
+{
+    match version {
+        0 => false,
+        1 => !matches!(sub, 0x72 | 0x73),
+        _ => true,
+    }
+}
+
 impl Kind {
     ghost use Rattle.std.specs.Prelude.{◌≡◌};
     ghost use Rattle.ci_messages.specs.Messages.{kind_of};
@@ -27,7 +40,7 @@ impl Kind {
     pub fn of(sub: u8, version: u8) -> Kind
         ensures { result ≡ kind_of sub version }
     {
-        if version < 2 {
+        if !has_row(sub, version) {
             return Kind::Other;
         }
         match sub {
@@ -45,6 +58,31 @@ impl Kind {
             0x25 => Kind::DisabledReport,
             0x30..=0x3F => Kind::Property,
             _ => Kind::Other,
+        }
+    }
+}
+
+/// Which fields the bodies have, by the version of their message (own rule).
+#[derive(Clone, Copy, Debug, PartialEq, Eq)]
+pub enum Format {
+    /// Version 01: some fields have no place.
+    Short,
+    /// Version 02 and above.
+    Full,
+}
+
+impl Format {
+    ghost use Rattle.std.specs.Prelude.{◌≡◌};
+    ghost use Rattle.ci_messages.specs.Messages.{format_of};
+
+    /// The format of a message.
+    pub fn of(version: u8) -> Format
+        ensures { result ≡ format_of version }
+    {
+        if version == 1 {
+            Format::Short
+        } else {
+            Format::Full
         }
     }
 }

@@ -1,11 +1,35 @@
 // From the bytes of a message to its view.
-ghost use Rattle.std.specs.Prelude.{◌≡◌, ◌≤◌, ◌<◌, ◌+◌, ◌*◌, length, not, IfSome, MatchOption};
+ghost use Rattle.std.specs.Prelude.{
+  ◌≡◌,
+  ◌≤◌,
+  ◌<◌,
+  ◌+◌,
+  ◌*◌,
+  [],
+  ◌∷◌,
+  length,
+  not,
+  option_map,
+  IfSome,
+  MatchOption,
+};
+ghost use Rattle.ci_messages.specs.declared.kind.Format.{Format};
+ghost use Rattle.ci_messages.specs.declared.kind.Format.TheVariants as formats;
 ghost use Rattle.ci_messages.specs.declared.kind.Kind.TheVariants as kind;
 ghost use Rattle.ci_messages.specs.Places.{part_at, number2_at};
-ghost use Rattle.ci_messages.specs.Fields.{IsData};
-ghost use Rattle.ci_messages.specs.Reading.{IsExclusive, Reads, ReadsBody, address_of, body_of, is_not_ci};
+ghost use Rattle.ci_messages.specs.Fields.{IsData, bytes, list, nothing, number, reserved};
+ghost use Rattle.ci_messages.specs.Messages.{block_in, channels_in, full_only, path_in};
+ghost use Rattle.ci_messages.specs.Reading.{
+  IsExclusive,
+  Reads,
+  ReadsBody,
+  ReadsFields,
+  address_of,
+  body_of,
+  is_not_ci,
+};
 
-use crate::kind::Kind;
+use crate::kind::{Format, Kind};
 use crate::places::{array, number_of_four, number_of_two, part, profile_id};
 use crate::view::{Address, Body, CiFault, CiView, ProfileId};
 use voice_messages::U4;
@@ -19,6 +43,9 @@ const BODY: usize = 14;
 /// The bytes of a message without a body: those before it, and F7.
 const SHORTEST: usize = 15;
 
+/// The number that stands for no function block.
+const NO_BLOCK: u8 = 0x7F;
+
 // The address of a number; `None` exactly when there is none.
 fn address(number: u8) -> Option<Address>
     ensures { result ≡ address_of number }
@@ -30,12 +57,25 @@ fn address(number: u8) -> Option<Address>
     }
 }
 
-fn discovery<'a>(body: &'a [u8]) -> Option<Body<'a>>
-    ensures { ReadsBody kind.Discovery body.now result }
+// The path of a Discovery.
+fn path(format: Format, body: &[u8]) -> Option<u8>
+    ensures { ReadsFields (path_in format ∷ []) body.now 16 (option_map (λ path. number path ∷ []) result) }
 {
-    if body.len() < 17 {
-        return None;
+    match format {
+        Format::Short => {
+            if body.len() < 16 {
+                return None;
+            }
+            Some(0)
+        }
+        Format::Full => body.get(16).copied(),
     }
+}
+
+fn discovery<'a>(format: Format, body: &'a [u8]) -> Option<Body<'a>>
+    ensures { ReadsBody format kind.Discovery body.now result }
+{
+    let path = path(format, body)?;
     Some(Body::Discovery {
         manufacturer: array(body, 0),
         family: array(body, 3),
@@ -43,16 +83,35 @@ fn discovery<'a>(body: &'a [u8]) -> Option<Body<'a>>
         revision: array(body, 7),
         category: body[11],
         size: number_of_four(body, 12),
-        path: body[16],
+        path,
     })
 }
 
-fn discovery_reply<'a>(body: &'a [u8]) -> Option<Body<'a>>
-    ensures { ReadsBody kind.DiscoveryReply body.now result }
+// The path and the block of a Reply to Discovery.
+fn path_and_block(format: Format, body: &[u8]) -> Option<(u8, u8)>
+    ensures { ReadsFields (path_in format ∷ block_in format ∷ []) body.now 16
+        (option_map (λ end. number end.0 ∷ number end.1 ∷ []) result) }
 {
-    if body.len() < 18 {
-        return None;
+    match format {
+        Format::Short => {
+            if body.len() < 16 {
+                return None;
+            }
+            Some((0, NO_BLOCK))
+        }
+        Format::Full => {
+            if body.len() < 18 {
+                return None;
+            }
+            Some((body[16], body[17]))
+        }
     }
+}
+
+fn discovery_reply<'a>(format: Format, body: &'a [u8]) -> Option<Body<'a>>
+    ensures { ReadsBody format kind.DiscoveryReply body.now result }
+{
+    let (path, block) = path_and_block(format, body)?;
     Some(Body::DiscoveryReply {
         manufacturer: array(body, 0),
         family: array(body, 3),
@@ -60,13 +119,13 @@ fn discovery_reply<'a>(body: &'a [u8]) -> Option<Body<'a>>
         revision: array(body, 7),
         category: body[11],
         size: number_of_four(body, 12),
-        path: body[16],
-        block: body[17],
+        path,
+        block,
     })
 }
 
 fn endpoint_inquiry<'a>(body: &'a [u8]) -> Option<Body<'a>>
-    ensures { ReadsBody kind.EndpointInquiry body.now result }
+    ensures { (form : Format) → ReadsBody form kind.EndpointInquiry body.now result }
 {
     let status = *body.first()?;
     Some(Body::EndpointInquiry { status })
@@ -92,7 +151,7 @@ fn counted<'a>(body: &'a [u8], at: usize, size: usize) -> Option<&'a [u8]>
 }
 
 fn endpoint_reply<'a>(body: &'a [u8]) -> Option<Body<'a>>
-    ensures { ReadsBody kind.EndpointReply body.now result }
+    ensures { (form : Format) → ReadsBody form kind.EndpointReply body.now result }
 {
     let status = *body.first()?;
     let text = counted(body, 1, 1)?;
@@ -100,7 +159,7 @@ fn endpoint_reply<'a>(body: &'a [u8]) -> Option<Body<'a>>
 }
 
 fn invalidate<'a>(body: &'a [u8]) -> Option<Body<'a>>
-    ensures { ReadsBody kind.Invalidate body.now result }
+    ensures { (form : Format) → ReadsBody form kind.Invalidate body.now result }
 {
     if body.len() < 4 {
         return None;
@@ -110,8 +169,17 @@ fn invalidate<'a>(body: &'a [u8]) -> Option<Body<'a>>
     })
 }
 
-fn nak<'a>(body: &'a [u8]) -> Option<Body<'a>>
-    ensures { ReadsBody kind.Nak body.now result }
+// The body of a NAK in the short format.
+const SHORT_NAK: Body<'static> = Body::Nak {
+    original: 0,
+    code: 0,
+    value: 0,
+    details: [0; 5],
+    text: &[],
+};
+
+fn full_nak<'a>(body: &'a [u8]) -> Option<Body<'a>>
+    ensures { ReadsBody formats.Full kind.Nak body.now result }
 {
     if body.len() < 8 {
         return None;
@@ -126,57 +194,86 @@ fn nak<'a>(body: &'a [u8]) -> Option<Body<'a>>
     })
 }
 
+fn nak<'a>(format: Format, body: &'a [u8]) -> Option<Body<'a>>
+    ensures { ReadsBody format kind.Nak body.now result }
+{
+    match format {
+        Format::Short => Some(SHORT_NAK),
+        Format::Full => full_nak(body),
+    }
+}
+
 fn profile_reply<'a>(body: &'a [u8]) -> Option<Body<'a>>
-    ensures { ReadsBody kind.ProfileReply body.now result }
+    ensures { (form : Format) → ReadsBody form kind.ProfileReply body.now result }
 {
     let on = counted(body, 0, 5)?;
     let off = counted(body, 2 + on.len(), 5)?;
     Some(Body::ProfileReply { on, off })
 }
 
-// A profile's id, and the two bytes that follow it.
-fn switch(body: &[u8]) -> Option<(ProfileId, u16)>
+// A profile's id, and the number of channels.
+fn switch(format: Format, body: &[u8]) -> Option<(ProfileId, u16)>
     requires { IsData body.now }
-    ensures { MatchOption result
-        (length body.now < 7)
-        (λ switch. (7 ≤ length body.now)
-        × (switch.0.bytes ≡ part_at body.now 0 5)
-        × (switch.1 ≡ number2_at body.now 5)) }
+    ensures { ReadsFields (bytes 5 ∷ channels_in format ∷ []) body.now 0
+        (option_map (λ switch. list switch.0.bytes ∷ number switch.1 ∷ []) result) }
 {
-    if body.len() < 7 {
+    match format {
+        Format::Short => {
+            if body.len() < 5 {
+                return None;
+            }
+            Some((profile_id(body, 0), 0))
+        }
+        Format::Full => {
+            if body.len() < 7 {
+                return None;
+            }
+            Some((profile_id(body, 0), number_of_two(body, 5) as u16))
+        }
+    }
+}
+
+fn set_off<'a>(format: Format, body: &'a [u8]) -> Option<Body<'a>>
+    requires { IsData body.now }
+    ensures { ReadsBody format kind.SetOff body.now result }
+{
+    let size = match format {
+        Format::Short => 5,
+        Format::Full => 7,
+    };
+    if body.len() < size {
         return None;
     }
-    Some((profile_id(body, 0), number_of_two(body, 5) as u16))
+    Some(Body::SetOff {
+        id: profile_id(body, 0),
+    })
 }
 
 // The body of a message of a kind; `None` exactly when it is shorter than its fields.
-fn body_of_kind<'a>(kind: Kind, body: &'a [u8]) -> Option<Body<'a>>
+fn body_of_kind<'a>(format: Format, kind: Kind, body: &'a [u8]) -> Option<Body<'a>>
     requires { IsData body.now }
-    ensures { ReadsBody kind body.now result }
+    ensures { ReadsBody format kind body.now result }
 {
     match kind {
-        Kind::Discovery => discovery(body),
-        Kind::DiscoveryReply => discovery_reply(body),
+        Kind::Discovery => discovery(format, body),
+        Kind::DiscoveryReply => discovery_reply(format, body),
         Kind::EndpointInquiry => endpoint_inquiry(body),
         Kind::EndpointReply => endpoint_reply(body),
         Kind::Invalidate => invalidate(body),
-        Kind::Nak => nak(body),
+        Kind::Nak => nak(format, body),
         Kind::ProfileInquiry => Some(Body::ProfileInquiry),
         Kind::ProfileReply => profile_reply(body),
         Kind::SetOn => {
-            let (id, channels) = switch(body)?;
+            let (id, channels) = switch(format, body)?;
             Some(Body::SetOn { id, channels })
         }
-        Kind::SetOff => {
-            let (id, _) = switch(body)?;
-            Some(Body::SetOff { id })
-        }
+        Kind::SetOff => set_off(format, body),
         Kind::EnabledReport => {
-            let (id, channels) = switch(body)?;
+            let (id, channels) = switch(format, body)?;
             Some(Body::EnabledReport { id, channels })
         }
         Kind::DisabledReport => {
-            let (id, channels) = switch(body)?;
+            let (id, channels) = switch(format, body)?;
             Some(Body::DisabledReport { id, channels })
         }
         Kind::Property => Some(Body::Property(body)),
@@ -206,12 +303,12 @@ fn body_bytes(message: &[u8]) -> &[u8]
 ///
 /// A fault is the first of these that applies:
 /// - `NotCi`: there are fewer than 6 bytes, or byte 2 (F0 is byte 1) isn't 7E, or byte 4 isn't 0D;
-/// - `Short`: there are fewer than 15 bytes, or the version is 2 or more and the body ends before its fields do;
+/// - `Short`: there are fewer than 15 bytes, or the version is 1 or more and the body ends before its fields do;
 /// - `BadAddress`: the address is none of 00 to 0F, 7E and 7F;
 /// - `ReservedMuid`: the source is 0FFFFF00 or above.
 ///
-/// A version above 02 is kept, and its messages are read as those of version 02. The body of a message of version
-/// 00 or 01 is `Other` (own rule).
+/// A version above 02 is kept, and its messages are read as those of version 02. Messages of version 01 are read in short
+/// forms, which `Body` lists, and the body of a message of version 00 is `Other` (own rules).
 pub fn read<'a>(message: &'a [u8]) -> Result<CiView<'a>, CiFault>
     requires { IsExclusive message.now }
     ensures { Reads message.now result }
@@ -224,7 +321,9 @@ pub fn read<'a>(message: &'a [u8]) -> Result<CiView<'a>, CiFault>
     }
     let sub = message[4];
     let version = message[5];
-    let Some(body) = body_of_kind(Kind::of(sub, version), body_bytes(message)) else {
+    let format = Format::of(version);
+    let kind = Kind::of(sub, version);
+    let Some(body) = body_of_kind(format, kind, body_bytes(message)) else {
         return Err(CiFault::Short);
     };
     let Some(address) = address(message[2]) else {

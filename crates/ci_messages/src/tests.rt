@@ -41,13 +41,16 @@ fn payload(sub: u8, version: u8, body: &[u8]) -> Option<ShortList<u8, 510>> {
     Some(payload)
 }
 
-// A view of a message of version 02 with a body.
+// A view of a message with a body, of version 02 unless another is given.
 macro_rules! view_of {
     ($sub:expr, $body:expr) => {
+        view_of!($sub, 2, $body)
+    };
+    ($sub:expr, $version:expr, $body:expr) => {
         CiView {
             address: Address::Channel(U4::low_bits(2)),
             sub: $sub,
-            version: 2,
+            version: $version,
             source: 5,
             destination: 19_088_743,
             body: $body,
@@ -74,7 +77,7 @@ fn is_refused(payload: &[u8], fault: CiFault) -> bool {
 // Whether the view is written as the exclusive with these bytes between F0 and F7.
 fn is_written(view: &CiView<'_>, payload: &[u8]) -> bool
     requires view { IsView view.now }
-    requires version { 2 ≤ view.now.version }
+    requires version { 1 ≤ view.now.version }
     requires fits { length (message_bytes view.now) ≤ 512 }
 {
     let mut message = ShortList::new();
@@ -88,7 +91,7 @@ fn is_written(view: &CiView<'_>, payload: &[u8]) -> bool
 // Whether a message whose body has these bytes is read as the view, which is written as that message.
 fn is_row(bytes: &[u8], view: &CiView<'_>) -> bool
     requires view { IsView view.now }
-    requires version { 2 ≤ view.now.version }
+    requires version { 1 ≤ view.now.version }
     requires fits { length (message_bytes view.now) ≤ 512 }
 {
     match payload(view.sub, view.version, bytes) {
@@ -319,34 +322,106 @@ fn addresses(rt: HostRuntime) {
 
 #[test]
 fn versions(rt: HostRuntime) {
-    for version in [3, 127] {
-        let view = CiView {
-            address: Address::Channel(U4::low_bits(2)),
-            sub: 0x7E,
-            version,
-            source: 5,
-            destination: 19_088_743,
-            body: Body::Invalidate { target: 5 },
-        };
+    for version in [1, 3, 127] {
+        let view = view_of!(0x7E, version, Body::Invalidate { target: 5 });
         match payload(0x7E, version, &[0x05, 0x00, 0x00, 0x00]) {
             Some(payload) => assert!(rt; is_read(payload.as_slice(), &view), "version {version}"),
             None => assert!(rt; false, "version {version}"),
         }
     }
-    for version in [0, 1] {
-        let view = CiView {
-            address: Address::Channel(U4::low_bits(2)),
-            sub: 0x7E,
-            version,
-            source: 5,
-            destination: 19_088_743,
-            body: Body::Other(&[0x05]),
-        };
-        match payload(0x7E, version, &[0x05]) {
-            Some(payload) => assert!(rt; is_read(payload.as_slice(), &view), "version {version}"),
-            None => assert!(rt; false, "version {version}"),
+    for sub in [0x70, 0x7E, 0x30] {
+        let view = view_of!(sub, 0, Body::Other(&[0x05]));
+        match payload(sub, 0, &[0x05]) {
+            Some(payload) => assert!(rt; is_read(payload.as_slice(), &view), "sub-id {sub}"),
+            None => assert!(rt; false, "sub-id {sub}"),
         }
     }
+}
+
+// Of a Discovery the path has no place, and of its reply neither the path nor the block.
+#[test]
+fn short_discovery_messages(rt: HostRuntime) {
+    let bytes = [
+        0x00, 0x21, 0x09, 0x11, 0x12, 0x13, 0x14, 0x01, 0x02, 0x03, 0x04, 0x1C, 0x05, 0x06, 0x07,
+        0x01,
+    ];
+    let discovery = Body::Discovery {
+        manufacturer: [0x00, 0x21, 0x09],
+        family: [0x11, 0x12],
+        model: [0x13, 0x14],
+        revision: [0x01, 0x02, 0x03, 0x04],
+        category: 0x1C,
+        size: 2_212_613,
+        path: 0,
+    };
+    assert!(rt; is_row(&bytes, &view_of!(0x70, 1, discovery)));
+    let reply = Body::DiscoveryReply {
+        manufacturer: [0x00, 0x21, 0x09],
+        family: [0x11, 0x12],
+        model: [0x13, 0x14],
+        revision: [0x01, 0x02, 0x03, 0x04],
+        category: 0x1C,
+        size: 2_212_613,
+        path: 0,
+        block: 0x7F,
+    };
+    assert!(rt; is_row(&bytes, &view_of!(0x71, 1, reply)));
+}
+
+#[test]
+fn short_management_messages(rt: HostRuntime) {
+    let invalidate = Body::Invalidate { target: 19_088_743 };
+    let bytes = [0x67, 0x0A, 0x0D, 0x09];
+    assert!(rt; is_row(&bytes, &view_of!(0x7E, 1, invalidate)));
+    let nak = Body::Nak {
+        original: 0,
+        code: 0,
+        value: 0,
+        details: [0, 0, 0, 0, 0],
+        text: &[],
+    };
+    assert!(rt; is_row(&[], &view_of!(0x7F, 1, nak)));
+    // The messages of the endpoint have no row.
+    let bytes = [0x03, 0x03, 0x00];
+    assert!(rt; is_row(&bytes, &view_of!(0x72, 1, Body::Other(&[0x03, 0x03, 0x00]))));
+    assert!(rt; is_row(&bytes, &view_of!(0x73, 1, Body::Other(&[0x03, 0x03, 0x00]))));
+    assert!(rt;
+        is_row(
+            &bytes,
+            &view_of!(0x34, 1, Body::Property(&[0x03, 0x03, 0x00]))
+        )
+    );
+    assert!(rt; is_row(&bytes, &view_of!(0x7D, 1, Body::Other(&[0x03, 0x03, 0x00]))));
+}
+
+// The channels and the reserved bytes of a switch have no place.
+#[test]
+fn short_profile_messages(rt: HostRuntime) {
+    assert!(rt; is_row(&[], &view_of!(0x20, 1, Body::ProfileInquiry)));
+    let reply = Body::ProfileReply {
+        on: &[0x7E, 0x00, 0x01, 0x02, 0x03],
+        off: &[],
+    };
+    let bytes = [0x01, 0x00, 0x7E, 0x00, 0x01, 0x02, 0x03, 0x00, 0x00];
+    assert!(rt; is_row(&bytes, &view_of!(0x21, 1, reply)));
+    let bytes = [0x7E, 0x00, 0x01, 0x02, 0x03];
+    let set_on = Body::SetOn {
+        id: profile(),
+        channels: 0,
+    };
+    assert!(rt; is_row(&bytes, &view_of!(0x22, 1, set_on)));
+    let set_off = Body::SetOff { id: profile() };
+    assert!(rt; is_row(&bytes, &view_of!(0x23, 1, set_off)));
+    let enabled = Body::EnabledReport {
+        id: profile(),
+        channels: 0,
+    };
+    assert!(rt; is_row(&bytes, &view_of!(0x24, 1, enabled)));
+    let disabled = Body::DisabledReport {
+        id: profile(),
+        channels: 0,
+    };
+    assert!(rt; is_row(&bytes, &view_of!(0x25, 1, disabled)));
 }
 
 // The fault of the exclusive with these bytes between F0 and F7; `None` where it is read.
@@ -402,6 +477,42 @@ fn each_prefix(rt: HostRuntime) {
             );
         }
         assert!(rt; fault_of(whole).is_none(), "sub-id {sub}");
+    }
+}
+
+// A message of version 01 that ends before its last field, and one that goes on after it.
+#[test]
+fn each_end_of_a_short_message(rt: HostRuntime) {
+    for (sub, size) in [
+        (0x70, 16),
+        (0x71, 16),
+        (0x7E, 4),
+        (0x21, 4),
+        (0x22, 5),
+        (0x23, 5),
+        (0x24, 5),
+        (0x25, 5),
+    ] {
+        let Some(whole) = payload(sub, 1, &[0x00; 20]) else {
+            assert!(rt; false, "sub-id {sub}");
+            return;
+        };
+        let whole = whole.as_slice();
+        assert!(rt;
+            is_refused(&whole[..(12 + size).min(whole.len())], CiFault::Short),
+            "sub-id {sub}"
+        );
+        assert!(rt;
+            fault_of(&whole[..(13 + size).min(whole.len())]).is_none(),
+            "sub-id {sub}"
+        );
+        assert!(rt; fault_of(whole).is_none(), "sub-id {sub}");
+    }
+    for sub in [0x20, 0x30, 0x40, 0x72, 0x73, 0x7F] {
+        match payload(sub, 1, &[]) {
+            Some(payload) => assert!(rt; fault_of(payload.as_slice()).is_none(), "sub-id {sub}"),
+            None => assert!(rt; false, "sub-id {sub}"),
+        }
     }
 }
 

@@ -54,8 +54,12 @@ pub struct CiView<'a> {
     pub body: Body<'a>,
 }
 
-/// What is between the destination and F7, by sub-id. A message of version 02 or above has the fields of version 02; of version
-/// 00 and 01 it is `Other`, whatever its sub-id (own rule).
+/// What is between the destination and F7, by sub-id. A message of version 02 or above has the fields of version 02.
+///
+/// A message of version 01 has short forms of them (own rule, and no claim about an earlier edition of MIDI-CI): in a Discovery
+/// and its reply the path has no place and is 0, in the reply the block is 7F, in 22, 24 and 25 the channels are 0, and 23 has
+/// no reserved bytes; a NAK has no bytes at all, so all its numbers are 0 and its text is empty; 72 and 73 are `Other`. The body
+/// of a message of version 00 is `Other`, whatever its sub-id (own rule).
 ///
 /// A `u8` is a data byte, 0 to 127. A `u16` has 14 bits and a `u32` 28. Arrays and borrowed bytes are data bytes.
 #[derive(Clone, Copy, Debug, PartialEq, Eq)]
@@ -148,7 +152,7 @@ pub enum Body<'a> {
     },
     /// 30 to 3F: Property Exchange, unread.
     Property(&'a [u8]),
-    /// Any other sub-id, and every message of version 00 or 01, unread.
+    /// Any other sub-id, 72 and 73 of version 01, and every message of version 00, unread.
     Other(&'a [u8]),
 }
 

@@ -1,8 +1,23 @@
 // From a view to the bytes of its message.
-ghost use Rattle.std.specs.Prelude.{◌≡◌, ◌<◌, ◌≤◌, ◌+◌, ◌/◌, ◌^◌, [], ◌++◌, length};
+ghost use Rattle.std.specs.Prelude.{◌≡◌, ◌<◌, ◌≤◌, ◌+◌, ◌/◌, ◌^◌, [], ◌∷◌, ◌++◌, length, Result, IsOkAnd};
+ghost use Rattle.ci_messages.specs.declared.kind.Kind.TheVariants as kind;
+ghost use Rattle.ci_messages.specs.declared.view.CiFault.{CiFault};
+ghost use Rattle.ci_messages.specs.declared.view.CiView.{CiView};
+ghost use Rattle.ci_messages.specs.Fields.{bytes, bytes_of_fields, list, nothing, number};
+ghost use Rattle.ci_messages.specs.Messages.{block_in, channels_in, fields_of, path_in};
 ghost use Rattle.ci_messages.specs.Places.{bytes2, bytes4};
-ghost use Rattle.ci_messages.specs.Writing.{FitsBody, IsView, address_number, body_bytes, message_bytes};
+ghost use Rattle.ci_messages.specs.Reading.{Reads};
+ghost use Rattle.ci_messages.specs.Writing.{
+  FitsBody,
+  IsView,
+  SameView,
+  address_number,
+  body_bytes,
+  message_bytes,
+};
 
+use crate::kind::Format;
+use crate::laws::written_messages_are_read_again;
 use crate::view::{Address, Body, CiView, ProfileId};
 use midi_edge::ShortList;
 
@@ -54,19 +69,93 @@ fn put_identity(
     into.extend(revision);
 }
 
-fn put_switch(id: &ProfileId, channels: u16, into: &mut Message)
-    requires fits { channels < 2 ^ 14 }
-    requires capacity { length into.old + 7 ≤ 512 }
-    ensures { into.new ≡ into.old ++ (id.now.bytes ++ bytes2 channels) }
+// The path of a Discovery, where it has a place.
+fn put_path(format: Format, path: u8, into: &mut Message)
+    requires { length into.old + length (bytes_of_fields (path_in format ∷ []) (number path ∷ [])) ≤ 512 }
+    ensures { into.new ≡ into.old ++ bytes_of_fields (path_in format ∷ []) (number path ∷ []) }
 {
-    into.extend(&id.data_bytes());
-    put_two(u32::from(channels), into);
+    match format {
+        Format::Short => {}
+        Format::Full => into.push(path),
+    }
 }
 
-fn put_body(body: &Body<'_>, into: &mut Message)
-    requires fits { FitsBody body.now }
-    requires capacity { length into.old + length (body_bytes body.now) ≤ 512 }
-    ensures { into.new ≡ into.old ++ body_bytes body.now }
+// The path and the block of a Reply to Discovery, where they have a place.
+fn put_path_and_block(format: Format, path: u8, block: u8, into: &mut Message)
+    requires { length into.old + length (bytes_of_fields (path_in format ∷ block_in format ∷ [])
+        (number path ∷ number block ∷ [])) ≤ 512 }
+    ensures { into.new ≡ into.old ++ bytes_of_fields (path_in format ∷ block_in format ∷ [])
+        (number path ∷ number block ∷ []) }
+{
+    match format {
+        Format::Short => {}
+        Format::Full => {
+            into.push(path);
+            into.push(block);
+        }
+    }
+}
+
+// The fields of a NAK, where they have a place.
+fn put_nak(
+    format: Format,
+    original: u8,
+    code: u8,
+    value: u8,
+    details: &[u8; 5],
+    text: &[u8],
+    into: &mut Message,
+)
+    requires { length into.old + length (bytes_of_fields (fields_of format kind.Nak)
+        (number original ∷ number code ∷ number value ∷ list details.now ∷ list text.now ∷ [])) ≤ 512 }
+    ensures { into.new ≡ into.old ++ bytes_of_fields (fields_of format kind.Nak)
+        (number original ∷ number code ∷ number value ∷ list details.now ∷ list text.now ∷ []) }
+{
+    match format {
+        Format::Short => {}
+        Format::Full => {
+            into.push(original);
+            into.push(code);
+            into.push(value);
+            into.extend(details);
+            put_counted(text, 1, into);
+        }
+    }
+}
+
+// A profile's id, and the number of channels, where it has a place.
+fn put_switch(format: Format, id: &ProfileId, channels: u16, into: &mut Message)
+    requires fits { channels < 2 ^ 14 }
+    requires capacity { length into.old + length (bytes_of_fields (bytes 5 ∷ channels_in format ∷ [])
+        (list id.now.bytes ∷ number channels ∷ [])) ≤ 512 }
+    ensures { into.new ≡ into.old ++ bytes_of_fields (bytes 5 ∷ channels_in format ∷ [])
+        (list id.now.bytes ∷ number channels ∷ []) }
+{
+    into.extend(&id.data_bytes());
+    match format {
+        Format::Short => {}
+        Format::Full => put_two(u32::from(channels), into),
+    }
+}
+
+// A profile's id, and two reserved bytes, where they have a place.
+fn put_set_off(format: Format, id: &ProfileId, into: &mut Message)
+    requires { length into.old + length (bytes_of_fields (fields_of format kind.SetOff)
+        (list id.now.bytes ∷ nothing ∷ [])) ≤ 512 }
+    ensures { into.new ≡ into.old ++ bytes_of_fields (fields_of format kind.SetOff)
+        (list id.now.bytes ∷ nothing ∷ []) }
+{
+    into.extend(&id.data_bytes());
+    match format {
+        Format::Short => {}
+        Format::Full => put_two(0, into),
+    }
+}
+
+fn put_body(format: Format, body: &Body<'_>, into: &mut Message)
+    requires fits { FitsBody format body.now }
+    requires capacity { length into.old + length (body_bytes format body.now) ≤ 512 }
+    ensures { into.new ≡ into.old ++ body_bytes format body.now }
 {
     match body {
         Body::Discovery {
@@ -81,7 +170,7 @@ fn put_body(body: &Body<'_>, into: &mut Message)
             put_identity(manufacturer, family, model, revision, into);
             into.push(*category);
             put_four(*size, into);
-            into.push(*path);
+            put_path(format, *path, into);
         }
         Body::DiscoveryReply {
             manufacturer,
@@ -96,8 +185,7 @@ fn put_body(body: &Body<'_>, into: &mut Message)
             put_identity(manufacturer, family, model, revision, into);
             into.push(*category);
             put_four(*size, into);
-            into.push(*path);
-            into.push(*block);
+            put_path_and_block(format, *path, *block, into);
         }
         Body::EndpointInquiry { status } => into.push(*status),
         Body::EndpointReply { status, text } => {
@@ -111,23 +199,16 @@ fn put_body(body: &Body<'_>, into: &mut Message)
             value,
             details,
             text,
-        } => {
-            into.push(*original);
-            into.push(*code);
-            into.push(*value);
-            into.extend(details);
-            put_counted(text, 1, into);
-        }
+        } => put_nak(format, *original, *code, *value, details, text, into),
         Body::ProfileInquiry => {}
         Body::ProfileReply { on, off } => {
             put_counted(on, 5, into);
             put_counted(off, 5, into);
         }
-        Body::SetOn { id, channels } => put_switch(id, *channels, into),
-        // The two bytes that follow the id are reserved.
-        Body::SetOff { id } => put_switch(id, 0, into),
-        Body::EnabledReport { id, channels } => put_switch(id, *channels, into),
-        Body::DisabledReport { id, channels } => put_switch(id, *channels, into),
+        Body::SetOn { id, channels } => put_switch(format, id, *channels, into),
+        Body::SetOff { id } => put_set_off(format, id, into),
+        Body::EnabledReport { id, channels } => put_switch(format, id, *channels, into),
+        Body::DisabledReport { id, channels } => put_switch(format, id, *channels, into),
         Body::Property(bytes) => into.extend(bytes),
         Body::Other(bytes) => into.extend(bytes),
     }
@@ -143,14 +224,9 @@ fn number_of(address: Address) -> u8
     }
 }
 
-/// Writes the bytes of a message (M2-101-UM), from F0 to F7, into an empty list. Reserved bytes are zeros.
-///
-/// The version is 2 to 127, the body is the one that the sub-id names, each number fits its bytes, borrowed bytes are data bytes,
-/// a list of profiles has five bytes for each, and the message has at most 512 bytes. If its source is below 0FFFFF00, it is read
-/// back as the same view.
-pub fn write(view: &CiView<'_>, into: &mut ShortList<u8, 512>)
+// Puts the bytes of a message into an empty list.
+fn put_message(view: &CiView<'_>, into: &mut Message)
     requires view { IsView view.now }
-    requires version { 2 ≤ view.now.version }
     requires fits { length (message_bytes view.now) ≤ 512 }
     requires empty { into.old ≡ [] }
     ensures { into.new ≡ message_bytes view.now }
@@ -160,6 +236,24 @@ pub fn write(view: &CiView<'_>, into: &mut ShortList<u8, 512>)
     into.push(view.version);
     put_four(view.source, into);
     put_four(view.destination, into);
-    put_body(&view.body, into);
+    put_body(Format::of(view.version), &view.body, into);
     into.push(0xF7);
+}
+
+/// Writes the bytes of a message (M2-101-UM), from F0 to F7, into an empty list. Reserved bytes are zeros.
+///
+/// The version is 1 to 127, the body is the one that the sub-id and version name, each number fits its bytes, borrowed bytes are
+/// data bytes, a list of profiles has five bytes for each, in version 01 the fields without a place have the values that `Body`
+/// lists, and the message has at most 512 bytes. If its source is below 0FFFFF00, it is read back as the same view.
+pub fn write(view: &CiView<'_>, into: &mut ShortList<u8, 512>)
+    requires view { IsView view.now }
+    requires version { 1 ≤ view.now.version }
+    requires fits { length (message_bytes view.now) ≤ 512 }
+    requires empty { into.old ≡ [] }
+    ensures bytes { into.new ≡ message_bytes view.now }
+    ensures read_again { view.now.source < 0x0FFFFF00 → (answer : Result CiView CiFault) →
+        Reads into.new answer → IsOkAnd answer (SameView view.now) }
+{
+    written_messages_are_read_again();
+    put_message(view, into);
 }

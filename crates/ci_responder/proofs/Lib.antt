@@ -3,4 +3,5 @@ pub mod Histories
 pub mod KeyLaws
 pub mod ListLaws
 pub mod PacketLaws
+pub mod ReplyLaws
 pub mod ToldLaws

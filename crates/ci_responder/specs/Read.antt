@@ -1,21 +1,28 @@
 -- What the bytes of a message tell.
 use Rattle.std.specs.Prelude.{ℕ, true, false, List, unwrap_or}
+use Rattle.ci_messages.specs.declared.kind.Format.{Format}
+use Rattle.ci_messages.specs.declared.kind.Format.TheVariants as format
 use Rattle.ci_messages.specs.declared.kind.Kind.{Kind}
 use Rattle.ci_messages.specs.declared.kind.Kind.TheVariants as kind
 use Rattle.ci_messages.specs.declared.view.Address.TheVariants as address
 use Rattle.ci_messages.specs.Places.{byte_at, number4_at, part_at}
-use Rattle.ci_messages.specs.Reading.{address_of, body_of, message_kind}
+use Rattle.ci_messages.specs.Reading.{address_of, body_of, message_format, message_kind}
 use Rattle.ci_responder.specs.Messages.{Said, Told, discovery, endpoint, invalidate, other, profiles, switch}
 
+-- the path of a Discovery, which has no place in the short format
+abbrev pub path_at : Format → List ℕ → ℕ
+path_at format.Short body = 0
+path_at format.Full body = byte_at body 16
+
 -- what a body of a kind says, by its bytes
-abbrev pub said_by : Kind → List ℕ → Said
-said_by kind.Discovery body = discovery (byte_at body 16)
-said_by kind.EndpointInquiry body = endpoint (byte_at body 0)
-said_by kind.Invalidate body = invalidate (number4_at body 0)
-said_by kind.ProfileInquiry body = profiles
-said_by kind.SetOn body = switch (record { bytes = part_at body 0 5 }) true
-said_by kind.SetOff body = switch (record { bytes = part_at body 0 5 }) false
-said_by _ body = other
+abbrev pub said_by : Format → Kind → List ℕ → Said
+said_by form kind.Discovery body = discovery (path_at form body)
+said_by form kind.EndpointInquiry body = endpoint (byte_at body 0)
+said_by form kind.Invalidate body = invalidate (number4_at body 0)
+said_by form kind.ProfileInquiry body = profiles
+said_by form kind.SetOn body = switch (record { bytes = part_at body 0 5 }) true
+said_by form kind.SetOff body = switch (record { bytes = part_at body 0 5 }) false
+said_by form _ body = other
 
 -- what is told by a message from F0 to F7 that has no fault, on its group
 abbrev pub told_in : ℕ → List ℕ → Told
@@ -27,6 +34,6 @@ told_in group message = record {
     version = byte_at message 5;
     source = number4_at message 6;
     destination = number4_at message 10;
-    said = said_by (message_kind message) (body_of message);
+    said = said_by (message_format message) (message_kind message) (body_of message);
   };
 }

@@ -13,7 +13,7 @@ use Rattle.ci_messages.specs.declared.view.Address.TheVariants as address
 use Rattle.ci_messages.specs.declared.view.CiView.{CiView}
 use Rattle.ci_messages.specs.Places.{bytes4}
 use Rattle.ci_messages.specs.Fields.{Value, number, list, bytes_of_fields}
-use Rattle.ci_messages.specs.Messages.{fields_of}
+use Rattle.ci_messages.specs.Messages.{fields_of, format_of}
 use Rattle.ci_messages.specs.Writing.{address_number, body_bytes}
 use Rattle.function_blocks.specs.declared.setup.Identity.{Identity}
 use Rattle.function_blocks.specs.declared.setup.Place.{Place}
@@ -33,17 +33,23 @@ pub record Sender : Type 0 where
   pub muid : ℕ
   pub states : List (Key × Bool)
 
--- the bytes between F0 and F7 of a message of version 02
-abbrev pub payload : Address → ℕ → ℕ → ℕ → Kind → List Value → List ℕ
-payload address sub source destination kind values =
-    0x7E ∷ address_number address ∷ 0x0D ∷ sub ∷ 2
-    ∷ ((bytes4 source ++ bytes4 destination) ++ bytes_of_fields (fields_of kind) values)
+-- the version of a reply: 01 to a message of version 01, else 02 (own rule)
+abbrev pub reply_version : Message → ℕ
+reply_version message = if message.version == 1 then 1 else 2
+
+-- The bytes between F0 and F7 of a reply to a message: its address, sub-id, source and destination, and what its kind says. What
+-- has no place in the format of its version isn't written.
+abbrev pub payload : Message → Address → ℕ → ℕ → ℕ → Kind → List Value → List ℕ
+payload message address sub source destination kind values =
+    0x7E ∷ address_number address ∷ 0x0D ∷ sub ∷ reply_version message
+    ∷ ((bytes4 source ++ bytes4 destination)
+    ++ bytes_of_fields (fields_of (format_of (reply_version message)) kind) values)
 
 -- the same of a view
 abbrev pub payload_of : CiView → List ℕ
 payload_of view =
     0x7E ∷ address_number view.address ∷ 0x0D ∷ view.sub ∷ view.version
-    ∷ ((bytes4 view.source ++ bytes4 view.destination) ++ body_bytes view.body)
+    ∷ ((bytes4 view.source ++ bytes4 view.destination) ++ body_bytes (format_of view.version) view.body)
 
 -- a profile of this block and place that is on, or off
 abbrev pub is_listed : Bool → ℕ → Place → (Key × Bool) → Bool
@@ -66,32 +72,33 @@ channels_of _ = 0
 -- the reply to what is answered; 04 is the category of profiles
 abbrev pub answer_to : Sender → Told → Said → Option (List ℕ)
 answer_to sender told (discovery path) =
-    Some (payload address.Block 0x71 sender.muid told.message.source kind.DiscoveryReply
+    Some (payload told.message address.Block 0x71 sender.muid told.message.source kind.DiscoveryReply
     (list sender.identity.manufacturer ∷ list sender.identity.family ∷ list sender.identity.model
     ∷ list sender.identity.revision ∷ number 4 ∷ number sender.room ∷ number path ∷ number sender.block ∷ []))
 answer_to sender told (endpoint status) =
-    Some (payload told.message.address 0x73 sender.muid told.message.source kind.EndpointReply
+    Some (payload told.message told.message.address 0x73 sender.muid told.message.source kind.EndpointReply
     (number 0 ∷ list sender.product_id ∷ []))
 answer_to sender told profiles =
-    Some (payload told.message.address 0x21 sender.muid told.message.source kind.ProfileReply
+    Some (payload told.message told.message.address 0x21 sender.muid told.message.source kind.ProfileReply
     (list (ids_of true sender.block (place_at told.message.address told.group) sender.states)
     ∷ list (ids_of false sender.block (place_at told.message.address told.group) sender.states) ∷ []))
 answer_to sender told (switch id true) =
-    Some (payload told.message.address 0x24 sender.muid broadcast kind.EnabledReport
+    Some (payload told.message told.message.address 0x24 sender.muid broadcast kind.EnabledReport
     (list id.bytes ∷ number (channels_of told.message.address) ∷ []))
 answer_to sender told (switch id false) =
-    Some (payload told.message.address 0x25 sender.muid broadcast kind.DisabledReport
+    Some (payload told.message told.message.address 0x25 sender.muid broadcast kind.DisabledReport
     (list id.bytes ∷ number (channels_of told.message.address) ∷ []))
 answer_to sender told _ = None
 
 -- the old MUID is invalidated for all
-abbrev pub invalidation : Sender → List ℕ
-invalidation sender = payload address.Block 0x7E sender.muid broadcast kind.Invalidate (number sender.muid ∷ [])
+abbrev pub invalidation : Sender → Message → List ℕ
+invalidation sender message =
+    payload message address.Block 0x7E sender.muid broadcast kind.Invalidate (number sender.muid ∷ [])
 
 -- the sub-id that is refused, and nine zeros
 abbrev pub refusal : Sender → Message → List ℕ
 refusal sender message =
-    payload message.address 0x7F sender.muid message.source kind.Nak
+    payload message message.address 0x7F sender.muid message.source kind.Nak
     (number message.sub ∷ number 0 ∷ number 0 ∷ list (replicate 5 0) ∷ list [] ∷ [])
 
 -- the first packets of a payload that is sent on a group
@@ -111,7 +118,7 @@ sent group (Some bytes) = packets_of group bytes
 
 -- the payload of the reply to a message that is heard so
 abbrev pub reply_to : Sender → Heard → Told → Option (List ℕ)
-reply_to sender heard.Collision told = Some (invalidation sender)
+reply_to sender heard.Collision told = Some (invalidation sender told.message)
 reply_to sender heard.Answered told = answer_to sender told told.message.said
 reply_to sender heard.Nak told = Some (refusal sender told.message)
 reply_to sender _ told = None

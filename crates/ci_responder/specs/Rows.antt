@@ -1,5 +1,5 @@
 -- What is done with a message (M2-101-UM), a row for each: the first that applies.
-use Rattle.std.specs.Prelude.{ℕ, Bool, true, false, ◌==◌, ◌&&◌, ◌||◌, not, nat_le, nat_lt, if◌then◌else◌, List, Option, Some, None, is_some}
+use Rattle.std.specs.Prelude.{ℕ, Bool, true, false, ◌==◌, ◌&&◌, ◌||◌, not, nat_le, if◌then◌else◌, List, Option, Some, None, is_some}
 use Rattle.ci_responder.specs.declared.heard.Heard.{Heard}
 use Rattle.ci_responder.specs.declared.heard.Heard.TheVariants as heard
 use Rattle.ci_responder.specs.declared.keys.Key.{Key}
@@ -48,7 +48,7 @@ is_answered named _ = false
 abbrev pub row_of : ℕ → Bool → Message → Heard
 row_of muid named message =
     if message.source == muid then heard.Collision
-    else if nat_lt message.version 2 then heard.OldVersion
+    else if message.version == 0 then heard.OldVersion
     else if not (is_for muid message.destination) then heard.NotOurs
     else if is_of_another muid message.said then heard.NotOurs
     else if is_invalidate message.said then heard.Moved

@@ -9,7 +9,7 @@ pub enum Heard {
     Silent,
     /// The source is the block's own MUID. It is invalidated, and the block takes the next of its list or becomes silent.
     Collision,
-    /// Version 00 or 01 of the message format. Nothing is done.
+    /// Version 00 of the message format. Nothing is done.
     OldVersion,
     /// The destination is neither the block's MUID nor broadcast, or another MUID is invalidated. Nothing is done.
     NotOurs,

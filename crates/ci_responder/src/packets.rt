@@ -35,7 +35,7 @@ fn push_payload(replies: &mut Replies, group: U4, payload: &[u8])
 /// Adds the packets of a message to replies that are empty, cut every six bytes (M2-104-UM, system exclusive 7-bit messages).
 pub(crate) fn push_message(replies: &mut Replies, group: U4, view: &CiView<'_>)
     requires view { IsView view.now }
-    requires version { 2 ≤ view.now.version }
+    requires version { 1 ≤ view.now.version }
     requires fits { length (payload_of view.now) ≤ 342 }
     requires empty { replies.old ≡ [] }
     ensures packets { AddsPackets (packets_of group (payload_of view.now)) [] replies.new }

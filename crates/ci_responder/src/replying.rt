@@ -1,7 +1,8 @@
 // The replies, by the row of the message.
-ghost use Rattle.std.specs.Prelude.{◌≡◌, ◌<◌, ◌≤◌, ◌^◌, ℕ, Some, true, false, [], length};
+ghost use Rattle.std.specs.Prelude.{◌≡◌, ◌<◌, ◌≤◌, ◌^◌, ◌==◌, ℕ, Some, true, false, [], length};
 ghost use Rattle.ump_grammar.specs.Replies.{AddsPackets};
-ghost use Rattle.ci_messages.specs.Fields.{IsData};
+ghost use Rattle.ci_messages.specs.Fields.{FitsField, IsData, byte, bytes_of_field, number};
+ghost use Rattle.ci_messages.specs.Messages.{channels_in, format_of, full_only};
 ghost use Rattle.ci_messages.specs.Writing.{IsView};
 ghost use Rattle.ci_responder.specs.Held.{sender_of};
 ghost use Rattle.ci_responder.specs.Messages.{
@@ -19,6 +20,7 @@ ghost use Rattle.ci_responder.specs.Replies.{
   invalidation,
   refusal,
   reply_to,
+  reply_version as reply_version_of,
   sent,
 };
 
@@ -32,8 +34,8 @@ use function_blocks::Identity;
 use midi_edge::U4;
 use ump_grammar::Replies;
 
-/// The version of the message format that is written.
-const VERSION: u8 = 2;
+/// The number that stands for no function block.
+const NO_BLOCK: u8 = 0x7F;
 
 /// The bit of the profiles among the categories of MIDI-CI.
 const PROFILES: u8 = 4;
@@ -46,11 +48,35 @@ pub(crate) struct Owner {
     pub(crate) muid: u32,
 }
 
-// The number of channels that a report tells: one for a channel, none for a group or a function block (own rule).
-fn channels_of(address: Address) -> u16
-    ensures value { result ≡ channels_of_address address }
-    ensures fits { result < 2 ^ 14 }
+// The version of the reply to a message: 01 to a message of version 01, else 02 (own rule).
+fn reply_version(view: &CiView<'_>) -> u8
+    ensures value { result ≡ reply_version_of (message_of view.now) }
+    ensures least { 1 ≤ result }
+    ensures most { result ≤ 2 }
 {
+    if view.version == 1 { 1 } else { 2 }
+}
+
+// A number of a message of a version, or what it is where version 01 has no place for it.
+fn placed(version: u8, value: u8, otherwise: u8) -> u8
+    requires { value < 128 }
+    ensures fits { FitsField (full_only (format_of version) byte (number otherwise)) (number result) }
+    ensures bytes { bytes_of_field (full_only (format_of version) byte (number otherwise)) (number result)
+        ≡ bytes_of_field (full_only (format_of version) byte (number otherwise)) (number value) }
+{
+    if version == 1 { otherwise } else { value }
+}
+
+// The number of channels that a report tells: one for a channel, none for a group or a function block, and none where version
+// 01 has no place for it (own rule).
+fn channels_of(version: u8, address: Address) -> u16
+    ensures fits { FitsField (channels_in (format_of version)) (number result) }
+    ensures bytes { bytes_of_field (channels_in (format_of version)) (number result)
+        ≡ bytes_of_field (channels_in (format_of version)) (number (channels_of_address address)) }
+{
+    if version == 1 {
+        return 0;
+    }
     match address {
         Address::Channel(_) => 1,
         Address::Group => 0,
@@ -77,24 +103,26 @@ impl Responder {
         ensures few { length replies.new ≤ 114 }
     {
         match heard {
-            Heard::Collision => self.invalidate(owner, replies),
+            Heard::Collision => self.invalidate(owner, view, replies),
             Heard::Answered => self.answer(owner, view, replies),
             Heard::Nak => self.refuse(owner, view, replies),
             _ => {}
         }
     }
 
-    fn invalidate(&self, owner: &Owner, replies: &mut Replies)
+    fn invalidate(&self, owner: &Owner, view: &CiView<'_>, replies: &mut Replies)
         requires muid { owner.now.muid < 2 ^ 28 }
         requires empty { replies.old ≡ [] }
         ensures packets { AddsPackets (sent owner.now.group
-            (Some (invalidation (sender_of self.now owner.now.block owner.now.muid)))) [] replies.new }
+            (Some (invalidation (sender_of self.now owner.now.block owner.now.muid) (message_of view.now))))
+            [] replies.new }
         ensures few { length replies.new ≤ 114 }
     {
+        let version = reply_version(view);
         let message = CiView {
             address: Address::Block,
             sub: 0x7E,
-            version: VERSION,
+            version,
             source: owner.muid,
             destination: BROADCAST,
             body: Body::Invalidate { target: owner.muid },
@@ -111,14 +139,16 @@ impl Responder {
             [] replies.new }
         ensures few { length replies.new ≤ 114 }
     {
+        let version = reply_version(view);
+        let original = placed(version, view.sub, 0);
         let message = CiView {
             address: view.address,
             sub: 0x7F,
-            version: VERSION,
+            version,
             source: owner.muid,
             destination: view.source,
             body: Body::Nak {
-                original: view.sub,
+                original,
                 code: 0,
                 value: 0,
                 details: [0; 5],
@@ -165,10 +195,13 @@ impl Responder {
             model,
             revision,
         } = self.identity;
+        let version = reply_version(view);
+        let path = placed(version, path, 0);
+        let block = placed(version, owner.block, NO_BLOCK);
         let message = CiView {
             address: Address::Block,
             sub: 0x71,
-            version: VERSION,
+            version,
             source: owner.muid,
             destination: view.source,
             body: Body::DiscoveryReply {
@@ -179,14 +212,16 @@ impl Responder {
                 category: PROFILES,
                 size: self.room,
                 path,
-                block: owner.block,
+                block,
             },
         };
         push_message(replies, owner.group, &message);
     }
 
+    // Version 01 has no such reply.
     fn tell_product_id(&self, owner: &Owner, view: &CiView<'_>, replies: &mut Replies)
         requires view { IsView view.now }
+        requires version { (view.now.version == 1) ≡ false }
         requires muid { owner.now.muid < 2 ^ 28 }
         requires empty { replies.old ≡ [] }
         ensures packets { (status : ℕ) → AddsPackets (sent owner.now.group
@@ -194,10 +229,11 @@ impl Responder {
             (told_of owner.now.group view.now) (endpoint status))) [] replies.new }
         ensures few { length replies.new ≤ 114 }
     {
+        let version = reply_version(view);
         let message = CiView {
             address: view.address,
             sub: 0x73,
-            version: VERSION,
+            version,
             source: owner.muid,
             destination: view.source,
             body: Body::EndpointReply {
@@ -219,10 +255,11 @@ impl Responder {
     {
         let place = place_of(view.address, owner.group);
         let ids = ids_at(&self.states, owner.block, &place);
+        let version = reply_version(view);
         let message = CiView {
             address: view.address,
             sub: 0x21,
-            version: VERSION,
+            version,
             source: owner.muid,
             destination: view.source,
             body: Body::ProfileReply {
@@ -244,11 +281,12 @@ impl Responder {
             (told_of owner.now.group view.now) (switch id true))) [] replies.new }
         ensures few { length replies.new ≤ 114 }
     {
-        let channels = channels_of(view.address);
+        let version = reply_version(view);
+        let channels = channels_of(version, view.address);
         let message = CiView {
             address: view.address,
             sub: 0x24,
-            version: VERSION,
+            version,
             source: owner.muid,
             destination: BROADCAST,
             body: Body::EnabledReport { id, channels },
@@ -267,11 +305,12 @@ impl Responder {
             (told_of owner.now.group view.now) (switch id false))) [] replies.new }
         ensures few { length replies.new ≤ 114 }
     {
-        let channels = channels_of(view.address);
+        let version = reply_version(view);
+        let channels = channels_of(version, view.address);
         let message = CiView {
             address: view.address,
             sub: 0x25,
-            version: VERSION,
+            version,
             source: owner.muid,
             destination: BROADCAST,
             body: Body::DisabledReport { id, channels },

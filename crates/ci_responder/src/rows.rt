@@ -82,7 +82,7 @@ pub(crate) fn row_of(muid: u32, is_named: bool, view: &CiView<'_>) -> Heard
     let is_to_all = view.destination == BROADCAST;
     if view.source == muid {
         Heard::Collision
-    } else if view.version < 2 {
+    } else if view.version == 0 {
         Heard::OldVersion
     } else if !is_for(muid, view.destination) || is_of_another(muid, &view.body) {
         Heard::NotOurs

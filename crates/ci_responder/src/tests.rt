@@ -294,7 +294,7 @@ fn two_collisions_leave_a_silent_block(rt: HostRuntime) {
 fn what_is_heard_without_a_reply(rt: HostRuntime) {
     let mut responder = opened(rt.alloc()).expect(&rt, "no memory");
     let mut old = discovery(PEER);
-    old.version = 0x01;
+    old.version = 0x00;
     assert!(rt; is_heard(&mut responder, 1, &discovery(PEER), Heard::NoBlock, &[]));
     assert!(rt; is_heard(&mut responder, 0, &old, Heard::OldVersion, &[]));
     let other = from_peer(0x7F, 0x7E, ALL, &SECOND);
@@ -311,6 +311,100 @@ fn what_is_heard_without_a_reply(rt: HostRuntime) {
     assert!(rt; is_heard(&mut responder, 0, &own, Heard::Moved, &[]));
     assert_eq!(rt; responder.muid(0), Some(300));
     assert_eq!(rt; responder.muid(1), None);
+}
+
+// A message of version 01 from the peer.
+fn short(address: u8, sub: u8, destination: Muid, body: &'static [u8]) -> Sent {
+    Sent {
+        address,
+        sub,
+        version: 0x01,
+        source: PEER,
+        destination,
+        body,
+    }
+}
+
+// A reply to a message of version 01 is of version 01: without a path and a block, without channels, without the bytes of a NAK.
+#[test]
+fn a_peer_of_version_01_is_answered(rt: HostRuntime) {
+    let mut responder = opened(rt.alloc()).expect(&rt, "no memory");
+    let device = [
+        0x30167E7F, 0x0D710167, 0x30260A0D, 0x09050000, 0x3026007D, 0x00000100, 0x30260200,
+        0x01000000, 0x30350400, 0x00400000,
+    ];
+    let inquiry = short(0x7F, 0x70, ALL, &DISCOVERY[..16]);
+    assert!(rt; is_heard(&mut responder, 0, &inquiry, Heard::Answered, &device));
+    let profiles = [
+        0x30167E02, 0x0D210167, 0x30260A0D, 0x09050000, 0x30260000, 0x0001007E, 0x30340001,
+        0x01000000,
+    ];
+    let inquiry = short(0x02, 0x20, FIRST, &[]);
+    assert!(rt; is_heard(&mut responder, 0, &inquiry, Heard::Answered, &profiles));
+    let on = [
+        0x30167E02, 0x0D240167, 0x30260A0D, 0x097F7F7F, 0x30367F7E, 0x00010100,
+    ];
+    let switch = short(0x02, 0x22, FIRST, &PROFILE[..5]);
+    assert!(rt; is_heard(&mut responder, 0, &switch, Heard::Answered, &on));
+    assert_eq!(rt; responder.profile_is_on(&profile_key(2)), Some(true));
+    let off = [
+        0x30167E02, 0x0D250167, 0x30260A0D, 0x097F7F7F, 0x30367F7E, 0x00010100,
+    ];
+    let switch = short(0x02, 0x23, FIRST, &PROFILE[..5]);
+    assert!(rt; is_heard(&mut responder, 0, &switch, Heard::Answered, &off));
+    assert_eq!(rt; responder.profile_is_on(&profile_key(2)), Some(false));
+}
+
+// Version 01 has no inquiry of the endpoint; its reply is a report by its sub-id.
+#[test]
+fn what_version_01_refuses(rt: HostRuntime) {
+    let mut responder = opened(rt.alloc()).expect(&rt, "no memory");
+    let refused = [
+        0x30167E7F, 0x0D7F0167, 0x30260A0D, 0x09050000, 0x30310000, 0x00000000,
+    ];
+    let endpoint = short(0x7F, 0x72, FIRST, &[0]);
+    assert!(rt; is_heard(&mut responder, 0, &endpoint, Heard::Nak, &refused));
+    let reply = short(0x7F, 0x73, FIRST, &[0, 0, 0]);
+    assert!(rt; is_heard(&mut responder, 0, &reply, Heard::Report, &[]));
+    let refusal = short(0x7F, 0x7F, FIRST, &[]);
+    assert!(rt; is_heard(&mut responder, 0, &refusal, Heard::Report, &[]));
+    let moved = short(0x7F, 0x7E, ALL, &FIRST);
+    assert!(rt; is_heard(&mut responder, 0, &moved, Heard::Moved, &[]));
+    assert_eq!(rt; responder.muid(0), Some(300));
+}
+
+// The Invalidate MUID after a collision is of version 01 after a message of version 01, else of version 02.
+#[test]
+fn collisions_of_each_version(rt: HostRuntime) {
+    for (version, second_word) in [
+        (0x00, 0x0D7E0267),
+        (0x01, 0x0D7E0167),
+        (0x02, 0x0D7E0267),
+        (0x03, 0x0D7E0267),
+    ] {
+        let mut responder = opened(rt.alloc()).expect(&rt, "no memory");
+        let invalidated = [
+            0x30167E7F,
+            second_word,
+            0x30260A0D,
+            0x097F7F7F,
+            0x30357F67,
+            0x0A0D0900,
+        ];
+        let mut colliding = discovery(FIRST);
+        colliding.version = version;
+        assert!(rt;
+            is_heard(
+                &mut responder,
+                0,
+                &colliding,
+                Heard::Collision,
+                &invalidated
+            ),
+            "version {version}"
+        );
+        assert_eq!(rt; responder.muid(0), Some(300));
+    }
 }
 
 // A profile that isn't named there, by its id, its channel or its place.

@@ -1,7 +1,7 @@
 -- What a command line asks for.
-use Rattle.std.specs.Prelude.{◌≤◌, ◌<◌, ℕ, Bool, List}
+use Rattle.std.specs.Prelude.{◌≤◌, ◌<◌, ◌^◌, ℕ, Bool, List}
 use Rattle.command_line.specs.declared.command.Command.{Command}
-use Rattle.command_line.specs.declared.command.Command.TheVariants.{Down, Up, Back, Show, ShowBytes, Endpoint}
+use Rattle.command_line.specs.declared.command.Command.TheVariants.{Down, Up, Back, Show, ShowBytes, Endpoint, SelfTest}
 
 -- `translate down`: the folder, little endian or not, and the most bytes of an exclusive
 pub record DownWords : Type 0 where
@@ -37,6 +37,11 @@ pub record EndpointWords : Type 0 where
   pub little : Bool
   pub room : ℕ
 
+-- `selftest`: the seed, and the number of packets
+pub record SelfTestWords : Type 0 where
+  pub seed : ℕ
+  pub packets : ℕ
+
 pub data Asked : Type 0 where
   down : DownWords → Asked
   up : UpWords → Asked
@@ -44,6 +49,7 @@ pub data Asked : Type 0 where
   show : ShowWords → Asked
   show_bytes : ShowBytesWords → Asked
   endpoint : EndpointWords → Asked
+  self_test : SelfTestWords → Asked
 
 -- what a command asks for
 abbrev pub asked_of : Command → Asked
@@ -53,10 +59,15 @@ asked_of (Back group room) = back (record { group = group; room = room })
 asked_of (Show state little room) = show (record { state = state; little = little; room = room })
 asked_of (ShowBytes state room) = show_bytes (record { state = state; room = room })
 asked_of (Endpoint setup little room) = endpoint (record { setup = setup.now; little = little; room = room })
+asked_of (SelfTest seed packets) = self_test (record { seed = seed; packets = packets })
 
 -- the room for an exclusive, 6 to 1,048,576 bytes
 abbrev pub IsRoom : ℕ → Type 0
 IsRoom n = (6 ≤ n) × (n ≤ 1048576)
+
+-- the number of packets of a self test, 1 to 1,000,000
+abbrev pub IsPacketCount : ℕ → Type 0
+IsPacketCount n = (1 ≤ n) × (n ≤ 1000000)
 
 -- each number is in its range
 abbrev pub IsInRange : Asked → Type 0
@@ -66,3 +77,4 @@ IsInRange (back words) = (words.group < 16) × IsRoom words.room
 IsInRange (show words) = IsRoom words.room
 IsInRange (show_bytes words) = IsRoom words.room
 IsInRange (endpoint words) = IsRoom words.room
+IsInRange (self_test words) = (words.seed < 2 ^ 32) × IsPacketCount words.packets

@@ -6,7 +6,7 @@ use Rattle.std.specs.Str.Parse.{digits_value}
 use Rattle.std.specs.Char.{is_ascii_digit}
 use Rattle.clap.specs.Walk.{Text, Row, first_of}
 use Rattle.clap.specs.Simple.{subcommand_of}
-use Rattle.command_line.specs.Asked.{Asked, down, up, back, show, show_bytes, endpoint}
+use Rattle.command_line.specs.Asked.{Asked, down, up, back, show, show_bytes, endpoint, self_test}
 use Rattle.command_line.specs.Words.{cli, is_taken, is_set}
 
 -- one to ten decimal digits
@@ -32,6 +32,14 @@ room_in = number_or 6 1048576 1048576
 -- a group: 0 to 15, at first 0
 abbrev pub group_in : Option Text → Option ℕ
 group_in = number_or 0 15 0
+
+-- a seed: a number of 32 bits
+abbrev pub seed_in : Text → Option ℕ
+seed_in = number_of 0 4294967295
+
+-- the number of packets of a self test: 1 to 1,000,000, at first 10,000
+abbrev pub packets_in : Option Text → Option ℕ
+packets_in = number_or 1 1000000 10000
 
 -- down: with a folder, without a group
 abbrev pub down_of : Option Text → Option Text → Bool → Option Text → Option Asked
@@ -65,6 +73,10 @@ show_of false state little room = option_map (λ r. show (record { state = state
 abbrev pub endpoint_of : Text → Bool → Option Text → Option Asked
 endpoint_of setup little room = option_map (λ r. endpoint (record { setup = setup; little = little; room = r })) (room_in room)
 
+-- seed, packets
+abbrev pub self_test_of : Text → Option Text → Option Asked
+self_test_of seed packets = option_and_then (λ s. option_map (λ n. self_test (record { seed = s; packets = n })) (packets_in packets)) (seed_in seed)
+
 -- what a subcommand with its rows asks for
 abbrev pub asked_in : Text → List Row → Option Asked
 asked_in name rows =
@@ -75,7 +87,8 @@ asked_in name rows =
     (is_set (codes "little") rows) (at (codes "room"))
     else (if bytes_eq name (codes "endpoint") then option_and_then (λ s. endpoint_of s (is_set (codes "little") rows) (at (codes "room")))
     (at (codes "setup"))
-    else None))
+    else (if bytes_eq name (codes "selftest") then option_and_then (λ s. self_test_of s (at (codes "packets"))) (at (codes "seed"))
+    else None)))
 
 -- what the matches of the words ask for
 abbrev pub asked_by : List Text → Option Asked

@@ -36,12 +36,18 @@ show_app = with_rules (new_app (codes "show")) (flag (codes "bytes") ∷ flag (c
 abbrev pub endpoint_app : App
 endpoint_app = with_rules (new_app (codes "endpoint")) (positional (codes "setup") ∷ flag (codes "little") ∷ option (codes "room") ∷ [])
 
+-- selftest SEED [--packets P]
+abbrev pub self_test_app : App
+self_test_app = with_rules (new_app (codes "selftest")) (positional (codes "seed") ∷ option (codes "packets") ∷ [])
+
 -- the words come without the program's name, and a subcommand must be among them
 abbrev pub bare_app : App
 bare_app = let a = new_app (codes "larboardyuzu") in record a { top = record a.top { no_binary_name = true; subcommand_required = true } }
 
 unfoldable pub cli : App
-cli = with_subcommand (with_subcommand (with_subcommand bare_app translate_app.top) show_app.top) endpoint_app.top
+cli =
+    with_subcommand (with_subcommand (with_subcommand (with_subcommand bare_app translate_app.top) show_app.top) endpoint_app.top)
+    self_test_app.top
 
 -- `clap`, by what it states of this command, takes the words
 abbrev pub is_taken : List Text → Bool

@@ -41,6 +41,11 @@ pub enum Command<'a> {
         little: bool,
         room: u32,
     },
+    /// `selftest`: so many packets of this seed, 1 to 1,000,000, are taken down, up and down again, and are counted.
+    SelfTest {
+        seed: u32,
+        packets: u32,
+    },
 }
 
 /// Why words give no command.

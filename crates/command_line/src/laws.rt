@@ -1,6 +1,6 @@
 // Laws of the command line: words of each command, and a request for help.
 ghost use Rattle.std.specs.Prelude.{◌≡◌, Some, None, true, false, codes, [], ◌∷◌};
-ghost use Rattle.command_line.specs.Asked.{down, up, back, show, show_bytes, endpoint};
+ghost use Rattle.command_line.specs.Asked.{down, up, back, show, show_bytes, endpoint, self_test};
 ghost use Rattle.command_line.specs.Rules.{command_of};
 
 /// `translate down` with its folder, alone and with all that may be left out.
@@ -48,6 +48,14 @@ pub fn endpoint_is_taken()
         ≡ Some (endpoint (record { setup = codes "S"; little = false; room = 1048576 })) }
     ensures most { command_of (codes "endpoint" ∷ codes "S" ∷ codes "--little" ∷ codes "--room" ∷ codes "6" ∷ [])
         ≡ Some (endpoint (record { setup = codes "S"; little = true; room = 6 })) }
+{}
+
+/// `selftest` with its seed, alone and with all that may be left out.
+pub fn self_test_is_taken()
+    ensures least { command_of (codes "selftest" ∷ codes "0" ∷ [])
+        ≡ Some (self_test (record { seed = 0; packets = 10000 })) }
+    ensures most { command_of (codes "selftest" ∷ codes "4294967295" ∷ codes "--packets" ∷ codes "1000000" ∷ [])
+        ≡ Some (self_test (record { seed = 4294967295; packets = 1000000 })) }
 {}
 
 /// Requests for help, and no words at all, aren't commands.

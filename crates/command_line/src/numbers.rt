@@ -1,10 +1,10 @@
 // Numbers of the command line (own rule): 1 to 10 decimal digits, in a range.
-ghost use Rattle.std.specs.Prelude.{◌≡◌, ◌≤◌, ◌<◌, IfSome};
+ghost use Rattle.std.specs.Prelude.{◌≡◌, ◌≤◌, ◌<◌, ◌^◌, IfSome};
 ghost use Rattle.std.specs.Option.{option_copied};
 ghost use Rattle.std.specs.List.{list_all};
 ghost use Rattle.std.specs.Char.{is_ascii_digit};
-ghost use Rattle.command_line.specs.Asked.{IsRoom};
-ghost use Rattle.command_line.specs.Rules.{number_of, room_in, group_in};
+ghost use Rattle.command_line.specs.Asked.{IsPacketCount, IsRoom};
+ghost use Rattle.command_line.specs.Rules.{number_of, room_in, group_in, seed_in, packets_in};
 
 use midi_edge::U4;
 
@@ -12,6 +12,13 @@ use midi_edge::U4;
 const LEAST_ROOM: u32 = 6;
 
 const MOST_ROOM: u32 = 1_048_576;
+
+// The packets of a self test, from the least to the most, and how many there are at first.
+const LEAST_PACKETS: u32 = 1;
+
+const MOST_PACKETS: u32 = 1_000_000;
+
+const PACKETS: u32 = 10_000;
 
 fn is_digits(text: &str) -> bool
     ensures { result ≡ list_all is_ascii_digit text.now }
@@ -59,5 +66,24 @@ pub fn group(text: Option<&str>) -> Option<U4>
             U4::new(value as u8)
         }
         None => U4::new(0),
+    }
+}
+
+// The seed of a self test.
+pub fn seed(text: &str) -> Option<u32>
+    ensures number { result ≡ seed_in text.now }
+    ensures range { IfSome result (λ n. n < 2 ^ 32) }
+{
+    number(text, 0, u32::MAX)
+}
+
+// The number of packets of a self test, by the text of its option.
+pub fn packets(text: Option<&str>) -> Option<u32>
+    ensures number { result ≡ packets_in (option_copied text.entry) }
+    ensures range { IfSome result (λ n. IsPacketCount n) }
+{
+    match text {
+        Some(text) => number(text, LEAST_PACKETS, MOST_PACKETS),
+        None => Some(PACKETS),
     }
 }

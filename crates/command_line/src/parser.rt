@@ -2,7 +2,7 @@
 ghost use Rattle.std.specs.Prelude.{◌≡◌, false, IfOk};
 ghost use Rattle.clap.specs.Words.{app_of, rule_of, with_rule, with_subcommand, shape_of};
 ghost use Rattle.clap.specs.declared.builder.command.Command.TheViews.{out-Command};
-ghost use Rattle.command_line.specs.Words.{positional, option, flag, bare_app, translate_app, show_app, endpoint_app, cli};
+ghost use Rattle.command_line.specs.Words.{positional, option, flag, bare_app, translate_app, show_app, endpoint_app, self_test_app, cli};
 
 use clap::{Arg, ArgAction, Command};
 use std::alloc::{AllocError, Global};
@@ -87,6 +87,16 @@ fn endpoint_command<'a>(alloc: Global) -> Result<Command<'a>, AllocError>
     Ok(command)
 }
 
+fn self_test_command<'a>(alloc: Global) -> Result<Command<'a>, AllocError>
+    ensures app { IfOk result (λ c. app_of c ≡ self_test_app) }
+    ensures local { IfOk result (λ c. (out-Command c).has_globals ≡ false) }
+{
+    let command = Command::new(alloc, "selftest");
+    let command = with_arg(command, positional(alloc, "seed"))?;
+    let command = with_arg(command, option(alloc, "packets"))?;
+    Ok(command)
+}
+
 // The command itself, which needs a subcommand. Its words come without the program's name.
 fn bare_command<'a>(alloc: Global) -> Command<'a>
     ensures app { app_of result ≡ bare_app }
@@ -106,5 +116,6 @@ pub fn parser<'a>(alloc: Global) -> Result<Command<'a>, AllocError>
     let command = with_command(command, translate_command(alloc)?)?;
     let command = with_command(command, show_command(alloc)?)?;
     let command = with_command(command, endpoint_command(alloc)?)?;
+    let command = with_command(command, self_test_command(alloc)?)?;
     Ok(command)
 }

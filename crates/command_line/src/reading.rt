@@ -4,11 +4,11 @@ ghost use Rattle.std.specs.Option.{option_copied};
 ghost use Rattle.clap.specs.Words.{found_of, rows_of};
 ghost use Rattle.clap.specs.Simple.{subcommand_rows_of};
 ghost use Rattle.command_line.specs.Asked.{asked_of, IsInRange};
-ghost use Rattle.command_line.specs.Rules.{down_of, up_of, back_of, translate_of, show_of, endpoint_of, asked_in, command_of};
+ghost use Rattle.command_line.specs.Rules.{down_of, up_of, back_of, translate_of, show_of, endpoint_of, self_test_of, asked_in, command_of};
 
 use crate::command::{Command, WordsFault};
 use crate::matches::{is_flag_set, matches_of, text};
-use crate::numbers::{group, room};
+use crate::numbers::{group, packets, room, seed};
 use clap::ArgMatches;
 use std::alloc::Global;
 
@@ -127,6 +127,15 @@ fn endpoint<'a>(setup: &'a str, little: bool, room_text: Option<&str>) -> Option
     })
 }
 
+fn self_test<'a>(seed_text: &str, packets_text: Option<&str>) -> Option<Command<'a>>
+    ensures command { option_map asked_of result ≡ self_test_of seed_text.now (option_copied packets_text.entry) }
+    ensures range { IfSome result (λ c. IsInRange (asked_of c)) }
+{
+    let seed = seed(seed_text)?;
+    let packets = packets(packets_text)?;
+    Some(Command::SelfTest { seed, packets })
+}
+
 // The command of a subcommand's name and matches.
 fn command_in<'a>(name: &str, matches: &ArgMatches<'a>) -> Option<Command<'a>>
     ensures command { option_map asked_of result ≡ asked_in name.now (rows_of (found_of matches.now)) }
@@ -151,6 +160,9 @@ fn command_in<'a>(name: &str, matches: &ArgMatches<'a>) -> Option<Command<'a>>
     } else if name == "endpoint" {
         let setup = text(matches, "setup")?;
         endpoint(setup, is_flag_set(matches, "little"), text(matches, "room"))
+    } else if name == "selftest" {
+        let seed = text(matches, "seed")?;
+        self_test(seed, text(matches, "packets"))
     } else {
         None
     }
@@ -174,7 +186,7 @@ fn command_below<'a>(matches: &ArgMatches<'a>) -> Option<Command<'a>>
 /// never give a command: the direction is `down`, `up` or `back`; `--folder`, which may be empty, is given with `down` and
 /// with no other direction; `--group` isn't given with `down`; `--little` isn't given with `back`, nor with `--bytes`; a
 /// number has 1 to 10 digits and lies in its range, a group 0 to 15 (at first 0), a room 6 to 1,048,576 (at first the
-/// greatest). The name of a setup may be any text. `NoMemory` where `clap` finds no memory.
+/// greatest), a seed 0 to 4,294,967,295, and a number of packets 1 to 1,000,000 (at first 10,000). The name of a setup may be any text. `NoMemory` where `clap` finds no memory.
 #[tactic(auto, unfolding(crate::specs::Rules::command_of))]
 pub fn command_line<'a>(alloc: Global, words: &'a [String]) -> Result<Command<'a>, WordsFault>
     ensures ok { IfOk result (λ c. command_of (map string_bytes words.entry.now) ≡ Some (asked_of c)) }

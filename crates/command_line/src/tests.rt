@@ -186,6 +186,25 @@ fn words_of_endpoint(rt: HostRuntime) -> Result<(), Fail> {
     Ok(())
 }
 
+#[test]
+fn words_of_selftest(rt: HostRuntime) -> Result<(), Fail> {
+    let alloc = rt.alloc();
+    for (line, seed, packets) in [
+        ("selftest 0", 0, 10_000),
+        ("selftest 4294967295", u32::MAX, 10_000),
+        ("selftest 7 --packets 1", 7, 1),
+        ("selftest --packets 1000000 7", 7, 1_000_000),
+        ("selftest 0000000007 --packets=0000000009", 7, 9),
+    ] {
+        let words = words_of(alloc, line)?;
+        assert_eq!(rt;
+            command_line(alloc, &words),
+            Ok(Command::SelfTest { seed, packets })
+        );
+    }
+    Ok(())
+}
+
 // Words that aren't canonical, and yet are a command by what `clap` states and by the rules.
 #[test]
 fn other_words(rt: HostRuntime) -> Result<(), Fail> {
@@ -211,7 +230,7 @@ fn other_words(rt: HostRuntime) -> Result<(), Fail> {
     asks_back(&rt, alloc, "translate -- back", 0, MOST)
 }
 
-const NO_COMMAND: [&str; 68] = [
+const NO_COMMAND: [&str; 84] = [
     "",
     "--help",
     "-h",
@@ -246,7 +265,23 @@ const NO_COMMAND: [&str; 68] = [
     "endpoint S --room",
     "endpoint S --little --little",
     "endpoint --help",
-    "selftest 1",
+    "selftest",
+    "selftest x",
+    "selftest -1",
+    "selftest +1",
+    "selftest 4294967296",
+    "selftest 00000000000",
+    "selftest 1 2",
+    "selftest 1 --packets",
+    "selftest 1 --packets 0",
+    "selftest 1 --packets 1000001",
+    "selftest 1 --packets 00000000001",
+    "selftest 1 --packets 1 --packets 1",
+    "selftest 1 --room 6",
+    "selftest 1 --little",
+    "selftest 1 -p 1",
+    "selftest --packets 1",
+    "selftest --help",
     "--state",
     "show --state --state",
     "show --state=true",

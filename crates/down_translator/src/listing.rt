@@ -6,10 +6,9 @@ ghost use Rattle.voice_state.specs.Registers.{is_null};
 ghost use Rattle.voice_state.specs.Controllers.{role_of};
 ghost use Rattle.voice_state.specs.Listing.{attribute_kind, voice_kind, is_misplaced};
 
-use crate::pieces::is_null_param;
 use midi_edge::U4;
 use voice_messages::{Param, U7, Voice2};
-use voice_state::{Kind, Listed};
+use voice_state::{ControlRole, Kind, Listed, is_null_param};
 
 fn attribute_kind(attribute_type: u8) -> Option<Kind>
     ensures { result ≡ attribute_kind attribute_type }
@@ -22,12 +21,22 @@ fn attribute_kind(attribute_type: u8) -> Option<Kind>
 }
 
 /// Whether a control change has an index that has packets of its own in MIDI 2.0, apart from the refused ones.
-#[tactic(auto, unfolding(voice_state::specs::Controllers::role_of))]
 fn is_misplaced(index: U7) -> bool
     ensures { result ≡ is_misplaced (role_of index) }
 {
-    let index = index.get();
-    index == 0 || index == 6 || index == 32 || index == 38 || (98 <= index && index <= 101)
+    match ControlRole::of(index) {
+        ControlRole::BankMsb
+        | ControlRole::BankLsb
+        | ControlRole::DataMsb
+        | ControlRole::DataLsb
+        | ControlRole::NumberMsb(_)
+        | ControlRole::NumberLsb(_) => true,
+        ControlRole::DataIncrement
+        | ControlRole::DataDecrement
+        | ControlRole::ResetAll
+        | ControlRole::ChannelMode
+        | ControlRole::Plain => false,
+    }
 }
 
 fn control_kind(index: U7) -> Option<Kind>

@@ -3,7 +3,6 @@ ghost use Rattle.std.specs.Prelude.{◌≡◌, ◌≢◌, ◌<◌, ◌≤◌, �
 ghost use Rattle.std.specs.List.{flat_map};
 ghost use Rattle.midi1_bytes.specs.Messages.{message_of, spelled, spelled_voice, voice};
 ghost use Rattle.voice_messages.specs.declared.voice1.Voice1.TheVariants as voice1;
-ghost use Rattle.voice_state.specs.Registers.{is_null};
 ghost use Rattle.voice_state.specs.Controllers.{role_of};
 ghost use Rattle.voice_state.specs.Listing.{is_carried_role};
 ghost use Rattle.voice_state.specs.Plain.{set_messages, program_messages, voice_messages};
@@ -15,6 +14,7 @@ use bit_scaling::down14;
 use midi_edge::{ShortList, U4};
 use midi1_bytes::{write_system, write_voice};
 use voice_messages::{Bank, Param, ParamKind, System, U7, U14, Voice1, Voice2};
+use voice_state::{ControlRole, is_null_param};
 
 /// The bytes of at most four messages.
 pub type Piece = ShortList<u8, 12>;
@@ -61,21 +61,22 @@ pub fn fill_system(piece: &mut Piece, message: &System)
     piece.extend(bytes.as_slice());
 }
 
-/// Whether this is the null parameter, 127/127.
-pub fn is_null_param(param: &Param) -> bool
-    ensures { result ≡ is_null param.now }
-{
-    param.bank.get() == 127 && param.index.get() == 127
-}
-
 /// Whether MIDI 2.0 sends the controller as a control change.
-#[tactic(auto, unfolding(voice_state::specs::Controllers::role_of))]
 #[inline(always)]
 fn is_carried_index(index: U7) -> bool
     ensures { result ≡ is_carried_role (role_of index) }
 {
-    let index = index.get();
-    !(index == 0 || index == 6 || index == 32 || index == 38 || (96 <= index && index <= 101))
+    match ControlRole::of(index) {
+        ControlRole::ResetAll | ControlRole::ChannelMode | ControlRole::Plain => true,
+        ControlRole::BankMsb
+        | ControlRole::BankLsb
+        | ControlRole::DataMsb
+        | ControlRole::DataLsb
+        | ControlRole::DataIncrement
+        | ControlRole::DataDecrement
+        | ControlRole::NumberMsb(_)
+        | ControlRole::NumberLsb(_) => false,
+    }
 }
 
 /// Adds the four control changes that set a parameter.

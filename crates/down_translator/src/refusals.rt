@@ -3,18 +3,14 @@ ghost use Rattle.std.specs.Prelude.{◌≡◌};
 ghost use Rattle.voice_state.specs.Refusal.{bad_control, bad_voice1, bad_voice2};
 
 use voice_messages::{U7, Voice1, Voice2};
-use voice_state::BadStep;
-
-const DATA_INCREMENT: u8 = 96;
-
-const DATA_DECREMENT: u8 = 97;
+use voice_state::{BadStep, ControlRole};
 
 fn bad_control(index: U7) -> Option<BadStep>
     ensures { result ≡ bad_control index }
 {
-    match index.get() {
-        DATA_INCREMENT => Some(BadStep::DataIncrement),
-        DATA_DECREMENT => Some(BadStep::DataDecrement),
+    match ControlRole::of(index) {
+        ControlRole::DataIncrement => Some(BadStep::DataIncrement),
+        ControlRole::DataDecrement => Some(BadStep::DataDecrement),
         _ => None,
     }
 }

@@ -22,10 +22,10 @@ reads_two past s x y hs hx hy hn = record { completes = simp (hs, hx, hy, hn, ap
 reads_one : (past : List ℕ) (s x : ℕ) → sort_of s ≡ voice_status one → sort_of x ≡ data_byte → open_in None past ≡ None → ReadsAs past (s ∷ x ∷ []) (voice (voice_of one s x []) ∷ [])
 reads_one past s x hs hx hn = record { completes = simp (hs, hx, hn, append-nil); closed = simp (hs, hx) }
 
-shaped_two : (s h ch x y : ℕ) → s / 16 ≡ h → s % 16 ≡ ch → voice (voice_of two s y (x ∷ [])) ∷ [] ≡ voice (voice_of_two h ch x y) ∷ []
+pub shaped_two : (s h ch x y : ℕ) → s / 16 ≡ h → s % 16 ≡ ch → voice (voice_of two s y (x ∷ [])) ∷ [] ≡ voice (voice_of_two h ch x y) ∷ []
 shaped_two s h ch x y e f = rw (e, f)
 
-shaped_one : (s h ch x : ℕ) → s / 16 ≡ h → s % 16 ≡ ch → voice (voice_of one s x []) ∷ [] ≡ voice (voice_of_one h ch x) ∷ []
+pub shaped_one : (s h ch x : ℕ) → s / 16 ≡ h → s % 16 ≡ ch → voice (voice_of one s x []) ∷ [] ≡ voice (voice_of_one h ch x) ∷ []
 shaped_one s h ch x e f = rw (e, f)
 
 pub bend_whole : (v : ℕ) → v / 128 * 128 + v % 128 ≡ v
@@ -81,7 +81,7 @@ inside past (d ∷ ds) h a =
     let e = data_is d a.0 in
     record { status = simp e i.status; behind = simp (e, i.behind); silent = simp (e, i.status, i.behind, i.silent, append-nil) }
 
-exclusive_turned : (bytes past : List ℕ) → reverse (0xf0 ∷ bytes ++ 0xf7 ∷ []) ++ past ≡ 0xf7 ∷ (reverse bytes ++ 0xf0 ∷ past)
+pub exclusive_turned : (bytes past : List ℕ) → reverse (0xf0 ∷ bytes ++ 0xf7 ∷ []) ++ past ≡ 0xf7 ∷ (reverse bytes ++ 0xf0 ∷ past)
 exclusive_turned bytes past =
     let opening_byte : List ℕ = 0xf0 ∷ [] in
     let closing_byte : List ℕ = 0xf7 ∷ [] in

@@ -1,15 +1,39 @@
 -- What holds of all streams of bytes, which are listed newest first.
-use Rattle.std.specs.Prelude.{◌≡◌, ℕ, List, [], ◌∷◌, length, Some, None, IfSome}
+use Rattle.std.specs.Prelude.{◌≡◌, ◌<◌, ℕ, List, [], ◌∷◌, ◌++◌, length, reverse, slice_index, false, Some, None, IfSome}
 use Rattle.std.specs.List.{AllByRecursion, flat_map}
-use Rattle.midi1_bytes.specs.Messages.{Message, IsMessage, spelled}
+use Rattle.voice_messages.specs.declared.voice1.System.{System}
+use Rattle.midi1_bytes.specs.Messages.{Message, exclusive, IsMessage, spelled, spelled_system}
 use Rattle.midi1_bytes.specs.Parsing.{held_behind, idle, open_of, parse}
+use Rattle.midi1_bytes.specs.RunningStatus.{IsKnownIn, is_running, running_after_all, without_status, written_after, written_under}
 use Rattle.midi1_bytes.specs.Steps.{ReadsAs, completed_by, step_of}
-use Rattle.midi1_bytes.specs.Stream.{Room, open_at_end, open_in}
+use Rattle.midi1_bytes.specs.Stream.{Room, open_at_end, open_in, running}
 
 abbrev pub WrittenMessagesAreReadAgain : Type 0
 WrittenMessagesAreReadAgain =
     (messages : List Message) (past : List ℕ) → AllByRecursion IsMessage messages →
     open_in None past ≡ None → ReadsAs past (flat_map spelled messages) messages
+
+-- What is written after some last bytes of a stream, by their running status, is read after all its bytes.
+pub record StatusesThatRunCanBeLeftOut : Type 0 where
+  pub reads : (messages : List Message) (before past : List ℕ) → AllByRecursion IsMessage messages →
+      open_in None past ≡ None → IsKnownIn (running before) past →
+      ReadsAs past (written_after before messages) messages
+  pub known : (bytes before past : List ℕ) → IsKnownIn (running before) past →
+      IsKnownIn (running (bytes ++ before)) (bytes ++ past)
+  pub system : (message : System) (past : List ℕ) →
+      without_status (running past) (spelled_system message) ≡ spelled_system message
+  pub exclusive : (bytes past : List ℕ) →
+      without_status (running past) (spelled (exclusive bytes)) ≡ spelled (exclusive bytes)
+  pub status : (message : Message) (past : List ℕ) → IsMessage message →
+      is_running (running past) (slice_index (without_status (running past) (spelled message)) 0) ≡ false
+  pub something : (message : Message) (messages : List Message) (past : List ℕ) →
+      0 < length (written_after past (message ∷ messages))
+
+pub record RunningStatusIsThatOfTheMessages : Type 0 where
+  pub after : (messages : List Message) (past : List ℕ) → AllByRecursion IsMessage messages →
+      running (reverse (written_after past messages) ++ past) ≡ running_after_all messages (running past)
+  pub written : (messages : List Message) (past : List ℕ) → AllByRecursion IsMessage messages →
+      written_after past messages ≡ written_under (running past) messages
 
 abbrev pub CompletedMessagesAreInRange : Type 0
 CompletedMessagesAreInRange =

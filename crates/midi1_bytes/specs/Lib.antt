@@ -4,6 +4,7 @@ pub mod Laws
 pub mod Lend
 pub mod Messages
 pub mod Parsing
+pub mod RunningStatus
 pub mod Slow
 pub mod Sorts
 pub mod Spoken

@@ -5,6 +5,8 @@ ghost use Rattle.voice_messages.specs.declared.voice1.System.TheVariants as syst
 ghost use Rattle.midi1_bytes.specs.Laws.{
   CompletedMessagesAreInRange,
   ParsedBytesAreTheDefinition,
+  RunningStatusIsThatOfTheMessages,
+  StatusesThatRunCanBeLeftOut,
   WrittenMessagesAreReadAgain,
 };
 ghost use Rattle.midi1_bytes.specs.Messages.{voice, real_time};
@@ -13,6 +15,20 @@ ghost use Rattle.midi1_bytes.specs.Steps.{completed};
 /// Written messages are read back after any bytes in which nothing is open, and leave nothing open.
 pub fn written_messages_are_read_again()
     ensures { WrittenMessagesAreReadAgain }
+{}
+
+/// Messages written without each status byte that equals the running status are read back as those messages, and leave nothing
+/// open. The running status may be that of some last bytes of the stream alone, as long as it is that of all its bytes where it
+/// is set, and then this stays so. A system message or an exclusive is written whole, something is written of each message, and
+/// a status byte that is written doesn't equal the running status.
+pub fn statuses_that_run_can_be_left_out()
+    ensures { StatusesThatRunCanBeLeftOut }
+{}
+
+/// What is written of messages depends on the running status alone, not on the bytes before. After a voice message the running
+/// status is its status byte; a system common message or an exclusive ends it, and Real Time leaves it as it was.
+pub fn running_status_is_that_of_the_messages()
+    ensures { RunningStatusIsThatOfTheMessages }
 {}
 
 /// The message that a byte completes, if it completes one, has its fields in range.

@@ -9,7 +9,7 @@ use Rattle.midi_pass.specs.Places.{Counts, Places, Fails, Puts}
 use Rattle.midi_pass.specs.Put.{Put}
 use Rattle.midi_pass.specs.declared.ends.RunEnd.{RunEnd}
 use Rattle.midi_pass.specs.declared.ends.RunEnd.TheVariants as end
-use Rattle.midi_tool.specs.Command.{Plan, by_pass, into_folder, with_setup, plan_of}
+use Rattle.midi_tool.specs.Command.{Plan, by_pass, into_folder, with_setup, by_line, plan_of}
 use Rattle.midi_tool.specs.Run.{IsDoneOrNoMemory, IsDonePass, IsDonePlan, Objects, ShelfSeen}
 use Rattle.midi_tool.specs.declared.status.Status.{Status}
 use Rattle.midi_tool.specs.declared.status.Status.TheVariants.{Done, NoMemory}
@@ -70,6 +70,7 @@ done_plan : (puts : List Put) (plan : Plan) (old unended new : Objects) (status 
     → IsDonePlan plan old unended status → IsDonePlan plan old new status
 done_plan puts (by_pass pass) old unended new status answer reads shelf put done = done_pass puts pass old.seen unended.seen new.seen status answer reads put done
 done_plan puts (into_folder folder pass) old unended new status answer reads shelf put done = done_pass puts pass old.seen unended.seen new.seen status answer reads put done
+done_plan puts (by_line text) old unended new status answer reads shelf put done = λ well. done (λ rose. well ((puts_rise puts unended.seen.places new.seen.places answer put old.seen.places.faults.output).1 rose))
 done_plan puts (with_setup name pass) old unended new status answer reads shelf put done = by_told old.shelf.texts done
   where
     Done : ShelfSeen → Seen → Option (List ℕ → Option (List ℕ)) → Type 0

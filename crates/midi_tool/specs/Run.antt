@@ -1,5 +1,5 @@
 -- What a run says, by what its words ask for and by its status.
-use Rattle.std.specs.Prelude.{◌≡◌, ◌⊎◌, ℕ, true, List, Option, Some, None, IfSome, Result, Ok, Err}
+use Rattle.std.specs.Prelude.{◌≡◌, ◌⊎◌, ℕ, true, List, [], ◌∷◌, Option, Some, None, IfSome, Result, Ok, Err}
 use Rattle.midi_edge.specs.Outside.{Rose, kept_bytes}
 use Rattle.midi_edge.specs.declared.outside.Lanes as lanes
 use Rattle.midi_edge.specs.declared.outside.Shelf as shelf
@@ -9,10 +9,11 @@ use Rattle.command_line.specs.Asked.{Asked}
 use Rattle.function_blocks.specs.Setups.{Facts, setup_of}
 use Rattle.function_blocks.specs.declared.rules.SetupFault.TheVariants as fault
 use Rattle.midi_pass.specs.Pass.{Pass, Ends, HasNoRefusal, NothingFails, Seen, seen}
-use Rattle.midi_pass.specs.Places.{Fails, Puts}
+use Rattle.midi_pass.specs.Places.{Fails, Places, Puts}
+use Rattle.midi_pass.specs.Put.{in_output}
 use Rattle.midi_pass.specs.declared.ends.RunEnd.{RunEnd}
 use Rattle.midi_pass.specs.declared.ends.RunEnd.TheVariants as end
-use Rattle.midi_tool.specs.Command.{Plan, by_pass, into_folder, with_setup, plan_of}
+use Rattle.midi_tool.specs.Command.{Plan, by_pass, into_folder, with_setup, by_line, plan_of}
 use Rattle.midi_tool.specs.LastLine.{last_puts}
 use Rattle.midi_tool.specs.declared.status.Status.{Status}
 use Rattle.midi_tool.specs.declared.status.Status.TheVariants.{Done, Refused, ReadFault, LaneFault, OutputFault, NoteFault, ShelfFault, Usage, SetupSyntax, SetupField, NoMemory}
@@ -115,6 +116,25 @@ RunsWith name pass old new status =
     ⊎ (FindsSetup name old.shelf new.shelf (Err status) × (new.seen ≡ old.seen))
     ⊎ ((status ≡ NoMemory) × (new ≡ old))
 
+-- ---- a line, without an input
+
+-- the status once a line is put, or that failed
+abbrev pub status_put : Result (Unit {0}) RunEnd → Status
+status_put (Ok done) = Done
+status_put (Err end) = status_after end
+
+-- the line was put in the output, or that failed; or there was no memory, and nothing changed
+abbrev pub PutsLine : List ℕ → Places → Places → Status → Type 0
+PutsLine text old new status =
+    ((answer : Result (Unit {0}) RunEnd) × (status ≡ status_put answer) × Puts (in_output text ∷ []) old new answer)
+    ⊎ ((status ≡ NoMemory) × (new ≡ old))
+
+-- the same, and the input and the shelf stay as they are
+abbrev pub PutsLineAlone : List ℕ → Objects → Objects → Status → Type 0
+PutsLineAlone text old new status =
+    PutsLine text old.seen.places new.seen.places status × (new.seen.left ≡ old.seen.left)
+    × (new.seen.reads ≡ old.seen.reads) × (new.shelf ≡ old.shelf)
+
 -- ---- a run
 
 -- what the command asks for is done, as far as the status says
@@ -123,6 +143,7 @@ Does (by_pass pass) old new status = Runs pass old.seen new.seen status × (new.
 Does (into_folder folder pass) old new status =
     RunsInto folder pass old.seen new.seen status × (new.shelf ≡ old.shelf)
 Does (with_setup name pass) old new status = RunsWith name pass old new status
+Does (by_line text) old new status = PutsLineAlone text old new status
 
 -- Where the words are no command nothing changes.
 abbrev pub RunSays : Option Asked → Objects → Objects → Status → Type 0
@@ -148,10 +169,16 @@ IsDoneWith name pass old new status =
     (λ texts. (text : List ℕ) (setup : Facts) → texts name ≡ Some text → setup_of text ≡ Ok setup
     → (Rose old.shelf.faults new.shelf.faults → ⊥) → IsDonePass (pass setup) old.seen new.seen status)
 
+-- where the output doesn't fail a line is put, or there was no memory
+abbrev pub IsDoneLine : Places → Places → Status → Type 0
+IsDoneLine old new status =
+    (Rose old.faults.output new.faults.output → ⊥) → (status ≡ Done) ⊎ (status ≡ NoMemory)
+
 abbrev pub IsDonePlan : Plan → Objects → Objects → Status → Type 0
 IsDonePlan (by_pass pass) old new status = IsDonePass pass old.seen new.seen status
 IsDonePlan (into_folder folder pass) old new status = IsDonePass pass old.seen new.seen status
 IsDonePlan (with_setup name pass) old new status = IsDoneWith name pass old new status
+IsDonePlan (by_line text) old new status = IsDoneLine old.seen.places new.seen.places status
 
 abbrev pub IsDoneOrNoMemory : Option Asked → Objects → Objects → Status → Type 0
 IsDoneOrNoMemory (Some asked) old new status = IsDonePlan (plan_of asked) old new status

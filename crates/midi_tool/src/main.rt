@@ -3,6 +3,7 @@
 
 mod last_line;
 mod run;
+mod self_test_line;
 mod status;
 #[cfg(test)]
 mod tests;

@@ -9,15 +9,19 @@ ghost use Rattle.midi_engines.specs.ShowBytes.{showing_bytes};
 ghost use Rattle.midi_engines.specs.ShowPackets.{showing};
 ghost use Rattle.midi_engines.specs.Up.{raising};
 ghost use Rattle.midi_pass.specs.Pass.{seen};
+ghost use Rattle.midi_pass.specs.Places.{places};
 ghost use Rattle.midi_tool.specs.Command.{byte_pass, order_of as order_in, packet_pass, plan_of};
+ghost use Rattle.midi_tool.specs.SelfTest.{self_test_text};
 ghost use Rattle.midi_tool.specs.Run.{
   Does,
   FindsSetup,
   HasLastLine,
   IsDoneOrNoMemory,
+  IsDoneLine,
   IsDonePass,
   IsDonePlan,
   Objects,
+  PutsLine,
   RunSays,
   Runs,
   RunsInto,
@@ -27,6 +31,7 @@ ghost use Rattle.midi_tool.specs.Run.{
 };
 
 use crate::last_line::put_last;
+use crate::self_test_line::self_test_line;
 use crate::status::Status;
 use command_line::{Command, WordsFault, command_line};
 use down_translator::Style;
@@ -37,6 +42,8 @@ use midi_engines::{
     run_up,
 };
 use midi_pass::RunEnd;
+use midi_pass::places::put_output;
+use self_test::count;
 use std::alloc::Global;
 use ump_words::Order;
 
@@ -48,11 +55,12 @@ use ump_words::Order;
 /// `notes` what gave no packet. `show` puts a line for each packet of a recording in `output`, `show --bytes` the lines of a stream; with
 /// `--state` those of what the input leaves in a receiver follow.
 /// `endpoint SETUP` reads the setup of that name from the shelf and answers the packets of a peer in `input`: the words of the replies
-/// come in `output`, and a line for each message in `notes`.
+/// come in `output`, and a line for each message in `notes`. `selftest SEED` takes packets that a generator draws, `--packets` of them
+/// (1 to 1,000,000, at first 10,000), down, up and down again, and puts one line of counts in `output`; the input is left unread.
 /// `--group` is 0 to 15, at first 0; `--room`, the most bytes of an exclusive between F0 and F7, is 6 to 1,048,576, at first
 /// 1,048,576; with `--little` each word has its least significant byte first.
 ///
-/// `Done` says that the input was read to its end. `Refused` comes at the first packet or byte that is refused, with its reason and
+/// `Done` says that the input was read to its end, or that the line of a self test was put. `Refused` comes at the first packet or byte that is refused, with its reason and
 /// its offset, the number of input bytes before it. `ReadFault`, `LaneFault`, `OutputFault`, `NoteFault` and `ShelfFault` come only for
 /// an object that the command names and whose count of faults rose in this call. `Usage` comes where the words are no command,
 /// `SetupSyntax` where the text of the setup isn't UTF-8 or no TOML, `SetupField` with the number of the first rule that it breaks
@@ -178,6 +186,9 @@ fn perform<S: Source, L: Lanes, W: Sink, N: Sink, K: Shelf>(
             Ok(setup) => answer_peer(alloc, setup, *little, *room, input, lanes, output, notes),
             Err(status) => status,
         },
+        Command::SelfTest { seed, packets } => {
+            test_self(alloc, *seed, *packets, lanes, output, notes)
+        }
     }
 }
 
@@ -393,6 +404,35 @@ fn answer_peer<S: Source, L: Lanes, W: Sink, N: Sink>(
 {
     match EndpointRun::new(alloc, setup, order_of(little), room) {
         Ok(engine) => status_of(run_endpoint(engine, input, lanes, output, notes)),
+        Err(_) => Status::NoMemory,
+    }
+}
+
+// Counts the packets of a seed, and puts the line of the counts.
+#[tactic(auto, using(crate::proofs::LineLaws::output_failed))]
+fn test_self<L: Lanes, W: Sink, N: Sink>(
+    alloc: Global,
+    seed: u32,
+    packets: u32,
+    lanes: &mut L,
+    output: &mut W,
+    notes: &mut N,
+) -> Status
+    ensures says { PutsLine (self_test_text seed packets)
+        (places L.Lanes W.Sink N.Sink lanes.old output.old notes.old)
+        (places L.Lanes W.Sink N.Sink lanes.new output.new notes.new) result }
+    ensures complete { IsDoneLine
+        (places L.Lanes W.Sink N.Sink lanes.old output.old notes.old)
+        (places L.Lanes W.Sink N.Sink lanes.new output.new notes.new) result }
+{
+    match count(alloc, seed, packets) {
+        Ok(counts) => {
+            let line = self_test_line(seed, packets, &counts);
+            match put_output(line.as_slice(), lanes, output, notes) {
+                Ok(()) => Status::Done,
+                Err(end) => status_of(end),
+            }
+        }
         Err(_) => Status::NoMemory,
     }
 }

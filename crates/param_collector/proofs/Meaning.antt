@@ -1,6 +1,6 @@
 -- What a control change leaves is kept after the step of the meaning, and its answer is the meaning's.
 use Rattle.std.proofs.Common.{ℕ, ◌+◌, ◌*◌, ◌/◌, ◌≡◌, ◌<◌, ◌∙◌, ap, sym, subst, refl, Bool, true, false, cond, arith, Option, Some, None, List, length, get_or, set, replicate}
-use Rattle.std.proofs.lemmas.Bool.{and_parts, eqb-true, eqb-false, eq-eqb}
+use Rattle.std.proofs.lemmas.Bool.{eqb-true, eqb-false, eq-eqb}
 use Rattle.std.proofs.lemmas.List.{get_or-set_same, get_or-set_other, length-set, get_or-replicate, length-replicate}
 use Rattle.std.specs.Prelude.{◌&&◌, IfSome}
 use Rattle.std.specs.Option.{unwrap_or}
@@ -10,36 +10,17 @@ use Rattle.voice_messages.specs.declared.voice2.ParamKind.TheVariants.{Registere
 use Rattle.voice_messages.specs.declared.voice2.Param.{Param}
 use Rattle.voice_messages.specs.Ranges.{IsParam}
 use Rattle.voice_state.specs.Registers.{Registers, unset_registers, selected, with_bank_msb, with_bank_lsb, with_number_msb, with_number_lsb, without_selection}
-use Rattle.voice_state.specs.Controllers.{Role, bank_msb, bank_lsb, data_msb, data_lsb, data_step, number_msb, number_lsb, reset_all, channel_mode, plain, role_of}
+use Rattle.voice_state.specs.Controllers.{Role, bank_msb, bank_lsb, data_msb, data_lsb, data_increment, data_decrement, number_msb, number_lsb, reset_all, channel_mode, plain, role_of}
+use Rattle.voice_state.specs.Roles.{registers_behind}
 use Rattle.voice_state.specs.State.{Channel, GroupState, same_kind, same_param, at_channel}
 use Rattle.voice_state.specs.Messages.{as_they_come, control, enter_msb, enter_lsb, start}
+use Rattle.voice_state.proofs.SameParam.{same_param-true, same_param-refl}
 use Rattle.param_collector.specs.declared.collected.Collected.{Collected}
 use Rattle.param_collector.specs.declared.collected.Collected.TheVariants as collected
 use Rattle.param_collector.specs.Holding.{Holding, IsHolding, registers_at, msb_at}
 use Rattle.param_collector.specs.Msbs.{kind_number, place_of, zeros}
-use Rattle.param_collector.specs.Control.{AreInRange, EntryInRange, answer_by, answer_of, entered, value_behind, registers_behind, holding_behind, with_entry}
+use Rattle.param_collector.specs.Control.{AreInRange, EntryInRange, answer_by, answer_of, entered, value_behind, holding_behind, with_entry}
 use Rattle.param_collector.specs.Keeps.{Keeps, IsMeant, control_step, value_of}
-
--- ---- parameters
-
-same_kind-true : (k l : ParamKind) → same_kind k l ≡ true → k ≡ l
-same_kind-true Registered Registered h = refl
-same_kind-true Assignable Assignable h = refl
-same_kind-true Registered Assignable h = cc
-same_kind-true Assignable Registered h = cc
-
-same_param-true : (p q : Param) → same_param p q ≡ true → p ≡ q
-same_param-true p q h =
-    let a = and_parts (same_kind p.kind q.kind) (eqb p.bank q.bank && eqb p.index q.index) h in
-    let b = and_parts (eqb p.bank q.bank) (eqb p.index q.index) a.1 in
-    λ i. record { kind = same_kind-true p.kind q.kind a.0 i; bank = eqb-true p.bank q.bank b.0 i; index = eqb-true p.index q.index b.1 i }
-
-same_kind-refl : (k : ParamKind) → same_kind k k ≡ true
-same_kind-refl Registered = refl
-same_kind-refl Assignable = refl
-
-same_param-refl : (p : Param) → same_param p p ≡ true
-same_param-refl p = λ i. same_kind-refl p.kind i && (eq-eqb p.bank p.bank refl i && eq-eqb p.index p.index refl i)
 
 -- ---- a channel
 
@@ -57,7 +38,8 @@ registers_meant data_lsb index value channel = entry (selected channel.registers
     entry : (o : Option Param) → channel.registers ≡ (enter_lsb as_they_come o value channel).registers
     entry None = refl
     entry (Some param) = refl
-registers_meant data_step index value channel = refl
+registers_meant data_increment index value channel = refl
+registers_meant data_decrement index value channel = refl
 registers_meant (number_msb kind) index value channel = refl
 registers_meant (number_lsb kind) index value channel = refl
 registers_meant reset_all index value channel = refl
@@ -100,7 +82,8 @@ msb_meant data_lsb number index value channel param range = entry (selected chan
             kept : (old lsb : ℕ) → lsb < 128 → old / 128 ≡ (old / 128 * 128 + lsb) / 128
             kept old lsb below = omega arith
         go false e = refl
-msb_meant data_step number index value channel param range = refl
+msb_meant data_increment number index value channel param range = refl
+msb_meant data_decrement number index value channel param range = refl
 msb_meant (number_msb kind) number index value channel param range = refl
 msb_meant (number_lsb kind) number index value channel param range = refl
 msb_meant reset_all number index value channel param range = refl
@@ -122,7 +105,8 @@ answer_meant data_lsb index value channel msbs known = entry (selected channel.r
     entry : (o : Option Param) → ((param : Param) → o ≡ Some param → msbs param ≡ value_of channel param / 128) → entered o (λ param. msbs param * 128 + value) ≡ entered o (λ param. value_of (enter_lsb as_they_come o value channel) param)
     entry None k = refl
     entry (Some q) k = ap (λ msb. collected.Set q (msb * 128 + value)) (k q refl) ∙ (λ i. collected.Set q (unwrap_or (cond (sym (same_param-refl q) i) (Some (value_of channel q / 128 * 128 + value)) (channel.params q)) 0))
-answer_meant data_step index value channel msbs known = refl
+answer_meant data_increment index value channel msbs known = refl
+answer_meant data_decrement index value channel msbs known = refl
 answer_meant (number_msb kind) index value channel msbs known = refl
 answer_meant (number_lsb kind) index value channel msbs known = refl
 answer_meant reset_all index value channel msbs known = refl
@@ -182,7 +166,8 @@ registers_follow data_msb holding channel value other below = entry (selected (r
     entry None = kept_anywhere (eqb other channel) (registers_at holding other)
     entry (Some q) = kept_anywhere (eqb other channel) (registers_at holding other)
 registers_follow data_lsb holding channel value other below = kept_anywhere (eqb other channel) (registers_at holding other)
-registers_follow data_step holding channel value other below = kept_anywhere (eqb other channel) (registers_at holding other)
+registers_follow data_increment holding channel value other below = kept_anywhere (eqb other channel) (registers_at holding other)
+registers_follow data_decrement holding channel value other below = kept_anywhere (eqb other channel) (registers_at holding other)
 registers_follow (number_msb kind) holding channel value other below = set_read holding.registers channel other (with_number_msb kind value) unset_registers below
 registers_follow (number_lsb kind) holding channel value other below = set_read holding.registers channel other (with_number_lsb kind value) unset_registers below
 registers_follow reset_all holding channel value other below = set_read holding.registers channel other without_selection unset_registers below
@@ -216,7 +201,8 @@ msbs_follow data_msb holding channel value other param held within known range =
     entry None r = kept_anywhere (eqb other channel) (msb_at holding other param)
     entry (Some q) r = msb_set holding.msbs channel other value q param held.1 within known r.0
 msbs_follow data_lsb holding channel value other param held within known range = kept_anywhere (eqb other channel) (msb_at holding other param)
-msbs_follow data_step holding channel value other param held within known range = kept_anywhere (eqb other channel) (msb_at holding other param)
+msbs_follow data_increment holding channel value other param held within known range = kept_anywhere (eqb other channel) (msb_at holding other param)
+msbs_follow data_decrement holding channel value other param held within known range = kept_anywhere (eqb other channel) (msb_at holding other param)
 msbs_follow (number_msb kind) holding channel value other param held within known range = kept_anywhere (eqb other channel) (msb_at holding other param)
 msbs_follow (number_lsb kind) holding channel value other param held within known range = kept_anywhere (eqb other channel) (msb_at holding other param)
 msbs_follow reset_all holding channel value other param held within known range = kept_anywhere (eqb other channel) (msb_at holding other param)
@@ -233,7 +219,8 @@ held_behind data_msb holding channel value held = entry (selected (registers_at 
     entry None = held
     entry (Some q) = (held.0, length-set holding.msbs (place_of channel q) value ∙ held.1)
 held_behind data_lsb holding channel value held = held
-held_behind data_step holding channel value held = held
+held_behind data_increment holding channel value held = held
+held_behind data_decrement holding channel value held = held
 held_behind (number_msb kind) holding channel value held = (length-set holding.registers channel _ ∙ held.0, held.1)
 held_behind (number_lsb kind) holding channel value held = (length-set holding.registers channel _ ∙ held.0, held.1)
 held_behind reset_all holding channel value held = (length-set holding.registers channel _ ∙ held.0, held.1)
@@ -275,7 +262,8 @@ entry_range data_msb channel param value entry range = range
 entry_range data_lsb channel param value entry range = range
 entry_range bank_msb channel param value entry range = absurd entry
 entry_range bank_lsb channel param value entry range = absurd entry
-entry_range data_step channel param value entry range = absurd entry
+entry_range data_increment channel param value entry range = absurd entry
+entry_range data_decrement channel param value entry range = absurd entry
 entry_range (number_msb kind) channel param value entry range = absurd entry
 entry_range (number_lsb kind) channel param value entry range = absurd entry
 entry_range reset_all channel param value entry range = absurd entry
@@ -303,7 +291,8 @@ answer_kept bank_msb holding group channel index value range keeps = refl
 answer_kept bank_lsb holding group channel index value range keeps = refl
 answer_kept data_msb holding group channel index value range keeps = entry_kept data_msb holding group channel index value tt range keeps
 answer_kept data_lsb holding group channel index value range keeps = entry_kept data_lsb holding group channel index value tt range keeps
-answer_kept data_step holding group channel index value range keeps = refl
+answer_kept data_increment holding group channel index value range keeps = refl
+answer_kept data_decrement holding group channel index value range keeps = refl
 answer_kept (number_msb kind) holding group channel index value range keeps = refl
 answer_kept (number_lsb kind) holding group channel index value range keeps = refl
 answer_kept reset_all holding group channel index value range keeps = refl
@@ -332,7 +321,8 @@ entry_in_range data_msb channel param value range = range
 entry_in_range data_lsb channel param value range = range
 entry_in_range bank_msb channel param value range = tt
 entry_in_range bank_lsb channel param value range = tt
-entry_in_range data_step channel param value range = tt
+entry_in_range data_increment channel param value range = tt
+entry_in_range data_decrement channel param value range = tt
 entry_in_range (number_msb kind) channel param value range = tt
 entry_in_range (number_lsb kind) channel param value range = tt
 entry_in_range reset_all channel param value range = tt

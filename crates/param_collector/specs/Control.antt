@@ -3,7 +3,7 @@ use Rattle.std.specs.Prelude.{◌≡◌, ℕ, ◌+◌, ◌*◌, ◌<◌, Option,
 use Rattle.voice_messages.specs.declared.voice2.Param.{Param}
 use Rattle.voice_messages.specs.Ranges.{IsParam}
 use Rattle.voice_state.specs.Registers.{Registers, with_bank_msb, with_bank_lsb, with_number_msb, with_number_lsb, without_selection, selected}
-use Rattle.voice_state.specs.Controllers.{Role, bank_msb, bank_lsb, data_msb, data_lsb, data_step, number_msb, number_lsb, reset_all, channel_mode, plain}
+use Rattle.voice_state.specs.Controllers.{Role, bank_msb, bank_lsb, data_msb, data_lsb, data_increment, data_decrement, number_msb, number_lsb, reset_all, channel_mode, plain}
 use Rattle.param_collector.specs.declared.collected.Collected.{Collected}
 use Rattle.param_collector.specs.declared.collected.Collected.TheVariants as collected
 use Rattle.param_collector.specs.Holding.{Holding, registers_at, msb_at}
@@ -21,7 +21,8 @@ answer_by bank_msb param values = collected.Held
 answer_by bank_lsb param values = collected.Held
 answer_by data_msb param values = entered param values
 answer_by data_lsb param values = entered param values
-answer_by data_step param values = collected.DataStep
+answer_by data_increment param values = collected.DataStep
+answer_by data_decrement param values = collected.DataStep
 answer_by (number_msb kind) param values = collected.Held
 answer_by (number_lsb kind) param values = collected.Held
 answer_by reset_all param values = collected.Plain
@@ -37,18 +38,6 @@ abbrev pub answer_of : Role → Holding → ℕ → ℕ → Collected
 answer_of role holding channel value = answer_by role (selected (registers_at holding channel)) (λ param. value_behind role value (msb_at holding channel param))
 
 -- ---- what is held after it
-
-abbrev pub registers_behind : Role → ℕ → Registers → Registers
-registers_behind bank_msb value registers = with_bank_msb value registers
-registers_behind bank_lsb value registers = with_bank_lsb value registers
-registers_behind data_msb value registers = registers
-registers_behind data_lsb value registers = registers
-registers_behind data_step value registers = registers
-registers_behind (number_msb kind) value registers = with_number_msb kind value registers
-registers_behind (number_lsb kind) value registers = with_number_lsb kind value registers
-registers_behind reset_all value registers = without_selection registers
-registers_behind channel_mode value registers = registers
-registers_behind plain value registers = registers
 
 abbrev pub at_registers : ℕ → (Registers → Registers) → Holding → Holding
 at_registers channel change holding = record holding { registers = slice_set holding.registers channel (change (registers_at holding channel)) }
@@ -66,7 +55,8 @@ holding_behind bank_msb holding channel value = at_registers channel (with_bank_
 holding_behind bank_lsb holding channel value = at_registers channel (with_bank_lsb value) holding
 holding_behind data_msb holding channel value = with_entry (selected (registers_at holding channel)) channel value holding
 holding_behind data_lsb holding channel value = holding
-holding_behind data_step holding channel value = holding
+holding_behind data_increment holding channel value = holding
+holding_behind data_decrement holding channel value = holding
 holding_behind (number_msb kind) holding channel value = at_registers channel (with_number_msb kind value) holding
 holding_behind (number_lsb kind) holding channel value = at_registers channel (with_number_lsb kind value) holding
 holding_behind reset_all holding channel value = at_registers channel without_selection holding

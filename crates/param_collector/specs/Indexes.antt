@@ -1,40 +1,12 @@
--- The indexes of each answer (MIDI 1.0 Detailed Specification, the table of controller numbers).
-use Rattle.std.specs.Prelude.{◌≡◌, ℕ, ◌≤◌, ◌⊎◌}
-use Rattle.voice_state.specs.Controllers.{Role, bank_msb, bank_lsb, data_msb, data_lsb, data_step, number_msb, number_lsb, reset_all, channel_mode, plain}
+-- The indexes of each answer.
+use Rattle.std.specs.Prelude.{◌≡◌, ℕ, ◌⊎◌}
+use Rattle.voice_state.specs.Indexes.{IsHalf, IsDataEntry, IsOther}
 use Rattle.param_collector.specs.declared.collected.Collected.{Collected}
 use Rattle.param_collector.specs.declared.collected.Collected.TheVariants as collected
 
--- a half of the bank or of a parameter's number
-abbrev pub IsHalf : ℕ → Type 0
-IsHalf index = (index ≡ 0) ⊎ (index ≡ 32) ⊎ ((98 ≤ index) × (index ≤ 101))
-
-abbrev pub IsDataEntry : ℕ → Type 0
-IsDataEntry index = (index ≡ 6) ⊎ (index ≡ 38)
-
-abbrev pub IsDataStep : ℕ → Type 0
-IsDataStep index = (index ≡ 96) ⊎ (index ≡ 97)
-
-pub record IsOther (index : ℕ) : Type 0 where
-  pub no_half : ¬ IsHalf index
-  pub no_data_entry : ¬ IsDataEntry index
-  pub no_data_step : ¬ IsDataStep index
-
 abbrev pub IsIndexOf : Collected → ℕ → Type 0
-IsIndexOf collected.DataStep index = IsDataStep index
+IsIndexOf collected.DataStep index = (index ≡ 96) ⊎ (index ≡ 97)
 IsIndexOf collected.Held index = IsHalf index
 IsIndexOf (collected.Set param value) index = IsDataEntry index
 IsIndexOf collected.Ignored index = IsDataEntry index
 IsIndexOf collected.Plain index = IsOther index
-
--- the indexes of each role
-abbrev pub HasIndex : Role → ℕ → Type 0
-HasIndex bank_msb index = IsHalf index
-HasIndex bank_lsb index = IsHalf index
-HasIndex data_msb index = IsDataEntry index
-HasIndex data_lsb index = IsDataEntry index
-HasIndex data_step index = IsDataStep index
-HasIndex (number_msb kind) index = IsHalf index
-HasIndex (number_lsb kind) index = IsHalf index
-HasIndex reset_all index = IsOther index
-HasIndex channel_mode index = IsOther index
-HasIndex plain index = IsOther index

@@ -3,4 +3,3 @@ pub mod Holding
 pub mod Indexes
 pub mod Keeps
 pub mod Msbs
-pub mod Roles

@@ -2,31 +2,30 @@
 ghost use Rattle.std.specs.Prelude.{◌≡◌, ℕ, ◌<◌, ◌+◌, ◌*◌, IfOk, IfSome};
 ghost use Rattle.voice_messages.specs.Ranges.{IsParam};
 ghost use Rattle.voice_state.specs.Controllers.{role_of, data_msb, data_lsb};
+ghost use Rattle.voice_state.specs.Indexes.{HasIndex};
 ghost use Rattle.voice_state.specs.Messages.{as_they_come, start};
 ghost use Rattle.voice_state.specs.Registers.{bank_of, selected};
+ghost use Rattle.voice_state.specs.Roles.{registers_behind, role_in};
 ghost use Rattle.voice_state.specs.State.{GroupState};
 ghost use Rattle.param_collector.specs.Control.{
   answer_of,
   at_registers,
-  registers_behind,
   holding_behind,
   AreInRange,
   EntryInRange,
   Leaves,
 };
 ghost use Rattle.param_collector.specs.Holding.{IsHolding, fresh, registers_at};
-ghost use Rattle.param_collector.specs.Indexes.{HasIndex, IsIndexOf};
+ghost use Rattle.param_collector.specs.Indexes.{IsIndexOf};
 ghost use Rattle.param_collector.specs.Keeps.{IsMeant, Keeps};
-ghost use Rattle.param_collector.specs.Roles.{role_in};
 
 use crate::collected::Collected;
 use crate::msbs::Msbs;
-use crate::registers::Registers;
-use crate::role::ControlRole;
 use midi_edge::{NoMemory, U4};
 use std::alloc::Global;
 use std::marker::Model;
 use voice_messages::{Bank, Param, U7, U14};
+use voice_state::{ControlRole, Registers};
 
 /// What the control changes of a MIDI 1.0 stream have set: for each of sixteen channels the halves of the bank and of the two
 /// parameter numbers, and for each parameter the MSB of its value. A contract sees these registers and MSBs.
@@ -113,7 +112,7 @@ impl Collector {
         match role {
             ControlRole::DataMsb => self.enter_msb(channel, value),
             ControlRole::DataLsb => self.enter_lsb(channel, value),
-            ControlRole::DataStep => Collected::DataStep,
+            ControlRole::DataIncrement | ControlRole::DataDecrement => Collected::DataStep,
             ControlRole::ChannelMode | ControlRole::Plain => Collected::Plain,
             ControlRole::ResetAll => {
                 self.take(channel, role, value);

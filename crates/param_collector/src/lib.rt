@@ -5,8 +5,6 @@ pub mod collected;
 pub mod collector;
 pub mod laws;
 mod msbs;
-mod registers;
-mod role;
 
 pub use crate::collected::Collected;
 pub use crate::collector::Collector;

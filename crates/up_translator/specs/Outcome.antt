@@ -1,5 +1,5 @@
 -- What comes of a voice message, by what a collector holds before it.
-use Rattle.std.specs.Prelude.{◌≡◌, ℕ, ◌==◌, if◌then◌else◌, Bool, true, false, List, [], ◌∷◌, Option, Some, None}
+use Rattle.std.specs.Prelude.{◌≡◌, ℕ, Bool, true, false, List, [], ◌∷◌, Option, Some, None}
 use Rattle.voice_messages.specs.declared.voice1.Voice1.{Voice1}
 use Rattle.voice_messages.specs.declared.voice1.Voice1.TheVariants as voice1
 use Rattle.voice_messages.specs.declared.voice2.Voice2.{Voice2}
@@ -8,7 +8,7 @@ use Rattle.voice_messages.specs.Ranges.{IsVoice2}
 use Rattle.bit_scaling.specs.Scaling.{up}
 use Rattle.voice_state.specs.declared.listed.BadStep.{BadStep}
 use Rattle.voice_state.specs.declared.listed.BadStep.TheVariants as bad
-use Rattle.voice_state.specs.Controllers.{role_of}
+use Rattle.voice_state.specs.Controllers.{Role, data_decrement, role_of}
 use Rattle.voice_state.specs.State.{GroupState}
 use Rattle.voice_state.specs.Messages.{channel_of}
 use Rattle.voice_state.specs.Raising.{raised_voice}
@@ -46,13 +46,14 @@ pub record IsRaisedVoice (state : GroupState) (message : Voice1) (result : Outco
 
 -- ---- a control change
 
--- of 96 and 97
-abbrev pub bad_data_step : ℕ → BadStep
-bad_data_step index = if index == 96 then bad.DataIncrement else bad.DataDecrement
+-- why a data increment or decrement is refused
+abbrev pub bad_data_step : Role → BadStep
+bad_data_step data_decrement = bad.DataDecrement
+bad_data_step _ = bad.DataIncrement
 
 -- by the collector's answer to it
 abbrev pub outcome_by : Collected → ℕ → ℕ → ℕ → Outcome
-outcome_by collected.DataStep channel index value = outcome.Refused (bad_data_step index)
+outcome_by collected.DataStep channel index value = outcome.Refused (bad_data_step (role_of index))
 outcome_by collected.Held channel index value = outcome.Nothing
 outcome_by (collected.Set param entered) channel index value = outcome.Message (voice2.Set channel param (up entered 14 32))
 outcome_by collected.Ignored channel index value = outcome.Ignored

@@ -25,9 +25,7 @@ use crate::voice::{
 use param_collector::laws::other_messages_change_nothing_kept;
 use param_collector::{Collected, Collector};
 use voice_messages::{U4, U7, Voice1, Voice2};
-use voice_state::BadStep;
-
-const DATA_INCREMENT: u8 = 96;
+use voice_state::{BadStep, ControlRole};
 
 /// What comes of a voice message.
 #[derive(Clone, Copy, Debug, PartialEq, Eq)]
@@ -44,12 +42,11 @@ pub enum Outcome {
 
 // Why a data increment or decrement is refused.
 fn bad_step(index: U7) -> BadStep
-    ensures { result ≡ bad_data_step index }
+    ensures { result ≡ bad_data_step (role_of index) }
 {
-    if index.get() == DATA_INCREMENT {
-        BadStep::DataIncrement
-    } else {
-        BadStep::DataDecrement
+    match ControlRole::of(index) {
+        ControlRole::DataDecrement => BadStep::DataDecrement,
+        _ => BadStep::DataIncrement,
     }
 }
 

@@ -1,18 +1,17 @@
 -- Each change of a channel keeps agreement, and values of parameters below 2 ^ 14. Registers stand apart.
 use Rattle.std.proofs.Common.{ℕ, ◌≡◌, ◌<◌, ◌∙◌, ap, sym, refl, Bool, true, false, cond, arith, Option, Some}
 use Rattle.std.proofs.lemmas.List.{map-append}
-use Rattle.std.proofs.lemmas.Bool.{cond_both, and_parts, eqb-true}
+use Rattle.std.proofs.lemmas.Bool.{cond_both}
 use Rattle.std.specs.Prelude.{◌&&◌}
 use Rattle.std.specs.Option.{option_map, unwrap_or}
 use lib.Dec.{leb, eqb}
-use Rattle.voice_messages.specs.declared.voice2.ParamKind.{ParamKind}
-use Rattle.voice_messages.specs.declared.voice2.ParamKind.TheVariants.{Registered, Assignable}
 use Rattle.voice_messages.specs.declared.voice2.Param.{Param}
 use Rattle.bit_scaling.specs.Scaling.{up, down7, down14}
 use Rattle.voice_state.specs.Registers.{Registers, bank_of}
-use Rattle.voice_state.specs.State.{Act, Channel, with_act, with_poly, with_controller, with_pressure, with_bend, with_program, with_registers, with_value, with_param, with_looseness, put, same_param, same_kind}
+use Rattle.voice_state.specs.State.{Act, Channel, with_act, with_poly, with_controller, with_pressure, with_bend, with_program, with_registers, with_value, with_param, with_looseness, put, same_param}
 use Rattle.voice_state.specs.Messages.{as_they_come, raised, reset_controllers, reset}
 use Rattle.voice_state.specs.Agreement.{ChannelAgrees, lowered}
+use Rattle.voice_state.proofs.SameParam.{same_param-true}
 
 pub record Follows (c1 c2 : Channel) : Type 0 where
   pub agrees : ChannelAgrees c1 c2
@@ -66,18 +65,6 @@ pub follows-registers : (c1 c2 : Channel) (r1 r2 : Registers) → Follows c1 c2 
 follows-registers c1 c2 r1 r2 h = search h
 
 -- ---- parameters
-
-same_kind-true : (k l : ParamKind) → same_kind k l ≡ true → k ≡ l
-same_kind-true Registered Registered h = refl
-same_kind-true Assignable Assignable h = refl
-same_kind-true Registered Assignable h = cc
-same_kind-true Assignable Registered h = cc
-
-pub same_param-true : (p q : Param) → same_param p q ≡ true → p ≡ q
-same_param-true p q h =
-    let a = and_parts (same_kind p.kind q.kind) (eqb p.bank q.bank && eqb p.index q.index) h in
-    let b = and_parts (eqb p.bank q.bank) (eqb p.index q.index) a.1 in
-    λ i. record { kind = same_kind-true p.kind q.kind a.0 i; bank = eqb-true p.bank q.bank b.0 i; index = eqb-true p.index q.index b.1 i }
 
 put_bounded : (c1 : Channel) (p : Param) (v1 : ℕ) → ((q : Param) → unwrap_or (c1.params q) 0 < 16384) → v1 < 16384 → (q : Param) → unwrap_or (cond (same_param q p) (Some v1) (c1.params q)) 0 < 16384
 put_bounded c1 p v1 h b q = cond_both (same_param q p) (Some v1) (c1.params q) (λ o. unwrap_or o 0 < 16384) (λ e. b) (λ e. h q)

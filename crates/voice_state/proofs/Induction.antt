@@ -68,7 +68,7 @@ plain_is_message whole _ a b = tt
 
 -- ---- the induction
 
-abbrev matches_of : (bytes : List ℕ) (past : List Packet) (g : ℕ) → Denotes bytes past g → GroupMatches (meaning1 bytes) (meaning2 past g)
+abbrev pub matches_of : (bytes : List ℕ) (past : List Packet) (g : ℕ) → Denotes bytes past g → GroupMatches (meaning1 bytes) (meaning2 past g)
 matches_of bytes past g d = record {
   channels = λ j. record {
     follows = record { agrees = d.agrees.channels j; bounded = d.bounded j };
@@ -78,7 +78,7 @@ matches_of bytes past g d = record {
   real_times = d.agrees.real_times;
 }
 
-denotes_of : (bytes : List ℕ) (past : List Packet) (g : ℕ) → GroupMatches (meaning1 bytes) (meaning2 past g) → open_in None bytes ≡ None → Denotes bytes past g
+pub denotes_of : (bytes : List ℕ) (past : List Packet) (g : ℕ) → GroupMatches (meaning1 bytes) (meaning2 past g) → open_in None bytes ≡ None → Denotes bytes past g
 denotes_of bytes past g m h = record {
   agrees = record { channels = λ j. (m.channels j).follows.agrees; commons = m.commons; real_times = m.real_times };
   registers = λ j. (m.channels j).registers;
@@ -100,7 +100,7 @@ start_denotes g = record {
 }
 
 -- after a piece that is read as these messages, they are folded
-meaning1-piece : (bytes piece : List ℕ) (ms : List Message) → ReadsAs bytes piece ms → meaning1 (reverse piece ++ bytes) ≡ fold step1 (meaning1 bytes) ms
+pub meaning1-piece : (bytes piece : List ℕ) (ms : List Message) → ReadsAs bytes piece ms → meaning1 (reverse piece ++ bytes) ≡ fold step1 (meaning1 bytes) ms
 meaning1-piece bytes piece ms r = ap (fold step1 (start as_they_come)) r.completes ∙ fold-append step1 (start as_they_come) (completed bytes) ms
 
 pub one_more : WrittenMessagesAreReadAgain → (bytes : List ℕ) (past : List Packet) (p : Packet) (g : ℕ) → AllByRecursion IsInRange past → IsInRange p → Denotes bytes past g → Denotes (lane_after bytes past p g) (p ∷ past) g

@@ -9,7 +9,7 @@ use Rattle.voice_state.specs.declared.params.Params.{Params}
 use Rattle.voice_state.specs.KeptParams.{state_in, KeepsParams, PutsIn, Puts}
 use Rattle.voice_state.specs.Params.{number_of, param_of, param_state, state_at, IsOf}
 use Rattle.voice_state.specs.State.{Channel, same_param, with_param, with_value, with_looseness}
-use Rattle.voice_state.proofs.Changes.{same_param-true}
+use Rattle.voice_state.proofs.SameParam.{same_param-true}
 use Rattle.voice_state.proofs.Told.{number_in, same_number}
 
 -- ---- what is read

@@ -11,6 +11,7 @@ pub mod Raising
 pub mod Recording
 pub mod Rooms
 pub mod Rows
+pub mod SameParam
 pub mod Silent
 pub mod Translation
 pub mod Up
@@ -22,3 +23,9 @@ pub mod Entries
 pub mod KeptChannel
 pub mod KeptGroups
 pub mod StateLaws
+pub mod CompactRows
+pub mod SameRegisters
+pub mod Compact
+pub mod Needed
+pub mod Styles
+pub mod LaneStates

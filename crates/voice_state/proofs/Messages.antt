@@ -9,7 +9,7 @@ use Rattle.voice_messages.specs.declared.voice2.Param.{Param}
 use Rattle.voice_messages.specs.Ranges.{IsVoice1}
 use Rattle.bit_scaling.specs.Scaling.{up, down14}
 use Rattle.voice_state.specs.Registers.{Registers, selected, bank_of, with_bank_msb, with_bank_lsb, with_number_msb, with_number_lsb, without_selection}
-use Rattle.voice_state.specs.Controllers.{Role, bank_msb, bank_lsb, data_msb, data_lsb, data_step, number_msb, number_lsb, reset_all, channel_mode, plain, role_of}
+use Rattle.voice_state.specs.Controllers.{Role, bank_msb, bank_lsb, data_msb, data_lsb, data_increment, data_decrement, number_msb, number_lsb, reset_all, channel_mode, plain, role_of}
 use Rattle.voice_state.specs.State.{Act, on, off, mode, Channel, with_act, with_registers}
 use Rattle.voice_state.specs.Messages.{as_they_come, raised, reset, enter_msb, enter_lsb, control, voice_at}
 use Rattle.voice_state.specs.Agreement.{lowered}
@@ -59,7 +59,8 @@ matches-control bank_msb i v c1 c2 b h = matches-registers (with_bank_msb v) c1 
 matches-control bank_lsb i v c1 c2 b h = matches-registers (with_bank_lsb v) c1 c2 h
 matches-control data_msb i v c1 c2 b h = subst (λ r. Matches (enter_msb as_they_come (selected r) v c1) (enter_msb raised (selected c2.registers) v c2)) (sym h.registers) (entered_msb (selected c2.registers) v c1 c2 b h)
 matches-control data_lsb i v c1 c2 b h = subst (λ r. Matches (enter_lsb as_they_come (selected r) v c1) (enter_lsb raised (selected c2.registers) v c2)) (sym h.registers) (entered_lsb (selected c2.registers) v c1 c2 b h)
-matches-control data_step i v c1 c2 b h = h
+matches-control data_increment i v c1 c2 b h = h
+matches-control data_decrement i v c1 c2 b h = h
 matches-control (number_msb k) i v c1 c2 b h = matches-registers (with_number_msb k v) c1 c2 h
 matches-control (number_lsb k) i v c1 c2 b h = matches-registers (with_number_lsb k v) c1 c2 h
 matches-control reset_all i v c1 c2 b h = matches-reset _ _ (matches-act c1 c2 _ _ h (ap (mode i) (sym (down7_up v b))))

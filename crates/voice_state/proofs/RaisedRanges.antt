@@ -30,7 +30,7 @@ use Rattle.midi1_bytes.specs.Steps.{completed_by, step_of}
 use Rattle.midi1_bytes.specs.Laws.{CompletedMessagesAreInRange}
 use Rattle.sysex_groups.specs.Laws.{CutPayloadIsJoined}
 use Rattle.voice_state.specs.Registers.{Pair, Registers, bank_of, bank_by, selected, selected_by, selected_of}
-use Rattle.voice_state.specs.Controllers.{Role, bank_msb, bank_lsb, data_msb, data_lsb, data_step, number_msb, number_lsb, reset_all, channel_mode, plain, role_of}
+use Rattle.voice_state.specs.Controllers.{Role, bank_msb, bank_lsb, data_msb, data_lsb, data_increment, data_decrement, number_msb, number_lsb, reset_all, channel_mode, plain, role_of}
 use Rattle.voice_state.specs.State.{Channel, GroupState}
 use Rattle.voice_state.specs.Messages.{as_they_come, enter_msb, enter_lsb, control, voice_at, channel_of, step1, meaning1}
 use Rattle.voice_state.specs.Packets.{IsInRange}
@@ -68,7 +68,8 @@ small-control (number_lsb Registered) i v c b h = record { bank = h.bank; regist
 small-control (number_lsb Assignable) i v c b h = record { bank = h.bank; registered = h.registered; assignable = record { msb = h.assignable.msb; lsb = b } }
 small-control data_msb i v c b h = msb_kept (selected c.registers) v c h
 small-control data_lsb i v c b h = lsb_kept (selected c.registers) v c h
-small-control data_step i v c b h = h
+small-control data_increment i v c b h = h
+small-control data_decrement i v c b h = h
 small-control reset_all i v c b h = record { bank = h.bank; registered = record { msb = omega arith; lsb = omega arith }; assignable = record { msb = omega arith; lsb = omega arith } }
 small-control channel_mode i v c b h = h
 small-control plain i v c b h = h

@@ -17,7 +17,7 @@ use Rattle.voice_messages.specs.Ranges.{IsVoice1}
 use Rattle.bit_scaling.specs.Scaling.{up, release_down}
 use Rattle.bit_scaling.specs.Scaled.{down7_up, down14_up, release_down_up, velocity_down_up}
 use Rattle.voice_state.specs.Registers.{Registers, bank_of, bank_by, number_of, selected, selected_by, selected_of, is_null}
-use Rattle.voice_state.specs.Controllers.{Role, bank_msb, bank_lsb, data_msb, data_lsb, data_step, number_msb, number_lsb, reset_all, channel_mode, plain, role_of}
+use Rattle.voice_state.specs.Controllers.{Role, bank_msb, bank_lsb, data_msb, data_lsb, data_increment, data_decrement, number_msb, number_lsb, reset_all, channel_mode, plain, role_of}
 use Rattle.voice_state.specs.State.{Channel, on, off, mode, with_act, with_param, same_param}
 use Rattle.voice_state.specs.Messages.{as_they_come, enter_msb, enter_lsb, control, voice_at}
 use Rattle.voice_state.specs.Packets.{voice2_at, set_param, program2}
@@ -97,7 +97,8 @@ raises-control (number_msb Registered) ch i v c1 c2 e b h = record { follows = f
 raises-control (number_msb Assignable) ch i v c1 c2 e b h = record { follows = follows-registers c1 c2 _ c2.registers h.follows; tight = h.tight; banks = h.banks }
 raises-control (number_lsb Registered) ch i v c1 c2 e b h = record { follows = follows-registers c1 c2 _ c2.registers h.follows; tight = h.tight; banks = h.banks }
 raises-control (number_lsb Assignable) ch i v c1 c2 e b h = record { follows = follows-registers c1 c2 _ c2.registers h.follows; tight = h.tight; banks = h.banks }
-raises-control data_step ch i v c1 c2 e b h = h
+raises-control data_increment ch i v c1 c2 e b h = h
+raises-control data_decrement ch i v c1 c2 e b h = h
 raises-control data_msb ch i v c1 c2 e b h = raises_msb (selected c1.registers) ch v c1 c2 refl b h
 raises-control data_lsb ch i v c1 c2 e b h = raises_lsb (selected c1.registers) ch v c1 c2 refl b h
 raises-control reset_all ch i v c1 c2 e b h = simp e (record { follows = follows-reset _ _ (follows-act c1 c2 (mode i v) (mode i (up v 7 32)) h.follows (ap (mode i) (sym (down7_up v b)))); tight = h.tight; banks = h.banks })

@@ -1,7 +1,7 @@
 -- The raised packets are accepted on the way down, carried unless they are held, and not listed.
-use Rattle.std.proofs.Common.{ℕ, ◌+◌, ◌*◌, ◌≡◌, ◌<◌, ◌≤◌, ◌∙◌, ap, sym, refl, subst, zero, suc, map, List, [], ◌∷◌, ◌++◌, reverse, take, drop, length, Option, Some, None, Bool, true, false, cond, arith, length-take, length-drop, length-append, inl, inr}
+use Rattle.std.proofs.Common.{ℕ, ◌+◌, ◌*◌, ◌≡◌, ◌<◌, ◌≤◌, ◌∙◌, ap, sym, refl, subst, zero, suc, map, List, [], ◌∷◌, ◌++◌, reverse, take, drop, length, Option, Some, None, true, false, cond, arith, length-take, length-drop, length-append, inl, inr}
 use Rattle.std.specs.Prelude.{is_some}
-use Rattle.std.proofs.lemmas.Bool.{cond_both, eq-eqb, ne_eqb, eqb-true, cases_eq}
+use Rattle.std.proofs.lemmas.Bool.{cond_both, eq-eqb, ne_eqb, cases_eq}
 use Rattle.std.proofs.lemmas.Option.{same_Some}
 use Rattle.std.proofs.Math.Seq.{take-add}
 use Rattle.std.specs.Option.{option_to_list, unwrap_or}
@@ -28,7 +28,7 @@ use Rattle.voice_state.specs.State.{Channel, GroupState}
 use Rattle.voice_state.specs.Messages.{channel_of, meaning1}
 use Rattle.voice_state.specs.Parts.{group_of, part_of, packet_parts}
 use Rattle.voice_state.specs.Listing.{is_carried_role, is_carried_voice, voice_kind}
-use Rattle.voice_state.specs.Refusal.{bad_control, bad_voice2}
+use Rattle.voice_state.specs.Refusal.{bad_role, bad_voice2}
 use Rattle.voice_state.specs.Raising.{raised_entry, raised_control, raised_voice, exclusive_packet, exclusive_packets, raised_message, raised_completed, packets_up}
 use Rattle.voice_state.proofs.Joined.{begun_with, joined_by_part, joined-is}
 use Rattle.voice_state.proofs.Raising.{selected-is}
@@ -63,22 +63,10 @@ AreSilent room (p ∷ past) = IsSilent room past p × AreSilent room past
 
 -- ---- voice messages
 
-bad_control-none : (r : Role) (i : ℕ) → role_of i ≡ r → is_carried_role r ≡ true → bad_control i ≡ None
-unfolding role_of
-bad_control-none r i e c = go (eqb i 96) refl (eqb i 97) refl
-  where
-    step_role : (n : ℕ) → i ≡ n → is_carried_role (role_of n) ≡ true
-    step_role n q = ap (λ k. is_carried_role (role_of k)) (sym q) ∙ ap is_carried_role e ∙ c
-
-    go : (t : Bool) → eqb i 96 ≡ t → (u : Bool) → eqb i 97 ≡ u → bad_control i ≡ None
-    go true q u k = let no : is_carried_role (role_of 96) ≡ true = step_role 96 (eqb-true i 96 q) in cc
-    go false q true k = let no : is_carried_role (role_of 97) ≡ true = step_role 97 (eqb-true i 97 k) in cc
-    go false q false k = rw (q, k) refl
-
 control_silent : (r : Role) (ch i v : ℕ) → role_of i ≡ r → is_carried_role r ≡ true → IsSilentVoice (voice2.Control ch i v)
-control_silent reset_all ch i v e c = record { unlisted = simp e; accepted = bad_control-none reset_all i e c; carried = simp e }
-control_silent channel_mode ch i v e c = record { unlisted = simp e; accepted = bad_control-none channel_mode i e c; carried = simp e }
-control_silent plain ch i v e c = record { unlisted = simp e; accepted = bad_control-none plain i e c; carried = simp e }
+control_silent reset_all ch i v e c = record { unlisted = simp e; accepted = ap bad_role e; carried = simp e }
+control_silent channel_mode ch i v e c = record { unlisted = simp e; accepted = ap bad_role e; carried = simp e }
+control_silent plain ch i v e c = record { unlisted = simp e; accepted = ap bad_role e; carried = simp e }
 control_silent _ ch i v e c = cc
 
 entry_silent : (o : Option Param) (s : Channel) (ch w : ℕ) → selected s.registers ≡ o → AllByRecursion IsSilentVoice (raised_entry ch o w)

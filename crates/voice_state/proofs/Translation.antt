@@ -18,7 +18,7 @@ use Rattle.voice_state.proofs.Recording.{recording_agrees}
 
 -- ---- one pair for each packet that is carried
 
-pair_by-lane : (o : Option ℕ) (t : Bool) (piece : List ℕ) → map (λ (pair : ℕ × List ℕ). pair.0) (pair_by o t piece) ≡ lane_by o t
+pub pair_by-lane : (o : Option ℕ) (t : Bool) (piece : List ℕ) → map (λ (pair : ℕ × List ℕ). pair.0) (pair_by o t piece) ≡ lane_by o t
 pair_by-lane None t piece = refl
 pair_by-lane (Some l) true piece = refl
 pair_by-lane (Some l) false piece = refl
@@ -55,7 +55,7 @@ pairs_of_first before after =
     ∙ ap (take (length (plain_pairs before))) (plain_pairs-append before after)
     ∙ take-append_seam (plain_pairs before) (pairs_since (reverse before) (reverse after))
 
-all_take : (count : ℕ) (packets : List Packet) → AllByRecursion IsInRange packets → AllByRecursion IsInRange (take count packets)
+pub all_take : (count : ℕ) (packets : List Packet) → AllByRecursion IsInRange packets → AllByRecursion IsInRange (take count packets)
 all_take count packets a = first (take count packets) (drop count packets) (subst (AllByRecursion IsInRange) (sym (take-append-drop count packets)) a)
   where
     first : (before after : List Packet) → AllByRecursion IsInRange (before ++ after) → AllByRecursion IsInRange before

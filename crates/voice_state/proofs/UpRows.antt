@@ -52,7 +52,7 @@ unfolding sort_of role_of
 cut_lines = refl
 
 pub step_refused : refusal_up None (reverse (0xb0 ∷ 0x60 ∷ [])) 0 ≡ Some bad.DataIncrement
-unfolding sort_of
+unfolding sort_of role_of
 step_refused = refl
 
 pub exclusive_refused : refusal_up (Some 6) (reverse (0xf0 ∷ 1 ∷ 2 ∷ 3 ∷ 4 ∷ 5 ∷ 6 ∷ [])) 7 ≡ Some bad.ExclusiveTooLong

@@ -8,7 +8,8 @@ pub data Role : Type 0 where
   bank_lsb : Role
   data_msb : Role
   data_lsb : Role
-  data_step : Role
+  data_increment : Role
+  data_decrement : Role
   number_msb : ParamKind → Role
   number_lsb : ParamKind → Role
   reset_all : Role
@@ -22,8 +23,8 @@ role_of index =
     else if index == 32 then bank_lsb
     else if index == 6 then data_msb
     else if index == 38 then data_lsb
-    else if index == 96 then data_step
-    else if index == 97 then data_step
+    else if index == 96 then data_increment
+    else if index == 97 then data_decrement
     else if index == 98 then number_lsb Assignable
     else if index == 99 then number_msb Assignable
     else if index == 100 then number_lsb Registered

@@ -1,10 +1,14 @@
 pub mod Acts
 pub mod Agreement
 pub mod Back
+pub mod Compact
+pub mod CompactRows
 pub mod Controllers
 pub mod Facts
+pub mod Indexes
 pub mod Kept
 pub mod KeptParams
+pub mod LaneState
 pub mod Lanes
 pub mod Laws
 pub mod Listing
@@ -17,6 +21,7 @@ pub mod Plain
 pub mod Raising
 pub mod Refusal
 pub mod Registers
+pub mod Relied
 pub mod Roles
 pub mod Rooms
 pub mod Rows
@@ -24,6 +29,8 @@ pub mod State
 pub mod StateLaws
 pub mod States
 pub mod StepListing
+pub mod StyleLaws
+pub mod Styles
 pub mod Tables
 pub mod Translation
 pub mod UpLaws

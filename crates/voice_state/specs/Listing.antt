@@ -14,7 +14,7 @@ use Rattle.voice_state.specs.declared.listed.Kind.{Kind}
 use Rattle.voice_state.specs.declared.listed.Kind.TheVariants as kinds
 use Rattle.voice_state.specs.declared.listed.Listed.{Listed}
 use Rattle.voice_state.specs.Registers.{is_null}
-use Rattle.voice_state.specs.Controllers.{Role, data_step, reset_all, channel_mode, plain, role_of}
+use Rattle.voice_state.specs.Controllers.{Role, data_increment, data_decrement, reset_all, channel_mode, plain, role_of}
 use Rattle.voice_state.specs.Parts.{Placed, group_of, parts_of, whole_by}
 
 -- ---- carried
@@ -53,7 +53,8 @@ IsCarried room parts packet = IsTrue (is_carried (whole_by room parts packet) pa
 
 -- the indexes that have packets of their own in MIDI 2.0; data increment and decrement are refused
 abbrev pub is_misplaced : Role → Bool
-is_misplaced data_step = false
+is_misplaced data_increment = false
+is_misplaced data_decrement = false
 is_misplaced role = not (is_carried_role role)
 
 abbrev pub attribute_kind : ℕ → Option Kind

@@ -10,7 +10,7 @@ use Rattle.bit_scaling.specs.Scaling.{up, down14}
 use Rattle.midi1_bytes.specs.Messages.{Message, voice, common, exclusive, real_time}
 use Rattle.midi1_bytes.specs.Steps.{completed}
 use Rattle.voice_state.specs.Registers.{unset_registers, with_bank_msb, with_bank_lsb, with_number_msb, with_number_lsb, selected, without_selection}
-use Rattle.voice_state.specs.Controllers.{Role, bank_msb, bank_lsb, data_msb, data_lsb, data_step, number_msb, number_lsb, reset_all, channel_mode, plain, role_of}
+use Rattle.voice_state.specs.Controllers.{Role, bank_msb, bank_lsb, data_msb, data_lsb, data_increment, data_decrement, number_msb, number_lsb, reset_all, channel_mode, plain, role_of}
 use Rattle.voice_state.specs.State.{Act, on, off, mode, Channel, GroupState, empty, with_act, with_poly, with_controller, with_pressure, with_bend, with_program, at_registers, with_value, with_param, at_channel, with_common, with_real_time}
 
 -- How values are kept, from those of MIDI 1.0: velocities; controllers by their index; pressures and mode values; values of
@@ -80,7 +80,8 @@ control scale bank_msb index value channel = at_registers (with_bank_msb value) 
 control scale bank_lsb index value channel = at_registers (with_bank_lsb value) channel
 control scale data_msb index value channel = enter_msb scale (selected channel.registers) value channel
 control scale data_lsb index value channel = enter_lsb scale (selected channel.registers) value channel
-control scale data_step index value channel = channel
+control scale data_increment index value channel = channel
+control scale data_decrement index value channel = channel
 control scale (number_msb kind) index value channel = at_registers (with_number_msb kind value) channel
 control scale (number_lsb kind) index value channel = at_registers (with_number_lsb kind value) channel
 control scale reset_all index value channel = reset scale (with_act (mode index (scale.value value)) channel)

@@ -1,5 +1,5 @@
 -- The packets that the way down refuses (own rules).
-use Rattle.std.specs.Prelude.{ℕ, ◌==◌, if◌then◌else◌, List, Option, Some, None}
+use Rattle.std.specs.Prelude.{ℕ, if◌then◌else◌, List, Option, Some, None}
 use Rattle.voice_messages.specs.declared.voice1.Voice1.{Voice1}
 use Rattle.voice_messages.specs.declared.voice1.Voice1.TheVariants as voice1
 use Rattle.voice_messages.specs.declared.voice2.Voice2.{Voice2}
@@ -9,11 +9,17 @@ use Rattle.ump_grammar.specs.declared.packet.Packet.TheVariants as packet
 use Rattle.sysex_groups.specs.Exclusives.{Part, Room, passes_room}
 use Rattle.voice_state.specs.declared.listed.BadStep.{BadStep}
 use Rattle.voice_state.specs.declared.listed.BadStep.TheVariants as bad
+use Rattle.voice_state.specs.Controllers.{Role, data_increment, data_decrement, role_of}
 use Rattle.voice_state.specs.Parts.{part_of}
 
 -- data increment and data decrement
+abbrev pub bad_role : Role → Option BadStep
+bad_role data_increment = Some bad.DataIncrement
+bad_role data_decrement = Some bad.DataDecrement
+bad_role _ = None
+
 abbrev pub bad_control : ℕ → Option BadStep
-bad_control index = if index == 96 then Some bad.DataIncrement else if index == 97 then Some bad.DataDecrement else None
+bad_control index = bad_role (role_of index)
 
 abbrev pub bad_voice1 : Voice1 → Option BadStep
 bad_voice1 (voice1.Control channel index value) = bad_control index

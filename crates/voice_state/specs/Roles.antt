@@ -3,14 +3,15 @@ use Rattle.std.specs.Prelude.{ℕ}
 use Rattle.voice_state.specs.Registers.{Registers, with_bank_msb, with_bank_lsb, with_number_msb, with_number_lsb, without_selection}
 use Rattle.voice_state.specs.declared.role.ControlRole.{ControlRole}
 use Rattle.voice_state.specs.declared.role.ControlRole.TheVariants as control_role
-use Rattle.voice_state.specs.Controllers.{Role, bank_msb, bank_lsb, data_msb, data_lsb, data_step, number_msb, number_lsb, reset_all, channel_mode, plain}
+use Rattle.voice_state.specs.Controllers.{Role, bank_msb, bank_lsb, data_msb, data_lsb, data_increment, data_decrement, number_msb, number_lsb, reset_all, channel_mode, plain}
 
 abbrev pub role_in : ControlRole → Role
 role_in control_role.BankMsb = bank_msb
 role_in control_role.BankLsb = bank_lsb
 role_in control_role.DataMsb = data_msb
 role_in control_role.DataLsb = data_lsb
-role_in control_role.DataStep = data_step
+role_in control_role.DataIncrement = data_increment
+role_in control_role.DataDecrement = data_decrement
 role_in (control_role.NumberMsb kind) = number_msb kind
 role_in (control_role.NumberLsb kind) = number_lsb kind
 role_in control_role.ResetAll = reset_all
@@ -23,7 +24,8 @@ registers_behind bank_msb value registers = with_bank_msb value registers
 registers_behind bank_lsb value registers = with_bank_lsb value registers
 registers_behind data_msb value registers = registers
 registers_behind data_lsb value registers = registers
-registers_behind data_step value registers = registers
+registers_behind data_increment value registers = registers
+registers_behind data_decrement value registers = registers
 registers_behind (number_msb kind) value registers = with_number_msb kind value registers
 registers_behind (number_lsb kind) value registers = with_number_lsb kind value registers
 registers_behind reset_all value registers = without_selection registers

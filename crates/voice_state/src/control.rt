@@ -49,7 +49,7 @@ impl Channel {
             }
             ControlRole::DataMsb => self.enter_msb(width, value),
             ControlRole::DataLsb => self.enter_lsb(width, value),
-            ControlRole::DataStep => Ok(()),
+            ControlRole::DataIncrement | ControlRole::DataDecrement => Ok(()),
             ControlRole::ResetAll => self.reset_all(width, index, width.value(value)),
             ControlRole::ChannelMode => {
                 let value = width.value(value);

@@ -4,6 +4,7 @@
 
 mod acts;
 mod channel;
+pub mod compact_rows;
 mod control;
 pub mod fact;
 mod group;
@@ -13,10 +14,11 @@ pub mod meaning_rows;
 mod note_act;
 mod param_map;
 mod params;
-mod registers;
-mod role;
+pub mod registers;
+pub mod role;
 pub mod running;
 pub mod state_laws;
+pub mod style_laws;
 mod table;
 pub mod up_laws;
 pub mod up_rows;
@@ -25,6 +27,8 @@ mod width;
 
 pub use crate::fact::Fact;
 pub use crate::listed::{BadStep, Kind, Listed};
+pub use crate::registers::{Registers, is_null_param};
+pub use crate::role::ControlRole;
 pub use crate::running::VoiceState;
 
 #[cfg(test)]

@@ -1,12 +1,33 @@
 // The registers of a channel: its bank and the numbers of its parameters, half by half.
 ghost use Rattle.std.specs.Prelude.{◌≡◌, ◌<◌, IfSome};
 ghost use Rattle.voice_messages.specs.Ranges.{IsParam};
-ghost use Rattle.voice_state.specs.Registers.{bank_of, selected, selected_by, unset_registers, with_bank, with_selected};
+ghost use Rattle.voice_state.specs.Controllers.{role_of};
+ghost use Rattle.voice_state.specs.Registers.{
+  bank_of,
+  is_null,
+  selected,
+  selected_by,
+  unset_registers,
+  with_bank,
+  with_selected,
+};
 ghost use Rattle.voice_state.specs.Roles.{registers_behind, role_in};
 
 use crate::role::ControlRole;
 use std::marker::Model;
 use voice_messages::{Bank, Param, ParamKind, U7};
+
+// Both halves of the null parameter.
+const NULL: u8 = 127;
+
+/// Whether this is the null parameter 127/127, which selects none (MIDI 1.0 Detailed Specification, registered and
+/// non-registered parameter numbers).
+#[inline(always)]
+pub fn is_null_param(param: &Param) -> bool
+    ensures { result ≡ is_null param.now }
+{
+    param.bank.get() == NULL && param.index.get() == NULL
+}
 
 // A bank or a parameter's number, of which each half may be unset.
 #[derive(Clone, Copy, Debug)]
@@ -17,8 +38,6 @@ struct Pair {
 
 impl Pair {
     ghost use Rattle.std.specs.Prelude.{None, Some};
-
-    const NULL: u8 = 127;
 
     fn unset() -> Pair
         ensures msb { result.msb ≡ None }
@@ -58,19 +77,20 @@ impl Pair {
         let (Some(bank), Some(index)) = (self.msb, self.lsb) else {
             return None;
         };
-        let (msb, lsb) = (bank.get(), index.get());
-        if msb == Pair::NULL && lsb == Pair::NULL {
+        let param = Param { kind, bank, index };
+        if is_null_param(&param) {
             None
         } else {
-            Some(Param { kind, bank, index })
+            Some(param)
         }
     }
 }
 
-/// What a channel has of a bank and of the two parameter numbers, with the kind of the number that was touched last. To a
-/// contract it is the registers of the definition.
+/// What the messages of a channel have set of its bank and of its two parameter numbers, half by half, and which of the two
+/// numbers was touched last (MIDI 1.0 Detailed Specification, bank select, registered and non-registered parameter numbers). To
+/// a contract it is the registers of the definition.
 #[derive(Drop)]
-pub(crate) struct Registers {
+pub struct Registers {
     bank: Pair,
     registered: Pair,
     assignable: Pair,
@@ -91,8 +111,8 @@ impl Model for Registers {
 }
 
 impl Registers {
-    /// Registers of which nothing is set.
-    pub(crate) fn unset() -> Registers
+    /// Registers of which no half is set, and neither number was touched.
+    pub fn unset() -> Registers
         ensures { result ≡ unset_registers }
     {
         Registers {
@@ -103,9 +123,18 @@ impl Registers {
         }
     }
 
-    /// Takes one control change.
+    /// Takes a control change of seven bits. A half that it sets leaves the other one; reset all controllers sets both numbers to
+    /// the null parameter (RP-015). Data entries and all other control changes leave the registers as they are.
     #[inline(always)]
-    pub(crate) fn take(&mut self, role: ControlRole, value: U7)
+    pub fn control(&mut self, index: U7, value: U7)
+        ensures { self.new ≡ registers_behind (role_of index) value self.old }
+    {
+        self.take(ControlRole::of(index), value);
+    }
+
+    /// Takes a control change of a role that is known, as `control` does.
+    #[inline(always)]
+    pub fn take(&mut self, role: ControlRole, value: U7)
         ensures { self.new ≡ registers_behind (role_in role) value self.old }
     {
         match role {
@@ -133,14 +162,29 @@ impl Registers {
             }
             ControlRole::DataMsb
             | ControlRole::DataLsb
-            | ControlRole::DataStep
+            | ControlRole::DataIncrement
+            | ControlRole::DataDecrement
             | ControlRole::ChannelMode
             | ControlRole::Plain => {}
         }
     }
 
+    /// The MSB of the bank, where it was set.
+    pub fn bank_msb(&self) -> Option<U7>
+        ensures { result ≡ self.now.bank.msb }
+    {
+        self.bank.msb
+    }
+
+    /// The LSB of the bank, where it was set.
+    pub fn bank_lsb(&self) -> Option<U7>
+        ensures { result ≡ self.now.bank.lsb }
+    {
+        self.bank.lsb
+    }
+
     /// The bank that a program change takes: an unset half is 0, and none where neither is set.
-    pub(crate) fn bank(&self) -> Option<Bank>
+    pub fn bank(&self) -> Option<Bank>
         ensures { result ≡ bank_of self.now }
     {
         let zero = U7::low_bits(0);
@@ -152,8 +196,9 @@ impl Registers {
         }
     }
 
-    /// The parameter that a data entry sets.
-    pub(crate) fn selected(&self) -> Option<Param>
+    /// The parameter that a data entry sets: that of the number touched last; none where a half of it is unset, or where it is the
+    /// null parameter.
+    pub fn selected(&self) -> Option<Param>
         ensures param { result ≡ selected self.now }
         ensures in_range { IfSome result IsParam }
     {
@@ -165,14 +210,14 @@ impl Registers {
     }
 
     /// Takes the bank of a program change (M2-104-UM, MIDI 2.0 program change).
-    pub(crate) fn take_bank(&mut self, bank: Bank)
+    pub fn take_bank(&mut self, bank: Bank)
         ensures { self.new ≡ with_bank bank self.old }
     {
         self.bank = Pair::whole(bank.msb, bank.lsb);
     }
 
     /// Selects a parameter (M2-104-UM, registered and assignable controllers).
-    pub(crate) fn select(&mut self, param: &Param)
+    pub fn select(&mut self, param: &Param)
         ensures { self.new ≡ with_selected param.now self.old }
     {
         let number = Pair::whole(param.bank, param.index);

@@ -1,37 +1,54 @@
 // What a control change is by its index.
 ghost use Rattle.std.specs.Prelude.{◌≡◌};
 ghost use Rattle.voice_state.specs.Controllers.{role_of};
+ghost use Rattle.voice_state.specs.Indexes.{HasIndex};
 ghost use Rattle.voice_state.specs.Roles.{role_in};
 
 use voice_messages::{ParamKind, U7};
 
-/// What a control change is (MIDI 1.0 Detailed Specification, the table of controller numbers).
-#[derive(Clone, Copy, Debug)]
-pub(crate) enum ControlRole {
+/// What a control change is by its index (MIDI 1.0 Detailed Specification, the table of controller numbers). This is the only
+/// place where the indexes are told apart.
+#[derive(Clone, Copy, Debug, PartialEq, Eq)]
+pub enum ControlRole {
+    /// 0: bank select, MSB.
     BankMsb,
+    /// 32: bank select, LSB.
     BankLsb,
+    /// 6: data entry, MSB.
     DataMsb,
+    /// 38: data entry, LSB.
     DataLsb,
-    DataStep,
+    /// 96: data increment.
+    DataIncrement,
+    /// 97: data decrement.
+    DataDecrement,
+    /// The MSB of a parameter's number: 101 of a registered one, 99 of an assignable (non-registered) one.
     NumberMsb(ParamKind),
+    /// The LSB of a parameter's number: 100 of a registered one, 98 of an assignable (non-registered) one.
     NumberLsb(ParamKind),
+    /// 121: reset all controllers, which is a channel mode message too (RP-015).
     ResetAll,
+    /// 120, and 122 to 127: the other channel mode messages.
     ChannelMode,
+    /// All other indexes: a controller that has a value.
     Plain,
 }
 
 impl ControlRole {
+    /// The role of the control change with this index.
     #[tactic(auto, unfolding(crate::specs::Controllers::role_of))]
     #[inline(always)]
-    pub(crate) fn of(index: U7) -> ControlRole
+    pub fn of(index: U7) -> ControlRole
         ensures role { role_in result ≡ role_of index }
+        ensures index { HasIndex (role_in result) index }
     {
         match index.get() {
             0 => ControlRole::BankMsb,
             32 => ControlRole::BankLsb,
             6 => ControlRole::DataMsb,
             38 => ControlRole::DataLsb,
-            96 | 97 => ControlRole::DataStep,
+            96 => ControlRole::DataIncrement,
+            97 => ControlRole::DataDecrement,
             98 => ControlRole::NumberLsb(ParamKind::Assignable),
             99 => ControlRole::NumberMsb(ParamKind::Assignable),
             100 => ControlRole::NumberLsb(ParamKind::Registered),

@@ -1,5 +1,5 @@
 // States that messages and packets leave, and what is told of them, worked by hand from the tables of the standards.
-use super::{Fact, VoiceState};
+use super::{ControlRole, Fact, Registers, VoiceState, is_null_param};
 use midi_edge::ShortList;
 use std::alloc::{AllocError, Global};
 use std::process::Abort;
@@ -682,4 +682,85 @@ fn groups_and_channels_in_order(rt: HostRuntime) {
         told(15, 0, 1),
     ];
     packets_tell(&rt, rt.alloc(), &packets, &facts);
+}
+
+// ---- roles and registers
+
+// MIDI 1.0, the table of controller numbers.
+#[test]
+fn roles_of_controllers(rt: HostRuntime) {
+    let rows = [
+        (0, ControlRole::BankMsb),
+        (1, ControlRole::Plain),
+        (6, ControlRole::DataMsb),
+        (7, ControlRole::Plain),
+        (32, ControlRole::BankLsb),
+        (38, ControlRole::DataLsb),
+        (95, ControlRole::Plain),
+        (96, ControlRole::DataIncrement),
+        (97, ControlRole::DataDecrement),
+        (98, ControlRole::NumberLsb(ParamKind::Assignable)),
+        (99, ControlRole::NumberMsb(ParamKind::Assignable)),
+        (100, ControlRole::NumberLsb(ParamKind::Registered)),
+        (101, ControlRole::NumberMsb(ParamKind::Registered)),
+        (102, ControlRole::Plain),
+        (119, ControlRole::Plain),
+        (120, ControlRole::ChannelMode),
+        (121, ControlRole::ResetAll),
+        (122, ControlRole::ChannelMode),
+        (127, ControlRole::ChannelMode),
+    ];
+    for (index, role) in rows {
+        assert_eq!(rt; ControlRole::of(u7(index)), role, "control {index}");
+    }
+}
+
+#[test]
+fn halves_of_registers(rt: HostRuntime) {
+    let mut registers = Registers::unset();
+    assert_eq!(rt; registers.bank(), None);
+    registers.control(u7(32), u7(2));
+    assert_eq!(rt; registers.bank_msb(), None);
+    assert_eq!(rt; registers.bank_lsb(), Some(u7(2)));
+    assert_eq!(rt; registers.bank(), Some(bank(0, 2)));
+    registers.control(u7(0), u7(1));
+    assert_eq!(rt; registers.bank(), Some(bank(1, 2)));
+    registers.control(u7(101), u7(0));
+    assert_eq!(rt; registers.selected(), None);
+    registers.control(u7(100), u7(5));
+    assert_eq!(rt;
+        registers.selected(),
+        Some(param(ParamKind::Registered, 0, 5))
+    );
+    registers.control(u7(7), u7(100));
+    registers.control(u7(6), u7(64));
+    assert_eq!(rt;
+        registers.selected(),
+        Some(param(ParamKind::Registered, 0, 5))
+    );
+    registers.control(u7(99), u7(127));
+    registers.control(u7(98), u7(127));
+    assert_eq!(rt; registers.selected(), None);
+    registers.control(u7(98), u7(126));
+    assert_eq!(rt;
+        registers.selected(),
+        Some(param(ParamKind::Assignable, 127, 126))
+    );
+    registers.control(u7(121), u7(0));
+    assert_eq!(rt; registers.selected(), None);
+    assert_eq!(rt; registers.bank_msb(), Some(u7(1)));
+}
+
+#[test]
+fn the_null_parameter(rt: HostRuntime) {
+    let rows = [
+        (127, 127, true),
+        (127, 126, false),
+        (126, 127, false),
+        (0, 0, false),
+    ];
+    for (bank, index, null) in rows {
+        let param = param(ParamKind::Assignable, bank, index);
+        assert_eq!(rt; is_null_param(&param), null, "{bank}/{index}");
+    }
 }

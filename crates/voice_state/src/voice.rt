@@ -10,16 +10,10 @@ ghost use Rattle.voice_state.specs.Widths.{scale_of};
 
 use crate::channel::Channel;
 use crate::note_act::NoteAct;
+use crate::registers::is_null_param;
 use crate::width::Width;
 use midi_edge::NoMemory;
 use voice_messages::{Bank, Param, U7, Voice1, Voice2};
-
-// Whether a parameter is the null parameter 127/127.
-fn is_null(param: &Param) -> bool
-    ensures { result ≡ is_null param.now }
-{
-    param.bank.get() == 127 && param.index.get() == 127
-}
 
 // A note on, and of velocity 0 a note off of velocity 64 (MIDI 1.0 Detailed Specification, note on).
 fn note_on(width: Width, note: U7, velocity: U7) -> NoteAct
@@ -108,7 +102,7 @@ impl Channel {
             → KeepsChannel raised self.new (if is_null param.now then state else set_param param.now value state)) }
         ensures unchanged { OnErr result (self.new ≡ self.old) }
     {
-        if is_null(param) {
+        if is_null_param(param) {
             return Ok(());
         }
         self.params.set(param, value)?;
@@ -122,7 +116,7 @@ impl Channel {
             → KeepsChannel raised self.new (if is_null param.now then state else definition.with_looseness true param.now state)) }
         ensures unchanged { OnErr result (self.new ≡ self.old) }
     {
-        if is_null(param) {
+        if is_null_param(param) {
             return Ok(());
         }
         self.params.loosen(param)

@@ -515,6 +515,28 @@ fn a_profile_is_switched(rt: HostRuntime) -> Result<(), Fail> {
 }
 
 // After a collision the block has its next MUID: a switch to the old one isn't for it, and one to the new one is.
+// A Discovery and a switch in the short forms of version 01, answered in version 01.
+#[test]
+fn a_peer_of_version_01_is_answered(rt: HostRuntime) -> Result<(), Fail> {
+    let alloc = rt.alloc();
+    answers(
+        &rt,
+        alloc,
+        &[
+            0x30167E7F, 0x0D700105, 0x30260000, 0x007F7F7F, 0x30267F7D, 0x00000100, 0x30260200,
+            0x01000000, 0x30350400, 0x02000000, 0x30167E02, 0x0D220105, 0x30260000, 0x00670A0D,
+            0x3036097E, 0x00010100,
+        ],
+        Status::Done,
+        &[
+            0x30167E7F, 0x0D710167, 0x30260A0D, 0x09050000, 0x3026007D, 0x00000100, 0x30260200,
+            0x01000000, 0x30350400, 0x00400000, 0x30167E02, 0x0D240167, 0x30260A0D, 0x097F7F7F,
+            0x30367F7E, 0x00010100,
+        ],
+        "32 0 answered\n56 0 answered\nprotocol 2\nblock 0 muid 19088743\nprofile 0 channel 0 2 7E00010100 on\n",
+    )
+}
+
 #[test]
 fn a_profile_is_switched_after_a_collision(rt: HostRuntime) -> Result<(), Fail> {
     let alloc = rt.alloc();

@@ -6,7 +6,10 @@ use Rattle.up_translator.specs.Outcome.{outcome_by, refusal_in, IsRaisedVoice}
 use Rattle.up_translator.proofs.outcome.raise_control_change.Goals as goal
 
 pub returns-clause-refused : goal.returns-clause-refused
-returns-clause-refused c = ap refusal_in c.outcome_of.ensures.outcome ∙ refused_by_index c.control-collected.result c.args.channel c.args.index c.args.value c.control-collected.ensures.index
+returns-clause-refused c =
+    ap refusal_in c.outcome_of.ensures.outcome
+    ∙ ap (λ (answer : Collected). refusal_in (outcome_by answer c.args.channel c.args.index c.args.value)) c.control-collected.ensures.answer
+    ∙ refused_by_index c.args.collector.now c.args.channel c.args.index c.args.value
 
 pub returns-clause-raised : goal.returns-clause-raised
 returns-clause-raised c = λ state keeps.

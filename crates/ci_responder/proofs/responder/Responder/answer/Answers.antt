@@ -1,10 +1,24 @@
-use Rattle.std.proofs.Common.{[], sym, subst}
+use Rattle.std.proofs.Common.{[], ◌∙◌, ap, sym, subst}
 use Rattle.ump_grammar.specs.Replies.{AddsPackets}
 use Rattle.ci_messages.specs.declared.view.Body.{Body}
+use Rattle.ci_messages.specs.Messages.{body_kind, format_of}
+use Rattle.ci_messages.specs.Writing.{FitsBody}
 use Rattle.ci_responder.specs.Held.{sender_of}
 use Rattle.ci_responder.specs.Messages.{said_in, told_of}
 use Rattle.ci_responder.specs.Replies.{answer_to, sent}
+use Rattle.ci_responder.proofs.ReplyLaws.{endpoint_is_full, path_is_data}
 use Rattle.ci_responder.proofs.responder.Responder.answer.Goals as goal
+
+pub tell_device-requires-clause-path : goal.tell_device-requires-clause-path
+tell_device-requires-clause-path c =
+    let form = format_of c.args.view.now.version in
+    let fits = subst (FitsBody form) c.in-Discovery.is c.requires.view.body in
+    path_is_data form c.in-Discovery.path fits.1.1.1.1.1.1.0
+
+pub tell_product_id-requires-clause-version : goal.tell_product_id-requires-clause-version
+tell_product_id-requires-clause-version c =
+    endpoint_is_full c.args.view.now.sub c.args.view.now.version
+    (ap body_kind (sym c.in-EndpointInquiry.is) ∙ c.requires.view.kind)
 
 pub returns-in-Discovery-clause-packets : goal.returns-in-Discovery-clause-packets
 returns-in-Discovery-clause-packets c =

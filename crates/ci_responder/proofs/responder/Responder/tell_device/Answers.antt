@@ -1,4 +1,8 @@
-use Rattle.std.proofs.Common.{◌∷◌, ◌++◌, ◌%◌, ◌/◌, [], List, ℕ, arith, refl, length-append}
+use Rattle.std.proofs.Common.{◌∷◌, ◌++◌, ◌%◌, ◌/◌, ◌+◌, ◌≤◌, ◌==◌, [], List, ℕ, arith, sym, subst, length, length-append}
+use Rattle.ci_messages.specs.declared.kind.Kind.TheVariants as kind
+use Rattle.ci_messages.specs.Fields.{number, bytes_of_fields}
+use Rattle.ci_messages.specs.Messages.{block_in, format_of, path_in}
+use Rattle.ci_responder.proofs.ReplyLaws.{Is, few_path_and_block, kind_71}
 use Rattle.ci_responder.proofs.responder.Responder.tell_device.Goals as goal
 
 pub push_message-requires-clause-view : goal.push_message-requires-clause-view
@@ -7,20 +11,25 @@ push_message-requires-clause-view c =
     record {
       address = tt;
       sub = omega arith;
-      version = omega arith;
+      version = omega (arith, c.reply_version-version.ensures.most);
       source = c.requires.muid;
       destination = c.requires.view.source;
-      kind = refl;
-      body = (held.manufacturer, (held.family, (held.model, (held.revision, (omega arith, (held.room, (c.requires.path, (c.requires.block, tt))))))));
+      kind = subst (Is kind.DiscoveryReply 0x71) (sym c.reply_version-version.ensures.value) (kind_71 (c.args.view.now.version == 1));
+      body = (held.manufacturer, (held.family, (held.model, (held.revision, (omega arith, (held.room, (c.placed-path.ensures.fits, (c.placed-block.ensures.fits, tt))))))));
     }
 
 pub push_message-requires-clause-fits : goal.push_message-requires-clause-fits
 push_message-requires-clause-fits c =
     let held = c.self.invariant in
     let identity = c.self.inside.identity in
-    let rest : List ℕ = 4 ∷ c.self.inside.room % 16384 % 128 ∷ c.self.inside.room % 16384 / 128 ∷ c.self.inside.room / 16384 % 128 ∷ c.self.inside.room / 16384 / 128 ∷ c.args.path ∷ c.args.owner.now.block ∷ [] in
+    let version : ℕ = c.reply_version-version.result in
+    let last : List ℕ = bytes_of_fields (path_in (format_of version) ∷ block_in (format_of version) ∷ [])
+    (number c.placed-path.result ∷ number c.placed-block.result ∷ []) in
+    let few : length last ≤ 2 = few_path_and_block (format_of version) c.placed-path.result c.placed-block.result in
+    let rest : List ℕ = 4 ∷ c.self.inside.room % 16384 % 128 ∷ c.self.inside.room % 16384 / 128 ∷ c.self.inside.room / 16384 % 128 ∷ c.self.inside.room / 16384 / 128 ∷ last in
     omega (
       arith,
+      few,
       held.manufacturer.0,
       held.family.0,
       held.model.0,

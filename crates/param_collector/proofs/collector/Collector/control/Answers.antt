@@ -1,5 +1,5 @@
 use Rattle.param_collector.proofs.Meaning.{step_meant, held_behind}
-use Rattle.param_collector.specs.Roles.{role_in}
+use Rattle.voice_state.specs.Roles.{role_in}
 use Rattle.param_collector.proofs.collector.Collector.control.Goals as goal
 
 pub returns-clause-holding : goal.returns-clause-holding

@@ -1,0 +1,54 @@
+use Rattle.std.proofs.Common.{◌≡◌, ◌≤◌, ℕ, List, ◌∷◌, length, Option, Some, None, refl, ap, sym, ◌∙◌, subst}
+use Rattle.std.specs.Prelude.{IfSome}
+use Rattle.std.specs.Option.{option_map}
+use Rattle.ump_grammar.specs.declared.packet.Packet.{Packet}
+use Rattle.midi1_bytes.specs.Steps.{step_of}
+use Rattle.voice_state.specs.declared.listed.BadStep.{BadStep}
+use Rattle.voice_state.specs.Plain.{plain_piece}
+use Rattle.down_translator.specs.Held.{DownState, new_down, refusal_in, whole_in}
+use Rattle.up_translator.specs.Raised.{packet_in}
+use Rattle.self_test.specs.Held.{HasReturned}
+use Rattle.self_test.specs.Played.{IsPlayedStep}
+use Rattle.self_test.proofs.BackLaws.{IsReturned, answered, comes_back_none, comes_back_some, returned_accepted, returned_short, up_after}
+use Rattle.self_test.proofs.back.bring_byte_back.Goals as goal
+
+pub unreachable-requires : goal.unreachable-requires
+unreachable-requires c =
+    let past = c.requires.ready.0 in
+    let returned : HasReturned past c.args.up.now c.args.down.now = c.requires.ready.1 in
+    let answer = answered c.raised_bytes_are_the_definition.ensures c.parsed_bytes_are_the_definition.ensures past c.args.byte c.args.up.now returned.up_holds c.requires.ready.2 c.args.offset c.requires.ready.3 c.in-Ok.raised c.in-Ok.ensures.answer in
+    let is : packet_in c.in-Ok.raised ≡ Some c.in-Some.packet.now = ap (option_map (λ packet. packet.now)) c.in-Some.is in
+    let I : Option Packet → Type 0 = λ one. IfSome one IsReturned in
+    let h : IsReturned c.in-Some.packet.now = subst I is answer.returned in
+    let accepted : refusal_in c.args.down.now c.in-Some.packet.now ≡ None = ap (λ (state : DownState). refusal_in state c.in-Some.packet.now) returned.down_is ∙ returned_accepted c.in-Some.packet.now h in
+    let refused : refusal_in c.args.down.now c.in-Some.packet.now ≡ Some c.in-Err-packet.field-0 = c.in-Err-packet.ensures.answer in
+    cc
+
+pub returns-in-Ok-packet-clause-few : goal.returns-in-Ok-packet-clause-few
+returns-in-Ok-packet-clause-few c =
+    let past = c.requires.ready.0 in
+    let returned : HasReturned past c.args.up.now c.args.down.now = c.requires.ready.1 in
+    let answer = answered c.raised_bytes_are_the_definition.ensures c.parsed_bytes_are_the_definition.ensures past c.args.byte c.args.up.now returned.up_holds c.requires.ready.2 c.args.offset c.requires.ready.3 c.in-Ok.raised c.in-Ok.ensures.answer in
+    let is : packet_in c.in-Ok.raised ≡ Some c.in-Some.packet.now = ap (option_map (λ packet. packet.now)) c.in-Some.is in
+    let I : Option Packet → Type 0 = λ one. IfSome one IsReturned in
+    let h : IsReturned c.in-Some.packet.now = subst I is answer.returned in
+    let L : List ℕ → Type 0 = λ piece. length piece ≤ 12 in
+    subst L (sym (c.in-Ok-packet.ensures.answer.piece ∙ ap (λ (state : DownState). plain_piece (whole_in state c.in-Some.packet.now) c.in-Some.packet.now) returned.down_is)) (returned_short c.in-Some.packet.now h)
+
+pub returns-in-Ok-packet-clause-back : goal.returns-in-Ok-packet-clause-back
+returns-in-Ok-packet-clause-back c = λ past returned played place.
+    let law = c.raised_bytes_are_the_definition.ensures in
+    let parsed = c.parsed_bytes_are_the_definition.ensures in
+    let answer = answered law parsed past c.args.byte c.args.up.now returned.up_holds played c.args.offset place c.in-Ok.raised c.in-Ok.ensures.answer in
+    let is : packet_in c.in-Ok.raised ≡ Some c.in-Some.packet.now = ap (option_map (λ packet. packet.now)) c.in-Some.is in
+    let holds = up_after law parsed past c.args.byte c.args.up.now returned.up_holds played c.args.offset place c.byte.follows.lender-at-none returned.played c.byte.ensures.kept (c.byte.follows.holds-at-none) in
+    comes_back_some past c.args.byte c.in-Ok.raised answer c.byte.follows.lender-at-none holds (played, returned.played) c.packet.follows.lender-at-none c.args.down.now c.args.offset (length c.in-Ok-packet.carried.piece.now) c.in-Some.packet.now is returned.down_is (c.packet.follows.holds-at-none) (ap length c.in-Ok-packet.ensures.answer.piece)
+
+pub returns-in-None-clause-back : goal.returns-in-None-clause-back
+returns-in-None-clause-back c = λ past returned played place.
+    let law = c.raised_bytes_are_the_definition.ensures in
+    let parsed = c.parsed_bytes_are_the_definition.ensures in
+    let answer = answered law parsed past c.args.byte c.args.up.now returned.up_holds played c.args.offset place c.in-Ok.raised c.in-Ok.ensures.answer in
+    let is : packet_in c.in-Ok.raised ≡ None = ap (option_map (λ packet. packet.now)) c.in-None.is in
+    let holds = up_after law parsed past c.args.byte c.args.up.now returned.up_holds played c.args.offset place c.byte.follows.lender-at-none returned.played c.byte.ensures.kept (c.byte.follows.holds-at-none) in
+    comes_back_none past c.args.byte c.in-Ok.raised answer c.byte.follows.lender-at-none holds (played, returned.played) c.args.down.now returned.down_is is

@@ -1,0 +1,55 @@
+// The bytes of channel voice messages, up and down again.
+ghost use Rattle.std.specs.Prelude.{◌≡◌, ◌≤◌, ◌<◌, ◌+◌, ◌*◌, ◌^◌, ℕ, List, ◌∷◌, ◌++◌, length, reverse, Some};
+ghost use Rattle.midi1_bytes.specs.Steps.{step_of};
+ghost use Rattle.self_test.specs.Held.{ComesBack, HasReturned};
+ghost use Rattle.self_test.specs.Played.{ArePlayed, IsPlayedStep};
+
+use down_translator::Down;
+use midi1_bytes::laws::parsed_bytes_are_the_definition;
+use up_translator::Up;
+use up_translator::laws::raised_bytes_are_the_definition;
+
+// Takes a byte up, and the packet that it completes down again: the number of bytes that come back, at most twelve. Channel
+// voice messages complete no exclusive, and neither way refuses any.
+fn bring_byte_back(byte: u8, offset: u64, up: &mut Up, down: &mut Down) -> u64
+    requires ready { (past : List ℕ) × HasReturned past up.old down.old
+        × IsPlayedStep (step_of (Some 6) past byte) × (offset ≡ length past) }
+    ensures few { result ≤ 12 }
+    ensures back { (past : List ℕ) → HasReturned past up.old down.old →
+        IsPlayedStep (step_of (Some 6) past byte) → offset ≡ length past →
+        ComesBack past (byte ∷ past) result up.new down.new }
+{
+    parsed_bytes_are_the_definition();
+    raised_bytes_are_the_definition();
+    match up.byte(byte, offset) {
+        Ok(raised) => match raised.packet {
+            Some(packet) => match down.packet(packet, offset) {
+                Ok(carried) => carried.piece.len() as u64,
+                Err(_) => unreachable!(),
+            },
+            None => 0,
+        },
+        Err(_) => unreachable!(),
+    }
+}
+
+// Takes the bytes of a piece up, and the packets that they complete down again: the number of bytes that come back, at most
+// twelve for each.
+pub(crate) fn bring_back(piece: &[u8], offset: u64, up: &mut Up, down: &mut Down) -> u64
+    requires ready { (past : List ℕ) × HasReturned past up.old down.old
+        × ArePlayed (reverse piece.now ++ past) × (offset ≡ length past) }
+    requires short { length piece.now ≤ 12 }
+    requires place { offset + length piece.now < 2 ^ 64 }
+    ensures few { result ≤ 12 * length piece.now }
+    ensures back { (past : List ℕ) → HasReturned past up.old down.old →
+        ArePlayed (reverse piece.now ++ past) → offset ≡ length past →
+        ComesBack past (reverse piece.now ++ past) result up.new down.new }
+{
+    let mut again = 0;
+    let mut at = offset;
+    for byte in piece {
+        again += bring_byte_back(*byte, at, up, down);
+        at += 1;
+    }
+    again
+}

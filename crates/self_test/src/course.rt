@@ -1,0 +1,128 @@
+// The course of packets: down, up and down again.
+ghost use Rattle.std.specs.Prelude.{◌≡◌, ◌≤◌, ◌<◌, ◌*◌, ◌^◌, ◌==◌, if◌then◌else◌, [], ◌∷◌, IfOk, List, length};
+ghost use Rattle.std.specs.Option.{option_to_list};
+ghost use Rattle.voice_state.specs.Parts.{Placed};
+ghost use Rattle.down_translator.specs.Carried.{line_in};
+ghost use Rattle.self_test.specs.Counts.{counts_of, counts_with};
+ghost use Rattle.self_test.specs.Held.{HasTaken};
+ghost use Rattle.self_test.specs.Played.{IsPlayed};
+
+use crate::back::bring_back;
+use crate::counts::Counts;
+use down_translator::{Carried, Down, Style};
+use midi_edge::{NoMemory, U4};
+use std::alloc::Global;
+use ump_grammar::Packet;
+use up_translator::Up;
+use voice_state::laws::carried_packets_have_a_piece;
+use voice_state::up_laws::rooms_that_are_not_reached_do_not_matter_in_bytes;
+
+// The most bytes of an exclusive between F0 and F7. There is none.
+const ROOM: u32 = 6;
+
+// The three translators, and what is counted so far.
+#[derive(Drop)]
+pub(crate) struct Course {
+    down: Down,
+    up: Up,
+    again: Down,
+    counts: Counts,
+}
+
+impl Course {
+    // Takes all memory.
+    pub(crate) fn new(alloc: Global) -> Result<Course, NoMemory>
+        ensures { IfOk result (HasTaken []) }
+    {
+        let down = match Down::new(alloc, ROOM, Style::Plain) {
+            Ok(down) => down,
+            Err(no_memory) => return Err(no_memory),
+        };
+        let up = match Up::new(alloc, U4::low_bits(0), ROOM) {
+            Ok(up) => up,
+            Err(no_memory) => return Err(no_memory),
+        };
+        match Down::new(alloc, ROOM, Style::Plain) {
+            Ok(again) => Ok(Course {
+                down,
+                up,
+                again,
+                counts: Counts {
+                    carried: 0,
+                    listed: 0,
+                    bytes: 0,
+                    again: 0,
+                },
+            }),
+            Err(no_memory) => Err(no_memory),
+        }
+    }
+
+    // Takes one more packet at its offset; each has eight bytes.
+    pub(crate) fn take(&mut self, packet: &Packet, offset: u64)
+        requires played { IsPlayed packet.now }
+        requires taken { (past : List Placed) × HasTaken past self.old × (length past < 2 ^ 32)
+            × (offset ≡ 8 * length past) }
+        ensures { (past : List Placed) → HasTaken past self.old →
+            HasTaken (record { offset = offset; packet = packet.now } ∷ past) self.new }
+    {
+        carried_packets_have_a_piece();
+        rooms_that_are_not_reached_do_not_matter_in_bytes();
+        match self.down.packet(packet, offset) {
+            Ok(carried) => {
+                let again = bring_back(
+                    carried.piece,
+                    self.counts.bytes,
+                    &mut self.up,
+                    &mut self.again,
+                );
+                self.counts = with_more(self.counts, &carried, again);
+            }
+            Err(_) => unreachable!(),
+        }
+    }
+
+    // What is counted so far.
+    pub(crate) fn counts(&self) -> Counts
+        ensures { (past : List Placed) → HasTaken past self.now → result ≡ counts_of past }
+    {
+        self.counts
+    }
+}
+
+// The counts with what is carried of one more packet, and with the bytes that come back of it.
+fn with_more(counts: Counts, carried: &Carried<'_>, again: u64) -> Counts
+    requires carried { counts.carried < 2 ^ 60 }
+    requires listed { counts.listed < 2 ^ 60 }
+    requires bytes { counts.bytes < 2 ^ 60 }
+    requires again { counts.again < 2 ^ 60 }
+    requires short { length carried.now.piece.now ≤ 12 }
+    requires few { again ≤ 144 }
+    ensures { result ≡ counts_with counts carried.now again }
+{
+    Counts {
+        carried: counts.carried + piece_count(carried),
+        listed: counts.listed + line_count(carried),
+        bytes: counts.bytes + carried.piece.len() as u64,
+        again: counts.again + again,
+    }
+}
+
+// One for a packet that is carried, and otherwise none.
+fn piece_count(carried: &Carried<'_>) -> u64
+    ensures count { result ≡ (if length carried.now.piece.now == 0 then 0 else 1) }
+    ensures few { result ≤ 1 }
+{
+    if carried.piece.is_empty() { 0 } else { 1 }
+}
+
+// The number of its lines.
+fn line_count(carried: &Carried<'_>) -> u64
+    ensures count { result ≡ length (option_to_list (line_in carried.now)) }
+    ensures few { result ≤ 1 }
+{
+    match carried.listed() {
+        Some(_) => 1,
+        None => 0,
+    }
+}

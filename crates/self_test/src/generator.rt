@@ -1,0 +1,188 @@
+// The generator of packets (own rule).
+ghost use Rattle.std.specs.Prelude.{◌≡◌, ◌+◌, ◌*◌, ◌<◌, ◌^◌, None};
+ghost use Rattle.voice_messages.specs.Ranges.{IsBank, IsVoice2};
+ghost use Rattle.voice_state.specs.Refusal.{bad_voice2};
+ghost use Rattle.self_test.specs.Generator.{bank_of, message_of};
+
+use midi_edge::U4;
+use std::marker::Model;
+use ump_grammar::Packet;
+use voice_messages::{Bank, Param, ParamKind, U7, Voice2};
+
+const FACTOR: u64 = 1_664_525;
+
+const INCREMENT: u64 = 1_013_904_223;
+
+const MODULUS: u64 = 4_294_967_296;
+
+// The five draws of a packet, in the order in which they are drawn.
+#[derive(Clone, Copy, Debug, PartialEq, Eq)]
+struct Draws {
+    kind: u16,
+    channel: u16,
+    number: u16,
+    high: u16,
+    low: u16,
+}
+
+impl Draws {
+    // A value of 32 bits.
+    fn value(&self) -> u32
+        ensures value { result ≡ self.now.high * 65536 + self.now.low }
+        ensures below { result < 2 ^ 32 }
+    {
+        u32::from(self.high) * 65536 + u32::from(self.low)
+    }
+
+    // The bank of a program change, or none.
+    fn bank(&self) -> Option<Bank>
+        ensures bank { result ≡ bank_of self.now.high self.now.low }
+        ensures range { IsBank result }
+    {
+        if self.high % 2 == 1 {
+            Some(Bank {
+                msb: U7::low_bits(u32::from(self.high / 2)),
+                lsb: U7::low_bits(u32::from(self.low)),
+            })
+        } else {
+            None
+        }
+    }
+
+    // The message.
+    #[tactic(auto, using(crate::proofs::GeneratorLaws::not_refused), unfolding(crate::specs::Generator::message_of))]
+    fn message(&self) -> Voice2
+        ensures message { result ≡
+            message_of self.now.kind self.now.channel self.now.number self.now.high self.now.low }
+        ensures range { IsVoice2 result }
+        ensures accepted { bad_voice2 result ≡ None }
+    {
+        let channel = U4::low_bits(u32::from(self.channel));
+        let number = U7::low_bits(u32::from(self.number));
+        match self.kind % 8 {
+            0 => Voice2::NoteOn {
+                channel,
+                note: number,
+                velocity: self.low,
+                attribute_type: 0,
+                attribute: 0,
+            },
+            1 => Voice2::NoteOff {
+                channel,
+                note: number,
+                velocity: self.low,
+                attribute_type: 0,
+                attribute: 0,
+            },
+            2 => Voice2::Control {
+                channel,
+                index: U7::low_bits(1 + u32::from(self.number % 95)),
+                value: self.value(),
+            },
+            3 => Voice2::Set {
+                channel,
+                param: Param {
+                    kind: ParamKind::Registered,
+                    bank: number,
+                    index: U7::low_bits(u32::from(self.high)),
+                },
+                value: u32::from(self.low) * 65536,
+            },
+            4 => Voice2::Program {
+                channel,
+                program: number,
+                bank: self.bank(),
+            },
+            5 => Voice2::Bend {
+                channel,
+                value: self.value(),
+            },
+            6 => Voice2::PolyPressure {
+                channel,
+                note: number,
+                value: self.value(),
+            },
+            _ => Voice2::Pressure {
+                channel,
+                value: self.value(),
+            },
+        }
+    }
+}
+
+/// A generator of packets: MIDI 2.0 channel voice messages in group 0, each by five draws from a linear congruential sequence
+/// (own rule). To a contract it is the number that the next draw begins with.
+#[derive(Clone, Copy, Debug, PartialEq, Eq)]
+pub struct Generator {
+    number: u32,
+}
+
+impl Model for Generator {
+    ghost use Rattle.std.specs.Prelude.{ℕ, ◌<◌, ◌^◌};
+
+    ghost Value = { ℕ };
+
+    ghost view = { λ generator. generator.number };
+
+    ghost invariant = { λ generator. generator.number < 2 ^ 32 };
+
+    ghost inverse = { λ number. record { number = number } };
+}
+
+impl Generator {
+    ghost use Rattle.std.specs.Prelude.{◌≡◌, ◌+◌, ℕ};
+    ghost use Rattle.self_test.specs.Draws.{AreDrawn};
+    ghost use Rattle.self_test.specs.Generator.{after_draw, generated, HasGiven, upper_half};
+    ghost use Rattle.self_test.specs.Played.{IsPlayed};
+
+    /// A generator that has given no packet.
+    pub fn new(seed: u32) -> Generator
+        ensures { HasGiven seed 0 result }
+    {
+        Generator { number: seed }
+    }
+
+    // One draw of 16 bits.
+    fn draw(&mut self) -> u16
+        ensures drawn { result ≡ upper_half (after_draw self.old) }
+        ensures after { self.new ≡ after_draw self.old }
+    {
+        let number = (u64::from(self.number) * FACTOR + INCREMENT) % MODULUS;
+        self.number = number as u32;
+        (self.number / 65536) as u16
+    }
+
+    // The draws of a packet.
+    fn draws(&mut self) -> Draws
+        ensures drawn { (seed count : ℕ) → HasGiven seed count self.old → AreDrawn seed count result }
+        ensures after { (seed count : ℕ) → HasGiven seed count self.old →
+            HasGiven seed (count + 1) self.new }
+    {
+        let kind = self.draw();
+        let channel = self.draw();
+        let number = self.draw();
+        let high = self.draw();
+        let low = self.draw();
+        Draws {
+            kind,
+            channel,
+            number,
+            high,
+            low,
+        }
+    }
+
+    /// The next packet, which words spell and which the way down doesn't refuse.
+    pub fn next(&mut self) -> Packet
+        ensures packet { (seed count : ℕ) → HasGiven seed count self.old → result ≡ generated seed count }
+        ensures after { (seed count : ℕ) → HasGiven seed count self.old →
+            HasGiven seed (count + 1) self.new }
+        ensures played { IsPlayed result }
+    {
+        let draws = self.draws();
+        Packet::Voice2 {
+            group: U4::low_bits(0),
+            message: draws.message(),
+        }
+    }
+}

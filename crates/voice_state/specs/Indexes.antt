@@ -1,0 +1,29 @@
+-- The indexes of each role (MIDI 1.0 Detailed Specification, the table of controller numbers).
+use Rattle.std.specs.Prelude.{◌≡◌, ℕ, ◌≤◌, ◌⊎◌}
+use Rattle.voice_state.specs.Controllers.{Role, bank_msb, bank_lsb, data_msb, data_lsb, data_increment, data_decrement, number_msb, number_lsb, reset_all, channel_mode, plain}
+
+-- a half of the bank or of a parameter's number
+abbrev pub IsHalf : ℕ → Type 0
+IsHalf index = (index ≡ 0) ⊎ (index ≡ 32) ⊎ ((98 ≤ index) × (index ≤ 101))
+
+abbrev pub IsDataEntry : ℕ → Type 0
+IsDataEntry index = (index ≡ 6) ⊎ (index ≡ 38)
+
+pub record IsOther (index : ℕ) : Type 0 where
+  pub no_half : ¬ IsHalf index
+  pub no_data_entry : ¬ IsDataEntry index
+  pub no_data_increment : ¬ (index ≡ 96)
+  pub no_data_decrement : ¬ (index ≡ 97)
+
+abbrev pub HasIndex : Role → ℕ → Type 0
+HasIndex bank_msb index = IsHalf index
+HasIndex bank_lsb index = IsHalf index
+HasIndex data_msb index = IsDataEntry index
+HasIndex data_lsb index = IsDataEntry index
+HasIndex data_increment index = index ≡ 96
+HasIndex data_decrement index = index ≡ 97
+HasIndex (number_msb kind) index = IsHalf index
+HasIndex (number_lsb kind) index = IsHalf index
+HasIndex reset_all index = IsOther index
+HasIndex channel_mode index = IsOther index
+HasIndex plain index = IsOther index

@@ -1,0 +1,74 @@
+-- What holds of all recordings in either style.
+use Rattle.std.specs.Prelude.{◌≡◌, ◌↔◌, ◌<◌, ℕ, List, [], ◌∷◌, ◌++◌, length, reverse, Option, Some, None, IsTrue, IfSome}
+use Rattle.std.specs.List.{AllByRecursion}
+use Rattle.voice_messages.specs.declared.voice1.System.{System}
+use Rattle.voice_messages.specs.declared.voice2.Form.{Form}
+use Rattle.ump_grammar.specs.declared.packet.Packet.{Packet}
+use Rattle.ump_grammar.specs.declared.packet.Packet.TheVariants as packet
+use Rattle.midi1_bytes.specs.Messages.{AreData}
+use Rattle.midi1_bytes.specs.Stream.{open_in}
+use Rattle.voice_state.specs.Agreement.{SameRegisters}
+use Rattle.voice_state.specs.Compact.{compact_piece}
+use Rattle.voice_state.specs.LaneState.{LaneState, compact_by, lane_state_after, lane_state_behind, new_lane}
+use Rattle.voice_state.specs.Lanes.{lane_bytes, pairs_behind}
+use Rattle.voice_state.specs.Listing.{is_carried}
+use Rattle.voice_state.specs.Messages.{mean1}
+use Rattle.voice_state.specs.Packets.{mean2, IsInRange}
+use Rattle.voice_state.specs.Parts.{group_of, whole_of}
+use Rattle.voice_state.specs.Plain.{plain_piece}
+use Rattle.voice_state.specs.Relied.{IsLaneOf, IsRelied}
+use Rattle.voice_state.specs.Styles.{Style, plain_style, compact_style, piece_in, styled_behind, styled_pair, styled_pairs}
+use Rattle.voice_state.specs.Translation.{IsTranslation}
+
+abbrev pub StyledPairsAreATranslation : Type 0
+StyledPairsAreATranslation =
+    (style : Style) (packets : List Packet) → AllByRecursion IsInRange packets →
+    IsTranslation packets (styled_pairs style packets)
+
+pub record StyledPairsComePacketByPacket : Type 0 where
+  pub more : (style : Style) (packets : List Packet) (packet : Packet) →
+      styled_pairs style (packets ++ packet ∷ []) ≡
+      styled_pairs style packets ++ styled_pair style (styled_pairs style packets) (reverse packets) packet
+  pub plain : (past : List Packet) → styled_behind plain_style past ≡ pairs_behind past
+
+abbrev pub StyledPiecesAreThoseOfCarriedPackets : Type 0
+StyledPiecesAreThoseOfCarriedPackets =
+    (style : Style) (past : List ℕ) (whole : Option (List ℕ)) (packet : Packet) →
+    IsTrue (is_carried whole packet) ↔ (0 < length (piece_in style past whole packet))
+
+-- only voice messages are written otherwise
+pub record SystemPiecesArePlain : Type 0 where
+  pub system : (past : List ℕ) (whole : Option (List ℕ)) (group : ℕ) (message : System) →
+      compact_piece past whole (packet.System group message) ≡ plain_piece whole (packet.System group message)
+  pub exclusive : (past : List ℕ) (whole : Option (List ℕ)) (group : ℕ) (form : Form) (bytes : List ℕ) →
+      compact_piece past whole (packet.Exclusive group form bytes) ≡
+      plain_piece whole (packet.Exclusive group form bytes)
+
+-- what the bytes of a lane leave in a receiver
+pub record StyledLanesLeaveTheRegisters : Type 0 where
+  pub registers : (style : Style) (packets : List Packet) (group : ℕ) → AllByRecursion IsInRange packets →
+      SameRegisters (mean1 (lane_bytes group (styled_pairs style packets))) (mean2 packets group)
+  pub closed : (style : Style) (packets : List Packet) (group : ℕ) → AllByRecursion IsInRange packets →
+      open_in None (reverse (lane_bytes group (styled_pairs style packets))) ≡ None
+  pub relied : (packets : List Packet) (group : ℕ) → AllByRecursion IsInRange packets →
+      IsRelied (reverse (lane_bytes group (styled_pairs compact_style packets)))
+
+-- Any bytes of a lane, newest first, in which nothing is open, and the bytes of the exclusive that the packet ends.
+pub record KeptLanesAreThoseOfTheBytes : Type 0 where
+  pub new : IsLaneOf new_lane []
+  pub piece : (lane : LaneState) (past : List ℕ) (whole : Option (List ℕ)) (packet : Packet) →
+      IsInRange packet → IfSome whole AreData → IsLaneOf lane past →
+      compact_by lane whole packet ≡ compact_piece past whole packet
+  pub after : (lane : LaneState) (past : List ℕ) (whole : Option (List ℕ)) (packet : Packet) →
+      IsInRange packet → IfSome whole AreData → IsRelied past → IsLaneOf lane past →
+      IsLaneOf (lane_state_after lane whole packet) (reverse (compact_piece past whole packet) ++ past)
+
+-- The same of a recording, whose packets are newest first.
+pub record KeptLanesAreThoseOfTheRecording : Type 0 where
+  pub lane : (past : List Packet) (group : ℕ) → AllByRecursion IsInRange past →
+      IsLaneOf (lane_state_behind past group) (reverse (lane_bytes group (styled_behind compact_style past)))
+  pub piece : (past : List Packet) (packet : Packet) (group : ℕ) →
+      AllByRecursion IsInRange past → IsInRange packet →
+      compact_by (lane_state_behind past group) (whole_of past packet) packet ≡
+      piece_in compact_style (reverse (lane_bytes group (styled_behind compact_style past)))
+      (whole_of past packet) packet
