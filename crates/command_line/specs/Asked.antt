@@ -3,9 +3,10 @@ use Rattle.std.specs.Prelude.{◌≤◌, ◌<◌, ◌^◌, ℕ, Bool, List}
 use Rattle.command_line.specs.declared.command.Command.{Command}
 use Rattle.command_line.specs.declared.command.Command.TheVariants.{Down, Up, Back, Show, ShowBytes, Endpoint, SelfTest}
 
--- `translate down`: the folder, little endian or not, and the most bytes of an exclusive
+-- `translate down`: the folder, in compact style or not, little endian or not, and the most bytes of an exclusive
 pub record DownWords : Type 0 where
   pub folder : List ℕ
+  pub compact : Bool
   pub little : Bool
   pub room : ℕ
 
@@ -53,7 +54,7 @@ pub data Asked : Type 0 where
 
 -- what a command asks for
 abbrev pub asked_of : Command → Asked
-asked_of (Down folder little room) = down (record { folder = folder.now; little = little; room = room })
+asked_of (Down folder compact little room) = down (record { folder = folder.now; compact = compact; little = little; room = room })
 asked_of (Up group little room) = up (record { group = group; little = little; room = room })
 asked_of (Back group room) = back (record { group = group; room = room })
 asked_of (Show state little room) = show (record { state = state; little = little; room = room })

@@ -42,26 +42,27 @@ abbrev pub packets_in : Option Text → Option ℕ
 packets_in = number_or 1 1000000 10000
 
 -- down: with a folder, without a group
-abbrev pub down_of : Option Text → Option Text → Bool → Option Text → Option Asked
-down_of (Some folder) None little room = option_map (λ r. down (record { folder = folder; little = little; room = r })) (room_in room)
-down_of _ _ little room = None
+abbrev pub down_of : Option Text → Option Text → Bool → Bool → Option Text → Option Asked
+down_of (Some folder) None compact little room =
+    option_map (λ r. down (record { folder = folder; compact = compact; little = little; room = r })) (room_in room)
+down_of _ _ compact little room = None
 
--- up: without a folder
-abbrev pub up_of : Option Text → Option Text → Bool → Option Text → Option Asked
-up_of None group little room = option_and_then (λ g. option_map (λ r. up (record { group = g; little = little; room = r })) (room_in room)) (group_in group)
-up_of (Some folder) group little room = None
+-- up: without a folder, and not compact
+abbrev pub up_of : Option Text → Option Text → Bool → Bool → Option Text → Option Asked
+up_of None group false little room = option_and_then (λ g. option_map (λ r. up (record { group = g; little = little; room = r })) (room_in room)) (group_in group)
+up_of _ group _ little room = None
 
--- back: without a folder, and not little
-abbrev pub back_of : Option Text → Option Text → Bool → Option Text → Option Asked
-back_of None group false room = option_and_then (λ g. option_map (λ r. back (record { group = g; room = r })) (room_in room)) (group_in group)
-back_of _ group _ room = None
+-- back: without a folder, and neither compact nor little
+abbrev pub back_of : Option Text → Option Text → Bool → Bool → Option Text → Option Asked
+back_of None group false false room = option_and_then (λ g. option_map (λ r. back (record { group = g; room = r })) (room_in room)) (group_in group)
+back_of _ group _ _ room = None
 
--- direction, folder, group, little, room
-abbrev pub translate_of : Text → Option Text → Option Text → Bool → Option Text → Option Asked
-translate_of direction folder group little room =
-    if bytes_eq direction (codes "down") then down_of folder group little room
-    else (if bytes_eq direction (codes "up") then up_of folder group little room
-    else (if bytes_eq direction (codes "back") then back_of folder group little room else None))
+-- direction, folder, group, compact, little, room
+abbrev pub translate_of : Text → Option Text → Option Text → Bool → Bool → Option Text → Option Asked
+translate_of direction folder group compact little room =
+    if bytes_eq direction (codes "down") then down_of folder group compact little room
+    else (if bytes_eq direction (codes "up") then up_of folder group compact little room
+    else (if bytes_eq direction (codes "back") then back_of folder group compact little room else None))
 
 -- bytes, state, little, room: not both bytes and little
 abbrev pub show_of : Bool → Bool → Bool → Option Text → Option Asked
@@ -82,7 +83,7 @@ abbrev pub asked_in : Text → List Row → Option Asked
 asked_in name rows =
     let at : Text → Option Text = λ id. first_of id rows in
     if bytes_eq name (codes "translate") then option_and_then (λ d. translate_of d (at (codes "folder")) (at (codes "group"))
-    (is_set (codes "little") rows) (at (codes "room"))) (at (codes "direction"))
+    (is_set (codes "compact") rows) (is_set (codes "little") rows) (at (codes "room"))) (at (codes "direction"))
     else (if bytes_eq name (codes "show") then show_of (is_set (codes "bytes") rows) (is_set (codes "state") rows)
     (is_set (codes "little") rows) (at (codes "room"))
     else (if bytes_eq name (codes "endpoint") then option_and_then (λ s. endpoint_of s (is_set (codes "little") rows) (at (codes "room")))

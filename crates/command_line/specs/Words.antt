@@ -23,10 +23,10 @@ abbrev pub with_rules : App → List Rule → App
 with_rules a [] = a
 with_rules a (r ∷ rs) = with_rules (with_rule a r) rs
 
--- translate DIRECTION [--folder F] [--group G] [--little] [--room R]
+-- translate DIRECTION [--folder F] [--group G] [--compact] [--little] [--room R]
 abbrev pub translate_app : App
 translate_app = with_rules (new_app (codes "translate")) (positional (codes "direction") ∷ option (codes "folder") ∷ option (codes "group")
-    ∷ flag (codes "little") ∷ option (codes "room") ∷ [])
+    ∷ flag (codes "compact") ∷ flag (codes "little") ∷ option (codes "room") ∷ [])
 
 -- show [--bytes] [--state] [--little] [--room R]
 abbrev pub show_app : App

@@ -1,14 +1,15 @@
 // What a command line asks for.
 use midi_edge::U4;
 
-/// What a command line asks for. `little` says that each word of a recording has its least significant byte first, `state` that
-/// the lines end with those of the state that the input leaves, and `room` is the greatest number of bytes of an exclusive between
-/// F0 and F7, 6 to 1,048,576.
+/// What a command line asks for. `compact` says that what the receiver of a lane already has isn't sent again, `little` that each
+/// word of a recording has its least significant byte first, `state` that the lines end with those of the state that the input
+/// leaves, and `room` is the greatest number of bytes of an exclusive between F0 and F7, 6 to 1,048,576.
 #[derive(Clone, Copy, Debug, PartialEq, Eq)]
 pub enum Command<'a> {
     /// `translate down`: words become a MIDI 1.0 stream for each group, in this folder.
     Down {
         folder: &'a str,
+        compact: bool,
         little: bool,
         room: u32,
     },

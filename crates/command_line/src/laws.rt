@@ -6,10 +6,10 @@ ghost use Rattle.command_line.specs.Rules.{command_of};
 /// `translate down` with its folder, alone and with all that may be left out.
 pub fn down_is_taken()
     ensures least { command_of (codes "translate" ∷ codes "down" ∷ codes "--folder" ∷ codes "F" ∷ [])
-        ≡ Some (down (record { folder = codes "F"; little = false; room = 1048576 })) }
+        ≡ Some (down (record { folder = codes "F"; compact = false; little = false; room = 1048576 })) }
     ensures most { command_of (codes "translate" ∷ codes "down" ∷ codes "--room" ∷ codes "6"
-        ∷ codes "--little" ∷ codes "--folder" ∷ codes "F" ∷ [])
-        ≡ Some (down (record { folder = codes "F"; little = true; room = 6 })) }
+        ∷ codes "--little" ∷ codes "--compact" ∷ codes "--folder" ∷ codes "F" ∷ [])
+        ≡ Some (down (record { folder = codes "F"; compact = true; little = true; room = 6 })) }
 {}
 
 /// `translate up`, alone and with all that may be left out.
@@ -34,11 +34,13 @@ pub fn back_is_taken()
 pub fn show_is_taken()
     ensures words { command_of (codes "show" ∷ [])
         ≡ Some (show (record { state = false; little = false; room = 1048576 })) }
-    ensures most_words { command_of (codes "show" ∷ codes "--state" ∷ codes "--little" ∷ codes "--room" ∷ codes "6" ∷ [])
+    ensures most_words { command_of
+        (codes "show" ∷ codes "--state" ∷ codes "--little" ∷ codes "--room" ∷ codes "6" ∷ [])
         ≡ Some (show (record { state = true; little = true; room = 6 })) }
     ensures bytes { command_of (codes "show" ∷ codes "--bytes" ∷ [])
         ≡ Some (show_bytes (record { state = false; room = 1048576 })) }
-    ensures most_bytes { command_of (codes "show" ∷ codes "--bytes" ∷ codes "--state" ∷ codes "--room" ∷ codes "6" ∷ [])
+    ensures most_bytes { command_of
+        (codes "show" ∷ codes "--bytes" ∷ codes "--state" ∷ codes "--room" ∷ codes "6" ∷ [])
         ≡ Some (show_bytes (record { state = true; room = 6 })) }
 {}
 
@@ -46,7 +48,8 @@ pub fn show_is_taken()
 pub fn endpoint_is_taken()
     ensures least { command_of (codes "endpoint" ∷ codes "S" ∷ [])
         ≡ Some (endpoint (record { setup = codes "S"; little = false; room = 1048576 })) }
-    ensures most { command_of (codes "endpoint" ∷ codes "S" ∷ codes "--little" ∷ codes "--room" ∷ codes "6" ∷ [])
+    ensures most { command_of
+        (codes "endpoint" ∷ codes "S" ∷ codes "--little" ∷ codes "--room" ∷ codes "6" ∷ [])
         ≡ Some (endpoint (record { setup = codes "S"; little = true; room = 6 })) }
 {}
 
@@ -54,7 +57,8 @@ pub fn endpoint_is_taken()
 pub fn self_test_is_taken()
     ensures least { command_of (codes "selftest" ∷ codes "0" ∷ [])
         ≡ Some (self_test (record { seed = 0; packets = 10000 })) }
-    ensures most { command_of (codes "selftest" ∷ codes "4294967295" ∷ codes "--packets" ∷ codes "1000000" ∷ [])
+    ensures most { command_of
+        (codes "selftest" ∷ codes "4294967295" ∷ codes "--packets" ∷ codes "1000000" ∷ [])
         ≡ Some (self_test (record { seed = 4294967295; packets = 1000000 })) }
 {}
 

@@ -15,7 +15,8 @@ use std::alloc::Global;
 // The matches of the words.
 pub fn matches_of<'a>(alloc: Global, words: &'a [String]) -> Result<ArgMatches<'a>, WordsFault>
     ensures taken { IfOk result (λ m. is_taken (map string_bytes words.entry.now) ≡ true) }
-    ensures matches { IfOk result (λ m. subcommand_rows_of m ≡ subcommand_of cli (map string_bytes words.entry.now)) }
+    ensures matches { IfOk result
+        (λ m. subcommand_rows_of m ≡ subcommand_of cli (map string_bytes words.entry.now)) }
     ensures usage { result ≡ Err WordsFault.Usage → is_taken (map string_bytes words.entry.now) ≡ false }
 {
     let command = match parser(alloc) {

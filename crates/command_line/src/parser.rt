@@ -44,7 +44,8 @@ fn with_arg<'a>(command: Command<'a>, arg: Arg<'a>) -> Result<Command<'a>, Alloc
 // The command with one more subcommand.
 fn with_command<'a>(command: Command<'a>, below: Command<'a>) -> Result<Command<'a>, AllocError>
     requires { (out-Command below).has_globals ≡ false }
-    ensures app { IfOk result (λ c. app_of c ≡ with_subcommand (app_of command.entry) (shape_of below.entry)) }
+    ensures app { IfOk result
+        (λ c. app_of c ≡ with_subcommand (app_of command.entry) (shape_of below.entry)) }
     ensures local { IfOk result (λ c. (out-Command c).has_globals ≡ (out-Command command.entry).has_globals) }
 {
     let command = command.subcommand(below)?;
@@ -59,6 +60,7 @@ fn translate_command<'a>(alloc: Global) -> Result<Command<'a>, AllocError>
     let command = with_arg(command, positional(alloc, "direction"))?;
     let command = with_arg(command, option(alloc, "folder"))?;
     let command = with_arg(command, option(alloc, "group"))?;
+    let command = with_arg(command, flag(alloc, "compact"))?;
     let command = with_arg(command, flag(alloc, "little"))?;
     let command = with_arg(command, option(alloc, "room"))?;
     Ok(command)

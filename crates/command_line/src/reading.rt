@@ -15,11 +15,13 @@ use std::alloc::Global;
 fn down<'a>(
     folder: Option<&'a str>,
     group: Option<&str>,
+    compact: bool,
     little: bool,
     room_text: Option<&str>,
 ) -> Option<Command<'a>>
     ensures command { option_map asked_of result
-        ≡ down_of (option_copied folder.entry) (option_copied group.entry) little (option_copied room_text.entry) }
+        ≡ down_of (option_copied folder.entry) (option_copied group.entry) compact little
+        (option_copied room_text.entry) }
     ensures range { IfSome result (λ c. IsInRange (asked_of c)) }
 {
     let folder = folder?;
@@ -29,6 +31,7 @@ fn down<'a>(
     let room = room(room_text)?;
     Some(Command::Down {
         folder,
+        compact,
         little,
         room,
     })
@@ -37,14 +40,16 @@ fn down<'a>(
 fn up<'a>(
     folder: Option<&str>,
     group_text: Option<&str>,
+    compact: bool,
     little: bool,
     room_text: Option<&str>,
 ) -> Option<Command<'a>>
     ensures command { option_map asked_of result
-        ≡ up_of (option_copied folder.entry) (option_copied group_text.entry) little (option_copied room_text.entry) }
+        ≡ up_of (option_copied folder.entry) (option_copied group_text.entry) compact little
+        (option_copied room_text.entry) }
     ensures range { IfSome result (λ c. IsInRange (asked_of c)) }
 {
-    if folder.is_some() {
+    if folder.is_some() || compact {
         return None;
     }
     let group = group(group_text)?;
@@ -59,14 +64,16 @@ fn up<'a>(
 fn back<'a>(
     folder: Option<&str>,
     group_text: Option<&str>,
+    compact: bool,
     little: bool,
     room_text: Option<&str>,
 ) -> Option<Command<'a>>
     ensures command { option_map asked_of result
-        ≡ back_of (option_copied folder.entry) (option_copied group_text.entry) little (option_copied room_text.entry) }
+        ≡ back_of (option_copied folder.entry) (option_copied group_text.entry) compact little
+        (option_copied room_text.entry) }
     ensures range { IfSome result (λ c. IsInRange (asked_of c)) }
 {
-    if folder.is_some() || little {
+    if folder.is_some() || compact || little {
         return None;
     }
     let group = group(group_text)?;
@@ -78,26 +85,29 @@ fn translate<'a>(
     direction: &str,
     folder: Option<&'a str>,
     group: Option<&str>,
+    compact: bool,
     little: bool,
     room: Option<&str>,
 ) -> Option<Command<'a>>
     ensures command { option_map asked_of result
-        ≡ translate_of direction.now (option_copied folder.entry) (option_copied group.entry) little (option_copied room.entry) }
+        ≡ translate_of direction.now (option_copied folder.entry) (option_copied group.entry) compact little
+        (option_copied room.entry) }
     ensures range { IfSome result (λ c. IsInRange (asked_of c)) }
 {
     if direction == "down" {
-        down(folder, group, little, room)
+        down(folder, group, compact, little, room)
     } else if direction == "up" {
-        up(folder, group, little, room)
+        up(folder, group, compact, little, room)
     } else if direction == "back" {
-        back(folder, group, little, room)
+        back(folder, group, compact, little, room)
     } else {
         None
     }
 }
 
 fn show<'a>(bytes: bool, state: bool, little: bool, room_text: Option<&str>) -> Option<Command<'a>>
-    ensures command { option_map asked_of result ≡ show_of bytes state little (option_copied room_text.entry) }
+    ensures command { option_map asked_of result
+        ≡ show_of bytes state little (option_copied room_text.entry) }
     ensures range { IfSome result (λ c. IsInRange (asked_of c)) }
 {
     if bytes && little {
@@ -116,7 +126,8 @@ fn show<'a>(bytes: bool, state: bool, little: bool, room_text: Option<&str>) -> 
 }
 
 fn endpoint<'a>(setup: &'a str, little: bool, room_text: Option<&str>) -> Option<Command<'a>>
-    ensures command { option_map asked_of result ≡ endpoint_of setup.now little (option_copied room_text.entry) }
+    ensures command { option_map asked_of result
+        ≡ endpoint_of setup.now little (option_copied room_text.entry) }
     ensures range { IfSome result (λ c. IsInRange (asked_of c)) }
 {
     let room = room(room_text)?;
@@ -128,7 +139,8 @@ fn endpoint<'a>(setup: &'a str, little: bool, room_text: Option<&str>) -> Option
 }
 
 fn self_test<'a>(seed_text: &str, packets_text: Option<&str>) -> Option<Command<'a>>
-    ensures command { option_map asked_of result ≡ self_test_of seed_text.now (option_copied packets_text.entry) }
+    ensures command { option_map asked_of result
+        ≡ self_test_of seed_text.now (option_copied packets_text.entry) }
     ensures range { IfSome result (λ c. IsInRange (asked_of c)) }
 {
     let seed = seed(seed_text)?;
@@ -147,6 +159,7 @@ fn command_in<'a>(name: &str, matches: &ArgMatches<'a>) -> Option<Command<'a>>
             direction,
             text(matches, "folder"),
             text(matches, "group"),
+            is_flag_set(matches, "compact"),
             is_flag_set(matches, "little"),
             text(matches, "room"),
         )
@@ -170,7 +183,8 @@ fn command_in<'a>(name: &str, matches: &ArgMatches<'a>) -> Option<Command<'a>>
 
 // The command of the matches of the whole line.
 fn command_below<'a>(matches: &ArgMatches<'a>) -> Option<Command<'a>>
-    ensures command { option_map asked_of result ≡ option_and_then (λ p. asked_in p.0 p.1) (subcommand_rows_of matches.now) }
+    ensures command { option_map asked_of result
+        ≡ option_and_then (λ p. asked_in p.0 p.1) (subcommand_rows_of matches.now) }
     ensures range { IfSome result (λ c. IsInRange (asked_of c)) }
 {
     match matches.subcommand() {
@@ -184,7 +198,7 @@ fn command_below<'a>(matches: &ArgMatches<'a>) -> Option<Command<'a>>
 ///
 /// `Usage` only where `clap` doesn't take the words, as with a request for help, or a rule of ours is broken, and such words
 /// never give a command: the direction is `down`, `up` or `back`; `--folder`, which may be empty, is given with `down` and
-/// with no other direction; `--group` isn't given with `down`; `--little` isn't given with `back`, nor with `--bytes`; a
+/// with no other direction; `--compact` is given with no other direction than `down`; `--group` isn't given with `down`; `--little` isn't given with `back`, nor with `--bytes`; a
 /// number has 1 to 10 digits and lies in its range, a group 0 to 15 (at first 0), a room 6 to 1,048,576 (at first the
 /// greatest), a seed 0 to 4,294,967,295, and a number of packets 1 to 1,000,000 (at first 10,000). The name of a setup may be any text. `NoMemory` where `clap` finds no memory.
 #[tactic(auto, unfolding(crate::specs::Rules::command_of))]

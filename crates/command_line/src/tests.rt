@@ -21,12 +21,14 @@ fn asks_down(
     alloc: Global,
     line: &str,
     folder: &str,
+    compact: bool,
     little: bool,
     room: u32,
 ) -> Result<(), Fail> {
     let words = words_of(alloc, line)?;
     let command = Command::Down {
         folder,
+        compact,
         little,
         room,
     };
@@ -72,14 +74,43 @@ fn asks_back(
 #[test]
 fn words_of_translate_down(rt: HostRuntime) -> Result<(), Fail> {
     let alloc = rt.alloc();
-    for (line, little, room) in [
-        ("translate down --folder F", false, MOST),
-        ("translate down --folder F --little", true, MOST),
-        ("translate down --folder F --room 6", false, 6),
-        ("translate down --folder F --little --room 100", true, 100),
-        ("translate down --room 100 --little --folder F", true, 100),
+    for (line, compact, little, room) in [
+        ("translate down --folder F", false, false, MOST),
+        ("translate down --folder F --little", false, true, MOST),
+        ("translate down --folder F --room 6", false, false, 6),
+        (
+            "translate down --folder F --little --room 100",
+            false,
+            true,
+            100,
+        ),
+        (
+            "translate down --room 100 --little --folder F",
+            false,
+            true,
+            100,
+        ),
+        ("translate down --folder F --compact", true, false, MOST),
+        (
+            "translate down --folder F --compact --little",
+            true,
+            true,
+            MOST,
+        ),
+        (
+            "translate down --compact --room 6 --folder F",
+            true,
+            false,
+            6,
+        ),
+        (
+            "translate down --folder F --compact --little --room 100",
+            true,
+            true,
+            100,
+        ),
     ] {
-        asks_down(&rt, alloc, line, "F", little, room)?;
+        asks_down(&rt, alloc, line, "F", compact, little, room)?;
     }
     Ok(())
 }
@@ -216,7 +247,7 @@ fn other_words(rt: HostRuntime) -> Result<(), Fail> {
         ("translate down --folder ", ""),
         ("translate --folder=-x down", "-x"),
     ] {
-        asks_down(&rt, alloc, line, folder, false, MOST)?;
+        asks_down(&rt, alloc, line, folder, false, false, MOST)?;
     }
     asks_up(
         &rt,
@@ -230,7 +261,7 @@ fn other_words(rt: HostRuntime) -> Result<(), Fail> {
     asks_back(&rt, alloc, "translate -- back", 0, MOST)
 }
 
-const NO_COMMAND: [&str; 84] = [
+const NO_COMMAND: [&str; 91] = [
     "",
     "--help",
     "-h",
@@ -288,7 +319,14 @@ const NO_COMMAND: [&str; 84] = [
     "show --bytes --state --little",
     "translate up --state",
     "endpoint S --state",
-    "translate down --folder F --compact",
+    "translate up --compact",
+    "translate back --compact",
+    "show --compact",
+    "show --bytes --compact",
+    "endpoint S --compact",
+    "translate down --folder F --compact --compact",
+    "translate down --folder F --compact=true",
+    "translate down --compact",
     "translate up --paired",
     "translate down",
     "translate down --folder",

@@ -15,6 +15,7 @@ use Rattle.voice_state.specs.Parts.{Placed, parts_of, whole_by}
 use Rattle.voice_state.specs.Packets.{IsInRange}
 use Rattle.voice_state.specs.Listing.{begun_before}
 use Rattle.voice_state.specs.Refusal.{bad_step}
+use Rattle.voice_state.specs.Styles.{Style}
 use Rattle.down_translator.specs.Held.{whole_in, begun_at_in, bad_answer, refusal_in, down_after}
 use Rattle.down_translator.specs.Recording.{AreInRange, state_of}
 
@@ -60,32 +61,32 @@ begun-start : (o : Option (List Part)) → option_map (λ (begun : Begun). begun
 begun-start None = refl
 begun-start (Some parts) = refl
 
-pub held-whole : FedPartsAreTheDefinition → (room : ℕ) (past : List Placed) → 6 ≤ room → AreInRange past → (p : Packet) → whole_in (state_of room past) p ≡ whole_by (Some room) (parts_of past) p
-held-whole fed room past least a (packet.Exclusive g f bytes) =
-    ap (λ r. ended_by (Some r) f (option_map (λ (begun : Begun). begun.bytes) (begun_in (state_of room past).exclusives g)) bytes) (table_room room (parts_of past))
+pub held-whole : FedPartsAreTheDefinition → (style : Style) (room : ℕ) (past : List Placed) → 6 ≤ room → AreInRange past → (p : Packet) → whole_in (state_of style room past) p ≡ whole_by (Some room) (parts_of past) p
+held-whole fed style room past least a (packet.Exclusive g f bytes) =
+    ap (λ r. ended_by (Some r) f (option_map (λ (begun : Begun). begun.bytes) (begun_in (state_of style room past).exclusives g)) bytes) (table_room room (parts_of past))
     ∙ ap (λ o. ended_by (Some room) f (option_map (λ (begun : Begun). begun.bytes) o) bytes) (fed.begun room (parts_of past) least (parts_in_range past a) g)
     ∙ ap (λ o. ended_by (Some room) f o bytes) (begun-bytes (opened (Some room) g (parts_of past)))
-held-whole fed room past least a (packet.Utility s v) = refl
-held-whole fed room past least a (packet.System g m) = refl
-held-whole fed room past least a (packet.Voice1 g m) = refl
-held-whole fed room past least a (packet.Voice2 g m) = refl
-held-whole fed room past least a (packet.Data8 g w) = refl
-held-whole fed room past least a (packet.Flex g w) = refl
-held-whole fed room past least a (packet.Stream f s l w x y) = refl
-held-whole fed room past least a (packet.Reserved w) = refl
+held-whole fed style room past least a (packet.Utility s v) = refl
+held-whole fed style room past least a (packet.System g m) = refl
+held-whole fed style room past least a (packet.Voice1 g m) = refl
+held-whole fed style room past least a (packet.Voice2 g m) = refl
+held-whole fed style room past least a (packet.Data8 g w) = refl
+held-whole fed style room past least a (packet.Flex g w) = refl
+held-whole fed style room past least a (packet.Stream f s l w x y) = refl
+held-whole fed style room past least a (packet.Reserved w) = refl
 
-pub held-begun : FedPartsAreTheDefinition → (room : ℕ) (past : List Placed) → 6 ≤ room → AreInRange past → (p : Packet) → begun_at_in (state_of room past) p ≡ begun_before (Some room) (parts_of past) p
-held-begun fed room past least a (packet.Exclusive g f bytes) =
+pub held-begun : FedPartsAreTheDefinition → (style : Style) (room : ℕ) (past : List Placed) → 6 ≤ room → AreInRange past → (p : Packet) → begun_at_in (state_of style room past) p ≡ begun_before (Some room) (parts_of past) p
+held-begun fed style room past least a (packet.Exclusive g f bytes) =
     ap (option_map (λ (begun : Begun). begun.start)) (fed.begun room (parts_of past) least (parts_in_range past a) g)
     ∙ begun-start (opened (Some room) g (parts_of past))
-held-begun fed room past least a (packet.Utility s v) = refl
-held-begun fed room past least a (packet.System g m) = refl
-held-begun fed room past least a (packet.Voice1 g m) = refl
-held-begun fed room past least a (packet.Voice2 g m) = refl
-held-begun fed room past least a (packet.Data8 g w) = refl
-held-begun fed room past least a (packet.Flex g w) = refl
-held-begun fed room past least a (packet.Stream f s l w x y) = refl
-held-begun fed room past least a (packet.Reserved w) = refl
+held-begun fed style room past least a (packet.Utility s v) = refl
+held-begun fed style room past least a (packet.System g m) = refl
+held-begun fed style room past least a (packet.Voice1 g m) = refl
+held-begun fed style room past least a (packet.Voice2 g m) = refl
+held-begun fed style room past least a (packet.Data8 g w) = refl
+held-begun fed style room past least a (packet.Flex g w) = refl
+held-begun fed style room past least a (packet.Stream f s l w x y) = refl
+held-begun fed style room past least a (packet.Reserved w) = refl
 
 -- ---- what is refused
 
@@ -111,26 +112,26 @@ bad-answer room form.End start (Some before) bytes stray = go (fits room (length
     go true u = refl
     go false u = refl
 
-pub held-refusal : FedPartsAreTheDefinition → (room : ℕ) (past : List Placed) → 6 ≤ room → AreInRange past → (p : Packet) → refusal_in (state_of room past) p ≡ bad_step (Some room) (parts_of past) p
-held-refusal fed room past least a (packet.Exclusive g f bytes) =
+pub held-refusal : FedPartsAreTheDefinition → (style : Style) (room : ℕ) (past : List Placed) → 6 ≤ room → AreInRange past → (p : Packet) → refusal_in (state_of style room past) p ≡ bad_step (Some room) (parts_of past) p
+held-refusal fed style room past least a (packet.Exclusive g f bytes) =
     let part : Part = record { group = g; form = f; bytes = bytes; offset = 0 } in
     ap bad_answer (fed.answers room (parts_of past) least (parts_in_range past a) part)
     ∙ bad-answer (Some room) f (started (Some room) g (parts_of past)) (joined (Some room) g (parts_of past)) bytes _
-held-refusal fed room past least a (packet.Utility s v) = refl
-held-refusal fed room past least a (packet.System g m) = refl
-held-refusal fed room past least a (packet.Voice1 g m) = refl
-held-refusal fed room past least a (packet.Voice2 g m) = refl
-held-refusal fed room past least a (packet.Data8 g w) = refl
-held-refusal fed room past least a (packet.Flex g w) = refl
-held-refusal fed room past least a (packet.Stream f s l w x y) = refl
-held-refusal fed room past least a (packet.Reserved w) = refl
+held-refusal fed style room past least a (packet.Utility s v) = refl
+held-refusal fed style room past least a (packet.System g m) = refl
+held-refusal fed style room past least a (packet.Voice1 g m) = refl
+held-refusal fed style room past least a (packet.Voice2 g m) = refl
+held-refusal fed style room past least a (packet.Data8 g w) = refl
+held-refusal fed style room past least a (packet.Flex g w) = refl
+held-refusal fed style room past least a (packet.Stream f s l w x y) = refl
+held-refusal fed style room past least a (packet.Reserved w) = refl
 
 -- ---- what comes after a packet
 
-pub held-behind : (room : ℕ) (past : List Placed) (placed : Placed) → down_after placed.offset placed.packet (state_of room past) ≡ state_of room (placed ∷ past)
-held-behind room past placed = go placed.offset placed.packet
+pub held-behind : (style : Style) (room : ℕ) (past : List Placed) (placed : Placed) → down_after placed.offset placed.packet (state_of style room past) ≡ state_of style room (placed ∷ past)
+held-behind style room past placed = go placed.offset placed.packet
   where
-    go : (offset : ℕ) (p : Packet) → down_after offset p (state_of room past) ≡ state_of room (record { offset = offset; packet = p } ∷ past)
+    go : (offset : ℕ) (p : Packet) → down_after offset p (state_of style room past) ≡ state_of style room (record { offset = offset; packet = p } ∷ past)
     go offset (packet.Exclusive g f bytes) = refl
     go offset (packet.Utility s v) = refl
     go offset (packet.System g m) = refl

@@ -1,3 +1,10 @@
+pub mod ExclusiveLaws
 pub mod HeldLaws
+pub mod LaneLaws
+pub mod PieceLaws
 pub mod RecordingLaws
+pub mod RecordingRooms
 pub mod Spelling
+pub mod StyledLaws
+pub mod Turned
+pub mod UnsetLaws

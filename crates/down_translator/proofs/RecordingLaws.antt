@@ -2,80 +2,31 @@
 use Rattle.std.proofs.Common.{ℕ, ◌≡◌, ◌<◌, ◌≤◌, ◌∙◌, ap, sym, refl, subst, arith, List, [], ◌∷◌, ◌++◌, length, reverse, Option, Some, None, Bool, true, false, cond, is_some}
 use Rattle.std.proofs.lemmas.Bool.{cond_both, eqb-true}
 use mathlib.Core.List.{reverse_aux}
-use Rattle.std.specs.List.{AllByRecursion}
 use Rattle.std.specs.Prelude.{◌↔◌, IsTrue, ◌==◌}
-use Rattle.std.specs.Option.{option_map, option_to_list}
+use Rattle.std.specs.Option.{option_to_list}
 use Rattle.ump_grammar.specs.declared.packet.Packet.{Packet}
 use Rattle.ump_grammar.specs.declared.packet.Packet.TheVariants as packet
-use Rattle.sysex_groups.specs.Exclusives.{Part, ended_by, passes_room, start_of}
+use Rattle.midi1_bytes.specs.Laws.{StatusesThatRunCanBeLeftOut}
 use Rattle.sysex_groups.specs.Laws.{FedPartsAreTheDefinition}
-use Rattle.voice_state.specs.declared.listed.BadStep.TheVariants as bad
-use Rattle.voice_state.specs.Laws.{CarriedPacketsHaveAPiece, JoinedBytesKnowNoOffsets, PlainPairsAreATranslation, RoomsThatAreNotPassedDoNotMatter}
-use Rattle.voice_state.specs.Parts.{Placed, group_of, parts_of, whole_by, whole_of}
+use Rattle.voice_state.specs.Laws.{CarriedPacketsHaveAPiece, JoinedBytesKnowNoOffsets, RoomsThatAreNotPassedDoNotMatter}
+use Rattle.voice_state.specs.StyleLaws.{KeptLanesAreThoseOfTheRecording, StyledPairsAreATranslation}
+use Rattle.voice_state.specs.Styles.{Style, plain_style, compact_style, lane_so_far, piece_in, styled_behind, styled_pair, styled_pairs}
+use Rattle.voice_state.specs.Parts.{Placed, group_of, parts_of, whole_of}
 use Rattle.voice_state.specs.Packets.{IsInRange}
-use Rattle.voice_state.specs.Listing.{is_carried, listed, begun_before, line_of, lines_behind}
-use Rattle.voice_state.specs.Plain.{plain_piece}
-use Rattle.voice_state.specs.Lanes.{pair_by, pair_of, pairs_behind, plain_pairs}
+use Rattle.voice_state.specs.Listing.{is_carried, is_carried_voice, listed, line_of, lines_behind}
+use Rattle.voice_state.specs.Lanes.{pair_by}
 use Rattle.voice_state.specs.Translation.{IsTranslation}
 use Rattle.voice_state.specs.Refusal.{bad_step}
-use Rattle.voice_state.specs.Rooms.{AreWithinRoom}
 use Rattle.down_translator.specs.declared.carried.Carried.{Carried}
 use Rattle.down_translator.specs.Carried.{lane_in, line_in}
-use Rattle.down_translator.specs.Held.{DownState, whole_in}
-use Rattle.down_translator.specs.Step.{lane_of, IsPlainStep}
+use Rattle.down_translator.specs.Held.{DownState, style_of, whole_in}
+use Rattle.down_translator.specs.Lanes.{piece_by}
+use Rattle.down_translator.specs.Step.{lane_before, lane_of, piece_of, IsStep}
 use Rattle.down_translator.specs.Recording.{packets_of, AreInRange, state_of, AreAccepted, AreSteps, pair_put, pairs_put, lines_put}
 use Rattle.down_translator.proofs.HeldLaws.{held-whole, held-begun, held-refusal}
-
--- ---- a limit that isn't exceeded
-
-not-passed : (t : Bool) → cond t (Some bad.ExclusiveTooLong) None ≡ None → t ≡ false
-not-passed true e = cc
-not-passed false e = refl
-
-more_within : (room offset : ℕ) (p : Packet) (past : List Placed) → 6 ≤ room → IsInRange p → bad_step (Some room) (parts_of past) p ≡ None → AreWithinRoom room (parts_of past) → AreWithinRoom room (parts_of (record { offset = offset; packet = p } ∷ past))
-more_within room offset (packet.Exclusive g f bytes) past least h b w = (not-passed (passes_room (Some room) (parts_of past) (record { group = g; form = f; bytes = bytes; offset = 0 })) b, omega (arith, least, h.1), w)
-more_within room offset (packet.Utility s v) past least h b w = w
-more_within room offset (packet.System g m) past least h b w = w
-more_within room offset (packet.Voice1 g m) past least h b w = w
-more_within room offset (packet.Voice2 g m) past least h b w = w
-more_within room offset (packet.Data8 g wd) past least h b w = w
-more_within room offset (packet.Flex g wd) past least h b w = w
-more_within room offset (packet.Stream f s l wd x y) past least h b w = w
-more_within room offset (packet.Reserved wd) past least h b w = w
-
-pub accepted-within : (room : ℕ) (past : List Placed) → 6 ≤ room → AreInRange past → AreAccepted room past → AreWithinRoom room (parts_of past)
-accepted-within room [] least a b = tt
-accepted-within room (placed ∷ past) least a b = more_within room placed.offset placed.packet past least a.0 b.0 (accepted-within room past least a.1 b.1)
-
--- the exclusive that a packet ends is that without a limit
-pub whole-without_room : RoomsThatAreNotPassedDoNotMatter → JoinedBytesKnowNoOffsets → (room : ℕ) (past : List Placed) (p : Packet) → AreWithinRoom room (parts_of past) → bad_step (Some room) (parts_of past) p ≡ None → whole_by (Some room) (parts_of past) p ≡ whole_of (packets_of past) p
-whole-without_room rooms offsets room past (packet.Exclusive g f bytes) w b =
-    let part : Part = record { group = g; form = f; bytes = bytes; offset = 0 } in
-    rooms.ended room (parts_of past) part w (not-passed (passes_room (Some room) (parts_of past) part) b)
-    ∙ ap (λ o. ended_by None f o bytes) (offsets g past)
-whole-without_room rooms offsets room past (packet.Utility s v) w b = refl
-whole-without_room rooms offsets room past (packet.System g m) w b = refl
-whole-without_room rooms offsets room past (packet.Voice1 g m) w b = refl
-whole-without_room rooms offsets room past (packet.Voice2 g m) w b = refl
-whole-without_room rooms offsets room past (packet.Data8 g wd) w b = refl
-whole-without_room rooms offsets room past (packet.Flex g wd) w b = refl
-whole-without_room rooms offsets room past (packet.Stream f s l wd x y) w b = refl
-whole-without_room rooms offsets room past (packet.Reserved wd) w b = refl
-
--- the line of a packet too
-begun-without_room : RoomsThatAreNotPassedDoNotMatter → (room : ℕ) (parts : List Part) (p : Packet) → AreWithinRoom room parts → begun_before (Some room) parts p ≡ begun_before None parts p
-begun-without_room rooms room parts (packet.Exclusive g f bytes) w = ap (option_map start_of) (rooms.opened room g parts w)
-begun-without_room rooms room parts (packet.Utility s v) w = refl
-begun-without_room rooms room parts (packet.System g m) w = refl
-begun-without_room rooms room parts (packet.Voice1 g m) w = refl
-begun-without_room rooms room parts (packet.Voice2 g m) w = refl
-begun-without_room rooms room parts (packet.Data8 g wd) w = refl
-begun-without_room rooms room parts (packet.Flex g wd) w = refl
-begun-without_room rooms room parts (packet.Stream f s l wd x y) w = refl
-begun-without_room rooms room parts (packet.Reserved wd) w = refl
-
-pub line-without_room : RoomsThatAreNotPassedDoNotMatter → (room : ℕ) (past : List Placed) (placed : Placed) → AreWithinRoom room (parts_of past) → line_of (Some room) (parts_of past) placed ≡ line_of None (parts_of past) placed
-line-without_room rooms room past placed w = ap (λ o. listed o placed.offset placed.packet) (begun-without_room rooms room (parts_of past) placed.packet w)
+use Rattle.down_translator.proofs.LaneLaws.{held-lane, lanes-whole, range-packets}
+use Rattle.down_translator.proofs.RecordingRooms.{accepted-within, whole-without_room}
+use Rattle.down_translator.proofs.StyledLaws.{looks_back, plain_is, something}
 
 -- ---- one packet
 
@@ -99,18 +50,18 @@ pair-from None true bytes in_group h = cc (in_group refl)
 pair-from None false [] in_group h = refl
 pair-from None false (b ∷ bytes) in_group h = cc (h.1 (omega arith))
 
--- an answer's pair, by the exclusive that its packet ends
-pair-whole : CarriedPacketsHaveAPiece → (state : DownState) (offset : ℕ) (p : Packet) (carried : Carried) → IsPlainStep state offset p carried → pair_put carried ≡ pair_by (group_of p) (is_carried (whole_in state p) p) (plain_piece (whole_in state p) p)
-pair-whole pieces state offset p carried step =
+-- an answer's pair, by what is held
+pair-held : CarriedPacketsHaveAPiece → (state : DownState) (offset : ℕ) (p : Packet) (carried : Carried) → IsStep state offset p carried → pair_put carried ≡ pair_by (group_of p) (is_carried (whole_in state p) p) (piece_of state p)
+pair-held pieces state offset p carried step =
     let whole = whole_in state p in
     ap (λ bytes. cond (length bytes == 0) [] ((lane_in carried, bytes) ∷ [])) step.piece
-    ∙ ap (λ lane. cond (length (plain_piece whole p) == 0) [] ((lane, plain_piece whole p) ∷ [])) step.lane
-    ∙ pair-from (group_of p) (is_carried whole p) (plain_piece whole p) (carried_in_group whole p) (pieces whole p)
+    ∙ ap (λ lane. cond (length (piece_of state p) == 0) [] ((lane, piece_of state p) ∷ [])) step.lane
+    ∙ pair-from (group_of p) (is_carried whole p) (piece_of state p) (carried_in_group whole p) (something pieces (style_of state) (lane_before state (group_of p)) whole p)
 
-pub step-carried : CarriedPacketsHaveAPiece → (state : DownState) (offset : ℕ) (p : Packet) (carried : Carried) → IsPlainStep state offset p carried → IsTrue (is_carried (whole_in state p) p) ↔ (0 < length carried.piece.now)
-step-carried pieces state offset p carried step = subst (λ bytes. IsTrue (is_carried (whole_in state p) p) ↔ (0 < length bytes)) (sym step.piece) (pieces (whole_in state p) p)
+pub step-carried : CarriedPacketsHaveAPiece → (state : DownState) (offset : ℕ) (p : Packet) (carried : Carried) → IsStep state offset p carried → IsTrue (is_carried (whole_in state p) p) ↔ (0 < length carried.piece.now)
+step-carried pieces state offset p carried step = subst (λ bytes. IsTrue (is_carried (whole_in state p) p) ↔ (0 < length bytes)) (sym step.piece) (something pieces (style_of state) (lane_before state (group_of p)) (whole_in state p) p)
 
-pub step-lane : CarriedPacketsHaveAPiece → (state : DownState) (offset : ℕ) (p : Packet) (carried : Carried) → IsPlainStep state offset p carried → carried.piece.now ≡ [] → lane_in carried ≡ 0
+pub step-lane : CarriedPacketsHaveAPiece → (state : DownState) (offset : ℕ) (p : Packet) (carried : Carried) → IsStep state offset p carried → carried.piece.now ≡ [] → lane_in carried ≡ 0
 step-lane pieces state offset p carried step e = step.lane ∙ go (group_of p) (is_carried (whole_in state p) p) (λ h. nothing_below carried.piece.now e ((step-carried pieces state offset p carried step).0 h))
   where
     nothing_below : (xs : List ℕ) → xs ≡ [] → 0 < length xs → ⊥
@@ -121,38 +72,71 @@ step-lane pieces state offset p carried step e = step.lane ∙ go (group_of p) (
     go (Some g) true h = absurd (h refl)
     go (Some g) false h = refl
 
-pub step-pair : FedPartsAreTheDefinition → RoomsThatAreNotPassedDoNotMatter → JoinedBytesKnowNoOffsets → CarriedPacketsHaveAPiece → (room : ℕ) (past : List Placed) (placed : Placed) (carried : Carried) → 6 ≤ room → AreInRange past → AreAccepted room past → IsPlainStep (state_of room past) placed.offset placed.packet carried → pair_put carried ≡ pair_of (packets_of past) placed.packet
-step-pair fed rooms offsets pieces room past placed carried least a b step =
-    let p = placed.packet in
-    let accepted = sym (held-refusal fed room past least a p) ∙ step.accepted in
-    pair-whole pieces (state_of room past) placed.offset p carried step
-    ∙ ap (λ whole. pair_by (group_of p) (is_carried whole p) (plain_piece whole p)) (held-whole fed room past least a p ∙ whole-without_room rooms offsets room past p (accepted-within room past least a b) accepted)
+-- by the packets and the bytes of the lane of a group before
+pair-at : FedPartsAreTheDefinition → RoomsThatAreNotPassedDoNotMatter → JoinedBytesKnowNoOffsets → KeptLanesAreThoseOfTheRecording → StatusesThatRunCanBeLeftOut → (room : ℕ) (past : List Placed) (p : Packet) (group : ℕ) (carried : Bool) → 6 ≤ room → AreInRange past → IsInRange p → AreAccepted room past → group < 16 →
+    pair_by (Some group) carried (piece_by compact_style (lane_before (state_of compact_style room past) (Some group)) (whole_of (packets_of past) p) p)
+    ≡ pair_by (Some group) carried (piece_in compact_style (lane_so_far (Some group) (styled_behind compact_style (packets_of past))) (whole_of (packets_of past) p) p)
+pair-at fed rooms offsets kept statuses room past p group carried least a h b below =
+    ap (λ lane. pair_by (Some group) carried (piece_by compact_style lane (whole_of (packets_of past) p) p)) (held-lane fed rooms offsets room past group least a b below)
+    ∙ ap (λ piece. pair_by (Some group) carried piece) (looks_back statuses kept (packets_of past) p group (range-packets past a) h)
 
-pub step-line : FedPartsAreTheDefinition → (room : ℕ) (past : List Placed) (placed : Placed) (carried : Carried) → 6 ≤ room → AreInRange past → IsPlainStep (state_of room past) placed.offset placed.packet carried → line_in carried ≡ line_of (Some room) (parts_of past) placed
-step-line fed room past placed carried least a step = step.line ∙ ap (λ o. listed o placed.offset placed.packet) (held-begun fed room past least a placed.packet)
+pair-compact : FedPartsAreTheDefinition → RoomsThatAreNotPassedDoNotMatter → JoinedBytesKnowNoOffsets → KeptLanesAreThoseOfTheRecording → StatusesThatRunCanBeLeftOut → (room : ℕ) (past : List Placed) (p : Packet) → 6 ≤ room → AreInRange past → IsInRange p → AreAccepted room past →
+    pair_by (group_of p) (is_carried (whole_of (packets_of past) p) p) (piece_by compact_style (lane_before (state_of compact_style room past) (group_of p)) (whole_of (packets_of past) p) p)
+    ≡ styled_pair compact_style (styled_behind compact_style (packets_of past)) (packets_of past) p
+pair-compact fed rooms offsets kept statuses room past (packet.System g m) least a h b = pair-at fed rooms offsets kept statuses room past (packet.System g m) g true least a h b h.0
+pair-compact fed rooms offsets kept statuses room past (packet.Voice1 g m) least a h b = pair-at fed rooms offsets kept statuses room past (packet.Voice1 g m) g true least a h b h.0
+pair-compact fed rooms offsets kept statuses room past (packet.Exclusive g f bytes) least a h b = pair-at fed rooms offsets kept statuses room past (packet.Exclusive g f bytes) g (is_some (whole_of (packets_of past) (packet.Exclusive g f bytes))) least a h b h.0
+pair-compact fed rooms offsets kept statuses room past (packet.Voice2 g m) least a h b = pair-at fed rooms offsets kept statuses room past (packet.Voice2 g m) g (is_carried_voice m) least a h b h.0
+pair-compact fed rooms offsets kept statuses room past (packet.Utility s v) least a h b = refl
+pair-compact fed rooms offsets kept statuses room past (packet.Data8 g wd) least a h b = refl
+pair-compact fed rooms offsets kept statuses room past (packet.Flex g wd) least a h b = refl
+pair-compact fed rooms offsets kept statuses room past (packet.Stream f s l wd x y) least a h b = refl
+pair-compact fed rooms offsets kept statuses room past (packet.Reserved wd) least a h b = refl
+
+pair-styled : FedPartsAreTheDefinition → RoomsThatAreNotPassedDoNotMatter → JoinedBytesKnowNoOffsets → KeptLanesAreThoseOfTheRecording → StatusesThatRunCanBeLeftOut → (style : Style) (room : ℕ) (past : List Placed) (p : Packet) → 6 ≤ room → AreInRange past → IsInRange p → AreAccepted room past →
+    pair_by (group_of p) (is_carried (whole_of (packets_of past) p) p) (piece_by style (lane_before (state_of style room past) (group_of p)) (whole_of (packets_of past) p) p)
+    ≡ styled_pair style (styled_behind style (packets_of past)) (packets_of past) p
+pair-styled fed rooms offsets kept statuses plain_style room past p least a h b =
+    ap (λ piece. pair_by (group_of p) (is_carried (whole_of (packets_of past) p) p) piece) (plain_is (lane_before (state_of plain_style room past) (group_of p)) (whole_of (packets_of past) p) p)
+pair-styled fed rooms offsets kept statuses compact_style room past p least a h b = pair-compact fed rooms offsets kept statuses room past p least a h b
+
+pub step-pair : FedPartsAreTheDefinition → RoomsThatAreNotPassedDoNotMatter → JoinedBytesKnowNoOffsets → CarriedPacketsHaveAPiece → KeptLanesAreThoseOfTheRecording → StatusesThatRunCanBeLeftOut → (style : Style) (room : ℕ) (past : List Placed) (placed : Placed) (carried : Carried) → 6 ≤ room → AreInRange (placed ∷ past) → AreAccepted room past → IsStep (state_of style room past) placed.offset placed.packet carried → pair_put carried ≡ styled_pair style (styled_behind style (packets_of past)) (packets_of past) placed.packet
+step-pair fed rooms offsets pieces kept statuses style room past placed carried least a b step =
+    let p : Packet = placed.packet in
+    let state : DownState = state_of style room past in
+    let whole : Option (List ℕ) = whole_of (packets_of past) p in
+    let accepted : bad_step (Some room) (parts_of past) p ≡ None = sym (held-refusal fed style room past least a.1 p) ∙ step.accepted in
+    let ends : whole_in state p ≡ whole = held-whole fed style room past least a.1 p ∙ whole-without_room rooms offsets room past p (accepted-within room past least a.1 b) accepted in
+    pair-held pieces state placed.offset p carried step
+    ∙ ap (λ s. pair_by (group_of p) (is_carried (whole_in state p) p) (piece_by s (lane_before state (group_of p)) (whole_in state p) p)) (lanes-whole style room past).0
+    ∙ ap (λ w. pair_by (group_of p) (is_carried w p) (piece_by style (lane_before state (group_of p)) w p)) ends
+    ∙ pair-styled fed rooms offsets kept statuses style room past p least a.1 a.0 b
+
+pub step-line : FedPartsAreTheDefinition → (style : Style) (room : ℕ) (past : List Placed) (placed : Placed) (carried : Carried) → 6 ≤ room → AreInRange past → IsStep (state_of style room past) placed.offset placed.packet carried → line_in carried ≡ line_of (Some room) (parts_of past) placed
+step-line fed style room past placed carried least a step = step.line ∙ ap (λ o. listed o placed.offset placed.packet) (held-begun fed style room past least a placed.packet)
 
 -- ---- a recording
 
-pub steps-accepted : FedPartsAreTheDefinition → (room : ℕ) (past : List Placed) (answers : List Carried) → 6 ≤ room → AreInRange past → AreSteps room past answers → AreAccepted room past
-steps-accepted fed room [] answers least a steps = tt
-steps-accepted fed room (placed ∷ past) [] least a steps = absurd steps
-steps-accepted fed room (placed ∷ past) (carried ∷ before) least a steps = (sym (held-refusal fed room past least a.1 placed.packet) ∙ steps.0.accepted, steps-accepted fed room past before least a.1 steps.1)
+pub steps-accepted : FedPartsAreTheDefinition → (style : Style) (room : ℕ) (past : List Placed) (answers : List Carried) → 6 ≤ room → AreInRange past → AreSteps style room past answers → AreAccepted room past
+steps-accepted fed style room [] answers least a steps = tt
+steps-accepted fed style room (placed ∷ past) [] least a steps = absurd steps
+steps-accepted fed style room (placed ∷ past) (carried ∷ before) least a steps = (sym (held-refusal fed style room past least a.1 placed.packet) ∙ steps.0.accepted, steps-accepted fed style room past before least a.1 steps.1)
 
-pub steps-pairs : FedPartsAreTheDefinition → RoomsThatAreNotPassedDoNotMatter → JoinedBytesKnowNoOffsets → CarriedPacketsHaveAPiece → (room : ℕ) (past : List Placed) (answers : List Carried) → 6 ≤ room → AreInRange past → AreSteps room past answers → pairs_put answers ≡ pairs_behind (packets_of past)
-steps-pairs fed rooms offsets pieces room [] [] least a steps = refl
-steps-pairs fed rooms offsets pieces room [] (carried ∷ before) least a steps = absurd steps
-steps-pairs fed rooms offsets pieces room (placed ∷ past) [] least a steps = absurd steps
-steps-pairs fed rooms offsets pieces room (placed ∷ past) (carried ∷ before) least a steps =
-    ap (λ pairs. pairs ++ pair_put carried) (steps-pairs fed rooms offsets pieces room past before least a.1 steps.1)
-    ∙ ap (λ pair. pairs_behind (packets_of past) ++ pair) (step-pair fed rooms offsets pieces room past placed carried least a.1 (steps-accepted fed room past before least a.1 steps.1) steps.0)
+pub steps-pairs : FedPartsAreTheDefinition → RoomsThatAreNotPassedDoNotMatter → JoinedBytesKnowNoOffsets → CarriedPacketsHaveAPiece → KeptLanesAreThoseOfTheRecording → StatusesThatRunCanBeLeftOut → (style : Style) (room : ℕ) (past : List Placed) (answers : List Carried) → 6 ≤ room → AreInRange past → AreSteps style room past answers → pairs_put answers ≡ styled_behind style (packets_of past)
+steps-pairs fed rooms offsets pieces kept statuses style room [] [] least a steps = refl
+steps-pairs fed rooms offsets pieces kept statuses style room [] (carried ∷ before) least a steps = absurd steps
+steps-pairs fed rooms offsets pieces kept statuses style room (placed ∷ past) [] least a steps = absurd steps
+steps-pairs fed rooms offsets pieces kept statuses style room (placed ∷ past) (carried ∷ before) least a steps =
+    ap (λ pairs. pairs ++ pair_put carried) (steps-pairs fed rooms offsets pieces kept statuses style room past before least a.1 steps.1)
+    ∙ ap (λ pair. styled_behind style (packets_of past) ++ pair) (step-pair fed rooms offsets pieces kept statuses style room past placed carried least a (steps-accepted fed style room past before least a.1 steps.1) steps.0)
 
-pub steps-lines : FedPartsAreTheDefinition → (room : ℕ) (past : List Placed) (answers : List Carried) → 6 ≤ room → AreInRange past → AreSteps room past answers → lines_put answers ≡ lines_behind (Some room) past
-steps-lines fed room [] [] least a steps = refl
-steps-lines fed room [] (carried ∷ before) least a steps = absurd steps
-steps-lines fed room (placed ∷ past) [] least a steps = absurd steps
-steps-lines fed room (placed ∷ past) (carried ∷ before) least a steps =
-    ap (λ lines. lines ++ option_to_list (line_in carried)) (steps-lines fed room past before least a.1 steps.1)
-    ∙ ap (λ line. lines_behind (Some room) past ++ option_to_list line) (step-line fed room past placed carried least a.1 steps.0)
+pub steps-lines : FedPartsAreTheDefinition → (style : Style) (room : ℕ) (past : List Placed) (answers : List Carried) → 6 ≤ room → AreInRange past → AreSteps style room past answers → lines_put answers ≡ lines_behind (Some room) past
+steps-lines fed style room [] [] least a steps = refl
+steps-lines fed style room [] (carried ∷ before) least a steps = absurd steps
+steps-lines fed style room (placed ∷ past) [] least a steps = absurd steps
+steps-lines fed style room (placed ∷ past) (carried ∷ before) least a steps =
+    ap (λ lines. lines ++ option_to_list (line_in carried)) (steps-lines fed style room past before least a.1 steps.1)
+    ∙ ap (λ line. lines_behind (Some room) past ++ option_to_list line) (step-line fed style room past placed carried least a.1 steps.0)
 
 -- ---- in the order in which they came
 
@@ -164,15 +148,11 @@ range-turned : (packets acc : List Placed) → AreInRange packets → AreInRange
 range-turned [] acc a b = b
 range-turned (placed ∷ packets) acc a b = range-turned packets (placed ∷ acc) a.1 (a.0, b)
 
-range-packets : (packets : List Placed) → AreInRange packets → AllByRecursion IsInRange (packets_of packets)
-range-packets [] a = tt
-range-packets (placed ∷ packets) a = (a.0, range-packets packets a.1)
+pub steps-styled : FedPartsAreTheDefinition → RoomsThatAreNotPassedDoNotMatter → JoinedBytesKnowNoOffsets → CarriedPacketsHaveAPiece → KeptLanesAreThoseOfTheRecording → StatusesThatRunCanBeLeftOut → (style : Style) (room : ℕ) (packets : List Placed) (answers : List Carried) → 6 ≤ room → AreInRange packets → AreSteps style room (reverse packets) answers → pairs_put answers ≡ styled_pairs style (packets_of packets)
+steps-styled fed rooms offsets pieces kept statuses style room packets answers least a steps =
+    steps-pairs fed rooms offsets pieces kept statuses style room (reverse packets) answers least (range-turned packets [] a tt) steps
+    ∙ ap (styled_behind style) (packets-turned packets [])
 
-pub steps-plain : FedPartsAreTheDefinition → RoomsThatAreNotPassedDoNotMatter → JoinedBytesKnowNoOffsets → CarriedPacketsHaveAPiece → (room : ℕ) (packets : List Placed) (answers : List Carried) → 6 ≤ room → AreInRange packets → AreSteps room (reverse packets) answers → pairs_put answers ≡ plain_pairs (packets_of packets)
-steps-plain fed rooms offsets pieces room packets answers least a steps =
-    steps-pairs fed rooms offsets pieces room (reverse packets) answers least (range-turned packets [] a tt) steps
-    ∙ ap pairs_behind (packets-turned packets [])
-
-pub steps-translation : PlainPairsAreATranslation → FedPartsAreTheDefinition → RoomsThatAreNotPassedDoNotMatter → JoinedBytesKnowNoOffsets → CarriedPacketsHaveAPiece → (room : ℕ) (packets : List Placed) (answers : List Carried) → 6 ≤ room → AreInRange packets → AreSteps room (reverse packets) answers → IsTranslation (packets_of packets) (pairs_put answers)
-steps-translation means fed rooms offsets pieces room packets answers least a steps =
-    subst (IsTranslation (packets_of packets)) (sym (steps-plain fed rooms offsets pieces room packets answers least a steps)) (means (packets_of packets) (range-packets packets a))
+pub steps-translation : StyledPairsAreATranslation → FedPartsAreTheDefinition → RoomsThatAreNotPassedDoNotMatter → JoinedBytesKnowNoOffsets → CarriedPacketsHaveAPiece → KeptLanesAreThoseOfTheRecording → StatusesThatRunCanBeLeftOut → (style : Style) (room : ℕ) (packets : List Placed) (answers : List Carried) → 6 ≤ room → AreInRange packets → AreSteps style room (reverse packets) answers → IsTranslation (packets_of packets) (pairs_put answers)
+steps-translation means fed rooms offsets pieces kept statuses style room packets answers least a steps =
+    subst (IsTranslation (packets_of packets)) (sym (steps-styled fed rooms offsets pieces kept statuses style room packets answers least a steps)) (means style (packets_of packets) (range-packets packets a))

@@ -9,14 +9,21 @@ use Rattle.voice_state.specs.declared.listed.BadStep.{BadStep}
 use Rattle.voice_state.specs.declared.listed.BadStep.TheVariants as bad
 use Rattle.voice_state.specs.Refusal.{bad_voice1, bad_voice2}
 use Rattle.voice_state.specs.Parts.{part_of}
+use Rattle.voice_state.specs.Styles.{Style}
+use Rattle.down_translator.specs.Lanes.{Lanes, lane_written, lanes_after, new_lanes}
 
--- the exclusives of all groups that are open
+-- the exclusives of all groups that are open, and the lanes
 pub record DownState : Type 0 where
   pub exclusives : Table
+  pub lanes : Lanes
 
--- a new translator, with this limit for the bytes of an exclusive: nothing is open
-abbrev pub new_down : ℕ → DownState
-new_down limit = record { exclusives = empty_table limit }
+-- a new translator in a style, with this limit for the bytes of an exclusive: nothing is open, and nothing is written
+abbrev pub new_down : Style → ℕ → DownState
+new_down style limit = record { exclusives = empty_table limit; lanes = new_lanes style }
+
+-- the style of its lanes
+abbrev pub style_of : DownState → Style
+style_of state = state.lanes.style
 
 -- the most bytes of an exclusive between F0 and F7
 abbrev pub limit_of : DownState → ℕ
@@ -50,6 +57,21 @@ abbrev pub with_part_of : Option Part → Table → Table
 with_part_of None table = table
 with_part_of (Some part) table = with_part part table
 
--- What is held after a packet at this offset, whether it is refused or not: only packets of exclusives change it.
+-- a packet that is refused is written into no lane
+abbrev pub unless_refused : Option BadStep → Option ℕ → Option ℕ
+unless_refused None lane = lane
+unless_refused (Some bad) lane = None
+
+-- the lanes after a packet
+abbrev pub lanes_behind : Packet → DownState → Lanes
+lanes_behind packet state =
+    let whole : Option (List ℕ) = whole_in state packet in
+    lanes_after (unless_refused (refusal_in state packet) (lane_written whole packet)) whole packet state.lanes
+
+-- What is held after a packet at this offset, whether it is refused or not: only packets of exclusives change what is open, and
+-- only packets that are accepted change what is kept of the lanes.
 abbrev pub down_after : ℕ → Packet → DownState → DownState
-down_after offset packet state = record state { exclusives = with_part_of (part_of offset packet) state.exclusives }
+down_after offset packet state = record {
+  exclusives = with_part_of (part_of offset packet) state.exclusives;
+  lanes = lanes_behind packet state;
+}

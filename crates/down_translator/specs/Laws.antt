@@ -1,39 +1,55 @@
 -- What holds of all recordings. Packets are listed newest first.
-use Rattle.std.specs.Prelude.{◌≡◌, ◌≤◌, ℕ, List, ◌∷◌, Some, None}
+use Rattle.std.specs.Prelude.{◌≡◌, ◌≤◌, ◌<◌, ℕ, List, ◌∷◌, reverse, Some, None}
 use Rattle.ump_grammar.specs.declared.packet.Packet.{Packet}
 use Rattle.ump_grammar.specs.Ranges.{IsPacket}
 use Rattle.voice_state.specs.Parts.{Placed, parts_of, whole_by}
 use Rattle.voice_state.specs.Packets.{IsInRange}
 use Rattle.voice_state.specs.Listing.{begun_before, line_of}
-use Rattle.voice_state.specs.Lanes.{pair_of}
+use Rattle.voice_state.specs.Lanes.{lane_bytes}
+use Rattle.voice_state.specs.Relied.{IsLaneOf, IsRelied}
+use Rattle.voice_state.specs.Styles.{Style, plain_style, compact_style, styled_behind, styled_pair}
+use Rattle.voice_state.specs.Plain.{plain_piece}
 use Rattle.voice_state.specs.Refusal.{bad_step}
 use Rattle.down_translator.specs.declared.carried.Carried.{Carried}
 use Rattle.down_translator.specs.Carried.{line_in}
-use Rattle.down_translator.specs.Held.{whole_in, begun_at_in, refusal_in, down_after}
-use Rattle.down_translator.specs.Step.{IsPlainStep}
+use Rattle.down_translator.specs.Held.{style_of, whole_in, begun_at_in, refusal_in, down_after}
+use Rattle.down_translator.specs.Lanes.{lane_at}
+use Rattle.down_translator.specs.Step.{piece_of, IsStep}
 use Rattle.down_translator.specs.Recording.{packets_of, AreInRange, state_of, AreAccepted, pair_put}
 
 abbrev pub SpelledPacketsAreInRange : Type 0
 SpelledPacketsAreInRange = (packet : Packet) → IsPacket packet → IsInRange packet
 
 pub record WhatIsHeldIsTheDefinition : Type 0 where
-  pub whole : (room : ℕ) (past : List Placed) → 6 ≤ room → AreInRange past → (packet : Packet) →
-      whole_in (state_of room past) packet ≡ whole_by (Some room) (parts_of past) packet
-  pub begun : (room : ℕ) (past : List Placed) → 6 ≤ room → AreInRange past → (packet : Packet) →
-      begun_at_in (state_of room past) packet ≡ begun_before (Some room) (parts_of past) packet
-  pub refusal : (room : ℕ) (past : List Placed) → 6 ≤ room → AreInRange past → (packet : Packet) →
-      refusal_in (state_of room past) packet ≡ bad_step (Some room) (parts_of past) packet
-  pub behind : (room : ℕ) (past : List Placed) (placed : Placed) →
-      down_after placed.offset placed.packet (state_of room past) ≡ state_of room (placed ∷ past)
+  pub style : (style : Style) (room : ℕ) (past : List Placed) → style_of (state_of style room past) ≡ style
+  pub plain : (room : ℕ) (past : List Placed) (packet : Packet) →
+      piece_of (state_of plain_style room past) packet ≡ plain_piece (whole_in (state_of plain_style room past) packet) packet
+  pub whole : (style : Style) (room : ℕ) (past : List Placed) → 6 ≤ room → AreInRange past → (packet : Packet) →
+      whole_in (state_of style room past) packet ≡ whole_by (Some room) (parts_of past) packet
+  pub begun : (style : Style) (room : ℕ) (past : List Placed) → 6 ≤ room → AreInRange past → (packet : Packet) →
+      begun_at_in (state_of style room past) packet ≡ begun_before (Some room) (parts_of past) packet
+  pub refusal : (style : Style) (room : ℕ) (past : List Placed) → 6 ≤ room → AreInRange past → (packet : Packet) →
+      refusal_in (state_of style room past) packet ≡ bad_step (Some room) (parts_of past) packet
+  pub behind : (style : Style) (room : ℕ) (past : List Placed) (placed : Placed) →
+      down_after placed.offset placed.packet (state_of style room past) ≡ state_of style room (placed ∷ past)
+
+-- What is kept of a lane in compact style, after packets that are accepted, is what the meaning gives on the lane's bytes after the
+-- last System Reset; each of these that is set is what the meaning gives on all of them.
+pub record WhatIsKeptIsTheMeaning : Type 0 where
+  pub lane : (room : ℕ) (past : List Placed) (group : ℕ) → 6 ≤ room → AreInRange past → AreAccepted room past → group < 16 →
+      IsLaneOf (lane_at (state_of compact_style room past).lanes.states group)
+      (reverse (lane_bytes group (styled_behind compact_style (packets_of past))))
+  pub relied : (past : List Placed) (group : ℕ) → AreInRange past →
+      IsRelied (reverse (lane_bytes group (styled_behind compact_style (packets_of past))))
 
 pub record OneMoreAcceptedPacketAddsItsPairAndLine : Type 0 where
-  pub pair : (room : ℕ) (past : List Placed) (placed : Placed) (carried : Carried) →
-      6 ≤ room → AreInRange past → AreAccepted room past →
-      IsPlainStep (state_of room past) placed.offset placed.packet carried →
-      pair_put carried ≡ pair_of (packets_of past) placed.packet
-  pub line : (room : ℕ) (past : List Placed) (placed : Placed) (carried : Carried) →
+  pub pair : (style : Style) (room : ℕ) (past : List Placed) (placed : Placed) (carried : Carried) →
+      6 ≤ room → AreInRange (placed ∷ past) → AreAccepted room past →
+      IsStep (state_of style room past) placed.offset placed.packet carried →
+      pair_put carried ≡ styled_pair style (styled_behind style (packets_of past)) (packets_of past) placed.packet
+  pub line : (style : Style) (room : ℕ) (past : List Placed) (placed : Placed) (carried : Carried) →
       6 ≤ room → AreInRange past →
-      IsPlainStep (state_of room past) placed.offset placed.packet carried →
+      IsStep (state_of style room past) placed.offset placed.packet carried →
       line_in carried ≡ line_of (Some room) (parts_of past) placed
   pub without_room : (room : ℕ) (past : List Placed) (placed : Placed) →
       6 ≤ room → AreInRange past → AreAccepted room past →

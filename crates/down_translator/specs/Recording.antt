@@ -8,10 +8,12 @@ use Rattle.voice_state.specs.declared.listed.Listed.{Listed}
 use Rattle.voice_state.specs.Parts.{Placed, parts_of}
 use Rattle.voice_state.specs.Packets.{IsInRange}
 use Rattle.voice_state.specs.Refusal.{bad_step}
+use Rattle.voice_state.specs.Styles.{Style}
 use Rattle.down_translator.specs.declared.carried.Carried.{Carried}
 use Rattle.down_translator.specs.Carried.{lane_in, line_in}
-use Rattle.down_translator.specs.Held.{DownState}
-use Rattle.down_translator.specs.Step.{IsPlainStep}
+use Rattle.down_translator.specs.Held.{DownState, lanes_behind}
+use Rattle.down_translator.specs.Lanes.{Lanes, new_lanes}
+use Rattle.down_translator.specs.Step.{IsStep}
 
 abbrev pub packets_of : List Placed → List Packet
 packets_of past = map (λ placed. placed.packet) past
@@ -20,9 +22,14 @@ packets_of past = map (λ placed. placed.packet) past
 abbrev pub AreInRange : List Placed → Type 0
 AreInRange past = AllByRecursion (λ placed. IsInRange placed.packet) past
 
--- what is held after these packets
-abbrev pub state_of : ℕ → List Placed → DownState
-state_of room past = record { exclusives = table_after room (parts_of past) }
+-- what is kept of the lanes after these packets, and what is held after them
+abbrev pub lanes_of : Style → ℕ → List Placed → Lanes
+lanes_of style room [] = new_lanes style
+lanes_of style room (placed ∷ past) =
+    lanes_behind placed.packet (record { exclusives = table_after room (parts_of past); lanes = lanes_of style room past })
+
+abbrev pub state_of : Style → ℕ → List Placed → DownState
+state_of style room past = record { exclusives = table_after room (parts_of past); lanes = lanes_of style room past }
 
 -- no packet is refused after those before it
 abbrev pub AreAccepted : ℕ → List Placed → Type 0
@@ -30,11 +37,11 @@ AreAccepted room [] = Unit {0}
 AreAccepted room (placed ∷ past) = (bad_step (Some room) (parts_of past) placed.packet ≡ None) × AreAccepted room past
 
 -- each answer is that of its packet after those before it
-abbrev pub AreSteps : ℕ → List Placed → List Carried → Type 0
-AreSteps room [] [] = Unit {0}
-AreSteps room (placed ∷ past) (carried ∷ before) =
-    IsPlainStep (state_of room past) placed.offset placed.packet carried × AreSteps room past before
-AreSteps room _ _ = ⊥
+abbrev pub AreSteps : Style → ℕ → List Placed → List Carried → Type 0
+AreSteps style room [] [] = Unit {0}
+AreSteps style room (placed ∷ past) (carried ∷ before) =
+    IsStep (state_of style room past) placed.offset placed.packet carried × AreSteps style room past before
+AreSteps style room _ _ = ⊥
 
 -- what is put for an answer: nothing where its piece is empty
 abbrev pub pair_put : Carried → List (ℕ × List ℕ)

@@ -1,12 +1,13 @@
-// The translator down, in plain style.
+// The translator down, in both styles.
 ghost use Rattle.std.specs.Prelude.{◌≡◌, ◌≤◌, ◌<◌, IfOk, Some, None, length};
 ghost use Rattle.sysex_groups.specs.Exclusives.{IsData};
 ghost use Rattle.ump_grammar.specs.Ranges.{IsPacket};
 ghost use Rattle.ump_grammar.specs.declared.packet.Packet.TheVariants as packet;
 
 use crate::carried::Carried;
+use crate::lanes::Lanes;
 use crate::listing::{line, voice_kind};
-use crate::pieces::{Piece, fill_system, fill_voice1, fill_voice2};
+use crate::pieces::{Piece, write_system, write_voice1, write_voice2};
 use crate::refusals::{bad_voice1, bad_voice2};
 use crate::style::Style;
 use midi_edge::{NoMemory, U4};
@@ -14,15 +15,16 @@ use std::alloc::Global;
 use std::marker::Model;
 use sysex_groups::{Fed, Groups};
 use ump_grammar::Packet;
-use voice_messages::{Form, Voice1, Voice2};
+use voice_messages::{Form, System, Voice1, Voice2};
 use voice_state::laws::carried_packets_have_a_piece;
 use voice_state::{BadStep, Kind, Listed};
 
 /// Translates packets to the MIDI 1.0 bytes of sixteen lanes, a lane for each group. A contract sees what it holds: the
-/// exclusives that the groups have open.
+/// exclusives that the groups have open, and in compact style what is kept of each lane.
 #[derive(Drop)]
 pub struct Down {
     groups: Groups,
+    lanes: Lanes,
     piece: Piece,
 }
 
@@ -31,7 +33,7 @@ impl Model for Down {
 
     ghost Value = { DownState };
 
-    ghost view = { λ down. record { exclusives = down.groups } };
+    ghost view = { λ down. record { exclusives = down.groups; lanes = down.lanes } };
 }
 
 impl Down {
@@ -39,26 +41,30 @@ impl Down {
     ghost use Rattle.std.specs.Option.{option_map};
     ghost use Rattle.sysex_groups.specs.Table.{begun_in};
     ghost use Rattle.down_translator.specs.Held.{down_after, new_down};
+    ghost use Rattle.down_translator.specs.Lanes.{style_in};
     ghost use Rattle.down_translator.specs.Lend.{KeepsDown};
     ghost use Rattle.down_translator.specs.Step.{Translates};
 
-    /// A translator in which nothing is open. Reserves memory for exclusives of `room` bytes between F0 and F7 in each group, 6
-    /// to 1,048,576; no other call takes any. `NoMemory` when there isn't that much.
-    pub fn new(alloc: Global, room: u32, _style: Style) -> Result<Down, NoMemory>
+    /// A translator that writes in this style, in which nothing is open. Reserves memory for what is kept of the lanes, and for
+    /// exclusives of `room` bytes between F0 and F7 in each group, 6 to 1,048,576; no other call takes any. `NoMemory` when there
+    /// isn't that much.
+    pub fn new(alloc: Global, room: u32, style: Style) -> Result<Down, NoMemory>
         requires least { 6 ≤ room }
         requires most { room ≤ 1048576 }
-        ensures { IfOk result (λ down. down ≡ new_down room) }
+        ensures { IfOk result (λ down. down ≡ new_down (style_in style) room) }
     {
-        match Groups::new(alloc, room) {
-            Ok(groups) => Ok(Down {
-                groups,
-                piece: Piece::new(),
-            }),
-            Err(NoMemory) => Err(NoMemory),
-        }
+        let groups = Groups::new(alloc, room)?;
+        let lanes = Lanes::new(alloc, style)?;
+        Ok(Down {
+            groups,
+            lanes,
+            piece: Piece::new(),
+        })
     }
 
     /// Takes one more packet of an exclusive.
+    #[tactic(auto, using(crate::proofs::ExclusiveLaws::exclusive_lanes))]
+    #[inline(always)]
     fn exclusive(
         &mut self,
         group: U4,
@@ -72,6 +78,7 @@ impl Down {
         ensures* after { sem 𝓛 (KeepsDown self.entry
             (down_after offset (packet.Exclusive group form bytes.now) self.old)) }
     {
+        self.lanes.keep_part(&self.groups, group, form, bytes);
         match self.groups.feed(group, form, bytes, offset) {
             Fed::Held => Ok(Carried::nothing()),
             Fed::Whole(piece) => Ok(Carried::new(group, piece, None)),
@@ -87,33 +94,48 @@ impl Down {
         }
     }
 
+    #[tactic(auto, using(crate::proofs::StyledLaws::lent_system))]
+    fn system(&mut self, group: U4, message: &System, _offset: u64) -> Result<Carried<'_>, BadStep>
+        ensures answer { Translates self.old _offset (packet.System group message.now) result }
+        ensures* after { sem 𝓛 (KeepsDown self.entry
+            (down_after _offset (packet.System group message.now) self.old)) }
+    {
+        carried_packets_have_a_piece();
+        write_system(&mut self.piece, &mut self.lanes, group, message);
+        Ok(Carried::lent(group, &self.piece, None))
+    }
+
+    #[tactic(auto, using(crate::proofs::StyledLaws::lent1))]
     #[inline(always)]
     fn voice1(&mut self, group: U4, message: &Voice1, offset: u64) -> Result<Carried<'_>, BadStep>
         ensures answer { Translates self.old offset (packet.Voice1 group message.now) result }
-        ensures* after { sem 𝓛 (KeepsDown self.entry self.old) }
+        ensures* after { sem 𝓛 (KeepsDown self.entry
+            (down_after offset (packet.Voice1 group message.now) self.old)) }
     {
         carried_packets_have_a_piece();
         match bad_voice1(message) {
             Some(bad) => Err(bad),
             None => {
-                fill_voice1(&mut self.piece, message);
+                write_voice1(&mut self.piece, &mut self.lanes, group, message);
                 Ok(Carried::lent(group, &self.piece, None))
             }
         }
     }
 
+    #[tactic(auto, using(crate::proofs::StyledLaws::lent2))]
     #[inline(always)]
     fn voice2(&mut self, group: U4, message: &Voice2, offset: u64) -> Result<Carried<'_>, BadStep>
         ensures answer { Translates self.old offset (packet.Voice2 group message.now) result }
-        ensures* after { sem 𝓛 (KeepsDown self.entry self.old) }
+        ensures* after { sem 𝓛 (KeepsDown self.entry
+            (down_after offset (packet.Voice2 group message.now) self.old)) }
     {
         carried_packets_have_a_piece();
         match bad_voice2(message) {
             Some(bad) => Err(bad),
             None => {
-                let listed = line(offset, group, voice_kind(message));
-                fill_voice2(&mut self.piece, message);
-                Ok(Carried::lent(group, &self.piece, listed))
+                let kind = voice_kind(message);
+                write_voice2(&mut self.piece, &mut self.lanes, group, message);
+                Ok(Carried::lent(group, &self.piece, line(offset, group, kind)))
             }
         }
     }
@@ -132,10 +154,7 @@ impl Down {
     {
         match packet {
             Packet::Utility { .. } => Ok(Carried::only_listed(offset, None, Kind::Utility)),
-            Packet::System { group, message } => {
-                fill_system(&mut self.piece, message);
-                Ok(Carried::lent(*group, &self.piece, None))
-            }
+            Packet::System { group, message } => self.system(*group, message, offset),
             Packet::Voice1 { group, message } => self.voice1(*group, message, offset),
             Packet::Exclusive { group, form, bytes } => {
                 // A copy, since a packet that a call sees a part of would not stay in registers.

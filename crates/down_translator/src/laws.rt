@@ -3,7 +3,7 @@ ghost use Rattle.std.specs.Prelude.{◌≡◌, ◌↔◌, ◌<◌, ◌≤◌, �
 ghost use Rattle.ump_grammar.specs.declared.packet.Packet.{Packet};
 ghost use Rattle.voice_state.specs.Parts.{Placed};
 ghost use Rattle.voice_state.specs.Listing.{is_carried, lines_behind};
-ghost use Rattle.voice_state.specs.Lanes.{pairs_behind, plain_pairs};
+ghost use Rattle.voice_state.specs.Styles.{Style, styled_behind, styled_pairs};
 ghost use Rattle.voice_state.specs.Translation.{IsTranslation};
 ghost use Rattle.down_translator.specs.declared.carried.Carried.{Carried};
 ghost use Rattle.down_translator.specs.Carried.{lane_in};
@@ -12,8 +12,9 @@ ghost use Rattle.down_translator.specs.Laws.{
   OneMoreAcceptedPacketAddsItsPairAndLine,
   SpelledPacketsAreInRange,
   WhatIsHeldIsTheDefinition,
+  WhatIsKeptIsTheMeaning,
 };
-ghost use Rattle.down_translator.specs.Step.{IsPlainStep};
+ghost use Rattle.down_translator.specs.Step.{IsStep};
 ghost use Rattle.down_translator.specs.Recording.{
   packets_of,
   AreInRange,
@@ -23,10 +24,15 @@ ghost use Rattle.down_translator.specs.Recording.{
   lines_put,
 };
 
+use midi1_bytes::laws::statuses_that_run_can_be_left_out;
 use sysex_groups::laws::fed_parts_are_the_definition;
 use voice_state::laws::{
-    carried_packets_have_a_piece, joined_bytes_know_no_offsets, plain_pairs_are_a_translation,
+    carried_packets_have_a_piece, joined_bytes_know_no_offsets,
     rooms_that_are_not_passed_do_not_matter,
+};
+use voice_state::style_laws::{
+    kept_lanes_are_those_of_the_recording, styled_lanes_leave_the_registers,
+    styled_pairs_are_a_translation,
 };
 
 /// A packet that some words spell has its fields in range.
@@ -43,19 +49,31 @@ pub fn what_is_held_is_the_definition()
     fed_parts_are_the_definition();
 }
 
+/// In compact style the translator keeps, of the lane of each group, the running status and the registers that the lane's bytes
+/// after the last System Reset leave; each of these that is set is what all the lane's bytes leave.
+pub fn what_is_kept_is_the_meaning()
+    ensures { WhatIsKeptIsTheMeaning }
+{
+    fed_parts_are_the_definition();
+    rooms_that_are_not_passed_do_not_matter();
+    joined_bytes_know_no_offsets();
+    kept_lanes_are_those_of_the_recording();
+    styled_lanes_leave_the_registers();
+}
+
 /// An answer's piece is empty exactly when its packet isn't carried, and the lane is then 0.
 pub fn empty_pieces_are_not_carried()
     ensures carried { (state : DownState) (offset : ℕ) (packet : Packet) (carried : Carried) →
-        IsPlainStep state offset packet carried →
+        IsStep state offset packet carried →
         IsTrue (is_carried (whole_in state packet) packet) ↔ (0 < length carried.piece.now) }
     ensures lane { (state : DownState) (offset : ℕ) (packet : Packet) (carried : Carried) →
-        IsPlainStep state offset packet carried → carried.piece.now ≡ [] → lane_in carried ≡ 0 }
+        IsStep state offset packet carried → carried.piece.now ≡ [] → lane_in carried ≡ 0 }
 {
     carried_packets_have_a_piece();
 }
 
-/// One more packet that the translator accepts, after packets that it accepted: what is put for the answer is the plain pair of
-/// the packet, and what is listed is its line, which a limit that isn't exceeded doesn't change.
+/// One more packet that the translator accepts, after packets that it accepted: what is put for the answer is the pair of the
+/// packet in the translator's style, and what is listed is its line, which a limit that isn't exceeded doesn't change.
 pub fn one_more_accepted_packet_adds_its_pair_and_line()
     ensures { OneMoreAcceptedPacketAddsItsPairAndLine }
 {
@@ -63,41 +81,47 @@ pub fn one_more_accepted_packet_adds_its_pair_and_line()
     rooms_that_are_not_passed_do_not_matter();
     joined_bytes_know_no_offsets();
     carried_packets_have_a_piece();
+    kept_lanes_are_those_of_the_recording();
+    statuses_that_run_can_be_left_out();
 }
 
-/// The answers to the packets of a recording, one after the other: no packet is refused, what is put is the plain pairs of the
-/// packets, and what is listed is their lines.
-pub fn answers_are_the_plain_translation()
-    ensures accepted { (room : ℕ) (past : List Placed) (answers : List Carried) →
-        6 ≤ room → AreInRange past → AreSteps room past answers →
+/// The answers to the packets of a recording, one after the other: no packet is refused, what is put is the pairs of the packets
+/// in the translator's style, and what is listed is their lines.
+pub fn answers_are_the_translation()
+    ensures accepted { (style : Style) (room : ℕ) (past : List Placed) (answers : List Carried) →
+        6 ≤ room → AreInRange past → AreSteps style room past answers →
         AreAccepted room past }
-    ensures pairs { (room : ℕ) (past : List Placed) (answers : List Carried) →
-        6 ≤ room → AreInRange past → AreSteps room past answers →
-        pairs_put answers ≡ pairs_behind (packets_of past) }
-    ensures lines { (room : ℕ) (past : List Placed) (answers : List Carried) →
-        6 ≤ room → AreInRange past → AreSteps room past answers →
+    ensures pairs { (style : Style) (room : ℕ) (past : List Placed) (answers : List Carried) →
+        6 ≤ room → AreInRange past → AreSteps style room past answers →
+        pairs_put answers ≡ styled_behind style (packets_of past) }
+    ensures lines { (style : Style) (room : ℕ) (past : List Placed) (answers : List Carried) →
+        6 ≤ room → AreInRange past → AreSteps style room past answers →
         lines_put answers ≡ lines_behind (Some room) past }
 {
     fed_parts_are_the_definition();
     rooms_that_are_not_passed_do_not_matter();
     joined_bytes_know_no_offsets();
     carried_packets_have_a_piece();
+    kept_lanes_are_those_of_the_recording();
+    statuses_that_run_can_be_left_out();
 }
 
-/// For a recording in the order in which its packets come, what is put for the answers is its plain pairs, which are its
-/// translation: one pair for each packet that is carried, in its group's lane, and after each packet the bytes so far of each
+/// For a recording in the order in which its packets come, what is put for the answers is its pairs in the translator's style, which
+/// are its translation: one pair for each packet that is carried, in its group's lane, and after each packet the bytes so far of each
 /// lane mean what the packets so far of its group mean.
 pub fn answers_mean_the_packets()
-    ensures pairs { (room : ℕ) (packets : List Placed) (answers : List Carried) →
-        6 ≤ room → AreInRange packets → AreSteps room (reverse packets) answers →
-        pairs_put answers ≡ plain_pairs (packets_of packets) }
-    ensures translation { (room : ℕ) (packets : List Placed) (answers : List Carried) →
-        6 ≤ room → AreInRange packets → AreSteps room (reverse packets) answers →
+    ensures pairs { (style : Style) (room : ℕ) (packets : List Placed) (answers : List Carried) →
+        6 ≤ room → AreInRange packets → AreSteps style room (reverse packets) answers →
+        pairs_put answers ≡ styled_pairs style (packets_of packets) }
+    ensures translation { (style : Style) (room : ℕ) (packets : List Placed) (answers : List Carried) →
+        6 ≤ room → AreInRange packets → AreSteps style room (reverse packets) answers →
         IsTranslation (packets_of packets) (pairs_put answers) }
 {
     fed_parts_are_the_definition();
     rooms_that_are_not_passed_do_not_matter();
     joined_bytes_know_no_offsets();
     carried_packets_have_a_piece();
-    plain_pairs_are_a_translation();
+    kept_lanes_are_those_of_the_recording();
+    statuses_that_run_can_be_left_out();
+    styled_pairs_are_a_translation();
 }

@@ -3,10 +3,13 @@
 
 pub mod carried;
 pub mod down;
+mod lane;
+mod lanes;
 pub mod laws;
 mod listing;
 mod pieces;
 mod refusals;
+mod statuses;
 pub mod style;
 mod voice;
 

@@ -70,6 +70,7 @@ fn shift_kind(param: &Param) -> Kind
 }
 
 /// The kind that a MIDI 2.0 voice message is listed as, if it is listed.
+#[inline(always)]
 pub fn voice_kind(message: &Voice2) -> Option<Kind>
     ensures { result ≡ voice_kind message.now }
 {

@@ -1,34 +1,29 @@
-// The plain pieces of voice and system messages.
-ghost use Rattle.std.specs.Prelude.{◌≡◌, ◌≢◌, ◌<◌, ◌≤◌, ◌+◌, ◌++◌, [], ◌∷◌, length, Some, MatchOption};
+// The pieces of voice and system messages.
+ghost use Rattle.std.specs.Prelude.{◌≡◌, ◌≢◌, ◌<◌, ◌≤◌, ◌+◌, ◌++◌, [], ◌∷◌, length, None, Some, MatchOption};
 ghost use Rattle.std.specs.List.{flat_map};
-ghost use Rattle.midi1_bytes.specs.Messages.{message_of, spelled, spelled_voice, voice};
+ghost use Rattle.midi1_bytes.specs.Messages.{message_of, spelled, voice};
 ghost use Rattle.voice_messages.specs.declared.voice1.Voice1.TheVariants as voice1;
+ghost use Rattle.voice_messages.specs.declared.voice2.Voice2.TheVariants as voice2;
 ghost use Rattle.voice_state.specs.Controllers.{role_of};
 ghost use Rattle.voice_state.specs.Listing.{is_carried_role};
 ghost use Rattle.voice_state.specs.Plain.{set_messages, program_messages, voice_messages};
+ghost use Rattle.ump_grammar.specs.declared.packet.Packet.TheVariants as packet;
+ghost use Rattle.down_translator.specs.Lanes.{lane_at, lanes_after, piece_by, unless_there};
+ghost use Rattle.down_translator.specs.Statuses.{statuses_after_all, written_all};
 
+use crate::lanes::Lanes;
+use crate::statuses::Statuses;
 use crate::voice::{
     lower_bend, lower_control, lower_note_off, lower_note_on, lower_poly_pressure, lower_pressure,
 };
 use bit_scaling::down14;
 use midi_edge::{ShortList, U4};
-use midi1_bytes::{write_system, write_voice};
+use midi1_bytes::write_system as spell_system;
 use voice_messages::{Bank, Param, ParamKind, System, U7, U14, Voice1, Voice2};
 use voice_state::{ControlRole, is_null_param};
 
 /// The bytes of at most four messages.
 pub type Piece = ShortList<u8, 12>;
-
-/// Adds the bytes of a message.
-#[inline(always)]
-fn add(piece: &mut Piece, message: &Voice1)
-    requires { length piece.old ≤ 9 }
-    ensures bytes { piece.new ≡ piece.old ++ spelled_voice message.now }
-    ensures size { length piece.new ≤ length piece.old + 3 }
-{
-    let bytes = write_voice(message);
-    piece.extend(bytes.as_slice());
-}
 
 #[inline(always)]
 fn control(channel: U4, index: u32, value: U7) -> Voice1
@@ -42,22 +37,13 @@ fn control(channel: U4, index: u32, value: U7) -> Voice1
     }
 }
 
-/// Fills the piece with the bytes of one message.
-#[inline(always)]
-pub fn fill_voice1(piece: &mut Piece, message: &Voice1)
-    ensures { piece.new ≡ flat_map spelled (voice message.now ∷ []) }
-{
-    *piece = Piece::new();
-    add(piece, message);
-}
-
 /// Fills the piece with the bytes of a system message.
 #[tactic(auto, using(crate::proofs::Spelling::spelled_message_of))]
-pub fn fill_system(piece: &mut Piece, message: &System)
+fn fill_system(piece: &mut Piece, message: &System)
     ensures { piece.new ≡ flat_map spelled (message_of message.now ∷ []) }
 {
     *piece = Piece::new();
-    let bytes = write_system(message);
+    let bytes = spell_system(message);
     piece.extend(bytes.as_slice());
 }
 
@@ -79,30 +65,55 @@ fn is_carried_index(index: U7) -> bool
     }
 }
 
-/// Adds the four control changes that set a parameter.
-fn add_set(piece: &mut Piece, channel: U4, param: &Param, value: U14)
+/// Adds the control changes that set a parameter: its number, 101 and 100 or 99 and 98, unless that is selected, and its value of
+/// 14 bits, 6 and 38 (MIDI 1.0 Detailed Specification, registered and non-registered parameter numbers).
+fn add_set(
+    piece: &mut Piece,
+    statuses: &mut Statuses,
+    is_selected: bool,
+    channel: U4,
+    param: &Param,
+    value: U14,
+)
     requires { piece.old ≡ [] }
-    ensures { piece.new ≡ flat_map spelled (set_messages channel param.now value) }
+    ensures bytes { piece.new ≡
+        written_all statuses.old (unless_there is_selected (set_messages channel param.now value)) }
+    ensures after { statuses.new ≡
+        statuses_after_all (unless_there is_selected (set_messages channel param.now value)) statuses.old }
 {
     let (number_msb, number_lsb) = match param.kind {
         ParamKind::Registered => (101, 100),
         ParamKind::Assignable => (99, 98),
     };
     let value = value.get() as u32;
-    add(piece, &control(channel, number_msb, param.bank));
-    add(piece, &control(channel, number_lsb, param.index));
-    add(piece, &control(channel, 6, U7::low_bits(value / 128)));
-    add(piece, &control(channel, 38, U7::low_bits(value)));
+    if !is_selected {
+        statuses.add(piece, &control(channel, number_msb, param.bank));
+        statuses.add(piece, &control(channel, number_lsb, param.index));
+    }
+    statuses.add(piece, &control(channel, 6, U7::low_bits(value / 128)));
+    statuses.add(piece, &control(channel, 38, U7::low_bits(value)));
 }
 
-/// Adds a program change, after its bank.
-fn add_program(piece: &mut Piece, channel: U4, program: U7, bank: Bank)
+/// Adds a program change, after its bank, 0 and 32, unless that is set (MIDI 1.0 Detailed Specification, bank select).
+fn add_program(
+    piece: &mut Piece,
+    statuses: &mut Statuses,
+    is_set: bool,
+    channel: U4,
+    program: U7,
+    bank: Bank,
+)
     requires { piece.old ≡ [] }
-    ensures { piece.new ≡ flat_map spelled (program_messages channel program (Some bank)) }
+    ensures bytes { piece.new ≡
+        written_all statuses.old (unless_there is_set (program_messages channel program (Some bank))) }
+    ensures after { statuses.new ≡
+        statuses_after_all (unless_there is_set (program_messages channel program (Some bank))) statuses.old }
 {
-    add(piece, &control(channel, 0, bank.msb));
-    add(piece, &control(channel, 32, bank.lsb));
-    add(piece, &Voice1::Program { channel, program });
+    if !is_set {
+        statuses.add(piece, &control(channel, 0, bank.msb));
+        statuses.add(piece, &control(channel, 32, bank.lsb));
+    }
+    statuses.add(piece, &Voice1::Program { channel, program });
 }
 
 /// The one message that is the plain piece of a MIDI 2.0 voice message; `None` exactly when the piece has none or several.
@@ -145,29 +156,115 @@ fn single_message(message: &Voice2) -> Option<Voice1>
     })
 }
 
-/// Fills the piece with the plain piece of a MIDI 2.0 voice message, empty where that isn't carried (M2-104-UM, default
-/// translation). A message that stands alone is chosen first and written in one place, so that the calls of the loops are
-/// inlined.
+/// Writes a voice message of MIDI 1.0 into the lane of a group (MIDI 1.0 Detailed Specification, channel voice messages).
+#[tactic(auto, using(crate::proofs::PieceLaws::piece1, crate::proofs::PieceLaws::kept1))]
 #[inline(always)]
-pub fn fill_voice2(piece: &mut Piece, message: &Voice2)
-    ensures { piece.new ≡ flat_map spelled (voice_messages message.now) }
+pub fn write_voice1(piece: &mut Piece, lanes: &mut Lanes, group: U4, message: &Voice1)
+    ensures bytes { piece.new ≡ piece_by lanes.old.style (lane_at lanes.old.states group) None
+        (packet.Voice1 group message.now) }
+    ensures after { lanes.new ≡ lanes_after (Some group) None (packet.Voice1 group message.now) lanes.old }
 {
     *piece = Piece::new();
-    match single_message(message) {
-        Some(single) => add(piece, &single),
-        None => match *message {
-            Voice2::Set { param, .. } if is_null_param(&param) => {}
-            Voice2::Set {
-                channel,
-                param,
-                value,
-            } => add_set(piece, channel, &param, down14(value)),
-            Voice2::Program {
-                channel,
-                program,
-                bank: Some(bank),
-            } => add_program(piece, channel, program, bank),
-            _ => {}
-        },
+    lanes.write(piece, group, message);
+}
+
+/// Writes the control changes that set a parameter, none where that is the null parameter (M2-104-UM, default translation of
+/// registered and assignable controllers).
+#[tactic(auto, using(crate::proofs::PieceLaws::piece_set, crate::proofs::PieceLaws::kept_set, crate::proofs::PieceLaws::null_piece, crate::proofs::PieceLaws::null_kept))]
+#[inline(never)]
+fn write_set(
+    piece: &mut Piece,
+    lanes: &mut Lanes,
+    group: U4,
+    channel: U4,
+    param: &Param,
+    value: u32,
+)
+    ensures bytes { piece.new ≡ piece_by lanes.old.style (lane_at lanes.old.states group) None
+        (packet.Voice2 group (voice2.Set channel param.now value)) }
+    ensures after { lanes.new ≡ lanes_after (Some group) None
+        (packet.Voice2 group (voice2.Set channel param.now value)) lanes.old }
+{
+    *piece = Piece::new();
+    if !is_null_param(param) {
+        let mut statuses = lanes.statuses(group);
+        let is_selected = lanes.have_selected(group, channel, param);
+        let value = down14(value);
+        add_set(piece, &mut statuses, is_selected, channel, param, value);
+        lanes.keep_set(group, statuses, channel, param);
     }
+}
+
+/// Writes a program change, after its bank (M2-104-UM, default translation of a program change).
+#[tactic(auto, using(crate::proofs::PieceLaws::piece_program, crate::proofs::PieceLaws::kept_program))]
+#[inline(never)]
+fn write_program(
+    piece: &mut Piece,
+    lanes: &mut Lanes,
+    group: U4,
+    channel: U4,
+    program: U7,
+    bank: Bank,
+)
+    ensures bytes { piece.new ≡ piece_by lanes.old.style (lane_at lanes.old.states group) None
+        (packet.Voice2 group (voice2.Program channel program (Some bank))) }
+    ensures after { lanes.new ≡ lanes_after (Some group) None
+        (packet.Voice2 group (voice2.Program channel program (Some bank))) lanes.old }
+{
+    *piece = Piece::new();
+    let mut statuses = lanes.statuses(group);
+    let is_set = lanes.have_bank(group, channel, &bank);
+    add_program(piece, &mut statuses, is_set, channel, program, bank);
+    lanes.keep_program(group, statuses, channel, bank);
+}
+
+/// Writes a message that is carried by several messages or by none. What is written of several is out of line, and of the message
+/// these calls see only fields, so that a packet stays in registers.
+#[tactic(auto, using(crate::proofs::PieceLaws::no_piece, crate::proofs::PieceLaws::kept_none))]
+#[inline(always)]
+fn write_others(piece: &mut Piece, lanes: &mut Lanes, group: U4, message: &Voice2)
+    requires { length (voice_messages message.now) ≢ 1 }
+    ensures bytes { piece.new ≡ piece_by lanes.old.style (lane_at lanes.old.states group) None
+        (packet.Voice2 group message.now) }
+    ensures after { lanes.new ≡ lanes_after (Some group) None (packet.Voice2 group message.now) lanes.old }
+{
+    match *message {
+        Voice2::Set {
+            channel,
+            param,
+            value,
+        } => write_set(piece, lanes, group, channel, &param, value),
+        Voice2::Program {
+            channel,
+            program,
+            bank: Some(bank),
+        } => write_program(piece, lanes, group, channel, program, bank),
+        _ => *piece = Piece::new(),
+    }
+}
+
+/// Writes a voice message of MIDI 2.0 into the lane of a group, nothing where it isn't carried (M2-104-UM, default translation). One
+/// that is carried by a single message is written as that one, so that most packets of both protocols are written in one place.
+#[tactic(auto, using(crate::proofs::PieceLaws::single_piece, crate::proofs::PieceLaws::kept_single))]
+#[inline(always)]
+pub fn write_voice2(piece: &mut Piece, lanes: &mut Lanes, group: U4, message: &Voice2)
+    ensures bytes { piece.new ≡ piece_by lanes.old.style (lane_at lanes.old.states group) None
+        (packet.Voice2 group message.now) }
+    ensures after { lanes.new ≡ lanes_after (Some group) None (packet.Voice2 group message.now) lanes.old }
+{
+    match single_message(message) {
+        Some(single) => write_voice1(piece, lanes, group, &single),
+        None => write_others(piece, lanes, group, message),
+    }
+}
+
+/// Writes a system message into the lane of a group (MIDI 1.0 Detailed Specification, system common and system Real Time messages).
+#[tactic(auto, using(crate::proofs::PieceLaws::piece_system, crate::proofs::PieceLaws::kept_system))]
+pub fn write_system(piece: &mut Piece, lanes: &mut Lanes, group: U4, message: &System)
+    ensures bytes { piece.new ≡ piece_by lanes.old.style (lane_at lanes.old.states group) None
+        (packet.System group message.now) }
+    ensures after { lanes.new ≡ lanes_after (Some group) None (packet.System group message.now) lanes.old }
+{
+    fill_system(piece, message);
+    lanes.keep_system(group, message);
 }

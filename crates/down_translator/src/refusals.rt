@@ -16,6 +16,7 @@ fn bad_control(index: U7) -> Option<BadStep>
 }
 
 /// Why a message of MIDI 1.0 is refused, if it is refused (own rule).
+#[inline(always)]
 pub fn bad_voice1(message: &Voice1) -> Option<BadStep>
     ensures { result ≡ bad_voice1 message.now }
 {
@@ -26,6 +27,7 @@ pub fn bad_voice1(message: &Voice1) -> Option<BadStep>
 }
 
 /// Why a message of MIDI 2.0 is refused, if it is refused (own rule).
+#[inline(always)]
 pub fn bad_voice2(message: &Voice2) -> Option<BadStep>
     ensures { result ≡ bad_voice2 message.now }
 {

@@ -268,3 +268,23 @@ fn refusals_and_what_stands_after_them(rt: HostRuntime) {
     assert_eq!(rt; down.begun_at(U4::low_bits(0)), None);
     assert_eq!(rt; down.begun_at(U4::low_bits(1)), Some(16));
 }
+
+#[test]
+fn what_a_receiver_has_in_compact_style(rt: HostRuntime) {
+    let Ok(mut down) = Down::new(rt.alloc(), 6, Style::Compact) else {
+        assert!(rt; false, "memory is ample");
+        return;
+    };
+    let down = &mut down;
+    let note = [0x4090_3C00, 0xC924_0000];
+    gives(&rt, down, 0, &note, 0, &[0x90, 0x3C, 0x64], None);
+    gives(&rt, down, 8, &note, 0, &[0x3C, 0x64], None);
+    let set = [0x4020_0000, 0x0400_0000];
+    let whole = [0xB0, 0x65, 0x00, 0x64, 0x00, 0x06, 0x02, 0x26, 0x00];
+    gives(&rt, down, 16, &set, 0, &whole, None);
+    gives(&rt, down, 24, &set, 0, &[0x06, 0x02, 0x26, 0x00], None);
+    refuses(&rt, down, &[0x20B0_6000], BadStep::DataIncrement);
+    gives(&rt, down, 32, &[0x20B0_0603], 0, &[0x06, 0x03], None);
+    gives(&rt, down, 36, &[0x10FF_0000], 0, &[0xFF], None);
+    gives(&rt, down, 40, &set, 0, &whole, None);
+}

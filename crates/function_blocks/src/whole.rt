@@ -87,7 +87,8 @@ impl Setup {
     /// first. Each byte is below 128.
     pub fn identity(&self) -> Identity
         ensures value { result ≡ identity_of self.now }
-        ensures manufacturer { (length result.manufacturer ≡ 3) × All (λ byte. byte ≤ 127) result.manufacturer }
+        ensures manufacturer { (length result.manufacturer ≡ 3)
+            × All (λ byte. byte ≤ 127) result.manufacturer }
         ensures family { self.now.endpoint.family < 2 ^ 14 }
         ensures model { self.now.endpoint.model < 2 ^ 14 }
         ensures revision { (length result.revision ≡ 4) × All (λ byte. byte ≤ 127) result.revision }

@@ -1,5 +1,5 @@
 -- What a data byte does to a message, by how many data bytes its status says.
-use Rattle.std.proofs.Common.{ℕ, ◌≡◌, ◌<◌, ◌≤◌, ◌∙◌, ap, sym, refl, arith, [], Option, Some, None}
+use Rattle.std.proofs.Common.{ℕ, ◌≡◌, ◌<◌, ◌≤◌, ◌∙◌, ap, sym, refl, arith, [], Some, None}
 use Rattle.std.proofs.lemmas.Bool.Decides.{nat_tests}
 use Rattle.midi1_bytes.specs.Sorts.{Count, one, two, Sort, data_byte, voice_status, exclusive_start, common_status, tune_request, undefined_status, exclusive_end, real_time_status, undefined_real_time, count_of, sort_of}
 use Rattle.voice_messages.specs.declared.voice1.System.{System}

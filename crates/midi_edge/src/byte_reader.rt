@@ -34,7 +34,8 @@ impl Model for ByteReader {
 
     ghost view = { λ r. record { pending = r.window; offset = r.offset; limit = r.limit; last = r.last } };
 
-    ghost invariant = { λ r. (r.offset ≤ r.limit) × (r.limit ≤ 2 ^ 62) × IfSome r.last (λ last. IsSpent last r.window r.offset r.limit) };
+    ghost invariant = { λ r. (r.offset ≤ r.limit) × (r.limit ≤ 2 ^ 62)
+        × IfSome r.last (λ last. IsSpent last r.window r.offset r.limit) };
 }
 
 impl ByteReader {
@@ -59,7 +60,8 @@ impl ByteReader {
     pub fn next<S: Source>(&mut self, src: &mut S) -> Result<Option<(u8, u64)>, ReadStop>
         ensures answer { self.old.last ≡ None → Answers self.old self.new
             (ahead self.old.pending (S.left src.old)) (ahead self.new.pending (S.left src.new)) result }
-        ensures again { IfSome self.old.last (λ last. (result ≡ answer_of last) × (self.new ≡ self.old) × (src.new ≡ src.old)) }
+        ensures again { IfSome self.old.last
+            (λ last. (result ≡ answer_of last) × (self.new ≡ self.old) × (src.new ≡ src.old)) }
         ensures held { 0 < length self.old.pending → src.new ≡ src.old }
         ensures cause { ReadCause (S.faults src.old) (S.faults src.new) result }
     {
@@ -72,7 +74,8 @@ impl ByteReader {
     // The front of what is held, where it is in the limit.
     #[inline]
     fn give(&mut self) -> Option<(u8, u64)>
-        ensures held { MatchOption result ((self.new ≡ self.old) × ((self.old.pending ≡ []) ⊎ (self.old.offset ≡ self.old.limit)))
+        ensures held { MatchOption result
+            ((self.new ≡ self.old) × ((self.old.pending ≡ []) ⊎ (self.old.offset ≡ self.old.limit)))
             (λ given. GivesHeld self.old self.new given.0 given.1) }
         ensures last { IfSome self.old.last (λ last. result ≡ None) }
     {
@@ -91,7 +94,8 @@ impl ByteReader {
         requires { (self.old.pending ≡ []) ⊎ (self.old.offset ≡ self.old.limit) }
         ensures answer { self.old.last ≡ None → Answers self.old self.new
             (ahead self.old.pending (S.left src.old)) (ahead self.new.pending (S.left src.new)) result }
-        ensures again { IfSome self.old.last (λ last. (result ≡ answer_of last) × (self.new ≡ self.old) × (src.new ≡ src.old)) }
+        ensures again { IfSome self.old.last
+            (λ last. (result ≡ answer_of last) × (self.new ≡ self.old) × (src.new ≡ src.old)) }
         ensures held { 0 < length self.old.pending → src.new ≡ src.old }
         ensures cause { ReadCause (S.faults src.old) (S.faults src.new) result }
     {
@@ -145,13 +149,15 @@ fn hold_one<S: Source>(window: &mut Window, src: &mut S) -> Result<bool, Failed>
 
 /// A new reader has given nothing.
 pub fn nothing_given()
-    ensures { (limit : ℕ) (left : Option (List ℕ)) → HasGiven left limit [] (new_reading limit) (ahead [] left) }
+    ensures { (limit : ℕ) (left : Option (List ℕ))
+        → HasGiven left limit [] (new_reading limit) (ahead [] left) }
 {}
 
 /// Whatever `next` answers, the bytes given so far stay one front of all that there was, with their offsets, and the
 /// answer tells what is behind them. (The premises are the clauses of `next`.)
 pub fn one_more_answer()
-    ensures { (all : Option (List ℕ)) (limit : ℕ) (bytes : List ℕ) (old new : ByteReading) (before after : Option (List ℕ))
+    ensures { (all : Option (List ℕ)) (limit : ℕ) (bytes : List ℕ) (old new : ByteReading)
+        (before after : Option (List ℕ))
         (result : Result (Option (ℕ × ℕ)) ReadStop)
         → HasGiven all limit bytes old before
         → (old.last ≡ None → Answers old new before after result)

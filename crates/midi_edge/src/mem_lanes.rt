@@ -40,9 +40,21 @@ impl Model for MemLanes {
 
     ghost Value = { LanesState };
 
-    ghost view = { λ l. record { begun = l.is_begun; folder = l.path; pieces = pieces_in l.bytes.items l.entries.items; size = vec_len l.bytes; room = l.room; most = l.most; fails = l.fails.items; calls = l.calls; faults = l.faults } };
+    ghost view = { λ l. record {
+      begun = l.is_begun;
+      folder = l.path;
+      pieces = pieces_in l.bytes.items l.entries.items;
+      size = vec_len l.bytes;
+      room = l.room;
+      most = l.most;
+      fails = l.fails.items;
+      calls = l.calls;
+      faults = l.faults;
+    } };
 
-    ghost invariant = { λ l. (vec_len l.bytes ≤ l.room) × (vec_len l.entries ≤ l.most) × (l.room ≤ vec_capacity l.bytes) × (l.most ≤ vec_capacity l.entries) × AreWithin (vec_len l.bytes) l.entries.items };
+    ghost invariant = { λ l. (vec_len l.bytes ≤ l.room) × (vec_len l.entries ≤ l.most)
+        × (l.room ≤ vec_capacity l.bytes) × (l.most ≤ vec_capacity l.entries)
+        × AreWithin (vec_len l.bytes) l.entries.items };
 }
 
 impl MemLanes {
@@ -56,7 +68,17 @@ impl MemLanes {
         entries: usize,
         fails: Vec<(u64, usize)>,
     ) -> Result<MemLanes, NoMemory>
-        ensures { IfOk result (λ lanes. lanes ≡ record { begun = false; folder = None; pieces = []; size = 0; room = room; most = entries; fails = fails.items; calls = 0; faults = 0 }) }
+        ensures { IfOk result (λ lanes. lanes ≡ record {
+          begun = false;
+          folder = None;
+          pieces = [];
+          size = 0;
+          room = room;
+          most = entries;
+          fails = fails.items;
+          calls = 0;
+          faults = 0;
+        }) }
     {
         let Ok(bytes) = Vec::with_capacity(alloc, room) else {
             return Err(NoMemory);
@@ -80,7 +102,8 @@ impl MemLanes {
 
     /// The lane and the bytes of piece number `k`, counted from 0; `None` past the last.
     pub fn entry(&self, k: usize) -> Option<(U4, &[u8])>
-        ensures { MatchOption result (length self.now.pieces ≤ k) (λ e. slice_get self.now.pieces k ≡ Some (e.0, e.1.now)) }
+        ensures { MatchOption result (length self.now.pieces ≤ k)
+            (λ e. slice_get self.now.pieces k ≡ Some (e.0, e.1.now)) }
     {
         let entry = self.entries.get(k)?;
         Some((entry.lane, &self.bytes[entry.start..entry.end]))
@@ -92,7 +115,8 @@ fn add(bytes: &mut Vec<u8>, entries: &mut Vec<Entry>, lane: U4, piece: &[u8])
     requires parts { AreWithin (vec_len bytes.old) entries.old.items }
     requires room { vec_len bytes.old + length piece.now ≤ vec_capacity bytes.old }
     requires room_entries { vec_len entries.old < vec_capacity entries.old }
-    ensures pieces { pieces_in bytes.new.items entries.new.items ≡ pieces_in bytes.old.items entries.old.items ++ (lane, piece.now) ∷ [] }
+    ensures pieces { pieces_in bytes.new.items entries.new.items
+        ≡ pieces_in bytes.old.items entries.old.items ++ (lane, piece.now) ∷ [] }
     ensures parts { AreWithin (vec_len bytes.new) entries.new.items }
     ensures len { vec_len bytes.new ≡ vec_len bytes.old + length piece.now }
     ensures len_entries { vec_len entries.new ≡ vec_len entries.old + 1 }

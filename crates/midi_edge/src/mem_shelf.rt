@@ -48,14 +48,26 @@ impl Model for MemShelf {
 
     ghost Value = { ShelfState };
 
-    ghost view = { λ s. record { asked = s.name; texts = s.texts.items; fails = s.fails.items; calls = s.calls; faults = s.faults } };
+    ghost view = { λ s. record {
+      asked = s.name;
+      texts = s.texts.items;
+      fails = s.fails.items;
+      calls = s.calls;
+      faults = s.faults;
+    } };
 }
 
 impl MemShelf {
     /// A shelf of these texts, of which the first of a name counts. Call number k, counted from 0, fails exactly where k
     /// stands in `fails` or where no text has the name; the numbers stop at the last `u64`.
     pub fn new(texts: Vec<(String, Vec<u8>)>, fails: Vec<u64>) -> MemShelf
-        ensures { result ≡ record { asked = None; texts = texts.items; fails = fails.items; calls = 0; faults = 0 } }
+        ensures { result ≡ record {
+          asked = None;
+          texts = texts.items;
+          fails = fails.items;
+          calls = 0;
+          faults = 0;
+        } }
     {
         MemShelf {
             texts,
@@ -78,10 +90,12 @@ impl Shelf for MemShelf {
         requires { self.old.asked ≡ None }
         ensures asked { self.new.asked ≡ Some (kept_bytes name.now) }
         ensures texts { Some (first_named self.new.texts) ≡ Some (first_named self.old.texts) }
-        ensures ok { OnOk result (Fetches (Some (first_named self.old.texts)) name.now limit into.old.items into.new.items) }
+        ensures ok { OnOk result
+            (Fetches (Some (first_named self.old.texts)) name.now limit into.old.items into.new.items) }
         ensures err { OnErr result ((more : List ℕ) × (into.new.items ≡ into.old.items ++ more)) }
         ensures cause { HasOpenCause self.old.faults self.new.faults result }
-        ensures failed { MatchBool (is_failing self.old name.now) (result ≡ Err OpenFault.Failed) (result ≢ Err OpenFault.Failed) }
+        ensures failed { MatchBool (is_failing self.old name.now) (result ≡ Err OpenFault.Failed)
+            (result ≢ Err OpenFault.Failed) }
         ensures exact { self.new ≡ after_fetch self.old name.now }
     {
         self.name.keep(name);

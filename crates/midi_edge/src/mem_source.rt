@@ -40,7 +40,14 @@ impl Model for MemSource {
 
     ghost Value = { SourceState };
 
-    ghost view = { λ s. record { left = drop s.at s.bytes.items; cuts = s.cuts.items; fails = s.fails.items; given = s.given; calls = s.calls; faults = s.faults } };
+    ghost view = { λ s. record {
+      left = drop s.at s.bytes.items;
+      cuts = s.cuts.items;
+      fails = s.fails.items;
+      given = s.given;
+      calls = s.calls;
+      faults = s.faults;
+    } };
 
     ghost invariant = { λ s. s.at ≤ vec_len s.bytes };
 }
@@ -50,7 +57,14 @@ impl MemSource {
     /// counts as 1, and past the list without limit. Call number k fails exactly where k stands in `fails`; the numbers
     /// stop at the last `u64`.
     pub fn new(bytes: Vec<u8>, cuts: Vec<usize>, fails: Vec<u64>) -> MemSource
-        ensures { result ≡ record { left = bytes.items; cuts = cuts.items; fails = fails.items; given = 0; calls = 0; faults = 0 } }
+        ensures { result ≡ record {
+          left = bytes.items;
+          cuts = cuts.items;
+          fails = fails.items;
+          given = 0;
+          calls = 0;
+          faults = 0;
+        } }
     {
         MemSource {
             bytes,

@@ -58,7 +58,8 @@ impl Window {
     /// Gives out the first byte, if there is one.
     #[inline]
     pub fn pop_front(&mut self) -> Option<u8>
-        ensures { MatchOption result ((self.old ≡ []) × (self.new ≡ [])) (λ byte. self.old ≡ byte ∷ self.new) }
+        ensures { MatchOption result ((self.old ≡ []) × (self.new ≡ []))
+            (λ byte. self.old ≡ byte ∷ self.new) }
     {
         if self.start == self.end {
             return None;

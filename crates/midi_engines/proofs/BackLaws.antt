@@ -11,10 +11,12 @@ use Rattle.voice_state.specs.Packets.{IsInRange}
 use Rattle.voice_state.specs.Parts.{Placed, whole_of}
 use Rattle.voice_state.specs.Plain.{plain_piece}
 use Rattle.voice_state.specs.Raising.{packets_up}
+use Rattle.voice_state.specs.Styles.{plain_style}
 use Rattle.voice_state.specs.UpLaws.{BytesThatComeBackMeanTheSame, RaisedPacketsAreInRange, RaisedPacketsComeBackInSilence, RoomsThatAreNotReachedDoNotMatterInBytes}
 use Rattle.down_translator.specs.Held.{DownState, down_after, whole_in}
 use Rattle.down_translator.specs.Laws.{WhatIsHeldIsTheDefinition}
 use Rattle.down_translator.specs.Recording.{AreInRange, packets_of, state_of}
+use Rattle.down_translator.specs.Step.{piece_of}
 use Rattle.midi_pass.specs.Bytes.{bytes_of}
 use Rattle.midi_pass.specs.Put.{Put}
 use Rattle.midi_engines.specs.Back.{HoldsReturned, ReturnedBytesMean, byte_pieces, ComesDown, piece_puts, plain_puts, PutsDown}
@@ -26,11 +28,11 @@ piece_is_put offset from group form bytes accepted = (_, _, (refl, refl))
 
 -- what comes of packets that come after others
 record ComesDownAfter (room offset : ℕ) (earlier ps : List Packet) (placed : List Placed) : Type 0 where
-  taken : AreTaken ComesDown (PutsDown offset) (state_of room placed) ps
+  taken : AreTaken ComesDown (PutsDown offset) (state_of plain_style room placed) ps
   now : List Placed
   are : packets_of now ≡ reverse (earlier ++ ps)
   range : AreInRange now
-  done : (to : DownState) (puts : List Put) → AreDone (PutsDown offset) (state_of room placed) ps to puts → (puts ≡ plain_puts (reverse earlier) ps) × (to ≡ state_of room now)
+  done : (to : DownState) (puts : List Put) → AreDone (PutsDown offset) (state_of plain_style room placed) ps to puts → (puts ≡ plain_puts (reverse earlier) ps) × (to ≡ state_of plain_style room now)
 
 module _ (silence : RaisedPacketsComeBackInSilence) (held : WhatIsHeldIsTheDefinition) (room group : ℕ) (least : 6 ≤ room) (past : List ℕ) (offset : ℕ) where
   come_down : (ps earlier : List Packet) (placed : List Placed) → earlier ++ ps ≡ packets_up (Some room) group past → AllByRecursion IsPacket ps → AllByRecursion IsInRange ps
@@ -40,18 +42,19 @@ module _ (silence : RaisedPacketsComeBackInSilence) (held : WhatIsHeldIsTheDefin
   come_down (p ∷ ps) earlier placed e spelled fit are range =
       let here : Placed = record { offset = offset; packet = p } in
       let upto : List Packet = earlier ++ p ∷ [] in
-      let state : DownState = state_of room placed in
+      let state : DownState = state_of plain_style room placed in
       let moved : upto ++ ps ≡ earlier ++ p ∷ ps = append_assoc earlier (p ∷ []) ps in
       let turned : reverse upto ≡ p ∷ reverse earlier = reverse-append earlier (p ∷ []) in
       let are' : packets_of (here ∷ placed) ≡ reverse upto = ap (λ xs. p ∷ xs) are ∙ sym turned in
       let back = (silence.each room group past upto ps (here ∷ placed) (moved ∙ e) are').0 in
-      let after : down_after offset p state ≡ state_of room (here ∷ placed) = held.behind room placed here in
+      let after : down_after offset p state ≡ state_of plain_style room (here ∷ placed) = held.behind plain_style room placed here in
       let rest = come_down ps upto (here ∷ placed) (moved ∙ e) spelled.1 fit.1 are' (fit.0, range) in
-      let whole : whole_in state p ≡ whole_of (reverse earlier) p = held.whole room placed least range p ∙ back.whole ∙ ap (λ q. whole_of q p) are in
+      let whole : whole_in state p ≡ whole_of (reverse earlier) p = held.whole plain_style room placed least range p ∙ back.whole ∙ ap (λ q. whole_of q p) are in
       let piece : List Put = piece_puts (plain_piece (whole_of (reverse earlier) p) p) in
+      let plain : piece_of state p ≡ plain_piece (whole_in state p) p = held.plain room placed p in
       let A : DownState → Type 0 = λ s. AreTaken ComesDown (PutsDown offset) s ps in
       record {
-        taken = ((spelled.0, held.refusal room placed least range p ∙ back.accepted), λ between puts one. subst A (sym (one.0 ∙ after)) rest.taken);
+        taken = ((spelled.0, held.refusal plain_style room placed least range p ∙ back.accepted), λ between puts one. subst A (sym (one.0 ∙ after)) rest.taken);
         now = rest.now;
         are = rest.are ∙ ap reverse moved;
         range = rest.range;
@@ -59,7 +62,7 @@ module _ (silence : RaisedPacketsComeBackInSilence) (held : WhatIsHeldIsTheDefin
             let D : DownState → Type 0 = λ s. AreDone (PutsDown offset) s ps to done.2 in
             let others = rest.done to done.2 (subst D (done.3.0 ∙ after) done.4) in (
               done.5
-                  ∙ ap (λ xs. xs ++ done.2) (done.3.1 ∙ ap (λ w. piece_puts (plain_piece w p)) whole)
+                  ∙ ap (λ xs. xs ++ done.2) (done.3.1 ∙ ap piece_puts plain ∙ ap (λ w. piece_puts (plain_piece w p)) whole)
                   ∙ ap (λ xs. piece ++ xs) (others.0 ∙ ap (λ q. plain_puts q ps) turned),
               others.1,
             );

@@ -1,6 +1,6 @@
 -- What an endpoint answers by what it holds is what it answers by all packets before.
-use Rattle.std.proofs.Common.{◌≡◌, ◌≤◌, ◌<◌, ℕ, Bool, true, false, List, [], ◌∷◌, ◌++◌, ◌+◌, length, take, drop, Option, None, Some, zero, suc, refl, ap, sym, ◌∙◌, subst, arith}
-use Rattle.std.specs.Prelude.{Result, Ok, Err, if◌then◌else◌, IsTrue, ◌↔◌, unwrap_or, slice_get}
+use Rattle.std.proofs.Common.{◌≡◌, ◌≤◌, ◌<◌, ℕ, Bool, true, false, List, [], ◌∷◌, ◌++◌, ◌+◌, length, take, drop, Option, None, Some, zero, suc, refl, ap, sym, ◌∙◌, arith}
+use Rattle.std.specs.Prelude.{Ok, Err, if◌then◌else◌, IsTrue, ◌↔◌, unwrap_or, slice_get}
 use Rattle.std.specs.List.{All}
 use Rattle.std.specs.Option.{option_map, option_map_or, option_to_list}
 use native.Mathlib.Numerals.{add-one}
@@ -29,7 +29,7 @@ use Rattle.ci_responder.specs.Laws.{HeldIsTheHistory}
 use Rattle.ci_responder.specs.declared.keys.Key.{Key}
 use Rattle.ci_responder.specs.Messages.{Told}
 use Rattle.ci_responder.specs.Read.{told_in}
-use Rattle.ci_responder.specs.Replies.{Sender, first_packets, packets_of, replies_by, reply_to, sent}
+use Rattle.ci_responder.specs.Replies.{Sender, first_packets, replies_by, reply_to, sent}
 use Rattle.ci_responder.specs.declared.heard.Heard.{Heard}
 use Rattle.sysex_groups.specs.Cut.{part_count}
 use Rattle.sysex_groups.specs.Exclusives.{Answer, Part, Room, ended_by, fits, framed, held, too_long, whole}
@@ -37,6 +37,7 @@ use Rattle.sysex_groups.specs.Table.{Begun, Table, answer_of, begun_in}
 use Rattle.voice_state.specs.Listing.{end_lines, groups, line_of, listed}
 use Rattle.voice_state.specs.Parts.{Placed, part_of, parts_of}
 use Rattle.voice_state.specs.Refusal.{bad_part}
+use Rattle.voice_state.specs.Styles.{plain_style}
 use Rattle.down_translator.specs.Laws.{WhatIsHeldIsTheDefinition}
 use Rattle.down_translator.specs.Recording.{AreInRange, state_of}
 use Rattle.midi_lines.specs.EndpointLines.{block_text, endpoint_text, profile_text}
@@ -198,7 +199,7 @@ module _ (history : HeldIsTheHistory) (setup : Facts) (room : ℕ) (told : List 
 
 module _ (laws : WhatIsHeldIsTheDefinition) (history : HeldIsTheHistory) (setup : Facts) (room : ℕ) (before : List Placed) (least : 6 ≤ room) (range : AreInRange before) where
   abbrev table : Table
-  table = (state_of room before).exclusives
+  table = (state_of plain_style room before).exclusives
 
   abbrev told : List Told
   told = told_in_packets room before
@@ -209,7 +210,7 @@ module _ (laws : WhatIsHeldIsTheDefinition) (history : HeldIsTheHistory) (setup 
   said_is : (packet : Packet) → said_of_packet table packet ≡ said_by room parts packet
   said_is (packets.Exclusive g f b) =
       said_is_ended (Some table.room) (begun_in table g) g f b
-      ∙ ap (option_map (λ payload. said_in g (framed payload))) (laws.whole room before least range (packets.Exclusive g f b))
+      ∙ ap (option_map (λ payload. said_in g (framed payload))) (laws.whole plain_style room before least range (packets.Exclusive g f b))
   said_is (packets.Stream f s l w x y) = refl
   said_is (packets.Utility s v) = refl
   said_is (packets.System g m) = refl
@@ -227,7 +228,7 @@ module _ (laws : WhatIsHeldIsTheDefinition) (history : HeldIsTheHistory) (setup 
       let placed : Placed = record { offset = offset; packet = packets.Exclusive g f b } in
       let lost : lost_by g offset answer ≡ option_to_list (line_of (Some room) parts placed) =
       lost_is_listed (Some table.room) (begun_in table g) g offset f b
-      ∙ ap (λ start. option_to_list (listed start offset (packets.Exclusive g f b))) (laws.begun room before least range (packets.Exclusive g f b)) in
+      ∙ ap (λ start. option_to_list (listed start offset (packets.Exclusive g f b))) (laws.begun plain_style room before least range (packets.Exclusive g f b)) in
       ap (λ xs. said_lines (held_at setup room told) g offset (said_of g answer) ++ line_puts xs) lost
       ∙ ap (λ said. said_lines (held_at setup room told) g offset said ++ line_puts (option_to_list (line_of (Some room) parts placed))) (said_is (packets.Exclusive g f b))
       ∙ ap (λ xs. xs ++ line_puts (option_to_list (line_of (Some room) parts placed))) (lines_are history setup room told g offset f b (said_by room parts (packets.Exclusive g f b)))
@@ -241,7 +242,7 @@ module _ (laws : WhatIsHeldIsTheDefinition) (history : HeldIsTheHistory) (setup 
   part_lines_are offset (packets.Reserved w) = refl
 
   pub bad_is : (packet : Packet) → bad_join table packet ≡ bad_part (Some room) parts (part_of 0 packet)
-  bad_is (packets.Exclusive g f b) = laws.refusal room before least range (packets.Exclusive g f b)
+  bad_is (packets.Exclusive g f b) = laws.refusal plain_style room before least range (packets.Exclusive g f b)
   bad_is (packets.Stream f s l w x y) = refl
   bad_is (packets.Utility s v) = refl
   bad_is (packets.System g m) = refl
@@ -270,7 +271,7 @@ module _ (laws : WhatIsHeldIsTheDefinition) (history : HeldIsTheHistory) (setup 
   -- ---- the end
 
   pub open_is : open_puts table groups ≡ line_puts (end_lines (Some room) parts)
-  open_is = ap line_puts (open-ends room parts table (λ group. laws.begun room before least range (packets.Exclusive group form.Complete [])) groups)
+  open_is = ap line_puts (open-ends room parts table (λ group. laws.begun plain_style room before least range (packets.Exclusive group form.Complete [])) groups)
 
 -- the same is put for each, where the same is put for one
 same_for_each : {X : Type 0} (one other : ℕ → X → List Put) → ((n : ℕ) (x : X) → one n x ≡ other n x) → (number : ℕ) (xs : List X) → for_each one number xs ≡ for_each other number xs

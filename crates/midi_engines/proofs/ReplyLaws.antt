@@ -1,14 +1,14 @@
 -- The words of replies, which are put packet by packet, and then lines.
 use Rattle.std.proofs.Common.{◌≡◌, ◌<◌, ◌^◌, ℕ, List, [], ◌∷◌, ◌++◌, length, take, drop, refl, ap, sym, ◌∙◌, subst, arith}
 use Rattle.std.specs.Prelude.{Result, Ok, Err, slice_index}
-use Rattle.std.specs.List.{All, flat_map}
+use Rattle.std.specs.List.{flat_map}
 use Rattle.std.proofs.lemmas.List.{append_assoc, append-nil}
 use Rattle.std.proofs.lemmas.List.Elements.{All-head, All-tail}
 use Rattle.ump_words.specs.Cut.{word_bytes}
 use Rattle.ump_words.specs.declared.words.Order.{Order}
 use Rattle.ump_grammar.specs.declared.packet.Packet.{Packet}
 use Rattle.ump_grammar.specs.Reading.{Encodes}
-use Rattle.ump_grammar.specs.Replies.{AddsPacket, AddsPackets, word_count}
+use Rattle.ump_grammar.specs.Replies.{AddsPackets, word_count}
 use Rattle.ump_grammar.specs.Spelling.{Spells}
 use Rattle.midi_pass.specs.Places.{FailsAt, Places, Puts, after_puts}
 use Rattle.midi_pass.specs.Put.{Put, in_output}
@@ -16,7 +16,7 @@ use Rattle.midi_pass.specs.PutLaws.{after_puts-none, stops_more, then_put, then_
 use Rattle.midi_pass.specs.declared.ends.RunEnd.{RunEnd}
 use Rattle.midi_engines.specs.EndpointHeld.{AreWordsOf, Written, WrittenAndListed}
 use Rattle.midi_engines.specs.Raised.{CarriesOut}
-use Rattle.midi_engines.specs.Up.{AreWritten, IsWritten}
+use Rattle.midi_engines.specs.Up.{AreWritten}
 use Rattle.midi_engines.specs.UpMeans.{written-then}
 
 -- ---- the words of the first packet, and those of the others

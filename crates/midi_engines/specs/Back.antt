@@ -8,11 +8,13 @@ use Rattle.voice_state.specs.Messages.{mean1}
 use Rattle.voice_state.specs.Parts.{Placed, whole_of}
 use Rattle.voice_state.specs.Plain.{plain_piece}
 use Rattle.voice_state.specs.Raising.{packets_up}
+use Rattle.voice_state.specs.Styles.{plain_style}
 use Rattle.voice_state.specs.UpRefusal.{AreAcceptedUp}
 use Rattle.up_translator.specs.Held.{UpState}
 use Rattle.up_translator.specs.Recording.{HoldsUp}
-use Rattle.down_translator.specs.Held.{DownState, down_after, refusal_in, whole_in}
+use Rattle.down_translator.specs.Held.{DownState, down_after, refusal_in}
 use Rattle.down_translator.specs.Recording.{AreInRange, packets_of, state_of}
+use Rattle.down_translator.specs.Step.{piece_of}
 use Rattle.midi_pass.specs.Bytes.{bytes_of}
 use Rattle.midi_pass.specs.Pass.{Work}
 use Rattle.midi_pass.specs.Put.{Put, in_output, output_in}
@@ -69,7 +71,7 @@ ComesDown from packet = IsPacket packet × (refusal_in from packet ≡ None)
 -- its piece is put
 abbrev pub PutsDown : ℕ → DownState → Packet → DownState → List Put → Type 0
 PutsDown offset from packet to puts =
-    (to ≡ down_after offset packet from) × (puts ≡ piece_puts (plain_piece (whole_in from packet) packet))
+    (to ≡ down_after offset packet from) × (puts ≡ piece_puts (piece_of from packet))
 
 -- ---- from the first to the last
 
@@ -86,7 +88,7 @@ pub record HoldsReturned (room group : ℕ) (past : List ℕ) (down : DownState)
   pub placed : List Placed
   pub are : packets_of placed ≡ reverse (packets_up (Some room) group past)
   pub range : AreInRange placed
-  pub down_is : down ≡ state_of room placed
+  pub down_is : down ≡ state_of plain_style room placed
 
 -- both translators hold what these bytes leave, which are accepted
 pub record HoldsBack (options : BackOptions) (up : UpState) (down : DownState) (past : List (ℕ × ℕ)) : Type 0 where

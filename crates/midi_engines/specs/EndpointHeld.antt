@@ -19,7 +19,7 @@ use Rattle.voice_state.specs.Listing.{groups}
 use Rattle.voice_state.specs.Parts.{part_of, parts_of}
 use Rattle.midi_lines.specs.EndpointLines.{endpoint_text, protocol_text}
 use Rattle.midi_lines.specs.declared.endpoint.Name.{Name}
-use Rattle.down_translator.specs.Held.{bad_answer, with_part_of}
+use Rattle.down_translator.specs.Held.{with_part_of}
 use Rattle.down_translator.specs.Recording.{AreInRange}
 use Rattle.midi_pass.specs.Places.{Places}
 use Rattle.midi_pass.specs.Put.{Put, in_notes}

@@ -1,5 +1,5 @@
 -- What is put for the packets of a peer goes to the output and the notes.
-use Rattle.std.proofs.Common.{◌≡◌, ℕ, Bool, true, false, List, [], ◌∷◌, ◌++◌, ◌+◌, Option, Some, None, refl, sym, subst}
+use Rattle.std.proofs.Common.{ℕ, Bool, true, false, List, [], ◌∷◌, ◌++◌, ◌+◌, Option, Some, None, refl, sym, subst}
 use Rattle.std.specs.Prelude.{if◌then◌else◌}
 use Rattle.std.specs.Option.{option_to_list}
 use Rattle.ump_words.specs.declared.words.Framed.{Framed}
@@ -18,7 +18,7 @@ use Rattle.voice_state.specs.Parts.{Placed, parts_of}
 use Rattle.midi_lines.specs.EndpointLines.{block_text}
 use Rattle.midi_pass.specs.Named.{AreNamed}
 use Rattle.midi_pass.specs.Put.{Put, in_notes}
-use Rattle.midi_engines.specs.Endpoint.{Said, answering, block_line_of, closing_lines, exclusive_lines, for_each, in_force, message_lines, packet_lines, packet_replies, profile_line_of, said_by, stream_lines, told_in_packets}
+use Rattle.midi_engines.specs.Endpoint.{Said, answering, block_line_of, exclusive_lines, for_each, in_force, message_lines, profile_line_of, said_by, stream_lines, told_in_packets}
 use Rattle.midi_engines.specs.Options.{EndpointOptions}
 use Rattle.midi_engines.specs.Packets.{all_placed, placed_of}
 use Rattle.midi_engines.specs.Raised.{output_and_notes}

@@ -2,9 +2,11 @@
 use Rattle.std.specs.Prelude.{ℕ, Bool, true, false}
 use Rattle.ump_words.specs.declared.words.Order.{Order}
 use Rattle.function_blocks.specs.Setups.{Facts}
+use Rattle.voice_state.specs.Styles.{Style}
 
--- a recording that is carried down
+-- a recording that is carried down, in a style
 pub record DownOptions : Type 0 where
+  pub style : Style
   pub order : Order
   pub room : ℕ
 

@@ -3,6 +3,7 @@ ghost use Rattle.std.specs.Prelude.{◌≡◌, ◌<◌, ◌≤◌, ℕ, List, []
 ghost use Rattle.ump_grammar.specs.Ranges.{IsPacket};
 ghost use Rattle.up_translator.specs.Recording.{HoldsUp};
 ghost use Rattle.down_translator.specs.Held.{new_down};
+ghost use Rattle.voice_state.specs.Styles.{plain_style};
 ghost use Rattle.midi_pass.specs.Bytes.{byte_cutting};
 ghost use Rattle.midi_pass.specs.Pass.{Ends, IsDoneUnless, seen};
 ghost use Rattle.midi_pass.specs.Places.{Puts, places};
@@ -39,6 +40,7 @@ impl Model for BackRun {
     ghost use Rattle.std.specs.Prelude.{◌≡◌, ◌<◌, ◌≤◌, []};
     ghost use Rattle.up_translator.specs.Recording.{HoldsUp};
     ghost use Rattle.down_translator.specs.Held.{new_down};
+    ghost use Rattle.voice_state.specs.Styles.{plain_style};
     ghost use Rattle.midi_engines.specs.Back.{options_of};
     ghost use Rattle.midi_engines.specs.Options.{BackOptions};
 
@@ -47,7 +49,7 @@ impl Model for BackRun {
     ghost view = { λ r. options_of r.up };
 
     ghost invariant = { λ r. HoldsUp r.up.parsing.room r.up.group [] r.up
-        × (r.down ≡ new_down r.up.parsing.room) × (6 ≤ r.up.parsing.room) × (r.up.group < 16) };
+        × (r.down ≡ new_down plain_style r.up.parsing.room) × (6 ≤ r.up.parsing.room) × (r.up.group < 16) };
 }
 
 impl BackRun {
@@ -93,6 +95,7 @@ impl PacketWork for Down {
 
     ghost IsDone = { λ offset. PutsDown offset };
 
+    #[inline(always)]
     fn put<L: Lanes, W: Sink, N: Sink>(
         &mut self,
         packet: &Packet,
@@ -212,7 +215,7 @@ fn translate<S: Source, L: Lanes, W: Sink, N: Sink>(
     notes: &mut N,
 ) -> RunEnd
     requires new { HoldsUp up.parsing.room up.group [] up }
-    requires empty { down ≡ new_down up.parsing.room }
+    requires empty { down ≡ new_down plain_style up.parsing.room }
     requires least { 6 ≤ up.parsing.room }
     requires few { up.group < 16 }
     ensures ends { Ends byte_cutting (returning (options_of up))

@@ -4,7 +4,8 @@ ghost use Rattle.std.specs.Option.{option_map, option_to_list};
 ghost use Rattle.sysex_groups.specs.Table.{Table, begun_in};
 ghost use Rattle.ump_grammar.specs.declared.packet.Packet.{Packet};
 ghost use Rattle.ump_grammar.specs.Ranges.{IsPacket};
-ghost use Rattle.down_translator.specs.Held.{down_after, limit_of, new_down};
+ghost use Rattle.down_translator.specs.Held.{down_after, limit_of, new_down, style_of};
+ghost use Rattle.down_translator.specs.Lanes.{style_in};
 ghost use Rattle.midi_pass.specs.Pass.{Ends, IsDoneUnless, seen};
 ghost use Rattle.midi_pass.specs.Places.{Puts, places};
 ghost use Rattle.voice_state.specs.Listing.{groups};
@@ -30,7 +31,7 @@ use sysex_groups::Groups;
 use ump_grammar::Packet;
 use ump_grammar::laws::words_spell_one_packet;
 use ump_words::{Framed, Order, fronts_are_cut_as_the_stream, one_cutting};
-use voice_state::laws::plain_pairs_are_a_translation;
+use voice_state::style_laws::styled_pairs_are_a_translation;
 
 /// A translation down that is ready to begin, with all its memory. A contract sees its options.
 #[derive(Drop)]
@@ -41,14 +42,15 @@ pub struct DownRun {
 
 impl Model for DownRun {
     ghost use Rattle.std.specs.Prelude.{◌≡◌, ◌≤◌};
-    ghost use Rattle.down_translator.specs.Held.{limit_of, new_down};
+    ghost use Rattle.down_translator.specs.Held.{limit_of, new_down, style_of};
     ghost use Rattle.midi_engines.specs.Options.{DownOptions};
 
     ghost Value = { DownOptions };
 
-    ghost view = { λ r. record { order = r.order; room = limit_of r.down } };
+    ghost view = { λ r. record { style = style_of r.down; order = r.order; room = limit_of r.down } };
 
-    ghost invariant = { λ r. (r.down ≡ new_down (limit_of r.down)) × (6 ≤ limit_of r.down) };
+    ghost invariant = { λ r. (r.down ≡ new_down (style_of r.down) (limit_of r.down))
+        × (6 ≤ limit_of r.down) };
 }
 
 impl DownRun {
@@ -57,7 +59,8 @@ impl DownRun {
     pub fn new(alloc: Global, style: Style, order: Order, room: u32) -> Result<DownRun, NoMemory>
         requires least { 6 ≤ room }
         requires most { room ≤ 1048576 }
-        ensures { IfOk result (λ engine. engine ≡ record { order = order; room = room }) }
+        ensures { IfOk result (λ engine. engine
+            ≡ record { style = style_in style; order = order; room = room }) }
     {
         match Down::new(alloc, room, style) {
             Ok(down) => Ok(DownRun { down, order }),
@@ -66,7 +69,7 @@ impl DownRun {
     }
 }
 
-// Puts the plain piece of each packet that is carried into the lane of its group, and in the notes the line of each packet that
+// Puts the piece of each packet that is carried into the lane of its group, and in the notes the line of each packet that
 // is listed, at the end those of the exclusives that are still open.
 #[derive(Drop)]
 struct DownEngine {
@@ -122,8 +125,9 @@ impl Engine<Framed, Packet> for DownEngine {
 }
 
 /// Translates a recording down, to its end or to the first packet that is refused (M2-104-UM, default translation; what that
-/// leaves out is listed by own rule): puts the piece of each packet that is carried into the lane of its group, and in the notes
-/// the line of each packet that is listed, at the end those of the exclusives that are still open. Takes no memory.
+/// leaves out is listed by own rule): puts the piece of each packet that is carried, in the style of the translation, into the lane
+/// of its group, and in the notes the line of each packet that is listed, at the end those of the exclusives that are still open.
+/// Takes no memory.
 ///
 /// `Refused` comes at the first packet that is refused, with the number of input bytes before it, and for every `Reason`.
 /// `ReadFault`, `LaneFault` and `NoteFault` come only where the count of that object rose. The output stays as it is.
@@ -156,18 +160,19 @@ fn translate<S: Source, L: Lanes, W: Sink, N: Sink>(
     output: &mut W,
     notes: &mut N,
 ) -> RunEnd
-    requires empty { down ≡ new_down (limit_of down) }
+    requires empty { down ≡ new_down (style_of down) (limit_of down) }
     requires least { 6 ≤ limit_of down }
     requires begun { L.begun lanes.old ≡ true }
-    ensures ends { Ends (packet_cutting order) (carrying (record { order = order; room = limit_of down }))
+    ensures ends { Ends (packet_cutting order)
+        (carrying (record { style = style_of down; order = order; room = limit_of down }))
         (seen S.Source L.Lanes W.Sink N.Sink input.old lanes.old output.old notes.old)
         (seen S.Source L.Lanes W.Sink N.Sink input.new lanes.new output.new notes.new) result }
     ensures complete { IsDoneUnless (packet_cutting order)
-        (carrying (record { order = order; room = limit_of down }))
+        (carrying (record { style = style_of down; order = order; room = limit_of down }))
         (seen S.Source L.Lanes W.Sink N.Sink input.old lanes.old output.old notes.old)
         (seen S.Source L.Lanes W.Sink N.Sink input.new lanes.new output.new notes.new) result }
 {
-    plain_pairs_are_a_translation();
+    styled_pairs_are_a_translation();
     one_cutting();
     fronts_are_cut_as_the_stream();
     words_spell_one_packet();

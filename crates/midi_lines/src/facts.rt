@@ -177,7 +177,8 @@ fn put_value(line: &mut Line, group: U4, channel: U4, name: &str, value: u32)
 
 fn put_program(line: &mut Line, group: U4, channel: U4, program: U7, bank: Option<Bank>)
     requires { length line.old ≤ 60 }
-    ensures text { line.new ≡ line.old ++ (of_channel group channel ++ codes " program" ++ spaced program ++ bank_words bank) }
+    ensures text { line.new ≡ line.old
+        ++ (of_channel group channel ++ codes " program" ++ spaced program ++ bank_words bank) }
     ensures room { length line.new ≤ 240 }
 {
     put_channel(line, group, channel);
@@ -217,7 +218,8 @@ fn put_param(
 )
     requires old { length line.old ≤ 60 }
     requires name { length name.now ≤ 20 }
-    ensures text { line.new ≡ line.old ++ (of_channel group channel ++ param_words name.now bank index value loose) }
+    ensures text { line.new ≡ line.old
+        ++ (of_channel group channel ++ param_words name.now bank index value loose) }
     ensures room { length line.new ≤ 240 }
 {
     put_channel(line, group, channel);

@@ -1,9 +1,9 @@
 -- A pass leaves the places that it doesn't name as they are.
 use Rattle.std.proofs.Common.{◌≡◌, ℕ, List, [], ◌∷◌, ◌++◌, Bool, Option, refl, ap, sym, ◌∙◌, subst, inl, inr}
 use Rattle.std.specs.Prelude.{true, false, ◌≢◌, reverse}
-use Rattle.midi_pass.specs.Named.{Named, is_named, AreNamed, named-then, SparesLanes, SparesOutput, SparesNotes, SparesOthers}
+use Rattle.midi_pass.specs.Named.{Named, is_named, AreNamed, named-then, SparesOthers}
 use Rattle.midi_pass.specs.Pass.{Seen, Cutting, Work, ArePut, IsNextPut, PutFails, Stands, Ends}
-use Rattle.midi_pass.specs.Places.{Places, with_more, after_puts, with_faults, FailsAt, Fails}
+use Rattle.midi_pass.specs.Places.{Places, with_more, after_puts, FailsAt, Fails}
 use Rattle.midi_pass.specs.Put.{Put, in_lane, in_output, in_notes, pairs_in, output_in, notes_in, IsPartOf, fault_of}
 use Rattle.midi_pass.specs.declared.ends.RunEnd.{RunEnd}
 use Rattle.midi_pass.specs.declared.ends.RunEnd.TheVariants.{Done, Refused, ReadFault, LaneFault, OutputFault, NoteFault, NoMemory}

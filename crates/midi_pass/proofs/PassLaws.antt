@@ -3,7 +3,7 @@ use Rattle.std.proofs.Common.{◌≡◌, ℕ, Bool, true, false, List, [], ◌�
 use Rattle.std.specs.Prelude.{◌⊎◌, IfSome, Result, Ok, Err, reverse}
 use Rattle.std.proofs.lemmas.List.{reverse-append}
 use Rattle.midi_edge.specs.Outside.{Rose}
-use Rattle.midi_pass.specs.Pass.{Seen, Cutting, Work, AreAccepted, ArePut, IsWork, PutsIn, StepEnds, Steps, Closes, end_of, IsFront, HasGivenUp, IsFirstRefusal, IsRefused, IsNextPut, PutFails, WantsMemory, Stands}
+use Rattle.midi_pass.specs.Pass.{Seen, Cutting, Work, AreAccepted, ArePut, IsWork, PutsIn, StepEnds, Steps, Closes, end_of, IsFront, HasGivenUp, IsFirstRefusal, IsNextPut, PutFails, WantsMemory, Stands}
 use Rattle.midi_pass.specs.Places.{Places, after_puts, FailsAt, Puts}
 use Rattle.midi_pass.specs.Put.{Put}
 use Rattle.midi_pass.specs.declared.pass.Next.TheVariants as next

@@ -1,7 +1,7 @@
 -- A line that is put in the output alone.
-use Rattle.std.proofs.Common.{◌≡◌, ℕ, List, [], ◌∷◌, ◌++◌, refl, ap, sym, ◌∙◌, subst}
+use Rattle.std.proofs.Common.{◌≡◌, ℕ, List, [], ◌∷◌, ◌++◌, ap, ◌∙◌, subst}
 use Rattle.midi_edge.specs.Outside.{Rose}
-use Rattle.midi_pass.specs.Places.{Counts, Places, Fails, FailsAt}
+use Rattle.midi_pass.specs.Places.{Places, Fails, FailsAt}
 use Rattle.midi_pass.specs.Put.{Put, fault_of, in_output}
 use Rattle.midi_pass.specs.declared.ends.RunEnd.{RunEnd}
 use Rattle.midi_pass.specs.declared.ends.RunEnd.TheVariants.{OutputFault}

@@ -2,6 +2,7 @@
 ghost use Rattle.std.specs.Prelude.{◌≡◌, ◌≤◌, ◌<◌, None, Some, false, map, string_bytes};
 ghost use Rattle.command_line.specs.Asked.{IsInRange, IsRoom, asked_of};
 ghost use Rattle.command_line.specs.Rules.{command_of};
+ghost use Rattle.down_translator.specs.Lanes.{style_in};
 ghost use Rattle.midi_engines.specs.Back.{returning};
 ghost use Rattle.midi_engines.specs.Down.{carrying};
 ghost use Rattle.midi_engines.specs.Endpoint.{answering};
@@ -10,7 +11,13 @@ ghost use Rattle.midi_engines.specs.ShowPackets.{showing};
 ghost use Rattle.midi_engines.specs.Up.{raising};
 ghost use Rattle.midi_pass.specs.Pass.{seen};
 ghost use Rattle.midi_pass.specs.Places.{places};
-ghost use Rattle.midi_tool.specs.Command.{byte_pass, order_of as order_in, packet_pass, plan_of};
+ghost use Rattle.midi_tool.specs.Command.{
+  byte_pass,
+  order_of as order_in,
+  packet_pass,
+  plan_of,
+  style_of as style_asked,
+};
 ghost use Rattle.midi_tool.specs.SelfTest.{self_test_text};
 ghost use Rattle.midi_tool.specs.Run.{
   Does,
@@ -49,24 +56,27 @@ use ump_words::Order;
 
 /// Does what the words of a command line, without the program's name, ask for (own rules). All objects are new ones.
 ///
-/// `translate down --folder F` turns the recording of Universal MIDI Packets in `input` into a MIDI 1.0 stream for each group, in
-/// `lanes`, and lists in `notes` what has no counterpart. `translate up` turns the MIDI 1.0 stream in `input` into the words of
-/// packets of one group, in `output`, and `translate back` into the stream that these packets give on the way down; both list in
-/// `notes` what gave no packet. `show` puts a line for each packet of a recording in `output`, `show --bytes` the lines of a stream; with
-/// `--state` those of what the input leaves in a receiver follow.
-/// `endpoint SETUP` reads the setup of that name from the shelf and answers the packets of a peer in `input`: the words of the replies
-/// come in `output`, and a line for each message in `notes`. `selftest SEED` takes packets that a generator draws, `--packets` of them
-/// (1 to 1,000,000, at first 10,000), down, up and down again, and puts one line of counts in `output`; the input is left unread.
-/// `--group` is 0 to 15, at first 0; `--room`, the most bytes of an exclusive between F0 and F7, is 6 to 1,048,576, at first
-/// 1,048,576; with `--little` each word has its least significant byte first.
+/// `translate down --folder F` turns the recording of Universal MIDI Packets in `input` into a MIDI 1.0 stream for each group,
+/// in `lanes`, and lists in `notes` what has no counterpart; with `--compact` what the receiver of a lane already has since the
+/// lane's last System Reset isn't sent again: the running status, a selected parameter, a bank of which both halves are set.
+/// `translate up` turns the MIDI 1.0 stream in `input` into the words of packets of one group, in `output`, and
+/// `translate back` into the stream that these packets give on the way down; both list in `notes` what gave no packet. `show`
+/// puts a line for each packet of a recording in `output`, `show --bytes` the lines of a stream; with `--state` those of what
+/// the input leaves in a receiver follow. `endpoint SETUP` reads the setup of that name from the shelf and answers the packets
+/// of a peer in `input`: the words of the replies come in `output`, and a line for each message in `notes`. `selftest SEED`
+/// takes packets that a generator draws, `--packets` of them (1 to 1,000,000, at first 10,000), down, up and down again, and
+/// puts one line of counts in `output`; the input is left unread. `--group` is 0 to 15, at first 0; `--room`, the most bytes of
+/// an exclusive between F0 and F7, is 6 to 1,048,576, at first 1,048,576; with `--little` each word has its least significant
+/// byte first.
 ///
-/// `Done` says that the input was read to its end, or that the line of a self test was put. `Refused` comes at the first packet or byte that is refused, with its reason and
-/// its offset, the number of input bytes before it. `ReadFault`, `LaneFault`, `OutputFault`, `NoteFault` and `ShelfFault` come only for
-/// an object that the command names and whose count of faults rose in this call. `Usage` comes where the words are no command,
-/// `SetupSyntax` where the text of the setup isn't UTF-8 or no TOML, `SetupField` with the number of the first rule that it breaks
-/// (`function_blocks::Rule`). `NoMemory` is free in its cause, and comes before the first read, but for `--state`. What stands in the lanes, the output
-/// and the notes after each of these is told by the clauses; docs/passes.md has it as a table. Whatever the status but `Done` and
-/// `NoteFault`, a last line in the notes tells it.
+/// `Done` says that the input was read to its end, or that the line of a self test was put. `Refused` comes at the first packet
+/// or byte that is refused, with its reason and its offset, the number of input bytes before it. `ReadFault`, `LaneFault`,
+/// `OutputFault`, `NoteFault` and `ShelfFault` come only for an object that the command names and whose count of faults rose in
+/// this call. `Usage` comes where the words are no command, `SetupSyntax` where the text of the setup isn't UTF-8 or no TOML,
+/// `SetupField` with the number of the first rule that it breaks (`function_blocks::Rule`). `NoMemory` is free in its cause,
+/// and comes before the first read, but for `--state`. What stands in the lanes, the output and the notes after each of these
+/// is told by the clauses; docs/passes.md has it as a table. Whatever the status but `Done` and `NoteFault`, a last line in the
+/// notes tells it.
 pub fn run<S: Source, L: Lanes, W: Sink, N: Sink, K: Shelf>(
     alloc: Global,
     words: &[String],
@@ -159,9 +169,12 @@ fn perform<S: Source, L: Lanes, W: Sink, N: Sink, K: Shelf>(
     match command {
         Command::Down {
             folder,
+            compact,
             little,
             room,
-        } => translate_down(alloc, folder, *little, *room, input, lanes, output, notes),
+        } => translate_down(
+            alloc, folder, *compact, *little, *room, input, lanes, output, notes,
+        ),
         Command::Show {
             state,
             little,
@@ -199,6 +212,17 @@ fn order_of(little: bool) -> Order
     if little { Order::Little } else { Order::Big }
 }
 
+// The style of the lanes.
+fn style_of(compact: bool) -> Style
+    ensures { result ≡ style_asked compact }
+{
+    if compact {
+        Style::Compact
+    } else {
+        Style::Plain
+    }
+}
+
 // The status for an end.
 fn status_of(end: RunEnd) -> Status
     ensures { result ≡ status_after end }
@@ -218,6 +242,7 @@ fn status_of(end: RunEnd) -> Status
 fn translate_down<S: Source, L: Lanes, W: Sink, N: Sink>(
     alloc: Global,
     folder: &str,
+    compact: bool,
     little: bool,
     room: u32,
     input: &mut S,
@@ -228,15 +253,23 @@ fn translate_down<S: Source, L: Lanes, W: Sink, N: Sink>(
     requires room { IsRoom room }
     requires folder { L.folder lanes.old ≡ None }
     ensures says { RunsInto folder.now
-        (packet_pass (order_in little) (carrying (record { order = order_in little; room = room })))
+        (packet_pass (order_in little) (carrying (record {
+          style = style_in (style_asked compact);
+          order = order_in little;
+          room = room;
+        })))
         (seen S.Source L.Lanes W.Sink N.Sink input.old lanes.old output.old notes.old)
         (seen S.Source L.Lanes W.Sink N.Sink input.new lanes.new output.new notes.new) result }
     ensures complete { IsDonePass
-        (packet_pass (order_in little) (carrying (record { order = order_in little; room = room })))
+        (packet_pass (order_in little) (carrying (record {
+          style = style_in (style_asked compact);
+          order = order_in little;
+          room = room;
+        })))
         (seen S.Source L.Lanes W.Sink N.Sink input.old lanes.old output.old notes.old)
         (seen S.Source L.Lanes W.Sink N.Sink input.new lanes.new output.new notes.new) result }
 {
-    let Ok(engine) = DownRun::new(alloc, Style::Plain, order_of(little), room) else {
+    let Ok(engine) = DownRun::new(alloc, style_of(compact), order_of(little), room) else {
         return Status::NoMemory;
     };
     match lanes.begin(folder) {
@@ -312,11 +345,13 @@ fn put_packet_lines<S: Source, L: Lanes, W: Sink, N: Sink>(
 ) -> Status
     requires room { IsRoom room }
     ensures says { Runs
-        (packet_pass (order_in little) (showing (record { state = state; order = order_in little; room = room })))
+        (packet_pass (order_in little)
+        (showing (record { state = state; order = order_in little; room = room })))
         (seen S.Source L.Lanes W.Sink N.Sink input.old lanes.old output.old notes.old)
         (seen S.Source L.Lanes W.Sink N.Sink input.new lanes.new output.new notes.new) result }
     ensures complete { IsDonePass
-        (packet_pass (order_in little) (showing (record { state = state; order = order_in little; room = room })))
+        (packet_pass (order_in little)
+        (showing (record { state = state; order = order_in little; room = room })))
         (seen S.Source L.Lanes W.Sink N.Sink input.old lanes.old output.old notes.old)
         (seen S.Source L.Lanes W.Sink N.Sink input.new lanes.new output.new notes.new) result }
 {

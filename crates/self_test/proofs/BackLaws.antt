@@ -1,6 +1,6 @@
 -- One more byte of channel voice messages comes back.
-use Rattle.std.proofs.Common.{◌≡◌, ◌<◌, ◌≤◌, ℕ, ◌+◌, ◌==◌, get_or, take, drop, append_assoc, Bool, true, false, List, [], ◌∷◌, ◌++◌, length, map, Option, None, Some, refl, ap, sym, ◌∙◌, subst, arith, length-append, zero-add}
-use Rattle.std.specs.Prelude.{Result, Ok, Err, IfSome, reverse}
+use Rattle.std.proofs.Common.{◌≡◌, ◌<◌, ◌≤◌, ℕ, ◌+◌, ◌==◌, get_or, take, drop, append_assoc, List, [], ◌∷◌, ◌++◌, length, map, Option, None, Some, refl, ap, sym, ◌∙◌, subst, arith, length-append, zero-add}
+use Rattle.std.specs.Prelude.{Ok, Err, IfSome, reverse}
 use Rattle.std.specs.List.{AllByRecursion}
 use Rattle.std.specs.Option.{option_to_list}
 use Rattle.std.proofs.lemmas.Bool.{cond_both}
@@ -9,16 +9,15 @@ use Rattle.voice_messages.specs.declared.voice1.Voice1.{Voice1}
 use Rattle.voice_messages.specs.declared.voice1.Voice1.TheVariants as voice1
 use Rattle.voice_messages.specs.declared.voice2.Param.{Param}
 use Rattle.voice_messages.specs.declared.voice2.Voice2.{Voice2}
-use Rattle.voice_messages.specs.declared.voice2.Voice2.TheVariants as voice2
 use Rattle.ump_grammar.specs.declared.packet.Packet.{Packet}
 use Rattle.ump_grammar.specs.declared.packet.Packet.TheVariants as packet
 use Rattle.ump_grammar.specs.Ranges.{IsPacket}
 use Rattle.midi1_bytes.specs.Laws.{ParsedBytesAreTheDefinition}
-use Rattle.midi1_bytes.specs.Messages.{Message, voice}
+use Rattle.midi1_bytes.specs.Messages.{voice}
 use Rattle.midi1_bytes.specs.Parsing.{Parsing, held_behind, parse}
 use Rattle.midi1_bytes.specs.Steps.{Step, held, completes, too_long, completed_by, step_of}
 use Rattle.voice_state.specs.declared.listed.BadStep.{BadStep}
-use Rattle.voice_state.specs.Back.{back, back_at, pieces_of}
+use Rattle.voice_state.specs.Back.{back, pieces_of}
 use Rattle.voice_state.specs.Controllers.{Role, bank_msb, bank_lsb, data_msb, data_lsb, data_increment, data_decrement, number_msb, number_lsb, reset_all, channel_mode, plain, role_of}
 use Rattle.voice_state.specs.Messages.{channel_of, meaning1}
 use Rattle.voice_state.specs.Parts.{whole_of}
@@ -34,7 +33,10 @@ use Rattle.up_translator.specs.Laws.{RaisedBytesAreTheDefinition}
 use Rattle.up_translator.specs.Raised.{group_in, packet_in, packets_by, payload_in}
 use Rattle.up_translator.specs.Recording.{HoldsUp}
 use Rattle.up_translator.specs.Step.{Raises, payload_by}
-use Rattle.down_translator.specs.Held.{DownState, down_after, new_down, refusal_in, whole_in}
+use Rattle.voice_state.specs.Styles.{plain_style}
+use Rattle.down_translator.specs.Held.{DownState, down_after, new_down, refusal_in, unless_refused, whole_in}
+use Rattle.down_translator.specs.Lanes.{lanes_after, new_lanes}
+use Rattle.down_translator.specs.Step.{piece_of}
 use Rattle.self_test.specs.Held.{ComesBack, HasReturned}
 use Rattle.self_test.specs.Played.{ArePlayed, IsPlayedStep}
 use Rattle.self_test.proofs.PlayedLaws.{piece_short}
@@ -151,20 +153,27 @@ module _ (law : RaisedBytesAreTheDefinition) (parsed : ParsedBytesAreTheDefiniti
 
 -- ---- what the translator down does with its packet
 
-pub returned_accepted : (p : Packet) → IsReturned p → refusal_in (new_down 6) p ≡ None
+pub returned_accepted : (p : Packet) → IsReturned p → refusal_in (new_down plain_style 6) p ≡ None
 returned_accepted (packet.Voice2 group message) h = h
 returned_accepted _ h = absurd h
 
-pub returned_short : (p : Packet) → IsReturned p → length (plain_piece (whole_in (new_down 6) p) p) ≤ 12
+pub returned_short : (p : Packet) → IsReturned p → length (plain_piece (whole_in (new_down plain_style 6) p) p) ≤ 12
 returned_short (packet.Voice2 group message) h = piece_short message
 returned_short _ h = absurd h
 
-returned_whole : (past : List Packet) (p : Packet) → IsReturned p → whole_in (new_down 6) p ≡ whole_of past p
+returned_whole : (past : List Packet) (p : Packet) → IsReturned p → whole_in (new_down plain_style 6) p ≡ whole_of past p
 returned_whole past (packet.Voice2 group message) h = refl
 returned_whole past _ h = absurd h
 
-returned_after : (offset : ℕ) (p : Packet) → IsReturned p → down_after offset p (new_down 6) ≡ new_down 6
-returned_after offset (packet.Voice2 group message) h = refl
+pub returned_piece : (p : Packet) → IsReturned p → piece_of (new_down plain_style 6) p ≡ plain_piece (whole_in (new_down plain_style 6) p) p
+returned_piece (packet.Voice2 group message) h = refl
+returned_piece _ h = absurd h
+
+pub returned_after : (offset : ℕ) (p : Packet) → IsReturned p → down_after offset p (new_down plain_style 6) ≡ new_down plain_style 6
+returned_after offset (packet.Voice2 group message) h = λ i. record {
+  exclusives = (new_down plain_style 6).exclusives;
+  lanes = lanes_after (unless_refused (h i) (Some group)) None (packet.Voice2 group message) (new_lanes plain_style);
+}
 returned_after offset _ h = absurd h
 
 -- ---- what comes back
@@ -175,30 +184,30 @@ counted_none past byte e =
     ap length (sym (append-nil (back (Some 6) 0 past)) ∙ ap (λ ps. back (Some 6) 0 past ++ pieces_of before ps) (sym e))
 
 counted_some : (past : List ℕ) (byte : ℕ) (p : Packet) → packets_at (Some 6) 0 past byte ≡ p ∷ [] → IsReturned p
-    → length (plain_piece (whole_in (new_down 6) p) p) + length (back (Some 6) 0 past) ≡ length (back (Some 6) 0 (byte ∷ past))
+    → length (plain_piece (whole_in (new_down plain_style 6) p) p) + length (back (Some 6) 0 past) ≡ length (back (Some 6) 0 (byte ∷ past))
 counted_some past byte p e h =
     let before : List Packet = reverse (packets_up (Some 6) 0 past) in
     let piece : List ℕ = plain_piece (whole_of before p) p in
-    let same : length (plain_piece (whole_in (new_down 6) p) p) ≡ length piece = ap (λ whole. length (plain_piece whole p)) (returned_whole before p h) in
+    let same : length (plain_piece (whole_in (new_down plain_style 6) p) p) ≡ length piece = ap (λ whole. length (plain_piece whole p)) (returned_whole before p h) in
     let all : length (back (Some 6) 0 (byte ∷ past)) ≡ length (back (Some 6) 0 past) + length piece =
     ap (λ ps. length (back (Some 6) 0 past ++ pieces_of before ps)) e ∙ ap (λ bytes. length (back (Some 6) 0 past ++ bytes)) (append-nil piece) ∙ length-append (back (Some 6) 0 past) piece in
     omega arith
 
 module _ (past : List ℕ) (byte : ℕ) (raised : Raised) (answer : IsAnswered past byte raised) (up : UpState) (holds : HoldsUp 6 0 (byte ∷ past) up) (played : ArePlayed (byte ∷ past)) where
-  pub comes_back_none : (down : DownState) → down ≡ new_down 6 → packet_in raised ≡ None → ComesBack past (byte ∷ past) 0 up down
+  pub comes_back_none : (down : DownState) → down ≡ new_down plain_style 6 → packet_in raised ≡ None → ComesBack past (byte ∷ past) 0 up down
   comes_back_none down is e = record {
     returned = record { played = played; up_holds = holds; down_is = is };
     count = zero-add (length (back (Some 6) 0 past)) ∙ counted_none past byte (answer.packets ∙ ap option_to_list e);
   }
 
-  pub comes_back_some : (down from : DownState) (offset again : ℕ) (p : Packet) → packet_in raised ≡ Some p → from ≡ new_down 6 → down ≡ down_after offset p from → again ≡ length (plain_piece (whole_in from p) p) → ComesBack past (byte ∷ past) again up down
+  pub comes_back_some : (down from : DownState) (offset again : ℕ) (p : Packet) → packet_in raised ≡ Some p → from ≡ new_down plain_style 6 → down ≡ down_after offset p from → again ≡ length (piece_of from p) → ComesBack past (byte ∷ past) again up down
   comes_back_some down from offset again p e is after count =
       let I : Option Packet → Type 0 = λ one. IfSome one IsReturned in
       let h : IsReturned p = subst I e answer.returned in
       record {
         returned = record { played = played; up_holds = holds; down_is = after ∙ ap (down_after offset p) is ∙ returned_after offset p h };
         count =
-            ap (λ n. n + length (back (Some 6) 0 past)) (count ∙ ap (λ (d : DownState). length (plain_piece (whole_in d p) p)) is)
+            ap (λ n. n + length (back (Some 6) 0 past)) (count ∙ ap (λ (d : DownState). length (piece_of d p)) is ∙ ap length (returned_piece p h))
             ∙ counted_some past byte p (answer.packets ∙ ap option_to_list e) h;
       }
 

@@ -1,7 +1,6 @@
 -- The first packets of a seed.
 use Rattle.std.proofs.Common.{◌≡◌, ℕ, ◌+◌, ◌*◌, ◌∷◌, zero, suc, length, refl, ap, sym, ◌∙◌, add-one}
 use Rattle.ump_grammar.specs.declared.packet.Packet.{Packet}
-use Rattle.voice_state.specs.Parts.{Placed}
 use Rattle.self_test.specs.Counts.{first_packets}
 use Rattle.self_test.specs.Generator.{generated}
 

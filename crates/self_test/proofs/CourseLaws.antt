@@ -18,15 +18,16 @@ use Rattle.voice_state.specs.Plain.{plain_piece, voice_messages}
 use Rattle.voice_state.specs.UpLaws.{RoomsThatAreNotReachedDoNotMatterInBytes}
 use Rattle.down_translator.specs.declared.carried.Carried.{Carried}
 use Rattle.down_translator.specs.Carried.{line_in}
+use Rattle.voice_state.specs.Styles.{plain_style}
 use Rattle.down_translator.specs.Held.{begun_at_in, down_after, new_down, whole_in}
 use Rattle.down_translator.specs.Recording.{packets_of}
-use Rattle.down_translator.specs.Step.{IsPlainStep}
+use Rattle.down_translator.specs.Step.{IsStep, piece_of}
 use Rattle.self_test.specs.declared.counts.Counts.{Counts}
 use Rattle.self_test.specs.declared.course.Course.{Course}
-use Rattle.self_test.specs.Counts.{bytes_behind, counts_of, counts_with}
+use Rattle.self_test.specs.Counts.{bytes_behind, counts_with}
 use Rattle.self_test.specs.Held.{ComesBack, HasReturned, HasTaken}
 use Rattle.self_test.specs.Played.{ArePlayed, IsPlayed}
-use Rattle.self_test.proofs.BackLaws.{IsReturned, returned_short, steps_within}
+use Rattle.self_test.proofs.BackLaws.{IsReturned, returned_after, returned_piece, returned_short, steps_within}
 use Rattle.self_test.proofs.PlayedLaws.{IsRead, messages_played, read_all}
 
 -- ---- a packet that is played
@@ -39,13 +40,13 @@ pub is_returned : (p : Packet) → IsPlayed p → IsReturned p
 is_returned (packet.Voice2 group message) h = h.2
 is_returned _ h = absurd h
 
-pub is_read : (p : Packet) (bytes : List ℕ) → IsPlayed p → open_in (Some 6) bytes ≡ None → ArePlayed bytes → IsRead bytes (plain_piece (whole_in (new_down 6) p) p)
+pub is_read : (p : Packet) (bytes : List ℕ) → IsPlayed p → open_in (Some 6) bytes ≡ None → ArePlayed bytes → IsRead bytes (plain_piece (whole_in (new_down plain_style 6) p) p)
 is_read (packet.Voice2 group message) bytes h closed played = read_all (voice_messages message) bytes (messages_played message h.1 h.2) closed played
 is_read _ bytes h closed played = absurd h
 
-module _ (past : List Placed) (old : Course) (offset : ℕ) (p : Packet) (carried : Carried) (played : IsPlayed p) (taken : HasTaken past old) (step : IsPlainStep old.down offset p carried) where
-  own_piece : carried.piece.now ≡ plain_piece (whole_in (new_down 6) p) p
-  own_piece = step.piece ∙ ap (λ state. plain_piece (whole_in state p) p) taken.down_is
+module _ (past : List Placed) (old : Course) (offset : ℕ) (p : Packet) (carried : Carried) (played : IsPlayed p) (taken : HasTaken past old) (step : IsStep old.down offset p carried) where
+  own_piece : carried.piece.now ≡ plain_piece (whole_in (new_down plain_style 6) p) p
+  own_piece = step.piece ∙ ap (λ state. piece_of state p) taken.down_is ∙ returned_piece p (is_returned p played)
 
   pub piece_is_read : IsRead (bytes_behind (packets_of past)) carried.piece.now
   piece_is_read =
@@ -67,17 +68,15 @@ pair_count group false (byte ∷ bytes) h = cc (h.1 (omega arith))
 
 -- the pair, the line and the bytes of a packet after others
 record IsCounted (past : List Placed) (offset : ℕ) (p : Packet) : Type 0 where
-  pairs : length (pair_of (packets_of past) p) ≡ cond (length (plain_piece (whole_in (new_down 6) p) p) == 0) 0 1
-  line : listed (begun_at_in (new_down 6) p) offset p ≡ line_of None (parts_of past) (record { offset = offset; packet = p })
-  piece : plain_piece (whole_of (packets_of past) p) p ≡ plain_piece (whole_in (new_down 6) p) p
-  after : down_after offset p (new_down 6) ≡ new_down 6
+  pairs : length (pair_of (packets_of past) p) ≡ cond (length (plain_piece (whole_in (new_down plain_style 6) p) p) == 0) 0 1
+  line : listed (begun_at_in (new_down plain_style 6) p) offset p ≡ line_of None (parts_of past) (record { offset = offset; packet = p })
+  piece : plain_piece (whole_of (packets_of past) p) p ≡ plain_piece (whole_in (new_down plain_style 6) p) p
 
 is_counted : CarriedPacketsHaveAPiece → (past : List Placed) (offset : ℕ) (p : Packet) → IsPlayed p → IsCounted past offset p
 is_counted pieces past offset (packet.Voice2 group message) h = record {
   pairs = pair_count group (is_carried None (packet.Voice2 group message)) (plain_piece None (packet.Voice2 group message)) (pieces None (packet.Voice2 group message));
   line = refl;
   piece = refl;
-  after = refl;
 }
 is_counted pieces past offset _ h = absurd h
 
@@ -87,12 +86,12 @@ one_line (Some line) = omega arith
 
 -- ---- one more
 
-module _ (pieces : CarriedPacketsHaveAPiece) (rooms : RoomsThatAreNotReachedDoNotMatterInBytes) (past : List Placed) (old new : Course) (offset : ℕ) (p : Packet) (carried : Carried) (again : ℕ) (played : IsPlayed p) (taken : HasTaken past old) (step : IsPlainStep old.down offset p carried) where
+module _ (pieces : CarriedPacketsHaveAPiece) (rooms : RoomsThatAreNotReachedDoNotMatterInBytes) (past : List Placed) (old new : Course) (offset : ℕ) (p : Packet) (carried : Carried) (again : ℕ) (played : IsPlayed p) (taken : HasTaken past old) (step : IsStep old.down offset p carried) where
   abbrev pub bytes : List ℕ
   bytes = bytes_behind (packets_of past)
 
   abbrev pub piece : List ℕ
-  piece = plain_piece (whole_in (new_down 6) p) p
+  piece = plain_piece (whole_in (new_down plain_style 6) p) p
 
   counted : IsCounted past offset p
   counted = is_counted pieces past offset p played
@@ -156,7 +155,7 @@ module _ (pieces : CarriedPacketsHaveAPiece) (rooms : RoomsThatAreNotReachedDoNo
       let most_bytes : old.counts.bytes ≤ 12 * length past = taken.few_bytes in
       let most_again : old.counts.again ≤ 12 * old.counts.bytes = taken.few_again in
       record {
-        down_is = down_is ∙ ap (down_after offset p) taken.down_is ∙ counted.after;
+        down_is = down_is ∙ ap (down_after offset p) taken.down_is ∙ returned_after offset p (is_returned p played);
         returned = subst H now_is back_is.returned;
         closed = ap (open_in (Some 6)) (sym now_is) ∙ (piece_is_read past old offset p carried played taken step).closed;
         counts_are = counts_are ∙ (λ i. record { carried = carried_is i; listed = listed_is i; bytes = bytes_are i; again = again_is back_is.returned.played back_is.count i });

@@ -1,5 +1,5 @@
 -- The bytes of channel voice messages, read after bytes in which nothing is open.
-use Rattle.std.proofs.Common.{◌≡◌, ◌<◌, ◌≤◌, ℕ, ◌+◌, ◌*◌, ◌/◌, ◌%◌, List, [], ◌∷◌, ◌++◌, reverse, length, Option, None, Some, refl, ap, sym, ◌∙◌, subst, arith, append_assoc}
+use Rattle.std.proofs.Common.{◌≡◌, ◌<◌, ◌≤◌, ℕ, ◌+◌, ◌*◌, ◌/◌, ◌%◌, List, [], ◌∷◌, ◌++◌, reverse, length, None, Some, refl, ap, sym, ◌∙◌, subst, arith, append_assoc}
 use Rattle.std.proofs.lemmas.Bool.{cond_both, lt-ltb, le-ltb}
 use Rattle.std.proofs.lemmas.List.{reverse-append}
 use Rattle.std.specs.List.{AllByRecursion, flat_map}
@@ -15,7 +15,6 @@ use Rattle.midi1_bytes.specs.Sorts.{one, two, data_byte, voice_status, sort_of}
 use Rattle.midi1_bytes.specs.Messages.{Message, voice, common, exclusive, real_time, spelled, spelled_voice, voice_of, voice_of_one, voice_of_two}
 use Rattle.midi1_bytes.specs.Steps.{Step, held, completes, step_of}
 use Rattle.midi1_bytes.specs.Stream.{open_in}
-use Rattle.voice_state.specs.declared.listed.BadStep.{BadStep}
 use Rattle.voice_state.specs.Controllers.{role_of, number_msb_index, number_lsb_index}
 use Rattle.voice_state.specs.Listing.{is_carried_role}
 use Rattle.voice_state.specs.Plain.{voice_messages}

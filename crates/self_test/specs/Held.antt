@@ -5,6 +5,7 @@ use Rattle.voice_state.specs.Back.{back}
 use Rattle.voice_state.specs.Parts.{Placed}
 use Rattle.up_translator.specs.Held.{UpState}
 use Rattle.up_translator.specs.Recording.{HoldsUp}
+use Rattle.voice_state.specs.Styles.{plain_style}
 use Rattle.down_translator.specs.Held.{DownState, new_down}
 use Rattle.down_translator.specs.Recording.{packets_of}
 use Rattle.self_test.specs.declared.course.Course.{Course}
@@ -15,7 +16,7 @@ use Rattle.self_test.specs.Played.{ArePlayed}
 pub record HasReturned (past : List ℕ) (up : UpState) (down : DownState) : Type 0 where
   pub played : ArePlayed past
   pub up_holds : HoldsUp 6 0 past up
-  pub down_is : down ≡ new_down 6
+  pub down_is : down ≡ new_down plain_style 6
 
 -- they took more bytes, and so many bytes came back of these
 pub record ComesBack (past now : List ℕ) (again : ℕ) (up : UpState) (down : DownState) : Type 0 where
@@ -24,7 +25,7 @@ pub record ComesBack (past now : List ℕ) (again : ℕ) (up : UpState) (down : 
 
 -- All three have taken these packets, the newest first, and nothing is open in any. A piece has at most twelve bytes.
 pub record HasTaken (past : List Placed) (course : Course) : Type 0 where
-  pub down_is : course.down ≡ new_down 6
+  pub down_is : course.down ≡ new_down plain_style 6
   pub returned : HasReturned (bytes_behind (packets_of past)) course.up course.again
   pub closed : open_in (Some 6) (bytes_behind (packets_of past)) ≡ None
   pub counts_are : course.counts ≡ counts_of past

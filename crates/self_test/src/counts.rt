@@ -27,10 +27,7 @@ pub fn count(alloc: Global, seed: u32, packets: u32) -> Result<Counts, NoMemory>
     ensures { IfOk result (λ counts. counts ≡ counted seed packets) }
 {
     let mut generator = Generator::new(seed);
-    let mut course = match Course::new(alloc) {
-        Ok(course) => course,
-        Err(no_memory) => return Err(no_memory),
-    };
+    let mut course = Course::new(alloc)?;
     for index in 0..packets {
         let packet = generator.next();
         course.take(&packet, u64::from(index) * 8);

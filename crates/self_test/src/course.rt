@@ -34,28 +34,20 @@ impl Course {
     pub(crate) fn new(alloc: Global) -> Result<Course, NoMemory>
         ensures { IfOk result (HasTaken []) }
     {
-        let down = match Down::new(alloc, ROOM, Style::Plain) {
-            Ok(down) => down,
-            Err(no_memory) => return Err(no_memory),
-        };
-        let up = match Up::new(alloc, U4::low_bits(0), ROOM) {
-            Ok(up) => up,
-            Err(no_memory) => return Err(no_memory),
-        };
-        match Down::new(alloc, ROOM, Style::Plain) {
-            Ok(again) => Ok(Course {
-                down,
-                up,
-                again,
-                counts: Counts {
-                    carried: 0,
-                    listed: 0,
-                    bytes: 0,
-                    again: 0,
-                },
-            }),
-            Err(no_memory) => Err(no_memory),
-        }
+        let down = Down::new(alloc, ROOM, Style::Plain)?;
+        let up = Up::new(alloc, U4::low_bits(0), ROOM)?;
+        let again = Down::new(alloc, ROOM, Style::Plain)?;
+        Ok(Course {
+            down,
+            up,
+            again,
+            counts: Counts {
+                carried: 0,
+                listed: 0,
+                bytes: 0,
+                again: 0,
+            },
+        })
     }
 
     // Takes one more packet at its offset; each has eight bytes.

@@ -15,9 +15,10 @@ ghost use Rattle.std.specs.Prelude.{
   nat_lt,
   IfOk,
   drop,
+  is_some,
 };
 ghost use Rattle.std.specs.Option.{ForSome};
-ghost use Rattle.sysex_groups.specs.Exclusives.{IsData, LendsData, framed};
+ghost use Rattle.sysex_groups.specs.Exclusives.{IsData, LendsData, ended_by, framed};
 ghost use Rattle.voice_messages.specs.declared.voice2.Form.TheVariants as form;
 
 use crate::fed::Fed;
@@ -185,6 +186,18 @@ impl Buffer {
         }
         close(&mut self.bytes, bytes);
         Fed::Whole(self.bytes.as_slice())
+    }
+
+    /// Whether a part ends an exclusive, and its bytes are within the limit.
+    pub fn ends(&self, form: Form, bytes: &[u8]) -> bool
+        ensures { result ≡ is_some (ended_by (Some self.now.room) form
+            (option_map (λ begun. begun.bytes) (state_of self.now).begun) bytes.now) }
+    {
+        match form {
+            Form::Complete => true,
+            Form::Start | Form::Continue => false,
+            Form::End => self.start.is_some() && !self.passes_room(bytes),
+        }
     }
 
     /// Takes one more part of the group.

@@ -1,6 +1,6 @@
 // The exclusives of sixteen groups.
-ghost use Rattle.std.specs.Prelude.{◌≡◌, ◌≤◌, IfOk, length};
-ghost use Rattle.sysex_groups.specs.Exclusives.{IsData, LendsData};
+ghost use Rattle.std.specs.Prelude.{◌≡◌, ◌≤◌, IfOk, Some, is_some, length};
+ghost use Rattle.sysex_groups.specs.Exclusives.{IsData, LendsData, ended_by};
 
 use crate::buffer::Buffer;
 use crate::fed::Fed;
@@ -78,6 +78,15 @@ impl Groups {
         let index = group.get() as usize;
         let buffer = &mut self.buffers[index];
         buffer.feed(form, bytes, offset)
+    }
+
+    /// Whether a part ends an exclusive of its group, so that `feed` would lend it: it is Complete, or it is the End of one that is
+    /// open and that has no more bytes than the limit.
+    pub fn ends(&self, group: U4, form: Form, bytes: &[u8]) -> bool
+        ensures { result ≡ is_some (ended_by (Some self.now.room) form
+            (option_map (λ begun. begun.bytes) (begun_in self.now group)) bytes.now) }
+    {
+        self.buffers[group.get() as usize].ends(form, bytes)
     }
 
     /// The offset of the packet that began the group's exclusive; `None` exactly when nothing is open.

@@ -1,5 +1,5 @@
 -- The ranges of the fields of messages: each number fits its bits.
-use Rattle.std.specs.Prelude.{ℕ, ◌<◌, ◌^◌, Option, Some, None}
+use Rattle.std.specs.Prelude.{◌<◌, ◌^◌, Option, Some, None}
 use Rattle.voice_messages.specs.declared.voice1.Voice1.{Voice1}
 use Rattle.voice_messages.specs.declared.voice1.Voice1.TheVariants as voice1
 use Rattle.voice_messages.specs.declared.voice1.System.{System}

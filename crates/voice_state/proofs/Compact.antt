@@ -1,5 +1,5 @@
 -- One more packet, with its compact piece, keeps what a lane denotes, and what is relied on.
-use Rattle.std.proofs.Common.{ℕ, ◌≡◌, ◌<◌, ◌∙◌, ap, sym, refl, subst, List, [], ◌∷◌, ◌++◌, reverse, length, Option, Some, None, Bool, true, false, cond, arith, ◌⊎◌, inl, inr, ◌↔◌, IsTrue}
+use Rattle.std.proofs.Common.{ℕ, ◌≡◌, ◌<◌, ◌∙◌, ap, sym, refl, subst, List, [], ◌∷◌, ◌++◌, reverse, length, Option, Some, None, Bool, true, false, cond, arith, ◌⊎◌, inl, inr}
 use Rattle.std.proofs.lemmas.Bool.{cond_both, ne_eqb}
 use Rattle.std.specs.List.{fold, AllByRecursion}
 use mathlib.Core.List.{reverse_aux}
@@ -9,21 +9,19 @@ use Rattle.voice_messages.specs.declared.voice1.System.{System}
 use Rattle.voice_messages.specs.declared.voice1.System.TheVariants as system
 use Rattle.voice_messages.specs.declared.voice1.Voice1.TheVariants as voice1
 use Rattle.voice_messages.specs.declared.voice2.Form.{Form}
-use Rattle.voice_messages.specs.declared.voice2.Param.{Param}
-use Rattle.voice_messages.specs.declared.voice2.Bank.{Bank}
 use Rattle.voice_messages.specs.declared.voice2.Voice2.{Voice2}
 use Rattle.voice_messages.specs.declared.voice2.Voice2.TheVariants as voice2
 use Rattle.ump_grammar.specs.declared.packet.Packet.{Packet}
 use Rattle.ump_grammar.specs.declared.packet.Packet.TheVariants as packet
 use Rattle.bit_scaling.specs.Scaling.{down14}
 use Rattle.midi1_bytes.specs.Laws.{StatusesThatRunCanBeLeftOut}
-use Rattle.midi1_bytes.specs.Messages.{Message, voice, common, exclusive, real_time, message_of, spelled, IsMessage}
+use Rattle.midi1_bytes.specs.Messages.{Message, voice, common, exclusive, real_time, spelled, IsMessage}
 use Rattle.midi1_bytes.specs.RunningStatus.{IsKnownIn, is_running, without_status, written_after}
 use Rattle.midi1_bytes.specs.Steps.{ReadsAs}
 use Rattle.midi1_bytes.specs.Stream.{open_in, running}
-use Rattle.voice_state.specs.Registers.{Pair, Registers, is_null}
+use Rattle.voice_state.specs.Registers.{Pair, is_null}
 use Rattle.voice_state.specs.Controllers.{role_of}
-use Rattle.voice_state.specs.Parts.{group_of, is_group, whole_of}
+use Rattle.voice_state.specs.Parts.{whole_of}
 use Rattle.voice_state.specs.State.{GroupState}
 use Rattle.voice_state.specs.Messages.{meaning1, step1}
 use Rattle.voice_state.specs.Packets.{meaning2, step2, IsInRange}
@@ -32,7 +30,7 @@ use Rattle.voice_state.specs.Plain.{set_messages, voice_messages, ended_messages
 use Rattle.voice_state.specs.Lanes.{Denotes}
 use Rattle.voice_state.specs.Compact.{after_reset, registers_in, needed_messages, compact_piece}
 use Rattle.voice_state.specs.Relied.{PairIsSameIn, AreSameIn, IsRelied}
-use Rattle.voice_state.proofs.Induction.{plain_is_message, matches_of, denotes_of, start_denotes, meaning1-piece}
+use Rattle.voice_state.proofs.Induction.{plain_is_message, matches_of, meaning1-piece}
 use Rattle.voice_state.proofs.Joined.{whole_data}
 use Rattle.voice_state.proofs.Packets.{GroupMatches, matches-packet}
 use Rattle.voice_state.proofs.SameRegisters.{same-fold}

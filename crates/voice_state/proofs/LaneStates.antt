@@ -22,11 +22,10 @@ use Rattle.ump_grammar.specs.declared.packet.Packet.{Packet}
 use Rattle.ump_grammar.specs.declared.packet.Packet.TheVariants as packet
 use Rattle.bit_scaling.specs.Scaling.{down7, down14, release_down, velocity_down}
 use Rattle.midi1_bytes.specs.Laws.{RunningStatusIsThatOfTheMessages, StatusesThatRunCanBeLeftOut, WrittenMessagesAreReadAgain}
-use Rattle.midi1_bytes.specs.Messages.{Message, voice, message_of, AreData, IsMessage}
-use Rattle.midi1_bytes.specs.RunningStatus.{running_after_all, written_after, written_under}
-use Rattle.midi1_bytes.specs.Steps.{ReadsAs}
+use Rattle.midi1_bytes.specs.Messages.{voice, message_of, AreData, IsMessage}
+use Rattle.midi1_bytes.specs.RunningStatus.{running_after_all, written_under}
 use Rattle.midi1_bytes.specs.Stream.{running}
-use Rattle.voice_state.specs.Registers.{Pair, Registers, unset_registers, is_null, selected, with_bank, with_selected, without_selection}
+use Rattle.voice_state.specs.Registers.{Pair, Registers, unset_registers, is_null, with_bank, with_selected, without_selection}
 use Rattle.voice_state.specs.Controllers.{Role, bank_msb, bank_lsb, data_msb, data_lsb, data_increment, data_decrement, number_msb, number_lsb, reset_all, channel_mode, plain, role_of, number_msb_index, number_lsb_index}
 use Rattle.voice_state.specs.Parts.{group_of, is_group, whole_of}
 use Rattle.voice_state.specs.Roles.{registers_behind}
@@ -35,7 +34,7 @@ use Rattle.voice_state.specs.Messages.{as_they_come, control, voice_at, channel_
 use Rattle.voice_state.specs.Packets.{IsInRange}
 use Rattle.voice_state.specs.Listing.{is_carried_role}
 use Rattle.voice_state.specs.Plain.{set_messages, program_messages, voice_messages, ended_messages, plain_messages}
-use Rattle.voice_state.specs.Compact.{after_reset, registers_in, is_selected, has_bank, needed_set, needed_program, needed_messages, compact_piece}
+use Rattle.voice_state.specs.Compact.{after_reset, registers_in, is_selected, has_bank, needed_program, needed_messages, compact_piece}
 use Rattle.voice_state.specs.LaneState.{LaneState, new_lane, registers_at, compact_by, at_registers_of, channels_after1, channels_after_control2, channels_after_program, channels_after2, channels_after, kept_after, lane_state_after, lane_state_behind}
 use Rattle.voice_state.specs.Relied.{PairIsSameIn, AreSameIn, IsRelied, IsLaneOf}
 use Rattle.voice_state.specs.Styles.{compact_style}
@@ -45,7 +44,7 @@ use Rattle.voice_state.proofs.Joined.{whole_data}
 use Rattle.voice_state.proofs.Needed.{all_needed, needed-means}
 use Rattle.voice_state.proofs.Packets.{at_channel-at_channel}
 use Rattle.voice_state.proofs.SameRegisters.{control-registers}
-use Rattle.voice_state.proofs.Styles.{Keeps, recording_keeps, styled_after, styled_lane, styled_lane-more}
+use Rattle.voice_state.proofs.Styles.{recording_keeps, styled_lane, styled_lane-more}
 
 -- ---- sixteen channels
 

@@ -1,9 +1,8 @@
 -- The messages that the compact style leaves out change nothing.
-use Rattle.std.proofs.Common.{ℕ, ◌≡◌, ◌<◌, ◌∙◌, ap, sym, refl, subst, List, [], ◌∷◌, ◌++◌, length, Option, Some, None, Bool, true, false, cond, arith}
+use Rattle.std.proofs.Common.{ℕ, ◌≡◌, ◌∙◌, ap, sym, refl, List, [], ◌∷◌, Option, Some, None, Bool, true, false, cond}
 use Rattle.std.proofs.lemmas.Bool.{cond_both}
 use Rattle.std.specs.Prelude.{drop, not}
 use Rattle.std.specs.List.{fold, AllByRecursion}
-use Rattle.voice_messages.specs.declared.voice1.System.{System}
 use Rattle.voice_messages.specs.declared.voice1.System.TheVariants as system
 use Rattle.voice_messages.specs.declared.voice1.Voice1.TheVariants as voice1
 use Rattle.voice_messages.specs.declared.voice2.ParamKind.{ParamKind}
@@ -15,13 +14,13 @@ use Rattle.voice_messages.specs.declared.voice2.Voice2.TheVariants as voice2
 use Rattle.ump_grammar.specs.declared.packet.Packet.{Packet}
 use Rattle.ump_grammar.specs.declared.packet.Packet.TheVariants as packet
 use Rattle.bit_scaling.specs.Scaling.{down7, down14}
-use Rattle.midi1_bytes.specs.Messages.{Message, voice, message_of}
+use Rattle.midi1_bytes.specs.Messages.{Message, voice}
 use Rattle.voice_state.specs.Registers.{Registers, selected, is_null, with_number_msb, with_number_lsb}
 use Rattle.voice_state.specs.Controllers.{role_of, number_msb_index, number_lsb_index}
 use Rattle.voice_state.specs.State.{Channel, GroupState, with_registers}
 use Rattle.voice_state.specs.Messages.{as_they_come, voice_at, step1}
 use Rattle.voice_state.specs.Listing.{is_carried, is_carried_voice, is_carried_role}
-use Rattle.voice_state.specs.Plain.{set_messages, program_messages, voice_messages, plain_messages}
+use Rattle.voice_state.specs.Plain.{set_messages, program_messages, plain_messages}
 use Rattle.voice_state.specs.Compact.{is_param, is_selected, has_bank, needed_set, needed_program, needed_voice, needed_messages}
 use Rattle.voice_state.specs.Relied.{AreSameIn}
 use Rattle.voice_state.proofs.SameParam.{same_param-true}

@@ -13,13 +13,13 @@ use Rattle.voice_messages.specs.declared.voice2.ParamKind.TheVariants.{Registere
 use Rattle.voice_messages.specs.declared.voice2.Param.{Param}
 use Rattle.voice_messages.specs.declared.voice2.Bank.{Bank}
 use Rattle.midi1_bytes.specs.Messages.{Message, voice, common, exclusive, real_time}
-use Rattle.voice_state.specs.Registers.{Pair, Registers, number_of, selected, selected_of, selected_by, with_number_msb, with_number_lsb}
+use Rattle.voice_state.specs.Registers.{Registers, number_of, selected, selected_of, selected_by, with_number_msb, with_number_lsb}
 use Rattle.voice_state.specs.Controllers.{Role, bank_msb, bank_lsb, data_msb, data_lsb, data_increment, data_decrement, number_msb, number_lsb, reset_all, channel_mode, plain, role_of}
 use Rattle.voice_state.specs.Roles.{registers_behind}
 use Rattle.voice_state.specs.State.{Channel, GroupState, at_channel}
 use Rattle.voice_state.specs.Messages.{as_they_come, enter_msb, enter_lsb, control, voice_at, channel_of, step1}
 use Rattle.voice_state.specs.Compact.{is_half, has_bank}
-use Rattle.voice_state.specs.Relied.{IsSameIn, PairIsSameIn, AreSameIn}
+use Rattle.voice_state.specs.Relied.{AreSameIn}
 
 -- ---- a control change and the registers alone
 

@@ -1,5 +1,5 @@
 -- What holds of all recordings in either style.
-use Rattle.std.specs.Prelude.{◌≡◌, ◌↔◌, ◌<◌, ℕ, List, [], ◌∷◌, ◌++◌, length, reverse, Option, Some, None, IsTrue, IfSome}
+use Rattle.std.specs.Prelude.{◌≡◌, ◌↔◌, ◌<◌, ℕ, List, [], ◌∷◌, ◌++◌, length, reverse, Option, None, IsTrue, IfSome}
 use Rattle.std.specs.List.{AllByRecursion}
 use Rattle.voice_messages.specs.declared.voice1.System.{System}
 use Rattle.voice_messages.specs.declared.voice2.Form.{Form}
@@ -14,7 +14,7 @@ use Rattle.voice_state.specs.Lanes.{lane_bytes, pairs_behind}
 use Rattle.voice_state.specs.Listing.{is_carried}
 use Rattle.voice_state.specs.Messages.{mean1}
 use Rattle.voice_state.specs.Packets.{mean2, IsInRange}
-use Rattle.voice_state.specs.Parts.{group_of, whole_of}
+use Rattle.voice_state.specs.Parts.{whole_of}
 use Rattle.voice_state.specs.Plain.{plain_piece}
 use Rattle.voice_state.specs.Relied.{IsLaneOf, IsRelied}
 use Rattle.voice_state.specs.Styles.{Style, plain_style, compact_style, piece_in, styled_behind, styled_pair, styled_pairs}

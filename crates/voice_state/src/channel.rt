@@ -42,7 +42,8 @@ pub(crate) struct Channel {
 impl Channel {
     /// A channel that has no message yet.
     pub(crate) fn new(alloc: Global) -> Result<Channel, NoMemory>
-        ensures midi1 { IfOk result (λ channel. KeepsChannel as_they_come channel (start_channel as_they_come)) }
+        ensures midi1 { IfOk result
+            (λ channel. KeepsChannel as_they_come channel (start_channel as_they_come)) }
         ensures packets { IfOk result (λ channel. KeepsChannel raised channel (start_channel raised)) }
     {
         let Ok(poly) = Table::new(alloc) else {
@@ -65,7 +66,8 @@ impl Channel {
 
     /// Takes a note or a channel mode message. After `NoMemory` nothing has changed.
     pub(crate) fn act(&mut self, act: NoteAct) -> Result<(), NoMemory>
-        ensures step { OnOk result ((scale : Scale) (state : definition.Channel) → KeepsChannel scale self.old state
+        ensures step { OnOk result
+            ((scale : Scale) (state : definition.Channel) → KeepsChannel scale self.old state
             → KeepsChannel scale self.new (definition.with_act (act_of act) state)) }
         ensures unchanged { OnErr result (self.new ≡ self.old) }
     {
@@ -100,7 +102,8 @@ impl Channel {
         group: U4,
         channel: U4,
     ) -> Result<(), NoMemory>
-        ensures { OnOk result ((scale : Scale) (state : definition.Channel) → KeepsChannel scale self.now state
+        ensures { OnOk result ((scale : Scale) (state : definition.Channel)
+            → KeepsChannel scale self.now state
             → facts.new.items ≡ facts.old.items ++ channel_facts scale group channel state) }
     {
         self.acts.put_facts(facts, group, channel)?;
@@ -114,7 +117,8 @@ impl Channel {
 
     // Adds the facts of the pressure, the bend and the program.
     fn put_value_facts(&self, facts: &mut Vec<Fact>, group: U4, channel: U4) -> Result<(), NoMemory>
-        ensures { OnOk result ((scale : Scale) (state : definition.Channel) → KeepsChannel scale self.now state
+        ensures { OnOk result ((scale : Scale) (state : definition.Channel)
+            → KeepsChannel scale self.now state
             → facts.new.items ≡ facts.old.items ++ value_facts scale group channel state) }
     {
         put(facts, self.pressure_fact(group, channel))?;

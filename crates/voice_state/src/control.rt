@@ -21,8 +21,10 @@ impl Channel {
     /// Takes a control change of the MIDI 1.0 protocol (MIDI 1.0 Detailed Specification, control change; RP-015). After
     /// `NoMemory` nothing has changed.
     pub(crate) fn control(&mut self, width: Width, index: U7, value: U7) -> Result<(), NoMemory>
-        ensures step { OnOk result ((state : definition.Channel) → KeepsChannel (scale_of width) self.old state
-            → KeepsChannel (scale_of width) self.new (messages.control (scale_of width) (role_of index) index value state)) }
+        ensures step { OnOk result
+            ((state : definition.Channel) → KeepsChannel (scale_of width) self.old state
+            → KeepsChannel (scale_of width) self.new
+            (messages.control (scale_of width) (role_of index) index value state)) }
         ensures unchanged { OnErr result (self.new ≡ self.old) }
     {
         self.control_as(width, ControlRole::of(index), index, value)
@@ -35,8 +37,10 @@ impl Channel {
         index: U7,
         value: U7,
     ) -> Result<(), NoMemory>
-        ensures step { OnOk result ((state : definition.Channel) → KeepsChannel (scale_of width) self.old state
-            → KeepsChannel (scale_of width) self.new (messages.control (scale_of width) (role_in role) index value state)) }
+        ensures step { OnOk result
+            ((state : definition.Channel) → KeepsChannel (scale_of width) self.old state
+            → KeepsChannel (scale_of width) self.new
+            (messages.control (scale_of width) (role_in role) index value state)) }
         ensures unchanged { OnErr result (self.new ≡ self.old) }
     {
         match role {
@@ -90,7 +94,8 @@ impl Channel {
 
     // A data entry of the MSB of the selected parameter.
     fn enter_msb(&mut self, width: Width, value: U7) -> Result<(), NoMemory>
-        ensures step { OnOk result ((state : definition.Channel) → KeepsChannel (scale_of width) self.old state
+        ensures step { OnOk result
+            ((state : definition.Channel) → KeepsChannel (scale_of width) self.old state
             → KeepsChannel (scale_of width) self.new
             (messages.enter_msb (scale_of width) (selected state.registers) value state)) }
         ensures unchanged { OnErr result (self.new ≡ self.old) }
@@ -103,7 +108,8 @@ impl Channel {
 
     // A data entry of the LSB of the selected parameter, which keeps its MSB.
     fn enter_lsb(&mut self, width: Width, value: U7) -> Result<(), NoMemory>
-        ensures step { OnOk result ((state : definition.Channel) → KeepsChannel (scale_of width) self.old state
+        ensures step { OnOk result
+            ((state : definition.Channel) → KeepsChannel (scale_of width) self.old state
             → KeepsChannel (scale_of width) self.new
             (messages.enter_lsb (scale_of width) (selected state.registers) value state)) }
         ensures unchanged { OnErr result (self.new ≡ self.old) }
@@ -120,7 +126,8 @@ impl Channel {
 
     // Reset all controllers (RP-015), which is a channel mode message too.
     fn reset_all(&mut self, width: Width, index: U7, value: u32) -> Result<(), NoMemory>
-        ensures step { OnOk result ((state : definition.Channel) → KeepsChannel (scale_of width) self.old state
+        ensures step { OnOk result
+            ((state : definition.Channel) → KeepsChannel (scale_of width) self.old state
             → KeepsChannel (scale_of width) self.new
             (messages.reset (scale_of width) (definition.with_act (definition.mode index value) state))) }
         ensures unchanged { OnErr result (self.new ≡ self.old) }

@@ -70,7 +70,11 @@ impl Model for Group {
 
     ghost Value = { KeptGroup };
 
-    ghost view = { λ g. record { channels = g.channels.items; commons = g.commons; real_times = g.real_times } };
+    ghost view = { λ g. record {
+      channels = g.channels.items;
+      commons = g.commons;
+      real_times = g.real_times;
+    } };
 
     ghost invariant = { λ g. length g.channels.items ≡ 16 };
 }
@@ -129,7 +133,8 @@ impl Group {
 
     /// Counts a system Real Time message.
     pub(crate) fn count_real_time(&mut self)
-        ensures { (scale : Scale) (state : GroupState) (message : system.System) → KeepsGroup scale self.old state
+        ensures { (scale : Scale) (state : GroupState) (message : system.System)
+            → KeepsGroup scale self.old state
             → KeepsGroup scale self.new (with_real_time message state) }
     {
         self.real_times = self.real_times.saturating_add(1);

@@ -93,7 +93,8 @@ impl ParamMap {
     /// Puts what is known of a parameter in the place of what was. After `NoMemory` nothing has changed.
     pub(crate) fn put(&mut self, bank: U7, index: U7, state: ParamState) -> Result<(), NoMemory>
         ensures put { OnOk result ((number : ℕ)
-            → state_at self.new number ≡ definition.put ◌==◌ (state_at self.old) (number_of bank index) state number) }
+            → state_at self.new number
+            ≡ definition.put ◌==◌ (state_at self.old) (number_of bank index) state number) }
         ensures in_range { index < 128 }
         ensures unchanged { OnErr result (self.new ≡ self.old) }
     {

@@ -31,7 +31,8 @@ impl Params {
 
     /// The value of a parameter, where it was set.
     pub(crate) fn value(&self, param: &Param) -> Option<u32>
-        ensures { (state : definition.Channel) → KeepsParams self.now state → result ≡ state.params param.now }
+        ensures { (state : definition.Channel) → KeepsParams self.now state
+            → result ≡ state.params param.now }
     {
         match self.get(param) {
             Some(state) => state.value,
@@ -115,7 +116,8 @@ impl Params {
         channel: U4,
     ) -> Result<(), NoMemory>
         ensures { OnOk result ((state : definition.Channel) → KeepsParams self.now state → facts.new.items
-            ≡ facts.old.items ++ params_in_order group channel Registered state ++ params_in_order group channel Assignable state) }
+            ≡ facts.old.items ++ params_in_order group channel Registered state
+            ++ params_in_order group channel Assignable state) }
     {
         self.registered
             .put_facts(ParamKind::Registered, facts, group, channel)?;

@@ -97,9 +97,11 @@ impl VoiceState {
     /// at their greatest value.
     pub fn system(&mut self, group: U4, real_time: bool)
         ensures common { real_time ≡ false → (scale : Scale) (states : States) (message : Message)
-            → Keeps scale self.old states → Keeps scale self.new (at_group group (with_common message) states) }
+            → Keeps scale self.old states
+            → Keeps scale self.new (at_group group (with_common message) states) }
         ensures real_time { real_time ≡ true → (scale : Scale) (states : States) (message : system.System)
-            → Keeps scale self.old states → Keeps scale self.new (at_group group (with_real_time message) states) }
+            → Keeps scale self.old states
+            → Keeps scale self.new (at_group group (with_real_time message) states) }
     {
         if real_time {
             self.count_real_time(group);
@@ -111,7 +113,8 @@ impl VoiceState {
     // Takes a message of the MIDI 1.0 protocol.
     fn voice1(&mut self, width: Width, group: U4, message: &Voice1) -> Result<(), NoMemory>
         ensures step { OnOk result ((states : States) → Keeps (scale_of width) self.old states
-            → Keeps (scale_of width) self.new (at_group group (after_voice1 (scale_of width) message.now) states)) }
+            → Keeps (scale_of width) self.new
+            (at_group group (after_voice1 (scale_of width) message.now) states)) }
         ensures unchanged { OnErr result (self.new ≡ self.old) }
     {
         let group = &mut self.groups[group.get() as usize];
@@ -130,7 +133,8 @@ impl VoiceState {
 
     fn count_common(&mut self, group: U4)
         ensures { (scale : Scale) (states : States) (message : Message)
-            → Keeps scale self.old states → Keeps scale self.new (at_group group (with_common message) states) }
+            → Keeps scale self.old states
+            → Keeps scale self.new (at_group group (with_common message) states) }
     {
         let group = &mut self.groups[group.get() as usize];
         group.count_common();
@@ -138,7 +142,8 @@ impl VoiceState {
 
     fn count_real_time(&mut self, group: U4)
         ensures { (scale : Scale) (states : States) (message : system.System)
-            → Keeps scale self.old states → Keeps scale self.new (at_group group (with_real_time message) states) }
+            → Keeps scale self.old states
+            → Keeps scale self.new (at_group group (with_real_time message) states) }
     {
         let group = &mut self.groups[group.get() as usize];
         group.count_real_time();

@@ -31,7 +31,8 @@ fn note_on(width: Width, note: U7, velocity: U7) -> NoteAct
 impl Channel {
     /// Takes a message of the MIDI 1.0 protocol. After `NoMemory` nothing has changed.
     pub(crate) fn voice1(&mut self, width: Width, message: &Voice1) -> Result<(), NoMemory>
-        ensures step { OnOk result ((state : definition.Channel) → KeepsChannel (scale_of width) self.old state
+        ensures step { OnOk result
+            ((state : definition.Channel) → KeepsChannel (scale_of width) self.old state
             → KeepsChannel (scale_of width) self.new (voice_at (scale_of width) message.now state)) }
         ensures unchanged { OnErr result (self.new ≡ self.old) }
     {
@@ -99,7 +100,8 @@ impl Channel {
     // The value of a parameter, which is selected by it; the null parameter takes none.
     fn set_param(&mut self, param: &Param, value: u32) -> Result<(), NoMemory>
         ensures step { OnOk result ((state : definition.Channel) → KeepsChannel raised self.old state
-            → KeepsChannel raised self.new (if is_null param.now then state else set_param param.now value state)) }
+            → KeepsChannel raised self.new
+            (if is_null param.now then state else set_param param.now value state)) }
         ensures unchanged { OnErr result (self.new ≡ self.old) }
     {
         if is_null_param(param) {
@@ -113,7 +115,8 @@ impl Channel {
     // A relative change of a parameter, which leaves its value; the null parameter takes none.
     fn loosen(&mut self, param: &Param) -> Result<(), NoMemory>
         ensures step { OnOk result ((state : definition.Channel) → KeepsChannel raised self.old state
-            → KeepsChannel raised self.new (if is_null param.now then state else definition.with_looseness true param.now state)) }
+            → KeepsChannel raised self.new
+            (if is_null param.now then state else definition.with_looseness true param.now state)) }
         ensures unchanged { OnErr result (self.new ≡ self.old) }
     {
         if is_null_param(param) {

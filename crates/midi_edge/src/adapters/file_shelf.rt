@@ -52,7 +52,8 @@ fn fault_of(error: io::Error) -> OpenFault
 
 // Adds the first bytes that a reader gives, at most this many.
 fn add_front<F: Read + Drop>(reader: F, limit: usize, into: &mut Vec<u8>) -> io::Result<()>
-    ensures front { OnOk result (IfSome (F.remaining reader) (λ text. into.new.items ≡ into.old.items ++ take limit text)) }
+    ensures front { OnOk result
+        (IfSome (F.remaining reader) (λ text. into.new.items ≡ into.old.items ++ take limit text)) }
     ensures keeps { (more : List ℕ) × (into.new.items ≡ into.old.items ++ more) }
 {
     reader.take(limit as u64).read_to_end(into)?;
@@ -89,7 +90,8 @@ impl<R: Files> Shelf for FileShelf<R> {
         ensures texts { ⟦<Self as Shelf>⟧.texts self.new ≡ ⟦<Self as Shelf>⟧.texts self.old }
         ensures ok { OnOk result (Fetches None name.now limit into.old.items into.new.items) }
         ensures err { OnErr result ((more : List ℕ) × (into.new.items ≡ into.old.items ++ more)) }
-        ensures cause { HasOpenCause (⟦<Self as Shelf>⟧.faults self.old) (⟦<Self as Shelf>⟧.faults self.new) result }
+        ensures cause { HasOpenCause (⟦<Self as Shelf>⟧.faults self.old)
+            (⟦<Self as Shelf>⟧.faults self.new) result }
         ensures keeps { (more : List ℕ) × (into.new.items ≡ into.old.items ++ more) }
         ensures empty { name.now ≡ [] → result ≡ Err OpenFault.Failed }
     {

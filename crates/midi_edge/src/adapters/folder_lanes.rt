@@ -45,9 +45,12 @@ impl<R: Files + AllocGlobal> FolderLanes<R> {
     /// Writes out what is gathered, of every lane, also behind one that fails. After an `Err` what is not yet written
     /// stays gathered, and a later call goes on from there. Before `begin` there is nothing to write.
     pub fn flush(&mut self) -> Result<(), Failed>
-        ensures begun { ⟦<FolderLanes<R> as Lanes>⟧.begun self.new ≡ ⟦<FolderLanes<R> as Lanes>⟧.begun self.old }
-        ensures folder { ⟦<FolderLanes<R> as Lanes>⟧.folder self.new ≡ ⟦<FolderLanes<R> as Lanes>⟧.folder self.old }
-        ensures cause { HasCause (⟦<FolderLanes<R> as Lanes>⟧.faults self.old) (⟦<FolderLanes<R> as Lanes>⟧.faults self.new) result }
+        ensures begun { ⟦<FolderLanes<R> as Lanes>⟧.begun self.new
+            ≡ ⟦<FolderLanes<R> as Lanes>⟧.begun self.old }
+        ensures folder { ⟦<FolderLanes<R> as Lanes>⟧.folder self.new
+            ≡ ⟦<FolderLanes<R> as Lanes>⟧.folder self.old }
+        ensures cause { HasCause (⟦<FolderLanes<R> as Lanes>⟧.faults self.old)
+            (⟦<FolderLanes<R> as Lanes>⟧.faults self.new) result }
         ensures keeps { KeepsLanes ⟦<R::File as Write>⟧.contents self.old self.new }
         ensures written { OnOk result (IsWrittenOut self.new) }
     {
@@ -117,7 +120,8 @@ impl<R: Files + AllocGlobal> Lanes for FolderLanes<R> {
         ensures pieces { ⟦<Self as Lanes>⟧.pieces self.new ≡ ⟦<Self as Lanes>⟧.pieces self.old }
         ensures begun { OnOk result (⟦<Self as Lanes>⟧.begun self.new ≡ true) }
         ensures err { OnErr result (⟦<Self as Lanes>⟧.begun self.new ≡ ⟦<Self as Lanes>⟧.begun self.old) }
-        ensures cause { HasOpenCause (⟦<Self as Lanes>⟧.faults self.old) (⟦<Self as Lanes>⟧.faults self.new) result }
+        ensures cause { HasOpenCause (⟦<Self as Lanes>⟧.faults self.old)
+            (⟦<Self as Lanes>⟧.faults self.new) result }
         ensures written { OnOk result (IsWrittenOut self.new) }
     {
         self.path.keep(path);
@@ -133,8 +137,10 @@ impl<R: Files + AllocGlobal> Lanes for FolderLanes<R> {
         ensures begun { ⟦<Self as Lanes>⟧.begun self.new ≡ ⟦<Self as Lanes>⟧.begun self.old }
         ensures folder { ⟦<Self as Lanes>⟧.folder self.new ≡ ⟦<Self as Lanes>⟧.folder self.old }
         ensures pieces { PutsPair None None result lane piece.now }
-        ensures cause { HasCause (⟦<Self as Lanes>⟧.faults self.old) (⟦<Self as Lanes>⟧.faults self.new) result }
-        ensures accepts { AcceptsInLane ⟦<R::File as Write>⟧.contents self.old self.new lane result piece.now }
+        ensures cause { HasCause (⟦<Self as Lanes>⟧.faults self.old)
+            (⟦<Self as Lanes>⟧.faults self.new) result }
+        ensures accepts { AcceptsInLane ⟦<R::File as Write>⟧.contents
+            self.old self.new lane result piece.now }
     {
         let answer = self.lanes[usize::from(lane.get())].put(piece);
         counted(answer, &mut self.faults)

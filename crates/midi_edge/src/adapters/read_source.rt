@@ -36,8 +36,10 @@ impl<R: Read> Source for ReadSource<R> {
         requires { 0 < length buf.old }
         ensures bound { IfOk result (λ n. n ≤ length buf.new) }
         ensures bytes { Takes None None result buf.new }
-        ensures cause { HasCause (⟦<Self as Source>⟧.faults self.old) (⟦<Self as Source>⟧.faults self.new) result }
-        ensures gives { ReadConsumes (to_come R.remaining self.old) (to_come R.remaining self.new) result buf.new }
+        ensures cause { HasCause (⟦<Self as Source>⟧.faults self.old)
+            (⟦<Self as Source>⟧.faults self.new) result }
+        ensures gives { ReadConsumes (to_come R.remaining self.old)
+            (to_come R.remaining self.new) result buf.new }
     {
         let answer = read_once(&mut self.reader, buf);
         counted(answer, &mut self.faults)

@@ -41,7 +41,8 @@ impl<W: Write> WriteSink<W> {
     pub fn flush(&mut self) -> Result<(), Failed>
         ensures bytes { Keeps (accepted W.contents self.old) (accepted W.contents self.new) }
         ensures written { OnOk result (unwritten self.new ≡ []) }
-        ensures cause { HasCause (⟦<WriteSink<W> as Sink>⟧.faults self.old) (⟦<WriteSink<W> as Sink>⟧.faults self.new) result }
+        ensures cause { HasCause (⟦<WriteSink<W> as Sink>⟧.faults self.old)
+            (⟦<WriteSink<W> as Sink>⟧.faults self.new) result }
     {
         let answer = self.flush_writer();
         counted(answer, &mut self.faults)
@@ -60,7 +61,8 @@ impl<W: Write> WriteSink<W> {
     #[inline(never)]
     fn put_behind(&mut self, piece: &[u8]) -> Result<(), Failed>
         requires { 0 < length piece.now }
-        ensures accepts { Accepts (accepted W.contents self.old) (accepted W.contents self.new) result piece.now }
+        ensures accepts { Accepts (accepted W.contents self.old)
+            (accepted W.contents self.new) result piece.now }
         ensures cause { HasCause self.old.faults self.new.faults result }
     {
         let answer = self.gather_behind(piece);
@@ -70,7 +72,8 @@ impl<W: Write> WriteSink<W> {
     // Makes room for a piece and gathers it, or writes it where it is larger than the room for gathered bytes.
     fn gather_behind(&mut self, piece: &[u8]) -> io::Result<()>
         requires { 0 < length piece.now }
-        ensures accepts { Accepts (accepted W.contents self.old) (accepted W.contents self.new) result piece.now }
+        ensures accepts { Accepts (accepted W.contents self.old)
+            (accepted W.contents self.new) result piece.now }
         ensures faults { self.new.faults ≡ self.old.faults }
     {
         self.write_gathered()?;
@@ -84,7 +87,8 @@ impl<W: Write> WriteSink<W> {
     // Writes a piece, where nothing is gathered.
     fn write_past(&mut self, piece: &[u8]) -> io::Result<()>
         requires { unwritten self.old ≡ [] }
-        ensures accepts { Accepts (accepted W.contents self.old) (accepted W.contents self.new) result piece.now }
+        ensures accepts { Accepts (accepted W.contents self.old)
+            (accepted W.contents self.new) result piece.now }
         ensures faults { self.new.faults ≡ self.old.faults }
     {
         let (_, answer) = write_out(&mut self.writer, piece);
@@ -133,8 +137,10 @@ impl<W: Write> Sink for WriteSink<W> {
     fn put(&mut self, piece: &[u8]) -> Result<(), Failed>
         requires { 0 < length piece.now }
         ensures bytes { Puts None None result piece.now }
-        ensures cause { HasCause (⟦<Self as Sink>⟧.faults self.old) (⟦<Self as Sink>⟧.faults self.new) result }
-        ensures accepts { Accepts (accepted W.contents self.old) (accepted W.contents self.new) result piece.now }
+        ensures cause { HasCause (⟦<Self as Sink>⟧.faults self.old)
+            (⟦<Self as Sink>⟧.faults self.new) result }
+        ensures accepts { Accepts (accepted W.contents self.old)
+            (accepted W.contents self.new) result piece.now }
     {
         if piece.len() > CAPACITY - self.gathered.len() {
             return self.put_behind(piece);

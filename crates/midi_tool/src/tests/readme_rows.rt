@@ -42,6 +42,39 @@ fn the_example_goes_down(rt: HostRuntime) -> Result<(), Fail> {
     )
 }
 
+// What compact style is compared with; the rows of that style have the same recording.
+#[test]
+fn the_compared_recording_goes_down_in_plain_style(rt: HostRuntime) -> Result<(), Fail> {
+    let words = [
+        0x40903C00, 0xC9240000, 0x40903E00, 0xC9240000, 0x10F60000, 0x40904000, 0xC9240000,
+        0x40200000, 0x04000000, 0x40200000, 0x04000000, 0x40B07900, 0x00000000, 0x40200000,
+        0x04000000,
+    ];
+    let set: (u8, &[u8]) = (
+        0,
+        &[
+            0xB0, 0x65, 0x00, 0xB0, 0x64, 0x00, 0xB0, 0x06, 0x02, 0xB0, 0x26, 0x00,
+        ],
+    );
+    carries(
+        &rt,
+        rt.alloc(),
+        &words,
+        Status::Done,
+        &[
+            (0, &[0x90, 0x3C, 0x64]),
+            (0, &[0x90, 0x3E, 0x64]),
+            (0, &[0xF6]),
+            (0, &[0x90, 0x40, 0x64]),
+            set,
+            set,
+            (0, &[0xB0, 0x79, 0x00]),
+            set,
+        ],
+        "",
+    )
+}
+
 #[test]
 fn the_example_goes_up_and_comes_back(rt: HostRuntime) -> Result<(), Fail> {
     let alloc = rt.alloc();

@@ -1,7 +1,32 @@
+use Rattle.std.proofs.Common.{◌≡◌, ◌∙◌, ap, List, ℕ}
+use Rattle.ump_grammar.specs.declared.packet.Packet.{Packet}
+use Rattle.voice_state.specs.Parts.{Placed, group_of}
+use Rattle.voice_state.specs.Plain.{plain_piece}
+use Rattle.voice_state.specs.Styles.{plain_style}
+use Rattle.down_translator.specs.Held.{DownState, whole_in}
+use Rattle.down_translator.specs.Lanes.{piece_by}
+use Rattle.down_translator.specs.Recording.{state_of}
+use Rattle.down_translator.specs.Step.{lane_before, piece_of}
 use Rattle.down_translator.proofs.HeldLaws.{held-whole, held-begun, held-refusal, held-behind}
+use Rattle.down_translator.proofs.LaneLaws.{lanes-whole}
+use Rattle.down_translator.proofs.StyledLaws.{plain_is}
 use Rattle.down_translator.proofs.laws.what_is_held_is_the_definition.Goals as goal
+
+plain_piece_is : (room : ℕ) (past : List Placed) (packet : Packet) →
+    piece_of (state_of plain_style room past) packet ≡ plain_piece (whole_in (state_of plain_style room past) packet) packet
+plain_piece_is room past packet =
+    let state : DownState = state_of plain_style room past in
+    ap (λ style. piece_by style (lane_before state (group_of packet)) (whole_in state packet) packet) (lanes-whole plain_style room past).0
+    ∙ plain_is (lane_before state (group_of packet)) (whole_in state packet) packet
 
 pub returns : goal.returns
 returns c =
     let fed = c.fed_parts_are_the_definition.ensures in
-    record { whole = held-whole fed; begun = held-begun fed; refusal = held-refusal fed; behind = held-behind }
+    record {
+      style = λ style room past. (lanes-whole style room past).0;
+      plain = plain_piece_is;
+      whole = held-whole fed;
+      begun = held-begun fed;
+      refusal = held-refusal fed;
+      behind = held-behind;
+    }

@@ -1,7 +1,6 @@
-use Rattle.std.proofs.Common.{◌≡◌, List, [], Bool, Option, Some, None, ap, sym, ◌∙◌, subst}
+use Rattle.std.proofs.Common.{[], Option, ap, sym, ◌∙◌, subst}
 use Rattle.std.specs.Prelude.{if◌then◌else◌}
 use Rattle.std.specs.Option.{option_map_or}
-use Rattle.ump_grammar.specs.declared.packet.Packet.{Packet}
 use Rattle.system_stream.specs.declared.message.StreamMessage.{StreamMessage}
 use Rattle.function_blocks.specs.Replies.{protocol_after, stream_replies}
 use Rattle.midi_lines.specs.declared.endpoint.Name.TheVariants as names

@@ -6,7 +6,7 @@ use Rattle.midi1_bytes.specs.declared.step.AfterCut.{AfterCut}
 use Rattle.midi1_bytes.specs.declared.step.Step.{Step}
 use Rattle.midi1_bytes.specs.declared.step.Step.TheVariants.{Cut}
 use Rattle.midi1_bytes.specs.Answers.{payload_of, step_view}
-use Rattle.midi1_bytes.specs.Messages.{Message, common, exclusive, voice, real_time}
+use Rattle.midi1_bytes.specs.Messages.{Message, common, exclusive, voice}
 use Rattle.midi1_bytes.specs.Spoken.{common_in, real_time_in}
 use Rattle.midi1_bytes.specs.Steps.{completed_by}
 use Rattle.voice_state.specs.Kept.{Keeps}

@@ -1,9 +1,8 @@
-use Rattle.std.proofs.Common.{◌≡◌, ◌<◌, ◌^◌, ◌∷◌, [], ℕ, List, length, length-append, ap, sym, ◌∙◌, subst, arith}
-use Rattle.std.specs.Prelude.{Err, slice_index}
+use Rattle.std.proofs.Common.{◌≡◌, ◌<◌, ◌^◌, ℕ, List, length, length-append, ap, sym, ◌∙◌, subst, arith}
+use Rattle.std.specs.Prelude.{slice_index}
 use Rattle.std.specs.List.{flat_map}
 use Rattle.ump_words.specs.Cut.{word_bytes}
 use Rattle.midi_pass.specs.Places.{FailsAt, after_puts, places}
-use Rattle.midi_pass.specs.Put.{in_output}
 use Rattle.midi_pass.specs.PutLaws.{output_fails, output_put}
 use Rattle.midi_pass.specs.declared.ends.RunEnd.TheVariants.{OutputFault}
 use Rattle.midi_engines.proofs.ReplyLaws.{PutSoFar, all_put, front_is, next_packet, one_fails, one_more, put_of, rest_is}

@@ -1,4 +1,4 @@
-use Rattle.std.proofs.Common.{◌<◌, ℕ, List, ◌++◌, length, take, arith}
+use Rattle.std.proofs.Common.{◌<◌, ◌++◌, length, take, arith}
 use Rattle.std.specs.Prelude.{reverse}
 use Rattle.self_test.proofs.BackLaws.{comes_back_more, place_at, played_at}
 use Rattle.self_test.proofs.back.bring_back.Goals as goal

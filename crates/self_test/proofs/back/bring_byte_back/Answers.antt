@@ -1,15 +1,12 @@
-use Rattle.std.proofs.Common.{◌≡◌, ◌≤◌, ℕ, List, ◌∷◌, length, Option, Some, None, refl, ap, sym, ◌∙◌, subst}
+use Rattle.std.proofs.Common.{◌≡◌, ◌≤◌, ℕ, List, length, Option, Some, None, ap, sym, ◌∙◌, subst}
 use Rattle.std.specs.Prelude.{IfSome}
 use Rattle.std.specs.Option.{option_map}
 use Rattle.ump_grammar.specs.declared.packet.Packet.{Packet}
-use Rattle.midi1_bytes.specs.Steps.{step_of}
-use Rattle.voice_state.specs.declared.listed.BadStep.{BadStep}
-use Rattle.voice_state.specs.Plain.{plain_piece}
-use Rattle.down_translator.specs.Held.{DownState, new_down, refusal_in, whole_in}
+use Rattle.down_translator.specs.Held.{DownState, refusal_in}
+use Rattle.down_translator.specs.Step.{piece_of}
 use Rattle.up_translator.specs.Raised.{packet_in}
 use Rattle.self_test.specs.Held.{HasReturned}
-use Rattle.self_test.specs.Played.{IsPlayedStep}
-use Rattle.self_test.proofs.BackLaws.{IsReturned, answered, comes_back_none, comes_back_some, returned_accepted, returned_short, up_after}
+use Rattle.self_test.proofs.BackLaws.{IsReturned, answered, comes_back_none, comes_back_some, returned_accepted, returned_piece, returned_short, up_after}
 use Rattle.self_test.proofs.back.bring_byte_back.Goals as goal
 
 pub unreachable-requires : goal.unreachable-requires
@@ -33,7 +30,7 @@ returns-in-Ok-packet-clause-few c =
     let I : Option Packet → Type 0 = λ one. IfSome one IsReturned in
     let h : IsReturned c.in-Some.packet.now = subst I is answer.returned in
     let L : List ℕ → Type 0 = λ piece. length piece ≤ 12 in
-    subst L (sym (c.in-Ok-packet.ensures.answer.piece ∙ ap (λ (state : DownState). plain_piece (whole_in state c.in-Some.packet.now) c.in-Some.packet.now) returned.down_is)) (returned_short c.in-Some.packet.now h)
+    subst L (sym (c.in-Ok-packet.ensures.answer.piece ∙ ap (λ (state : DownState). piece_of state c.in-Some.packet.now) returned.down_is ∙ returned_piece c.in-Some.packet.now h)) (returned_short c.in-Some.packet.now h)
 
 pub returns-in-Ok-packet-clause-back : goal.returns-in-Ok-packet-clause-back
 returns-in-Ok-packet-clause-back c = λ past returned played place.

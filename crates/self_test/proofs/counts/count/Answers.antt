@@ -1,4 +1,4 @@
-use Rattle.std.proofs.Common.{◌≡◌, ◌*◌, ℕ, List, subst, arith}
+use Rattle.std.proofs.Common.{◌≡◌, ◌*◌, List, subst, arith}
 use Rattle.voice_state.specs.Parts.{Placed}
 use Rattle.self_test.specs.Counts.{first_packets}
 use Rattle.self_test.specs.Held.{HasTaken}

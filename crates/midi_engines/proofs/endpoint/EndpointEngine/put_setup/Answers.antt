@@ -1,4 +1,3 @@
-use Rattle.std.proofs.Common.{[], ◌∷◌}
 use Rattle.ci_responder.specs.Held.{muid_in}
 use Rattle.ci_responder.specs.Keys.{state_in}
 use Rattle.midi_engines.specs.Endpoint.{block_line_of, for_each, profile_line_of}

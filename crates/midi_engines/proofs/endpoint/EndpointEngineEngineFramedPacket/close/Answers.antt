@@ -1,4 +1,4 @@
-use Rattle.std.proofs.Common.{◌≡◌, ◌++◌, ◌∷◌, [], Some, List, ℕ, ap, ◌∙◌}
+use Rattle.std.proofs.Common.{◌++◌, ◌∷◌, [], Some, List, ℕ, ap, ◌∙◌}
 use Rattle.sysex_groups.specs.Table.{Table}
 use Rattle.function_blocks.specs.Setups.{Facts}
 use Rattle.ci_responder.specs.Held.{Held, muid_in}
@@ -7,6 +7,7 @@ use Rattle.ci_responder.specs.Keys.{state_in}
 use Rattle.ci_responder.specs.Messages.{Told}
 use Rattle.voice_state.specs.Listing.{end_lines, groups}
 use Rattle.voice_state.specs.Parts.{Placed, parts_of}
+use Rattle.voice_state.specs.Styles.{plain_style}
 use Rattle.down_translator.specs.Recording.{state_of}
 use Rattle.midi_lines.specs.EndpointLines.{protocol_text}
 use Rattle.midi_pass.specs.Put.{Put, in_notes}
@@ -25,7 +26,7 @@ returns g c = λ first past holds.
     let setup : Facts = first.setup in
     let told : List Told = told_in_packets room before in
     let protocol : ℕ = in_force setup before in
-    let table : Table = (state_of room before).exclusives in
+    let table : Table = (state_of plain_style room before).exclusives in
     let heard : Held = held_at setup room told in
     let listed : List Put = line_puts (end_lines (Some room) (parts_of before)) in
     let history = c.held_is_the_history.ensures in

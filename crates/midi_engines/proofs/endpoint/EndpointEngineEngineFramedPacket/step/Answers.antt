@@ -1,5 +1,4 @@
-use Rattle.std.proofs.Common.{◌≡◌, ◌++◌, List, ℕ, ap, sym, ◌∙◌, subst}
-use Rattle.std.specs.Prelude.{Some}
+use Rattle.std.proofs.Common.{◌≡◌, ◌++◌, List, ℕ, ap, ◌∙◌, subst}
 use Rattle.ump_words.specs.declared.words.Framed.{Framed}
 use Rattle.ump_words.specs.declared.words.Order.{Order}
 use Rattle.ump_grammar.specs.declared.packet.Packet.{Packet}
@@ -7,13 +6,14 @@ use Rattle.sysex_groups.specs.Table.{Table}
 use Rattle.function_blocks.specs.Setups.{Facts}
 use Rattle.ci_responder.specs.Held.{Held}
 use Rattle.voice_state.specs.Parts.{Placed, part_of}
+use Rattle.voice_state.specs.Styles.{plain_style}
 use Rattle.down_translator.specs.Held.{with_part_of}
 use Rattle.down_translator.specs.Recording.{packets_of, state_of}
 use Rattle.midi_pass.specs.Pass.{Tail}
 use Rattle.midi_pass.specs.Places.{places}
 use Rattle.midi_pass.specs.Put.{Put}
 use Rattle.midi_engines.specs.Down.{refusal_by}
-use Rattle.midi_engines.specs.Endpoint.{answering, in_force, packet_lines, packet_replies, protocol_after_packet, stream_lines, stream_packet_replies, told_in_packets}
+use Rattle.midi_engines.specs.Endpoint.{answering, in_force, packet_lines, packet_replies, protocol_after_packet, stream_lines, stream_packet_replies}
 use Rattle.midi_engines.specs.EndpointHeld.{WrittenAndListed, after_part, options_of, packet_part_lines, part_replies, said_of_packet}
 use Rattle.midi_engines.specs.Packets.{all_placed, placed_of}
 use Rattle.midi_engines.specs.Raised.{Answers}
@@ -35,7 +35,7 @@ returns g c = λ first past holds asks.
     let placed : Placed = placed_of item in
     let room : ℕ = first.listener.groups.room in
     let setup : Facts = first.setup in
-    let table : Table = (state_of room before).exclusives in
+    let table : Table = (state_of plain_style room before).exclusives in
     let laws = c.what_is_held_is_the_definition.ensures in
     let history = c.held_is_the_history.ensures in
     let follows = c.protocol_follows_the_requests.ensures in
@@ -76,7 +76,7 @@ returns g c = λ first past holds asks.
           ∙ ap (λ p. protocol_after_packet setup p packet) holds.protocol_is
           ∙ protocol_next follows.protocol follows.unread setup (packets_of before) packet;
       range = (c.spelled_packets_are_in_range.ensures packet c.requires.item, holds.range);
-      groups_are = takes.groups_are ∙ ap (with_part_of (part_of offset packet)) holds.groups_are ∙ ap (λ state. state.exclusives) (laws.behind room before placed);
+      groups_are = takes.groups_are ∙ ap (with_part_of (part_of offset packet)) holds.groups_are ∙ ap (λ state. state.exclusives) (laws.behind plain_style room before placed);
       responder_is =
           takes.responder_is
           ∙ ap (λ t. after_part now.listener.responder (said_of_packet t packet)) holds.groups_are

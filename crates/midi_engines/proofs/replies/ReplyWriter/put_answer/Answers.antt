@@ -1,4 +1,4 @@
-use Rattle.std.proofs.Common.{◌≡◌, List, ℕ, [], ◌∷◌, sym, subst}
+use Rattle.std.proofs.Common.{List, ℕ, [], ◌∷◌, sym, subst}
 use Rattle.midi_lines.specs.EndpointLines.{endpoint_text}
 use Rattle.midi_pass.specs.Places.{places}
 use Rattle.midi_pass.specs.Put.{Put, in_notes}

@@ -1,5 +1,4 @@
-use Rattle.std.proofs.Common.{◌≡◌, ℕ, ◌+◌, ◌*◌, refl, arith}
-use Rattle.self_test.specs.Generator.{HasGiven, number_after}
+use Rattle.std.proofs.Common.{◌+◌, ◌*◌, refl, arith}
 use Rattle.self_test.proofs.GeneratorLaws.{after_at, drawn_at}
 use Rattle.self_test.proofs.generator.Generator.draws.Goals as goal
 

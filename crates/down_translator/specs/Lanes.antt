@@ -1,0 +1,106 @@
+-- The lanes, as they are written in a style: what is written of a packet, and what is kept of each lane in compact style.
+use Rattle.std.specs.Prelude.{ℕ, Bool, true, false, List, drop, replicate, slice_index_or, slice_set, Option, Some, None}
+use Rattle.voice_messages.specs.declared.voice1.System.{System}
+use Rattle.voice_messages.specs.declared.voice1.System.TheVariants as system
+use Rattle.voice_messages.specs.declared.voice2.Voice2.{Voice2}
+use Rattle.ump_grammar.specs.declared.packet.Packet.{Packet}
+use Rattle.ump_grammar.specs.declared.packet.Packet.TheVariants as packet
+use Rattle.midi1_bytes.specs.Messages.{Message, message_of}
+use Rattle.midi1_bytes.specs.RunningStatus.{running_after}
+use Rattle.voice_state.specs.Registers.{Registers}
+use Rattle.voice_state.specs.Plain.{plain_piece, voice_messages}
+use Rattle.voice_state.specs.Compact.{needed_voice}
+use Rattle.voice_state.specs.LaneState.{LaneState, compact_by, lane_state_after, new_lane}
+use Rattle.voice_state.specs.Styles.{Style, plain_style, compact_style}
+use Rattle.down_translator.specs.declared.style.Style.{Style as NamedStyle}
+use Rattle.down_translator.specs.declared.style.Style.TheVariants.{Plain, Compact}
+use Rattle.down_translator.specs.declared.statuses.Statuses.{Statuses}
+use Rattle.down_translator.specs.declared.statuses.Statuses.TheVariants.{All, Changes}
+
+-- the style that the code names
+abbrev pub style_in : NamedStyle → Style
+style_in Plain = plain_style
+style_in Compact = compact_style
+
+-- the style, and what is kept of each of the sixteen lanes; in plain style that stays as it begins
+pub record Lanes : Type 0 where
+  pub style : Style
+  pub states : List LaneState
+
+abbrev pub new_lanes : Style → Lanes
+new_lanes style = record { style = style; states = replicate 16 new_lane }
+
+abbrev pub lane_at : List LaneState → ℕ → LaneState
+lane_at states lane = slice_index_or states lane new_lane
+
+-- ---- what is written
+
+-- which status bytes are written
+abbrev pub statuses_in : Style → LaneState → Statuses
+statuses_in plain_style lane = All
+statuses_in compact_style lane = Changes lane.running
+
+-- the messages of a MIDI 2.0 voice message
+abbrev pub needed_in : Style → (ℕ → Registers) → Voice2 → List Message
+needed_in plain_style registers message = voice_messages message
+needed_in compact_style registers message = needed_voice registers message
+
+-- messages without the two that select, where what they select is there
+abbrev pub unless_there : Bool → List Message → List Message
+unless_there true messages = drop 2 messages
+unless_there false messages = messages
+
+-- in plain style nothing counts as there
+abbrev pub is_there : Style → Bool → Bool
+is_there plain_style there = false
+is_there compact_style there = there
+
+-- The piece of a packet, with the bytes of the exclusive that it ends, if it ends one. The status byte of a system message or of an
+-- exclusive is never the running status.
+abbrev pub voice_piece : Style → LaneState → Packet → List ℕ
+voice_piece plain_style lane packet = plain_piece None packet
+voice_piece compact_style lane packet = compact_by lane None packet
+
+abbrev pub piece_by : Style → LaneState → Option (List ℕ) → Packet → List ℕ
+piece_by style lane whole (packet.Voice1 group message) = voice_piece style lane (packet.Voice1 group message)
+piece_by style lane whole (packet.Voice2 group message) = voice_piece style lane (packet.Voice2 group message)
+piece_by style lane whole packet = plain_piece whole packet
+
+-- ---- what is kept
+
+abbrev pub states_by : Style → ℕ → LaneState → List LaneState → List LaneState
+states_by plain_style group lane states = states
+states_by compact_style group lane states = slice_set states group lane
+
+-- a lane of which this is kept from now on
+abbrev pub with_lane : ℕ → LaneState → Lanes → Lanes
+with_lane group lane lanes = record { style = lanes.style; states = states_by lanes.style group lane lanes.states }
+
+-- by the status bytes that are written from now on, and a change of registers
+abbrev pub kept_by : ℕ → Statuses → (List Registers → List Registers) → Lanes → Lanes
+kept_by group All change lanes = lanes
+kept_by group (Changes running) change lanes =
+    with_lane group (record { running = running; channels = change (lane_at lanes.states group).channels }) lanes
+
+-- a system message: a common one ends the running status, Real Time leaves it, and System Reset leaves nothing
+abbrev pub after_system : System → LaneState → LaneState
+after_system system.Reset lane = new_lane
+after_system message lane = record { running = running_after (message_of message) lane.running; channels = lane.channels }
+
+-- the lane into which a packet is written, if it is written into one
+abbrev pub lane_written : Option (List ℕ) → Packet → Option ℕ
+lane_written whole (packet.System group message) = Some group
+lane_written whole (packet.Voice1 group message) = Some group
+lane_written (Some whole) (packet.Exclusive group form bytes) = Some group
+lane_written whole (packet.Voice2 group message) = Some group
+lane_written whole _ = None
+
+-- what is kept after a packet that is written into this lane
+abbrev pub lanes_after : Option ℕ → Option (List ℕ) → Packet → Lanes → Lanes
+lanes_after None whole packet lanes = lanes
+lanes_after (Some group) whole packet lanes =
+    with_lane group (lane_state_after (lane_at lanes.states group) whole packet) lanes
+
+-- where an exclusive ends, it ends the running status
+abbrev pub with_exclusive : ℕ → Lanes → Lanes
+with_exclusive group lanes = with_lane group (record { running = None; channels = (lane_at lanes.states group).channels }) lanes

@@ -1,0 +1,215 @@
+// What is kept of a lane in compact style.
+ghost use Rattle.std.specs.Prelude.{◌≡◌, ◌<◌, ◌≤◌, ◌++◌, ℕ, IfOk, None, length};
+ghost use Rattle.midi1_bytes.specs.Messages.{spelled_voice, voice};
+ghost use Rattle.midi1_bytes.specs.RunningStatus.{running_after, without_status};
+ghost use Rattle.voice_state.specs.Compact.{has_bank, is_half, is_param, is_selected};
+ghost use Rattle.voice_state.specs.Controllers.{role_of};
+ghost use Rattle.voice_state.specs.Registers.{unset_registers, with_bank, with_selected};
+ghost use Rattle.voice_state.specs.Roles.{registers_behind};
+ghost use Rattle.voice_state.specs.LaneState.{
+  at_registers_of,
+  channels_after1,
+  new_lane,
+  registers_at,
+};
+ghost use Rattle.down_translator.specs.Lanes.{after_system};
+
+use crate::pieces::Piece;
+use crate::statuses::add_unless_running;
+use midi_edge::{NoMemory, U4};
+use std::alloc::Global;
+use std::marker::Model;
+use voice_messages::{Bank, Param, System, U7, Voice1};
+use voice_state::Registers;
+
+/// What the receiver of a lane has since the lane's last System Reset: the running status, and the registers of sixteen channels.
+/// A contract sees it as the definition's state of a lane.
+#[derive(Drop)]
+pub struct Lane {
+    running: Option<u8>,
+    channels: Vec<Registers>,
+}
+
+impl Model for Lane {
+    ghost use Rattle.std.specs.Prelude.{◌≡◌, length};
+    ghost use Rattle.voice_state.specs.LaneState.{LaneState};
+
+    ghost Value = { LaneState };
+
+    ghost view = { λ lane. record { running = lane.running; channels = lane.channels.items } };
+
+    ghost invariant = { λ lane. length lane.channels.items ≡ 16 };
+}
+
+fn is_half(half: Option<U7>, other: U7) -> bool
+    ensures { result ≡ is_half half other }
+{
+    match half {
+        Some(half) => half.get() == other.get(),
+        None => false,
+    }
+}
+
+fn is_param(selected: Option<Param>, param: &Param) -> bool
+    ensures { result ≡ is_param selected param.now }
+{
+    match selected {
+        Some(selected) => {
+            selected.kind == param.kind
+                && selected.bank.get() == param.bank.get()
+                && selected.index.get() == param.index.get()
+        }
+        None => false,
+    }
+}
+
+impl Lane {
+    /// A lane of which nothing is written. `NoMemory` when there is none for the registers.
+    pub fn new(alloc: Global) -> Result<Lane, NoMemory>
+        ensures { IfOk result (λ lane. lane ≡ new_lane) }
+    {
+        let Ok(mut channels) = Vec::with_capacity(alloc, 16) else {
+            return Err(NoMemory);
+        };
+        for _ in 0..16usize {
+            if channels.push(Registers::unset()).is_err() {
+                return Err(NoMemory);
+            }
+        }
+        Ok(Lane {
+            running: None,
+            channels,
+        })
+    }
+
+    /// The running status.
+    #[inline(always)]
+    pub fn running(&self) -> Option<u8>
+        ensures { result ≡ self.now.running }
+    {
+        self.running
+    }
+
+    /// Whether both halves of the channel's bank are these (MIDI 1.0 Detailed Specification, bank select).
+    pub fn has_bank(&self, channel: U4, bank: &Bank) -> bool
+        ensures { result ≡ has_bank (registers_at self.now.channels channel) bank.now }
+    {
+        let registers = &self.channels[channel.get() as usize];
+        is_half(registers.bank_msb(), bank.msb) && is_half(registers.bank_lsb(), bank.lsb)
+    }
+
+    /// Whether this is the channel's selected parameter (MIDI 1.0 Detailed Specification, registered and non-registered parameter
+    /// numbers).
+    pub fn has_selected(&self, channel: U4, param: &Param) -> bool
+        ensures { result ≡ is_selected (registers_at self.now.channels channel) param.now }
+    {
+        is_param(self.channels[channel.get() as usize].selected(), param)
+    }
+
+    /// Adds the bytes of a voice message of MIDI 1.0 to a piece, without its status byte where that is the running status, and
+    /// keeps what the message leaves (MIDI 1.0 Detailed Specification, running status).
+    #[inline(always)]
+    pub fn write(&mut self, piece: &mut Piece, message: &Voice1, bytes: &[u8])
+        requires spelled { bytes.now ≡ spelled_voice message.now }
+        requires room { length piece.old ≤ 9 }
+        ensures bytes { piece.new ≡ piece.old ++ without_status self.old.running (spelled_voice message.now) }
+        ensures after { self.new ≡ record {
+          running = running_after (voice message.now) self.old.running;
+          channels = channels_after1 message.now self.old.channels;
+        } }
+    {
+        add_unless_running(piece, self.running, bytes);
+        self.running = Some(bytes[0]);
+        self.keep_registers(message);
+    }
+
+    #[inline(always)]
+    fn keep_registers(&mut self, message: &Voice1)
+        ensures { self.new ≡ record {
+          running = self.old.running;
+          channels = channels_after1 message.now self.old.channels;
+        } }
+    {
+        if let Voice1::Control {
+            channel,
+            index,
+            value,
+        } = *message
+        {
+            self.keep_control(channel, index, value);
+        }
+    }
+
+    // Out of line, so that what control changes alone need doesn't take the registers of the loops.
+    #[inline(never)]
+    fn keep_control(&mut self, channel: U4, index: U7, value: U7)
+        ensures { self.new ≡ record {
+          running = self.old.running;
+          channels = at_registers_of channel (registers_behind (role_of index) value) self.old.channels;
+        } }
+    {
+        self.channels[channel.get() as usize].control(index, value);
+    }
+
+    /// Keeps the running status, and that a parameter is selected.
+    pub fn keep_set(&mut self, running: Option<u8>, channel: U4, param: &Param)
+        ensures { self.new ≡ record {
+          running = running;
+          channels = at_registers_of channel (with_selected param.now) self.old.channels;
+        } }
+    {
+        self.running = running;
+        self.channels[channel.get() as usize].select(param);
+    }
+
+    /// Keeps the running status, and a bank.
+    pub fn keep_program(&mut self, running: Option<u8>, channel: U4, bank: Bank)
+        ensures { self.new ≡ record {
+          running = running;
+          channels = at_registers_of channel (with_bank bank) self.old.channels;
+        } }
+    {
+        self.running = running;
+        self.channels[channel.get() as usize].take_bank(bank);
+    }
+
+    /// Keeps what a system message leaves: a common one ends the running status, Real Time leaves it (MIDI 1.0 Detailed
+    /// Specification, running status), and after System Reset nothing is kept (own rule).
+    pub fn keep_system(&mut self, message: &System)
+        ensures { self.new ≡ after_system message.now self.old }
+    {
+        match message {
+            System::Quarter(_) | System::Position(_) | System::Song(_) | System::Tune => {
+                self.end_running();
+            }
+            System::Reset => self.forget(),
+            System::Clock | System::Start | System::Continue | System::Stop | System::Sensing => {}
+        }
+    }
+
+    /// Ends the running status.
+    pub fn end_running(&mut self)
+        ensures { self.new ≡ record { running = None; channels = self.old.channels } }
+    {
+        self.running = None;
+    }
+
+    #[tactic(auto, using(crate::proofs::UnsetLaws::none_set))]
+    fn forget(&mut self)
+        ensures { self.new ≡ new_lane }
+    {
+        self.running = None;
+        self.forget_registers();
+    }
+
+    fn forget_registers(&mut self)
+        ensures running { self.new.running ≡ self.old.running }
+        ensures unset { (channel : ℕ) → channel < 16
+            → registers_at self.new.channels channel ≡ unset_registers }
+        ensures sixteen { length self.new.channels ≡ 16 }
+    {
+        for registers in self.channels.iter_mut() {
+            *registers = Registers::unset();
+        }
+    }
+}

@@ -1,0 +1,18 @@
+use Rattle.std.proofs.Common.{◌≡◌, ◌-◌, length}
+use Rattle.item_reader.specs.Front.{Sees}
+use Rattle.midi_edge.specs.Outside.{ahead}
+use Rattle.item_reader.specs.Reading.{Keeps}
+use Rattle.item_reader.specs.declared.reader.Front.TheVariants.{Partial}
+use Rattle.item_reader.proofs.reader.take_more.Given as goal
+
+abbrev pub invariant-loop-window : goal.invariant-loop-window
+invariant-loop-window g l =
+    record {
+      same : ahead l.window (g.S.Source.left l.src) ≡ ahead l.fn.window (g.S.Source.left l.fn.src);
+      kept : Keeps l.fn.window l.window;
+      sees : Sees (g.H.Cut.asked l.how) l.window l.room Partial;
+      faults : g.S.Source.faults l.src ≡ g.S.Source.faults l.fn.src;
+    }
+
+abbrev pub decreases-loop-window : goal.decreases-loop-window
+decreases-loop-window g l = 16 - length l.window

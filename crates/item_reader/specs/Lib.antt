@@ -1,0 +1,5 @@
+pub mod Cut
+pub mod CutLaws
+pub mod Front
+pub mod Reading
+pub mod SoFar

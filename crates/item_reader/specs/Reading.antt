@@ -1,0 +1,73 @@
+-- What a reader of items answers.
+use Rattle.std.specs.Prelude.{◌≡◌, ℕ, ◌+◌, ◌≤◌, List, [], ◌++◌, length, Option, None, Some, Result, Ok, Err, IfSome}
+use Rattle.item_reader.specs.Cut.{IsItem, IsRest, Ends}
+use Rattle.midi_edge.specs.Outside.{Loses, Rose}
+use Rattle.item_reader.specs.declared.cutting.Tail.{Tail}
+use Rattle.item_reader.specs.declared.cutting.Tail.TheVariants.{End, Truncated, TooLong}
+use Rattle.midi_edge.specs.declared.outside.ReadStop.{ReadStop}
+use Rattle.midi_edge.specs.declared.outside.ReadStop.TheVariants.{Read, Truncated as StopTruncated, TooLong as StopTooLong}
+
+-- A reader: how it cuts, the bytes that it took and has not given out, the offset of the next item, and its last answer
+-- where there was one.
+pub record Reading (How : Type 0) : Type 0 where
+  pub how : How
+  pub pending : List ℕ
+  pub offset : ℕ
+  pub limit : ℕ
+  pub end : Option Tail
+
+-- a reader that has taken nothing
+abbrev pub new_reading : {How : Type 0} → How → ℕ → Reading How
+new_reading how limit = record { how = how; pending = []; offset = 0; limit = limit; end = None }
+
+-- the answer for a tail
+abbrev pub answer_of : {Item : Type 0} → Tail → Result (Option Item) ReadStop
+answer_of End = Ok None
+answer_of (Truncated o) = Err (StopTruncated o)
+answer_of TooLong = Err StopTooLong
+
+-- bytes are still held, and perhaps more
+abbrev pub Keeps : List ℕ → List ℕ → Type 0
+Keeps old new = (more : List ℕ) × (new ≡ old ++ more)
+
+module _ {How : Type 0} (asked : List ℕ → ℕ) (old new : Reading How) (before after : Option (List ℕ)) where
+  -- an item is given out: what is ahead loses its bytes
+  pub record Gives {Item : Type 0} (item_of : ℕ → List ℕ → Item) (item : Item) : Type 0 where
+    pub chunk : List ℕ
+    pub is_item : IsItem asked chunk
+    pub lost : Loses before after chunk
+    pub item_is : item ≡ item_of old.offset chunk
+    pub within : old.offset + length chunk ≤ old.limit
+    pub goes_on : new ≡ record old { pending = new.pending; offset = old.offset + length chunk }
+
+  -- nothing is given out, no byte is lost, and there is no whole item yet
+  pub record Waits : Type 0 where
+    pub same : after ≡ before
+    pub kept : Keeps old.pending new.pending
+    pub partial : IsRest asked new.pending
+    pub within : old.offset + length new.pending ≤ old.limit
+    pub goes_on : new ≡ record old { pending = new.pending }
+
+  -- the items end with this tail, from now on: so do all bytes, and so do those that are held
+  pub record Finishes (tail : Tail) : Type 0 where
+    pub same : after ≡ before
+    pub kept : Keeps old.pending new.pending
+    pub held : Ends asked old.limit old.offset new.pending tail
+    pub ends : IfSome before (λ bytes. Ends asked old.limit old.offset bytes tail)
+    pub goes_on : new ≡ record old { pending = new.pending; end = Some tail }
+
+-- what `next` answers where the items have not ended before
+abbrev pub Answers : {How Item : Type 0} → (List ℕ → ℕ) → (ℕ → List ℕ → Item) → Reading How → Reading How →
+    Option (List ℕ) → Option (List ℕ) → Result (Option Item) ReadStop → Type 0
+Answers asked item_of old new before after (Ok (Some item)) = Gives asked old new before after item_of item
+Answers asked item_of old new before after (Ok None) = Finishes asked old new before after End
+Answers asked item_of old new before after (Err (Read failed)) = Waits asked old new before after
+Answers asked item_of old new before after (Err (StopTruncated o)) = Finishes asked old new before after (Truncated o)
+Answers asked item_of old new before after (Err StopTooLong) = Finishes asked old new before after TooLong
+
+-- the source's count never falls, and rose where a read failed
+abbrev pub ReadCause : {Item : Type 0} → ℕ → ℕ → Result (Option Item) ReadStop → Type 0
+ReadCause before now (Ok item) = now ≡ before
+ReadCause before now (Err (Read failed)) = (before ≤ now) × Rose before now
+ReadCause before now (Err (StopTruncated o)) = now ≡ before
+ReadCause before now (Err StopTooLong) = now ≡ before

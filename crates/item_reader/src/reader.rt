@@ -1,0 +1,204 @@
+// A reader of items from a source.
+ghost use Rattle.std.specs.Prelude.{◌≡◌, ◌≤◌, ◌<◌, ◌+◌, ◌-◌, ◌==◌, ◌^◌, length, take, drop, IfSome, IfOk, OnErr, if◌then◌else◌};
+ghost use Rattle.item_reader.specs.Cut.{IsRest};
+ghost use Rattle.item_reader.specs.Front.{Sees};
+ghost use Rattle.midi_edge.specs.Outside.{ahead, HasCause, IsUsedUp};
+ghost use Rattle.item_reader.specs.Reading.{Answers, Keeps, ReadCause, answer_of, new_reading};
+
+use crate::cutting::{Cut, Tail};
+use crate::window::Window;
+use midi_edge::{Failed, ReadStop, Source};
+use std::marker::Model;
+
+/// Cuts the bytes of a source into items. To a contract it is its `Reading`.
+#[derive(Drop)]
+pub struct ItemReader<H> {
+    how: H,
+    window: Window,
+    offset: u64,
+    limit: u64,
+    end: Option<Tail>,
+}
+
+impl<H> Model for ItemReader<H> {
+    ghost use Rattle.std.specs.Prelude.{◌^◌, ◌≤◌};
+    ghost use Rattle.item_reader.specs.Reading.{Reading};
+
+    ghost Value = { Reading H };
+
+    ghost view = { λ r. record {
+      how = r.how;
+      pending = r.window;
+      offset = r.offset;
+      limit = r.limit;
+      end = r.end;
+    } };
+
+    ghost invariant = { λ r. (r.offset ≤ r.limit) × (r.limit ≤ 2 ^ 62) };
+}
+
+impl<H: Cut> ItemReader<H> {
+    /// A reader that has given out nothing yet. It gives out at most `limit` bytes, which is at most 2^62 (own rule); offsets
+    /// count bytes from 0.
+    pub fn new(how: H, limit: u64) -> Self
+        requires { limit ≤ 2 ^ 62 }
+        ensures { result ≡ new_reading how limit }
+    {
+        ItemReader {
+            how,
+            window: Window::new(),
+            offset: 0,
+            limit,
+            end: None,
+        }
+    }
+
+    /// The next item; `None` when the source ends with the last item.
+    ///
+    /// `Truncated` is returned when the source ends within the limit and within an item, of which there are some bytes. It carries
+    /// the offset of that item. `TooLong` is returned when the source gave more bytes than the limit, and what is left within the
+    /// limit is no whole item (own rule). `Read` is returned only when the source's count of faults rose; no byte is lost, and a
+    /// later call goes on from there. Any other answer without an item is returned again by every later call. The source is asked
+    /// only where no whole item is held.
+    #[inline(always)]
+    pub fn next<S: Source>(&mut self, src: &mut S) -> Result<Option<H::Item>, ReadStop>
+        ensures answer { self.old.end ≡ None →
+            Answers (H.asked self.old.how) (H.item_of self.old.how) self.old self.new
+            (ahead self.old.pending (S.left src.old)) (ahead self.new.pending (S.left src.new)) result }
+        ensures again { IfSome self.old.end (λ tail.
+            (result ≡ answer_of tail) × (self.new ≡ self.old) × (src.new ≡ src.old)) }
+        ensures held { H.asked self.old.how self.old.pending ≤ length self.old.pending → src.new ≡ src.old }
+        ensures cause { ReadCause (S.faults src.old) (S.faults src.new) result }
+    {
+        if let Some(tail) = self.end {
+            return answer(tail);
+        }
+        let room = self.limit - self.offset;
+        match look_ahead(&self.how, &mut self.window, room, src) {
+            Ok(Front::Item(size)) => Ok(Some(self.give(size))),
+            Ok(Front::TooLong) => {
+                self.end = Some(Tail::TooLong);
+                Err(ReadStop::TooLong)
+            }
+            Ok(Front::Partial) => {
+                let tail = tail_at(self.window.bytes(), self.offset);
+                self.end = Some(tail);
+                answer(tail)
+            }
+            Err(failed) => Err(ReadStop::Read(failed)),
+        }
+    }
+
+    // Gives out the next item, which has this many bytes.
+    #[inline(always)]
+    fn give(&mut self, size: usize) -> H::Item
+        requires { Sees (H.asked self.old.how) self.old.pending
+            (self.old.limit - self.old.offset) (Front.Item size) }
+        ensures item { result ≡ H.item_of self.old.how self.old.offset (take size self.old.pending) }
+        ensures after { self.new ≡ record self.old {
+          pending = drop size self.old.pending;
+          offset = self.old.offset + size;
+        } }
+    {
+        let item = self.how.item(self.offset, &self.window.bytes()[..size]);
+        self.window.consume(size);
+        self.offset += size as u64;
+        item
+    }
+}
+
+/// What comes next.
+#[derive(Clone, Copy, Debug, PartialEq, Eq)]
+pub(crate) enum Front {
+    /// An item of this many bytes.
+    Item(usize),
+    /// More bytes than are allowed, and no item within those that are.
+    TooLong,
+    /// No whole item yet.
+    Partial,
+}
+
+// Looks for an item at the front of the bytes, of which at most `room` may be given out.
+#[inline(always)]
+fn front_of<H: Cut>(how: &H, bytes: &[u8], room: u64) -> Front
+    ensures { Sees (H.asked how.now) bytes.now room result }
+{
+    let asked = how.asked(bytes);
+    if asked <= bytes.len() && asked as u64 <= room {
+        return Front::Item(asked);
+    }
+    if bytes.len() as u64 > room {
+        Front::TooLong
+    } else {
+        Front::Partial
+    }
+}
+
+// The tail where the source has ended and these bytes are no item.
+fn tail_at(bytes: &[u8], offset: u64) -> Tail
+    ensures { result ≡ (if length bytes.now == 0 then Tail.End else Tail.Truncated offset) }
+{
+    if bytes.is_empty() {
+        Tail::End
+    } else {
+        Tail::Truncated(offset)
+    }
+}
+
+fn answer<I>(tail: Tail) -> Result<Option<I>, ReadStop>
+    ensures { result ≡ answer_of tail }
+{
+    match tail {
+        Tail::End => Ok(None),
+        Tail::Truncated(offset) => Err(ReadStop::Truncated(offset)),
+        Tail::TooLong => Err(ReadStop::TooLong),
+    }
+}
+
+// What is held at the front, or what comes where that is no whole item.
+#[inline(always)]
+fn look_ahead<H: Cut, S: Source>(
+    how: &H,
+    window: &mut Window,
+    room: u64,
+    src: &mut S,
+) -> Result<Front, Failed>
+    ensures ahead { ahead window.new (S.left src.new) ≡ ahead window.old (S.left src.old) }
+    ensures kept { Keeps window.old window.new }
+    ensures seen { IfOk result (λ front. Sees (H.asked how.now) window.new room front) }
+    ensures end { IfOk result (λ front. front ≡ Front.Partial → IsUsedUp (S.left src.new)) }
+    ensures err { OnErr result (IsRest (H.asked how.now) window.new × (length window.new ≤ room)) }
+    ensures held { H.asked how.now window.old ≤ length window.old → src.new ≡ src.old }
+    ensures cause { HasCause (S.faults src.old) (S.faults src.new) result }
+{
+    match front_of(how, window.bytes(), room) {
+        Front::Partial => take_more(how, window, room, src),
+        front => Ok(front),
+    }
+}
+
+// Takes bytes until there is an item, too many bytes, or the end.
+fn take_more<H: Cut, S: Source>(
+    how: &H,
+    window: &mut Window,
+    room: u64,
+    src: &mut S,
+) -> Result<Front, Failed>
+    requires { Sees (H.asked how.now) window.old room Front.Partial }
+    ensures ahead { ahead window.new (S.left src.new) ≡ ahead window.old (S.left src.old) }
+    ensures kept { Keeps window.old window.new }
+    ensures seen { IfOk result (λ front. Sees (H.asked how.now) window.new room front) }
+    ensures end { IfOk result (λ front. front ≡ Front.Partial → IsUsedUp (S.left src.new)) }
+    ensures err { OnErr result (IsRest (H.asked how.now) window.new × (length window.new ≤ room)) }
+    ensures cause { HasCause (S.faults src.old) (S.faults src.new) result }
+{
+    loop {
+        if !window.fill(src)? {
+            return Ok(Front::Partial);
+        }
+        let front = front_of(how, window.bytes(), room);
+        if front != Front::Partial {
+            return Ok(front);
+        }
+    }
+}

@@ -1,0 +1,73 @@
+-- What comes of a byte: its events and its lines of the listing.
+use Rattle.std.specs.Prelude.{◌≡◌, ◌≢◌, ℕ, List, [], ◌∷◌, ◌++◌, map, Option, Some, None, Result, Ok, Err}
+use Rattle.std.specs.Option.{option_map, option_to_list}
+use Rattle.midi1_bytes.specs.Steps.{Step, completed_by, too_long}
+use Rattle.voice_state.specs.StepListing.{kinds_of_step, line_up}
+use Rattle.voice_state.specs.declared.listed.Kind.{Kind}
+use Rattle.voice_state.specs.declared.listed.Listed.{Listed}
+use Rattle.usb_midi1.specs.Held.{PackerState, step_in}
+use Rattle.usb_midi1.specs.Packing.{events_by, exclusive_events}
+use Rattle.usb_midi1.specs.declared.packed.Line.{Line}
+use Rattle.usb_midi1.specs.declared.packed.Packed.{Packed}
+use Rattle.usb_midi1.specs.declared.packed.TooLong.{TooLong}
+
+abbrev pub cable_in : Packed → ℕ
+cable_in packed = packed.cable.number
+
+-- the exclusive from F0 to F7
+abbrev pub whole_in : Packed → Option (List ℕ)
+whole_in packed = option_map (λ whole. whole.now) packed.whole
+
+-- the events of both
+abbrev pub events_from : ℕ → Option (List ℕ) → Option (List ℕ) → List (List ℕ)
+events_from cable None None = []
+events_from cable (Some event) None = event ∷ []
+events_from cable None (Some whole) = exclusive_events cable whole
+events_from cable (Some event) (Some whole) = event ∷ exclusive_events cable whole
+
+abbrev pub events_in : Packed → List (List ℕ)
+events_in packed = events_from (cable_in packed) packed.event (whole_in packed)
+
+abbrev pub AreApart : Option (List ℕ) → Option (List ℕ) → Type 0
+AreApart (Some event) (Some whole) = ⊥
+AreApart _ _ = Unit {0}
+
+-- at most one of the two is there
+abbrev pub IsApart : Packed → Type 0
+IsApart packed = AreApart packed.event (whole_in packed)
+
+-- ---- lines
+
+-- its kind and offset
+abbrev pub told_of : Line → Kind × ℕ
+told_of line = (line.kind, line.offset)
+
+abbrev pub line_by : ℕ → Line → Listed
+line_by cable line = record { offset = line.offset; group = Some cable; kind = line.kind }
+
+abbrev pub first_in : Packed → Option Listed
+first_in packed = option_map (line_by (cable_in packed)) packed.first
+
+abbrev pub second_in : Packed → Option Listed
+second_in packed = option_map (line_by (cable_in packed)) packed.second
+
+-- the lines, in order
+abbrev pub lines_in : Packed → List Listed
+lines_in packed = option_to_list (first_in packed) ++ option_to_list (second_in packed)
+
+-- ---- of a step
+
+-- a step within the limit, with the events of the message that it completes, and its lines
+pub record IsPacked (cable offset : ℕ) (step : Step) (packed : Packed) : Type 0 where
+  pub within : step ≢ too_long
+  pub apart : IsApart packed
+  pub events : events_in packed ≡ events_by cable (completed_by step)
+  pub lines : lines_in packed ≡ map (line_up cable) (kinds_of_step step offset)
+
+-- it is refused exactly where an exclusive exceeds the limit
+abbrev pub PacksStep : ℕ → ℕ → Step → Result Packed TooLong → Type 0
+PacksStep cable offset step (Ok packed) = IsPacked cable offset step packed
+PacksStep cable offset step (Err refused) = step ≡ too_long
+
+abbrev pub Packs : PackerState → ℕ → ℕ → Result Packed TooLong → Type 0
+Packs packer offset byte result = PacksStep packer.cable offset (step_in packer offset byte) result

@@ -1,0 +1,127 @@
+// Events, and their reader.
+ghost use Rattle.std.specs.Prelude.{◌≡◌, ◌<◌, ◌≤◌, ◌^◌, false, length, IfSome};
+ghost use Rattle.midi_edge.specs.Outside.{ahead};
+ghost use Rattle.item_reader.specs.Reading.{Answers, ReadCause, answer_of};
+ghost use Rattle.usb_midi1.specs.Codes.{carried_count as count_by, is_reserved as is_reserved_code};
+ghost use Rattle.usb_midi1.specs.Events.{carried_by, event_at, event_length, four_bytes, new_events};
+
+use item_reader::{Cut, ItemReader};
+use midi_edge::{ReadStop, ShortList, Source, U4};
+use std::marker::Model;
+
+/// An event packet (USB Device Class Definition for MIDI Devices 1.0, event packets).
+#[derive(Clone, Copy, Debug, PartialEq, Eq)]
+pub struct Event {
+    /// The number of its cable, 0 to 15.
+    pub cable: U4,
+    /// What it carries: the code index number, 0 to 15.
+    pub code: U4,
+    /// Three places, of which the code says how many are used.
+    pub bytes: [u8; 3],
+}
+
+/// Each four bytes are an event.
+#[derive(Clone, Copy, Debug, PartialEq, Eq)]
+pub struct EachEvent;
+
+impl Cut for EachEvent {
+    type Item = (Event, u64);
+
+    ghost asked = { λ _. four_bytes };
+
+    ghost item_of = { λ _. event_at };
+
+    #[inline(always)]
+    fn asked(&self, bytes: &[u8]) -> usize {
+        4
+    }
+
+    #[inline(always)]
+    fn item(&self, offset: u64, bytes: &[u8]) -> (Event, u64) {
+        let event = Event {
+            cable: U4::low_bits(u32::from(bytes[0]) / 16),
+            code: U4::low_bits(u32::from(bytes[0])),
+            bytes: [bytes[1], bytes[2], bytes[3]],
+        };
+        (event, offset)
+    }
+
+    ghost lengths = { λ _. event_length };
+}
+
+/// Gives out the events of a source one by one. To a contract it is its `Reading`.
+#[derive(Drop)]
+pub struct EventReader {
+    events: ItemReader<EachEvent>,
+}
+
+impl Model for EventReader {
+    ghost use Rattle.item_reader.specs.Reading.{Reading};
+    ghost use Rattle.usb_midi1.specs.declared.event.EachEvent.{EachEvent};
+
+    ghost Value = { Reading EachEvent };
+
+    ghost view = { λ r. r.events };
+}
+
+impl EventReader {
+    /// A reader that gives out at most `limit` bytes, which is at most 2^62 (own rule).
+    pub fn new(limit: u64) -> EventReader
+        requires { limit ≤ 2 ^ 62 }
+        ensures { result ≡ new_events limit }
+    {
+        EventReader {
+            events: ItemReader::new(EachEvent, limit),
+        }
+    }
+
+    /// The next event and its offset, the number of bytes before it; `None` when the source ends with the last event.
+    ///
+    /// `Truncated` is returned when the source ends within the limit, one to three bytes after the last event, with the offset of
+    /// the first of them. `TooLong` is returned when the source gave more bytes than the limit, and fewer than four of them are
+    /// left within it (own rule). `Read` is returned only when the source's count of faults rose; no byte is lost, and a later
+    /// call goes on from there. Any other answer without an event is returned again by every later call. The source is asked only
+    /// where no whole event is held.
+    #[inline(always)]
+    pub fn next<S: Source>(&mut self, src: &mut S) -> Result<Option<(Event, u64)>, ReadStop>
+        ensures answer { self.old.end ≡ None → Answers four_bytes event_at self.old self.new
+            (ahead self.old.pending (S.left src.old)) (ahead self.new.pending (S.left src.new)) result }
+        ensures again { IfSome self.old.end (λ tail.
+            (result ≡ answer_of tail) × (self.new ≡ self.old) × (src.new ≡ src.old)) }
+        ensures held { 4 ≤ length self.old.pending → src.new ≡ src.old }
+        ensures cause { ReadCause (S.faults src.old) (S.faults src.new) result }
+    {
+        self.events.next(src)
+    }
+}
+
+/// Whether an event's code is reserved, 0 or 1: it carries nothing.
+pub fn is_reserved(event: &Event) -> bool
+    ensures { result ≡ is_reserved_code event.now.code }
+{
+    event.code.get() < 2
+}
+
+// How many bytes an event with each code carries.
+const CARRIED_COUNTS: [usize; 16] = [0, 0, 2, 3, 3, 1, 2, 3, 3, 3, 3, 3, 2, 2, 3, 1];
+
+// How many bytes an event with this code carries, at most three.
+#[inline(always)]
+fn carried_count(code: U4) -> usize
+    ensures count { result ≡ count_by code }
+    ensures most { result ≤ 3 }
+    ensures some { is_reserved_code code ≡ false → 0 < result }
+{
+    CARRIED_COUNTS[usize::from(code.get())]
+}
+
+/// The bytes that an event carries, as many of its three as its code says (USB Device Class Definition for MIDI Devices 1.0, code
+/// index numbers): none for the reserved codes 0 and 1; two for 2, 6, C and D; one for 5 and F; three for any other.
+pub fn carried(event: &Event) -> ShortList<u8, 3>
+    ensures bytes { result ≡ carried_by event.now }
+    ensures some { is_reserved_code event.now.code ≡ false → 0 < length result }
+{
+    let mut bytes = ShortList::new();
+    bytes.extend(&event.bytes[..carried_count(event.code)]);
+    bytes
+}

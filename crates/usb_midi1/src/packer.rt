@@ -1,0 +1,148 @@
+// The packer of a stream into events.
+ghost use Rattle.std.specs.Prelude.{◌≡◌, ◌≤◌, map, IfOk};
+ghost use Rattle.std.specs.Option.{option_map, option_to_list};
+ghost use Rattle.voice_state.specs.StepListing.{cut_kind, kinds_at_end, line_up};
+ghost use Rattle.voice_state.specs.declared.listed.Kind.TheVariants as kinds;
+ghost use Rattle.midi1_bytes.specs.Steps as steps;
+ghost use Rattle.usb_midi1.specs.Packed.{IsPacked, told_of};
+
+use crate::packed::{Line, Packed, TooLong};
+use crate::packing::{system_event, voice_event};
+use midi_edge::{NoMemory, U4};
+use midi1_bytes::{AfterCut, CutKind, Parser, Step, System};
+use std::alloc::Global;
+use std::marker::Model;
+use up_translator::{kind_of_cut, kind_of_open};
+use voice_state::{Kind, Listed};
+
+// The line of a byte that belongs to nothing.
+fn stray(offset: u64) -> Line
+    ensures { told_of result ≡ (kinds.Stray, offset) }
+{
+    Line {
+        offset,
+        kind: Kind::Stray,
+    }
+}
+
+// The line of a status that no message has.
+fn undefined(offset: u64) -> Line
+    ensures { told_of result ≡ (kinds.Undefined, offset) }
+{
+    Line {
+        offset,
+        kind: Kind::Undefined,
+    }
+}
+
+// The line of what started at an offset and is cut off.
+fn cut_off(start: u64, what: CutKind) -> Line
+    ensures { told_of result ≡ (cut_kind what, start) }
+{
+    Line {
+        offset: start,
+        kind: kind_of_cut(what),
+    }
+}
+
+// What comes of a byte that cuts off what started at an offset.
+fn cut<'a>(cable: U4, start: u64, what: CutKind, after: AfterCut, offset: u64) -> Packed<'a>
+    ensures { IsPacked cable offset (steps.cut start what after) result }
+{
+    let first = cut_off(start, what);
+    match after {
+        AfterCut::Begins => Packed::only_listed(cable, Some(first), None),
+        AfterCut::Tune => {
+            let event = system_event(cable, &System::Tune);
+            Packed::of_event(cable, event, Some(first))
+        }
+        AfterCut::Undefined => Packed::only_listed(cable, Some(first), Some(undefined(offset))),
+        AfterCut::Stray => Packed::only_listed(cable, Some(first), Some(stray(offset))),
+    }
+}
+
+/// Packs the bytes of one MIDI 1.0 stream into events of one cable. A contract sees the cable, and what is open of a message or an
+/// exclusive.
+#[derive(Drop)]
+pub struct Packer {
+    parser: Parser,
+    cable: U4,
+}
+
+impl Model for Packer {
+    ghost use Rattle.usb_midi1.specs.Held.{PackerState};
+
+    ghost Value = { PackerState };
+
+    ghost view = { λ p. record { cable = p.cable; parsing = p.parser } };
+}
+
+impl Packer {
+    ghost use Rattle.std.specs.Borrow.{sem};
+    ghost use Rattle.midi1_bytes.specs.Parsing.{idle, open_of};
+    ghost use Rattle.usb_midi1.specs.Held.{packer_behind};
+    ghost use Rattle.usb_midi1.specs.Lend.{KeepsPacker};
+    ghost use Rattle.usb_midi1.specs.Packed.{Packs};
+
+    /// A packer for a stream that has had no byte yet. Takes all memory that it ever needs: for exclusives of `room` bytes between F0
+    /// and F7, 6 to 1,048,576 (own rule). `NoMemory` when there isn't that much.
+    pub fn new(alloc: Global, cable: U4, room: u32) -> Result<Packer, NoMemory>
+        requires least { 6 ≤ room }
+        requires most { room ≤ 1048576 }
+        ensures { IfOk result (λ packer. packer ≡ record { cable = cable; parsing = idle room }) }
+    {
+        match Parser::new(alloc, room) {
+            Ok(parser) => Ok(Packer { parser, cable }),
+            Err(NoMemory) => Err(NoMemory),
+        }
+    }
+
+    /// The events of one more byte (USB Device Class Definition for MIDI Devices 1.0, code index numbers), each with its status byte,
+    /// and its lines of the listing (own rules). The offset is the number of bytes before it. The call takes no memory.
+    ///
+    /// `TooLong` is returned exactly at the data byte that makes the bytes of an exclusive between F0 and F7 more than the limit; the
+    /// exclusive is dropped (own rule).
+    #[inline(always)]
+    pub fn byte(&mut self, byte: u8, offset: u64) -> Result<Packed<'_>, TooLong>
+        ensures answer { Packs self.old offset byte result }
+        ensures* after { sem 𝓛 (KeepsPacker self.entry (packer_behind self.old offset byte)) }
+    {
+        let cable = self.cable;
+        match self.parser.byte(byte, offset) {
+            Step::Held => return Ok(Packed::only_listed(cable, None, None)),
+            Step::Voice(bytes) => {
+                let event = voice_event(cable, &bytes.message());
+                return Ok(Packed::of_event(cable, event, None));
+            }
+            Step::Common(bytes) => {
+                let event = system_event(cable, &bytes.message());
+                return Ok(Packed::of_event(cable, event, None));
+            }
+            Step::RealTime(status) => {
+                let event = system_event(cable, &status.message());
+                return Ok(Packed::of_event(cable, event, None));
+            }
+            Step::Exclusive(whole) => return Ok(Packed::of_whole(cable, whole)),
+            Step::Stray => return Ok(Packed::only_listed(cable, Some(stray(offset)), None)),
+            Step::Undefined => return Ok(Packed::only_listed(cable, Some(undefined(offset)), None)),
+            Step::Cut { start, what, after } => return Ok(cut(cable, start, what, after, offset)),
+            Step::TooLong => return Err(TooLong),
+        }
+    }
+
+    /// The line of what is open at the end of the stream, with the offset at which it starts and the cable as its group; `None`
+    /// exactly when nothing is open.
+    pub fn end(&self) -> Option<Listed>
+        ensures { option_to_list result ≡ map (line_up self.now.cable) (kinds_at_end
+            (option_map (λ begun. (begun.start, begun.kind)) (open_of self.now.parsing))) }
+    {
+        match self.parser.end() {
+            None => None,
+            Some((start, what)) => Some(Listed {
+                offset: start,
+                group: Some(self.cable),
+                kind: kind_of_open(what),
+            }),
+        }
+    }
+}

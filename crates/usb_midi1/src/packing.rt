@@ -1,0 +1,96 @@
+// The events of messages.
+ghost use Rattle.std.specs.Prelude.{◌≡◌, ◌*◌, ◌<◌, ◌≤◌, [], ◌∷◌, drop, length, slice_index};
+ghost use Rattle.midi1_bytes.specs.Messages.{voice, spelled_system};
+ghost use Rattle.usb_midi1.specs.Packing.{
+  event as event_by,
+  first_event,
+  message_events,
+  system_code as code_by,
+};
+
+use midi_edge::U4;
+use midi1_bytes::{System, Voice1, write_system, write_voice};
+
+// The code of an exclusive's three bytes that aren't its last.
+const EXCLUSIVE_GOES_ON: u8 = 4;
+
+// The event that carries these bytes, with zeros in the places behind them.
+#[inline(always)]
+fn event(cable: U4, code: u8, bytes: &[u8]) -> [u8; 4]
+    requires { code < 16 }
+    ensures { result ≡ event_by cable code bytes.now }
+{
+    let head = cable.get() * 16 + code;
+    match *bytes {
+        [] => [head, 0, 0, 0],
+        [first] => [head, first, 0, 0],
+        [first, second] => [head, first, second, 0],
+        [first, second, third, ..] => [head, first, second, third],
+    }
+}
+
+/// The event of a channel voice message: its code is the high half of the status byte.
+#[inline(always)]
+pub(crate) fn voice_event(cable: U4, message: &Voice1) -> [u8; 4]
+    ensures { result ∷ [] ≡ message_events cable (voice message.now) }
+{
+    let bytes = write_voice(message);
+    match *bytes.as_slice() {
+        [status, ..] => event(cable, status / 16, bytes.as_slice()),
+        [] => unreachable!(),
+    }
+}
+
+// The code of a system message: 2 and 3 for a common one of two and three bytes, 5 for one of a single byte, F for Real Time.
+fn system_code(message: &System) -> u8
+    ensures code { result ≡ code_by message.now }
+    ensures below { result < 16 }
+{
+    match *message {
+        System::Quarter(_) | System::Song(_) => 2,
+        System::Position(_) => 3,
+        System::Tune => 5,
+        System::Clock
+        | System::Start
+        | System::Continue
+        | System::Stop
+        | System::Sensing
+        | System::Reset => 15,
+    }
+}
+
+/// The event of a system common or system Real Time message.
+#[inline(always)]
+pub(crate) fn system_event(cable: U4, message: &System) -> [u8; 4]
+    ensures { result ≡ event_by cable (code_by message.now) (spelled_system message.now) }
+{
+    event(
+        cable,
+        system_code(message),
+        write_system(message).as_slice(),
+    )
+}
+
+/// Event `k`, counted from 0, of an exclusive that is given from its F0 to its F7, cut every three bytes: its code is 4, but for the
+/// last event 5, 6 or 7 by the number of its bytes. `None` exactly where `k` is past the last (USB Device Class Definition for
+/// MIDI Devices 1.0, code index numbers).
+pub fn exclusive_event(cable: U4, whole: &[u8], k: usize) -> Option<[u8; 4]>
+    requires { 2 ≤ length whole.now }
+    ensures { result ≡ first_event cable (drop (3 * k) whole.now) }
+{
+    let start = k.saturating_mul(3).min(whole.len());
+    event_at_front(cable, &whole[start..])
+}
+
+// The event of the first bytes of what is left of an exclusive.
+fn event_at_front(cable: U4, bytes: &[u8]) -> Option<[u8; 4]>
+    ensures { result ≡ first_event cable bytes.now }
+{
+    match *bytes {
+        [] => None,
+        [_] => Some(event(cable, 5, bytes)),
+        [_, _] => Some(event(cable, 6, bytes)),
+        [_, _, _] => Some(event(cable, 7, bytes)),
+        [_, _, _, _, ..] => Some(event(cable, EXCLUSIVE_GOES_ON, bytes)),
+    }
+}
