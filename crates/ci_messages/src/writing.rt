@@ -20,6 +20,7 @@ use crate::kind::Format;
 use crate::laws::written_messages_are_read_again;
 use crate::view::{Address, Body, CiView, ProfileId};
 use midi_edge::ShortList;
+use voice_messages::{END_OF_EXCLUSIVE, START_OF_EXCLUSIVE};
 
 /// The bytes of a message, from F0 to F7.
 type Message = ShortList<u8, 512>;
@@ -231,13 +232,13 @@ fn put_message(view: &CiView<'_>, into: &mut Message)
     requires empty { into.old ≡ [] }
     ensures { into.new ≡ message_bytes view.now }
 {
-    into.extend(&[0xF0, 0x7E, number_of(view.address), 0x0D]);
+    into.extend(&[START_OF_EXCLUSIVE, 0x7E, number_of(view.address), 0x0D]);
     into.push(view.sub);
     into.push(view.version);
     put_four(view.source, into);
     put_four(view.destination, into);
     put_body(Format::of(view.version), &view.body, into);
-    into.push(0xF7);
+    into.push(END_OF_EXCLUSIVE);
 }
 
 /// Writes the bytes of a message (M2-101-UM), from F0 to F7, into an empty list. Reserved bytes are zeros.

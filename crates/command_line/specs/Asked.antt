@@ -1,24 +1,28 @@
 -- What a command line asks for.
 use Rattle.std.specs.Prelude.{◌≤◌, ◌<◌, ◌^◌, ℕ, Bool, List}
 use Rattle.command_line.specs.declared.command.Command.{Command}
-use Rattle.command_line.specs.declared.command.Command.TheVariants.{Down, Up, Back, Show, ShowBytes, Endpoint, SelfTest}
+use Rattle.command_line.specs.declared.command.Command.TheVariants.{Down, Up, Back, Show, ShowBytes, Endpoint, UsbSplit, UsbPack, SelfTest}
 
--- `translate down`: the folder, in compact style or not, little endian or not, and the most bytes of an exclusive
+-- `translate down`: the folder, in compact style or not, with paired controllers or without, little endian or not, and the most bytes of
+-- an exclusive
 pub record DownWords : Type 0 where
   pub folder : List ℕ
   pub compact : Bool
+  pub paired : Bool
   pub little : Bool
   pub room : ℕ
 
--- `translate up`: the group of the packets, little endian or not, and the most bytes of an exclusive
+-- `translate up`: the group of the packets, with paired controllers or without, little endian or not, and the most bytes of an exclusive
 pub record UpWords : Type 0 where
   pub group : ℕ
+  pub paired : Bool
   pub little : Bool
   pub room : ℕ
 
--- `translate back`: the group of the packets, and the most bytes of an exclusive
+-- `translate back`: the group of the packets, with paired controllers or without, and the most bytes of an exclusive
 pub record BackWords : Type 0 where
   pub group : ℕ
+  pub paired : Bool
   pub room : ℕ
 
 -- `show`: with the state at the end or not, little endian or not, and the most bytes of an exclusive
@@ -38,6 +42,15 @@ pub record EndpointWords : Type 0 where
   pub little : Bool
   pub room : ℕ
 
+-- `usb split`: the folder
+pub record UsbSplitWords : Type 0 where
+  pub folder : List ℕ
+
+-- `usb pack`: the cable of the events, and the most bytes of an exclusive
+pub record UsbPackWords : Type 0 where
+  pub cable : ℕ
+  pub room : ℕ
+
 -- `selftest`: the seed, and the number of packets
 pub record SelfTestWords : Type 0 where
   pub seed : ℕ
@@ -50,16 +63,21 @@ pub data Asked : Type 0 where
   show : ShowWords → Asked
   show_bytes : ShowBytesWords → Asked
   endpoint : EndpointWords → Asked
+  usb_split : UsbSplitWords → Asked
+  usb_pack : UsbPackWords → Asked
   self_test : SelfTestWords → Asked
 
 -- what a command asks for
 abbrev pub asked_of : Command → Asked
-asked_of (Down folder compact little room) = down (record { folder = folder.now; compact = compact; little = little; room = room })
-asked_of (Up group little room) = up (record { group = group; little = little; room = room })
-asked_of (Back group room) = back (record { group = group; room = room })
+asked_of (Down folder compact paired little room) =
+    down (record { folder = folder.now; compact = compact; paired = paired; little = little; room = room })
+asked_of (Up group paired little room) = up (record { group = group; paired = paired; little = little; room = room })
+asked_of (Back group paired room) = back (record { group = group; paired = paired; room = room })
 asked_of (Show state little room) = show (record { state = state; little = little; room = room })
 asked_of (ShowBytes state room) = show_bytes (record { state = state; room = room })
 asked_of (Endpoint setup little room) = endpoint (record { setup = setup.now; little = little; room = room })
+asked_of (UsbSplit folder) = usb_split (record { folder = folder.now })
+asked_of (UsbPack cable room) = usb_pack (record { cable = cable; room = room })
 asked_of (SelfTest seed packets) = self_test (record { seed = seed; packets = packets })
 
 -- the room for an exclusive, 6 to 1,048,576 bytes
@@ -78,4 +96,6 @@ IsInRange (back words) = (words.group < 16) × IsRoom words.room
 IsInRange (show words) = IsRoom words.room
 IsInRange (show_bytes words) = IsRoom words.room
 IsInRange (endpoint words) = IsRoom words.room
+IsInRange (usb_split words) = Unit {0}
+IsInRange (usb_pack words) = (words.cable < 16) × IsRoom words.room
 IsInRange (self_test words) = (words.seed < 2 ^ 32) × IsPacketCount words.packets

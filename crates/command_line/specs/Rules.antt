@@ -6,7 +6,7 @@ use Rattle.std.specs.Str.Parse.{digits_value}
 use Rattle.std.specs.Char.{is_ascii_digit}
 use Rattle.clap.specs.Walk.{Text, Row, first_of}
 use Rattle.clap.specs.Simple.{subcommand_of}
-use Rattle.command_line.specs.Asked.{Asked, down, up, back, show, show_bytes, endpoint, self_test}
+use Rattle.command_line.specs.Asked.{Asked, down, up, back, show, show_bytes, endpoint, usb_split, usb_pack, self_test}
 use Rattle.command_line.specs.Words.{cli, is_taken, is_set}
 
 -- one to ten decimal digits
@@ -33,6 +33,10 @@ room_in = number_or 6 1048576 1048576
 abbrev pub group_in : Option Text → Option ℕ
 group_in = number_or 0 15 0
 
+-- a cable: 0 to 15, at first 0
+abbrev pub cable_in : Option Text → Option ℕ
+cable_in = number_or 0 15 0
+
 -- a seed: a number of 32 bits
 abbrev pub seed_in : Text → Option ℕ
 seed_in = number_of 0 4294967295
@@ -42,27 +46,29 @@ abbrev pub packets_in : Option Text → Option ℕ
 packets_in = number_or 1 1000000 10000
 
 -- down: with a folder, without a group
-abbrev pub down_of : Option Text → Option Text → Bool → Bool → Option Text → Option Asked
-down_of (Some folder) None compact little room =
-    option_map (λ r. down (record { folder = folder; compact = compact; little = little; room = r })) (room_in room)
-down_of _ _ compact little room = None
+abbrev pub down_of : Option Text → Option Text → Bool → Bool → Bool → Option Text → Option Asked
+down_of (Some folder) None compact paired little room =
+    option_map (λ r. down (record { folder = folder; compact = compact; paired = paired; little = little; room = r })) (room_in room)
+down_of _ _ compact paired little room = None
 
 -- up: without a folder, and not compact
-abbrev pub up_of : Option Text → Option Text → Bool → Bool → Option Text → Option Asked
-up_of None group false little room = option_and_then (λ g. option_map (λ r. up (record { group = g; little = little; room = r })) (room_in room)) (group_in group)
-up_of _ group _ little room = None
+abbrev pub up_of : Option Text → Option Text → Bool → Bool → Bool → Option Text → Option Asked
+up_of None group false paired little room =
+    option_and_then (λ g. option_map (λ r. up (record { group = g; paired = paired; little = little; room = r })) (room_in room)) (group_in group)
+up_of _ group _ paired little room = None
 
 -- back: without a folder, and neither compact nor little
-abbrev pub back_of : Option Text → Option Text → Bool → Bool → Option Text → Option Asked
-back_of None group false false room = option_and_then (λ g. option_map (λ r. back (record { group = g; room = r })) (room_in room)) (group_in group)
-back_of _ group _ _ room = None
+abbrev pub back_of : Option Text → Option Text → Bool → Bool → Bool → Option Text → Option Asked
+back_of None group false paired false room =
+    option_and_then (λ g. option_map (λ r. back (record { group = g; paired = paired; room = r })) (room_in room)) (group_in group)
+back_of _ group _ paired _ room = None
 
--- direction, folder, group, compact, little, room
-abbrev pub translate_of : Text → Option Text → Option Text → Bool → Bool → Option Text → Option Asked
-translate_of direction folder group compact little room =
-    if bytes_eq direction (codes "down") then down_of folder group compact little room
-    else (if bytes_eq direction (codes "up") then up_of folder group compact little room
-    else (if bytes_eq direction (codes "back") then back_of folder group compact little room else None))
+-- direction, folder, group, compact, paired, little, room
+abbrev pub translate_of : Text → Option Text → Option Text → Bool → Bool → Bool → Option Text → Option Asked
+translate_of direction folder group compact paired little room =
+    if bytes_eq direction (codes "down") then down_of folder group compact paired little room
+    else (if bytes_eq direction (codes "up") then up_of folder group compact paired little room
+    else (if bytes_eq direction (codes "back") then back_of folder group compact paired little room else None))
 
 -- bytes, state, little, room: not both bytes and little
 abbrev pub show_of : Bool → Bool → Bool → Option Text → Option Asked
@@ -74,6 +80,22 @@ show_of false state little room = option_map (λ r. show (record { state = state
 abbrev pub endpoint_of : Text → Bool → Option Text → Option Asked
 endpoint_of setup little room = option_map (λ r. endpoint (record { setup = setup; little = little; room = r })) (room_in room)
 
+-- split: with a folder, and neither a cable nor a room
+abbrev pub split_of : Option Text → Option Text → Option Text → Option Asked
+split_of (Some folder) None None = Some (usb_split (record { folder = folder }))
+split_of _ _ _ = None
+
+-- pack: without a folder
+abbrev pub pack_of : Option Text → Option Text → Option Text → Option Asked
+pack_of None cable room = option_and_then (λ c. option_map (λ r. usb_pack (record { cable = c; room = r })) (room_in room)) (cable_in cable)
+pack_of (Some folder) cable room = None
+
+-- direction, folder, cable, room
+abbrev pub usb_of : Text → Option Text → Option Text → Option Text → Option Asked
+usb_of direction folder cable room =
+    if bytes_eq direction (codes "split") then split_of folder cable room
+    else (if bytes_eq direction (codes "pack") then pack_of folder cable room else None)
+
 -- seed, packets
 abbrev pub self_test_of : Text → Option Text → Option Asked
 self_test_of seed packets = option_and_then (λ s. option_map (λ n. self_test (record { seed = s; packets = n })) (packets_in packets)) (seed_in seed)
@@ -83,13 +105,15 @@ abbrev pub asked_in : Text → List Row → Option Asked
 asked_in name rows =
     let at : Text → Option Text = λ id. first_of id rows in
     if bytes_eq name (codes "translate") then option_and_then (λ d. translate_of d (at (codes "folder")) (at (codes "group"))
-    (is_set (codes "compact") rows) (is_set (codes "little") rows) (at (codes "room"))) (at (codes "direction"))
+    (is_set (codes "compact") rows) (is_set (codes "paired") rows) (is_set (codes "little") rows) (at (codes "room"))) (at (codes "direction"))
     else (if bytes_eq name (codes "show") then show_of (is_set (codes "bytes") rows) (is_set (codes "state") rows)
     (is_set (codes "little") rows) (at (codes "room"))
     else (if bytes_eq name (codes "endpoint") then option_and_then (λ s. endpoint_of s (is_set (codes "little") rows) (at (codes "room")))
     (at (codes "setup"))
+    else (if bytes_eq name (codes "usb") then option_and_then (λ d. usb_of d (at (codes "folder")) (at (codes "cable")) (at (codes "room")))
+    (at (codes "direction"))
     else (if bytes_eq name (codes "selftest") then option_and_then (λ s. self_test_of s (at (codes "packets"))) (at (codes "seed"))
-    else None)))
+    else None))))
 
 -- what the matches of the words ask for
 abbrev pub asked_by : List Text → Option Asked

@@ -23,10 +23,10 @@ abbrev pub with_rules : App → List Rule → App
 with_rules a [] = a
 with_rules a (r ∷ rs) = with_rules (with_rule a r) rs
 
--- translate DIRECTION [--folder F] [--group G] [--compact] [--little] [--room R]
+-- translate DIRECTION [--folder F] [--group G] [--compact] [--paired] [--little] [--room R]
 abbrev pub translate_app : App
 translate_app = with_rules (new_app (codes "translate")) (positional (codes "direction") ∷ option (codes "folder") ∷ option (codes "group")
-    ∷ flag (codes "compact") ∷ flag (codes "little") ∷ option (codes "room") ∷ [])
+    ∷ flag (codes "compact") ∷ flag (codes "paired") ∷ flag (codes "little") ∷ option (codes "room") ∷ [])
 
 -- show [--bytes] [--state] [--little] [--room R]
 abbrev pub show_app : App
@@ -35,6 +35,11 @@ show_app = with_rules (new_app (codes "show")) (flag (codes "bytes") ∷ flag (c
 -- endpoint SETUP [--little] [--room R]
 abbrev pub endpoint_app : App
 endpoint_app = with_rules (new_app (codes "endpoint")) (positional (codes "setup") ∷ flag (codes "little") ∷ option (codes "room") ∷ [])
+
+-- usb DIRECTION [--folder F] [--cable C] [--room R]
+abbrev pub usb_app : App
+usb_app = with_rules (new_app (codes "usb")) (positional (codes "direction") ∷ option (codes "folder") ∷ option (codes "cable")
+    ∷ option (codes "room") ∷ [])
 
 -- selftest SEED [--packets P]
 abbrev pub self_test_app : App
@@ -46,8 +51,8 @@ bare_app = let a = new_app (codes "larboardyuzu") in record a { top = record a.t
 
 unfoldable pub cli : App
 cli =
-    with_subcommand (with_subcommand (with_subcommand (with_subcommand bare_app translate_app.top) show_app.top) endpoint_app.top)
-    self_test_app.top
+    with_subcommand (with_subcommand (with_subcommand (with_subcommand (with_subcommand bare_app translate_app.top) show_app.top)
+    endpoint_app.top) usb_app.top) self_test_app.top
 
 -- `clap`, by what it states of this command, takes the words
 abbrev pub is_taken : List Text → Bool

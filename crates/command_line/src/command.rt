@@ -1,8 +1,9 @@
 // What a command line asks for.
 use midi_edge::U4;
 
-/// What a command line asks for. `compact` says that what the receiver of a lane already has isn't sent again, `little` that each
-/// word of a recording has its least significant byte first, `state` that the lines end with those of the state that the input
+/// What a command line asks for. `compact` says that what the receiver of a lane already has isn't sent again, `paired` that
+/// controllers 1 to 31 but 6 are seen at fourteen bits, each with the controller whose index is greater by 32, `little` that each word
+/// of a recording has its least significant byte first, `state` that the lines end with those of the state that the input
 /// leaves, and `room` is the greatest number of bytes of an exclusive between F0 and F7, 6 to 1,048,576.
 #[derive(Clone, Copy, Debug, PartialEq, Eq)]
 pub enum Command<'a> {
@@ -10,18 +11,21 @@ pub enum Command<'a> {
     Down {
         folder: &'a str,
         compact: bool,
+        paired: bool,
         little: bool,
         room: u32,
     },
     /// `translate up`: MIDI 1.0 bytes become words of this group.
     Up {
         group: U4,
+        paired: bool,
         little: bool,
         room: u32,
     },
     /// `translate back`: MIDI 1.0 bytes become words of this group, and these become bytes again.
     Back {
         group: U4,
+        paired: bool,
         room: u32,
     },
     /// `show`: the packets of words become lines.
@@ -40,6 +44,15 @@ pub enum Command<'a> {
     Endpoint {
         setup: &'a str,
         little: bool,
+        room: u32,
+    },
+    /// `usb split`: USB-MIDI 1.0 events become a MIDI 1.0 stream for each cable, in this folder.
+    UsbSplit {
+        folder: &'a str,
+    },
+    /// `usb pack`: MIDI 1.0 bytes become events of this cable.
+    UsbPack {
+        cable: U4,
         room: u32,
     },
     /// `selftest`: so many packets of this seed, 1 to 1,000,000, are taken down, up and down again, and are counted.

@@ -1,33 +1,45 @@
 // Laws of the command line: words of each command, and a request for help.
 ghost use Rattle.std.specs.Prelude.{◌≡◌, Some, None, true, false, codes, [], ◌∷◌};
-ghost use Rattle.command_line.specs.Asked.{down, up, back, show, show_bytes, endpoint, self_test};
+ghost use Rattle.command_line.specs.Asked.{down, up, back, show, show_bytes, endpoint, usb_split, usb_pack, self_test};
 ghost use Rattle.command_line.specs.Rules.{command_of};
 
 /// `translate down` with its folder, alone and with all that may be left out.
 pub fn down_is_taken()
     ensures least { command_of (codes "translate" ∷ codes "down" ∷ codes "--folder" ∷ codes "F" ∷ [])
-        ≡ Some (down (record { folder = codes "F"; compact = false; little = false; room = 1048576 })) }
+        ≡ Some (down (record {
+          folder = codes "F";
+          compact = false;
+          paired = false;
+          little = false;
+          room = 1048576;
+        })) }
     ensures most { command_of (codes "translate" ∷ codes "down" ∷ codes "--room" ∷ codes "6"
-        ∷ codes "--little" ∷ codes "--compact" ∷ codes "--folder" ∷ codes "F" ∷ [])
-        ≡ Some (down (record { folder = codes "F"; compact = true; little = true; room = 6 })) }
+        ∷ codes "--little" ∷ codes "--compact" ∷ codes "--paired" ∷ codes "--folder" ∷ codes "F" ∷ [])
+        ≡ Some (down (record {
+          folder = codes "F";
+          compact = true;
+          paired = true;
+          little = true;
+          room = 6;
+        })) }
 {}
 
 /// `translate up`, alone and with all that may be left out.
 pub fn up_is_taken()
     ensures least { command_of (codes "translate" ∷ codes "up" ∷ [])
-        ≡ Some (up (record { group = 0; little = false; room = 1048576 })) }
+        ≡ Some (up (record { group = 0; paired = false; little = false; room = 1048576 })) }
     ensures most { command_of (codes "translate" ∷ codes "up" ∷ codes "--group" ∷ codes "15"
-        ∷ codes "--little" ∷ codes "--room" ∷ codes "6" ∷ [])
-        ≡ Some (up (record { group = 15; little = true; room = 6 })) }
+        ∷ codes "--little" ∷ codes "--paired" ∷ codes "--room" ∷ codes "6" ∷ [])
+        ≡ Some (up (record { group = 15; paired = true; little = true; room = 6 })) }
 {}
 
 /// `translate back`, alone and with all that may be left out.
 pub fn back_is_taken()
     ensures least { command_of (codes "translate" ∷ codes "back" ∷ [])
-        ≡ Some (back (record { group = 0; room = 1048576 })) }
+        ≡ Some (back (record { group = 0; paired = false; room = 1048576 })) }
     ensures most { command_of (codes "translate" ∷ codes "back" ∷ codes "--group" ∷ codes "15"
-        ∷ codes "--room" ∷ codes "6" ∷ [])
-        ≡ Some (back (record { group = 15; room = 6 })) }
+        ∷ codes "--paired" ∷ codes "--room" ∷ codes "6" ∷ [])
+        ≡ Some (back (record { group = 15; paired = true; room = 6 })) }
 {}
 
 /// `show`, of words and of bytes, alone and with all that may be left out.
@@ -51,6 +63,21 @@ pub fn endpoint_is_taken()
     ensures most { command_of
         (codes "endpoint" ∷ codes "S" ∷ codes "--little" ∷ codes "--room" ∷ codes "6" ∷ [])
         ≡ Some (endpoint (record { setup = codes "S"; little = true; room = 6 })) }
+{}
+
+/// `usb split` with its folder.
+pub fn usb_split_is_taken()
+    ensures { command_of (codes "usb" ∷ codes "split" ∷ codes "--folder" ∷ codes "F" ∷ [])
+        ≡ Some (usb_split (record { folder = codes "F" })) }
+{}
+
+/// `usb pack`, alone and with all that may be left out.
+pub fn usb_pack_is_taken()
+    ensures least { command_of (codes "usb" ∷ codes "pack" ∷ [])
+        ≡ Some (usb_pack (record { cable = 0; room = 1048576 })) }
+    ensures most { command_of
+        (codes "usb" ∷ codes "pack" ∷ codes "--cable" ∷ codes "15" ∷ codes "--room" ∷ codes "6" ∷ [])
+        ≡ Some (usb_pack (record { cable = 15; room = 6 })) }
 {}
 
 /// `selftest` with its seed, alone and with all that may be left out.

@@ -4,7 +4,7 @@ ghost use Rattle.std.specs.Option.{option_copied};
 ghost use Rattle.std.specs.List.{list_all};
 ghost use Rattle.std.specs.Char.{is_ascii_digit};
 ghost use Rattle.command_line.specs.Asked.{IsPacketCount, IsRoom};
-ghost use Rattle.command_line.specs.Rules.{number_of, room_in, group_in, seed_in, packets_in};
+ghost use Rattle.command_line.specs.Rules.{number_of, room_in, group_in, cable_in, seed_in, packets_in};
 
 use midi_edge::U4;
 
@@ -67,6 +67,14 @@ pub fn group(text: Option<&str>) -> Option<U4>
         }
         None => U4::new(0),
     }
+}
+
+// The cable, by the text of its option; it has the range of a group.
+pub fn cable(text: Option<&str>) -> Option<U4>
+    ensures number { result ≡ cable_in (option_copied text.entry) }
+    ensures range { IfSome result (λ c. c < 16) }
+{
+    group(text)
 }
 
 // The seed of a self test.

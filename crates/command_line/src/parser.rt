@@ -2,7 +2,7 @@
 ghost use Rattle.std.specs.Prelude.{◌≡◌, false, IfOk};
 ghost use Rattle.clap.specs.Words.{app_of, rule_of, with_rule, with_subcommand, shape_of};
 ghost use Rattle.clap.specs.declared.builder.command.Command.TheViews.{out-Command};
-ghost use Rattle.command_line.specs.Words.{positional, option, flag, bare_app, translate_app, show_app, endpoint_app, self_test_app, cli};
+ghost use Rattle.command_line.specs.Words.{positional, option, flag, bare_app, translate_app, show_app, endpoint_app, usb_app, self_test_app, cli};
 
 use clap::{Arg, ArgAction, Command};
 use std::alloc::{AllocError, Global};
@@ -61,6 +61,7 @@ fn translate_command<'a>(alloc: Global) -> Result<Command<'a>, AllocError>
     let command = with_arg(command, option(alloc, "folder"))?;
     let command = with_arg(command, option(alloc, "group"))?;
     let command = with_arg(command, flag(alloc, "compact"))?;
+    let command = with_arg(command, flag(alloc, "paired"))?;
     let command = with_arg(command, flag(alloc, "little"))?;
     let command = with_arg(command, option(alloc, "room"))?;
     Ok(command)
@@ -85,6 +86,18 @@ fn endpoint_command<'a>(alloc: Global) -> Result<Command<'a>, AllocError>
     let command = Command::new(alloc, "endpoint");
     let command = with_arg(command, positional(alloc, "setup"))?;
     let command = with_arg(command, flag(alloc, "little"))?;
+    let command = with_arg(command, option(alloc, "room"))?;
+    Ok(command)
+}
+
+fn usb_command<'a>(alloc: Global) -> Result<Command<'a>, AllocError>
+    ensures app { IfOk result (λ c. app_of c ≡ usb_app) }
+    ensures local { IfOk result (λ c. (out-Command c).has_globals ≡ false) }
+{
+    let command = Command::new(alloc, "usb");
+    let command = with_arg(command, positional(alloc, "direction"))?;
+    let command = with_arg(command, option(alloc, "folder"))?;
+    let command = with_arg(command, option(alloc, "cable"))?;
     let command = with_arg(command, option(alloc, "room"))?;
     Ok(command)
 }
@@ -118,6 +131,7 @@ pub fn parser<'a>(alloc: Global) -> Result<Command<'a>, AllocError>
     let command = with_command(command, translate_command(alloc)?)?;
     let command = with_command(command, show_command(alloc)?)?;
     let command = with_command(command, endpoint_command(alloc)?)?;
+    let command = with_command(command, usb_command(alloc)?)?;
     let command = with_command(command, self_test_command(alloc)?)?;
     Ok(command)
 }

@@ -4,11 +4,11 @@ ghost use Rattle.std.specs.Option.{option_copied};
 ghost use Rattle.clap.specs.Words.{found_of, rows_of};
 ghost use Rattle.clap.specs.Simple.{subcommand_rows_of};
 ghost use Rattle.command_line.specs.Asked.{asked_of, IsInRange};
-ghost use Rattle.command_line.specs.Rules.{down_of, up_of, back_of, translate_of, show_of, endpoint_of, self_test_of, asked_in, command_of};
+ghost use Rattle.command_line.specs.Rules.{down_of, up_of, back_of, translate_of, show_of, endpoint_of, split_of, pack_of, usb_of, self_test_of, asked_in, command_of};
 
 use crate::command::{Command, WordsFault};
 use crate::matches::{is_flag_set, matches_of, text};
-use crate::numbers::{group, packets, room, seed};
+use crate::numbers::{cable, group, packets, room, seed};
 use clap::ArgMatches;
 use std::alloc::Global;
 
@@ -16,11 +16,12 @@ fn down<'a>(
     folder: Option<&'a str>,
     group: Option<&str>,
     compact: bool,
+    paired: bool,
     little: bool,
     room_text: Option<&str>,
 ) -> Option<Command<'a>>
     ensures command { option_map asked_of result
-        ≡ down_of (option_copied folder.entry) (option_copied group.entry) compact little
+        ≡ down_of (option_copied folder.entry) (option_copied group.entry) compact paired little
         (option_copied room_text.entry) }
     ensures range { IfSome result (λ c. IsInRange (asked_of c)) }
 {
@@ -32,6 +33,7 @@ fn down<'a>(
     Some(Command::Down {
         folder,
         compact,
+        paired,
         little,
         room,
     })
@@ -41,11 +43,12 @@ fn up<'a>(
     folder: Option<&str>,
     group_text: Option<&str>,
     compact: bool,
+    paired: bool,
     little: bool,
     room_text: Option<&str>,
 ) -> Option<Command<'a>>
     ensures command { option_map asked_of result
-        ≡ up_of (option_copied folder.entry) (option_copied group_text.entry) compact little
+        ≡ up_of (option_copied folder.entry) (option_copied group_text.entry) compact paired little
         (option_copied room_text.entry) }
     ensures range { IfSome result (λ c. IsInRange (asked_of c)) }
 {
@@ -56,6 +59,7 @@ fn up<'a>(
     let room = room(room_text)?;
     Some(Command::Up {
         group,
+        paired,
         little,
         room,
     })
@@ -65,11 +69,12 @@ fn back<'a>(
     folder: Option<&str>,
     group_text: Option<&str>,
     compact: bool,
+    paired: bool,
     little: bool,
     room_text: Option<&str>,
 ) -> Option<Command<'a>>
     ensures command { option_map asked_of result
-        ≡ back_of (option_copied folder.entry) (option_copied group_text.entry) compact little
+        ≡ back_of (option_copied folder.entry) (option_copied group_text.entry) compact paired little
         (option_copied room_text.entry) }
     ensures range { IfSome result (λ c. IsInRange (asked_of c)) }
 {
@@ -78,7 +83,11 @@ fn back<'a>(
     }
     let group = group(group_text)?;
     let room = room(room_text)?;
-    Some(Command::Back { group, room })
+    Some(Command::Back {
+        group,
+        paired,
+        room,
+    })
 }
 
 fn translate<'a>(
@@ -86,20 +95,21 @@ fn translate<'a>(
     folder: Option<&'a str>,
     group: Option<&str>,
     compact: bool,
+    paired: bool,
     little: bool,
     room: Option<&str>,
 ) -> Option<Command<'a>>
     ensures command { option_map asked_of result
-        ≡ translate_of direction.now (option_copied folder.entry) (option_copied group.entry) compact little
-        (option_copied room.entry) }
+        ≡ translate_of direction.now (option_copied folder.entry) (option_copied group.entry)
+        compact paired little (option_copied room.entry) }
     ensures range { IfSome result (λ c. IsInRange (asked_of c)) }
 {
     if direction == "down" {
-        down(folder, group, compact, little, room)
+        down(folder, group, compact, paired, little, room)
     } else if direction == "up" {
-        up(folder, group, compact, little, room)
+        up(folder, group, compact, paired, little, room)
     } else if direction == "back" {
-        back(folder, group, compact, little, room)
+        back(folder, group, compact, paired, little, room)
     } else {
         None
     }
@@ -138,6 +148,59 @@ fn endpoint<'a>(setup: &'a str, little: bool, room_text: Option<&str>) -> Option
     })
 }
 
+fn split<'a>(
+    folder: Option<&'a str>,
+    cable: Option<&str>,
+    room: Option<&str>,
+) -> Option<Command<'a>>
+    ensures command { option_map asked_of result
+        ≡ split_of (option_copied folder.entry) (option_copied cable.entry) (option_copied room.entry) }
+    ensures range { IfSome result (λ c. IsInRange (asked_of c)) }
+{
+    match (folder, cable, room) {
+        (Some(folder), None, None) => Some(Command::UsbSplit { folder }),
+        _ => None,
+    }
+}
+
+fn pack<'a>(
+    folder: Option<&str>,
+    cable_text: Option<&str>,
+    room_text: Option<&str>,
+) -> Option<Command<'a>>
+    ensures command { option_map asked_of result
+        ≡ pack_of (option_copied folder.entry) (option_copied cable_text.entry)
+        (option_copied room_text.entry) }
+    ensures range { IfSome result (λ c. IsInRange (asked_of c)) }
+{
+    if folder.is_some() {
+        return None;
+    }
+    let cable = cable(cable_text)?;
+    let room = room(room_text)?;
+    Some(Command::UsbPack { cable, room })
+}
+
+fn usb<'a>(
+    direction: &str,
+    folder: Option<&'a str>,
+    cable: Option<&str>,
+    room: Option<&str>,
+) -> Option<Command<'a>>
+    ensures command { option_map asked_of result
+        ≡ usb_of direction.now (option_copied folder.entry) (option_copied cable.entry)
+        (option_copied room.entry) }
+    ensures range { IfSome result (λ c. IsInRange (asked_of c)) }
+{
+    if direction == "split" {
+        split(folder, cable, room)
+    } else if direction == "pack" {
+        pack(folder, cable, room)
+    } else {
+        None
+    }
+}
+
 fn self_test<'a>(seed_text: &str, packets_text: Option<&str>) -> Option<Command<'a>>
     ensures command { option_map asked_of result
         ≡ self_test_of seed_text.now (option_copied packets_text.entry) }
@@ -160,6 +223,7 @@ fn command_in<'a>(name: &str, matches: &ArgMatches<'a>) -> Option<Command<'a>>
             text(matches, "folder"),
             text(matches, "group"),
             is_flag_set(matches, "compact"),
+            is_flag_set(matches, "paired"),
             is_flag_set(matches, "little"),
             text(matches, "room"),
         )
@@ -173,6 +237,14 @@ fn command_in<'a>(name: &str, matches: &ArgMatches<'a>) -> Option<Command<'a>>
     } else if name == "endpoint" {
         let setup = text(matches, "setup")?;
         endpoint(setup, is_flag_set(matches, "little"), text(matches, "room"))
+    } else if name == "usb" {
+        let direction = text(matches, "direction")?;
+        usb(
+            direction,
+            text(matches, "folder"),
+            text(matches, "cable"),
+            text(matches, "room"),
+        )
     } else if name == "selftest" {
         let seed = text(matches, "seed")?;
         self_test(seed, text(matches, "packets"))
@@ -196,11 +268,13 @@ fn command_below<'a>(matches: &ArgMatches<'a>) -> Option<Command<'a>>
 /// The command of the words, which come without the program's name (own rule). A folder and the name of a setup
 /// are borrowed from the words.
 ///
-/// `Usage` only where `clap` doesn't take the words, as with a request for help, or a rule of ours is broken, and such words
-/// never give a command: the direction is `down`, `up` or `back`; `--folder`, which may be empty, is given with `down` and
-/// with no other direction; `--compact` is given with no other direction than `down`; `--group` isn't given with `down`; `--little` isn't given with `back`, nor with `--bytes`; a
-/// number has 1 to 10 digits and lies in its range, a group 0 to 15 (at first 0), a room 6 to 1,048,576 (at first the
-/// greatest), a seed 0 to 4,294,967,295, and a number of packets 1 to 1,000,000 (at first 10,000). The name of a setup may be any text. `NoMemory` where `clap` finds no memory.
+/// `Usage` only where `clap` doesn't take the words, as with a request for help, or a rule of ours is broken, and such words never
+/// give a command: the direction of a translation is `down`, `up` or `back`, and that of USB-MIDI events `split` or `pack`; `--folder`,
+/// which may be empty, is given with `down` and `split` and with no other direction; `--compact` is given with no other direction than
+/// `down`, `--paired` with any; `--group` isn't given with `down`, nor `--cable` and `--room` with `split`; `--little` isn't given with
+/// `back`, nor with `--bytes`; a number has 1 to 10 digits and lies in its range, a group or a cable 0 to 15 (at first 0), a room 6 to
+/// 1,048,576 (at first the greatest), a seed 0 to 4,294,967,295, and a number of packets 1 to 1,000,000 (at first 10,000). The name of
+/// a setup may be any text. `NoMemory` where `clap` finds no memory.
 #[tactic(auto, unfolding(crate::specs::Rules::command_of))]
 pub fn command_line<'a>(alloc: Global, words: &'a [String]) -> Result<Command<'a>, WordsFault>
     ensures ok { IfOk result (λ c. command_of (map string_bytes words.entry.now) ≡ Some (asked_of c)) }

@@ -29,6 +29,7 @@ fn asks_down(
     let command = Command::Down {
         folder,
         compact,
+        paired: false,
         little,
         room,
     };
@@ -48,6 +49,7 @@ fn asks_up(
     let group = U4::low_bits(group);
     let command = Command::Up {
         group,
+        paired: false,
         little,
         room,
     };
@@ -66,7 +68,11 @@ fn asks_back(
     let group = U4::low_bits(group);
     assert_eq!(rt;
         command_line(alloc, &words),
-        Ok(Command::Back { group, room })
+        Ok(Command::Back {
+            group,
+            paired: false,
+            room,
+        })
     );
     Ok(())
 }
@@ -151,6 +157,68 @@ fn words_of_translate_back(rt: HostRuntime) -> Result<(), Fail> {
     Ok(())
 }
 
+// Each direction takes `--paired`, at any place.
+#[test]
+fn words_with_paired_controllers(rt: HostRuntime) -> Result<(), Fail> {
+    let alloc = rt.alloc();
+    for (line, compact, little, room) in [
+        ("translate down --folder F --paired", false, false, MOST),
+        (
+            "translate down --paired --compact --folder F",
+            true,
+            false,
+            MOST,
+        ),
+        (
+            "translate --paired down --little --room 6 --folder F",
+            false,
+            true,
+            6,
+        ),
+    ] {
+        let words = words_of(alloc, line)?;
+        let command = Command::Down {
+            folder: "F",
+            compact,
+            paired: true,
+            little,
+            room,
+        };
+        assert_eq!(rt; command_line(alloc, &words), Ok(command));
+    }
+    for (line, group, little, room) in [
+        ("translate up --paired", 0, false, MOST),
+        (
+            "translate up --group 3 --paired --little --room 7",
+            3,
+            true,
+            7,
+        ),
+    ] {
+        let words = words_of(alloc, line)?;
+        let command = Command::Up {
+            group: U4::low_bits(group),
+            paired: true,
+            little,
+            room,
+        };
+        assert_eq!(rt; command_line(alloc, &words), Ok(command));
+    }
+    for (line, group, room) in [
+        ("translate back --paired", 0, MOST),
+        ("translate back --paired --room 10 --group 1", 1, 10),
+    ] {
+        let words = words_of(alloc, line)?;
+        let command = Command::Back {
+            group: U4::low_bits(group),
+            paired: true,
+            room,
+        };
+        assert_eq!(rt; command_line(alloc, &words), Ok(command));
+    }
+    Ok(())
+}
+
 #[test]
 fn words_of_show(rt: HostRuntime) -> Result<(), Fail> {
     let alloc = rt.alloc();
@@ -218,6 +286,38 @@ fn words_of_endpoint(rt: HostRuntime) -> Result<(), Fail> {
 }
 
 #[test]
+fn words_of_usb(rt: HostRuntime) -> Result<(), Fail> {
+    let alloc = rt.alloc();
+    for (line, folder) in [
+        ("usb split --folder F", "F"),
+        ("usb --folder F split", "F"),
+        ("usb split --folder=", ""),
+    ] {
+        let words = words_of(alloc, line)?;
+        assert_eq!(rt;
+            command_line(alloc, &words),
+            Ok(Command::UsbSplit { folder })
+        );
+    }
+    for (line, cable, room) in [
+        ("usb pack", 0, MOST),
+        ("usb pack --cable 15", 15, MOST),
+        ("usb pack --room 64", 0, 64),
+        ("usb pack --cable 15 --room 6", 15, 6),
+        ("usb pack --room 6 --cable 15", 15, 6),
+        ("usb --cable=0000000003 pack", 3, MOST),
+    ] {
+        let words = words_of(alloc, line)?;
+        let cable = U4::low_bits(cable);
+        assert_eq!(rt;
+            command_line(alloc, &words),
+            Ok(Command::UsbPack { cable, room })
+        );
+    }
+    Ok(())
+}
+
+#[test]
 fn words_of_selftest(rt: HostRuntime) -> Result<(), Fail> {
     let alloc = rt.alloc();
     for (line, seed, packets) in [
@@ -261,7 +361,7 @@ fn other_words(rt: HostRuntime) -> Result<(), Fail> {
     asks_back(&rt, alloc, "translate -- back", 0, MOST)
 }
 
-const NO_COMMAND: [&str; 91] = [
+const NO_COMMAND: [&str; 115] = [
     "",
     "--help",
     "-h",
@@ -296,6 +396,23 @@ const NO_COMMAND: [&str; 91] = [
     "endpoint S --room",
     "endpoint S --little --little",
     "endpoint --help",
+    "usb",
+    "usb down --folder F",
+    "usb split",
+    "usb split --folder",
+    "usb split --folder F --cable 1",
+    "usb split --folder F --room 6",
+    "usb split --folder F --little",
+    "usb split --folder F --folder F",
+    "usb pack --folder F",
+    "usb pack --folder=",
+    "usb pack --cable 16",
+    "usb pack --cable -1",
+    "usb pack --cable 1 --cable 1",
+    "usb pack --room 5",
+    "usb pack --group 1",
+    "usb pack pack",
+    "usb --help",
     "selftest",
     "selftest x",
     "selftest -1",
@@ -327,7 +444,14 @@ const NO_COMMAND: [&str; 91] = [
     "translate down --folder F --compact --compact",
     "translate down --folder F --compact=true",
     "translate down --compact",
-    "translate up --paired",
+    "translate up --paired --paired",
+    "translate up --paired=true",
+    "translate --paired",
+    "--paired translate up",
+    "show --paired",
+    "show --bytes --paired",
+    "endpoint S --paired",
+    "selftest 1 --paired",
     "translate down",
     "translate down --folder",
     "translate down --folder --little",

@@ -19,16 +19,16 @@ After lanes group f bytes answer whole =
 abbrev IfEnds : Lanes → ℕ → Option (List ℕ) → Lanes
 IfEnds lanes group whole = cond (is_some whole) (with_exclusive group lanes) lanes
 
-ended : (style : Style) (states : List LaneState) (group : ℕ) (f : Form) (bytes whole : List ℕ) →
-    lanes_after (Some group) (Some whole) (packet.Exclusive group f bytes) (record { style = style; states = states }) ≡ with_exclusive group (record { style = style; states = states })
-ended plain_style states group f bytes whole = refl
-ended compact_style states group f bytes whole = refl
+ended : (paired : Bool) (style : Style) (states : List LaneState) (group : ℕ) (f : Form) (bytes whole : List ℕ) →
+    lanes_after (Some group) (Some whole) (packet.Exclusive group f bytes) (record { style = style; paired = paired; states = states }) ≡ with_exclusive group (record { style = style; paired = paired; states = states })
+ended paired plain_style states group f bytes whole = refl
+ended paired compact_style states group f bytes whole = refl
 
 by_whole : (lanes : Lanes) (room : Option ℕ) (begun : Option Begun) (group : ℕ) (f : Form) (bytes : List ℕ) →
     After lanes group f bytes (answer_of room begun f bytes) (ended_by room f (option_map (λ (b : Begun). b.bytes) begun) bytes)
     ≡ IfEnds lanes group (ended_by room f (option_map (λ (b : Begun). b.bytes) begun) bytes)
-by_whole lanes room None group form.Complete bytes = ended lanes.style lanes.states group form.Complete bytes bytes
-by_whole lanes room (Some b) group form.Complete bytes = ended lanes.style lanes.states group form.Complete bytes bytes
+by_whole lanes room None group form.Complete bytes = ended lanes.paired lanes.style lanes.states group form.Complete bytes bytes
+by_whole lanes room (Some b) group form.Complete bytes = ended lanes.paired lanes.style lanes.states group form.Complete bytes bytes
 by_whole lanes room None group form.Start bytes = refl
 by_whole lanes room (Some b) group form.Start bytes = refl
 by_whole lanes room None group form.Continue bytes = refl
@@ -42,7 +42,7 @@ by_whole lanes room (Some b) group form.End bytes = go (fits room (length (b.byt
   where
     go : (t : Bool) → After lanes group form.End bytes (cond t (exclusives.whole (framed (b.bytes ++ bytes))) exclusives.too_long) (cond t (Some (b.bytes ++ bytes)) None)
         ≡ IfEnds lanes group (cond t (Some (b.bytes ++ bytes)) None)
-    go true = ended lanes.style lanes.states group form.End bytes (b.bytes ++ bytes)
+    go true = ended lanes.paired lanes.style lanes.states group form.End bytes (b.bytes ++ bytes)
     go false = refl
 
 pub exclusive_lanes : (state : DownState) (group : ℕ) (f : Form) (bytes : List ℕ) →
@@ -51,8 +51,8 @@ pub exclusive_lanes : (state : DownState) (group : ℕ) (f : Form) (bytes : List
 exclusive_lanes state group f bytes = by_whole state.lanes (Some state.exclusives.room) (begun_in state.exclusives group) group f bytes
 
 -- in plain style nothing is kept of it
-pub plain_part : (states : List LaneState) (group : ℕ) (ends : Bool) →
-    record { style = plain_style; states = states }
-    ≡ cond ends (with_exclusive group (record { style = plain_style; states = states })) (record { style = plain_style; states = states })
-plain_part states group true = refl
-plain_part states group false = refl
+pub plain_part : (paired : Bool) (states : List LaneState) (group : ℕ) (ends : Bool) →
+    record { style = plain_style; paired = paired; states = states }
+    ≡ cond ends (with_exclusive group (record { style = plain_style; paired = paired; states = states })) (record { style = plain_style; paired = paired; states = states })
+plain_part paired states group true = refl
+plain_part paired states group false = refl

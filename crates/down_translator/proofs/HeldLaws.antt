@@ -61,35 +61,6 @@ begun-start : (o : Option (List Part)) → option_map (λ (begun : Begun). begun
 begun-start None = refl
 begun-start (Some parts) = refl
 
-pub held-whole : FedPartsAreTheDefinition → (style : Style) (room : ℕ) (past : List Placed) → 6 ≤ room → AreInRange past → (p : Packet) → whole_in (state_of style room past) p ≡ whole_by (Some room) (parts_of past) p
-held-whole fed style room past least a (packet.Exclusive g f bytes) =
-    ap (λ r. ended_by (Some r) f (option_map (λ (begun : Begun). begun.bytes) (begun_in (state_of style room past).exclusives g)) bytes) (table_room room (parts_of past))
-    ∙ ap (λ o. ended_by (Some room) f (option_map (λ (begun : Begun). begun.bytes) o) bytes) (fed.begun room (parts_of past) least (parts_in_range past a) g)
-    ∙ ap (λ o. ended_by (Some room) f o bytes) (begun-bytes (opened (Some room) g (parts_of past)))
-held-whole fed style room past least a (packet.Utility s v) = refl
-held-whole fed style room past least a (packet.System g m) = refl
-held-whole fed style room past least a (packet.Voice1 g m) = refl
-held-whole fed style room past least a (packet.Voice2 g m) = refl
-held-whole fed style room past least a (packet.Data8 g w) = refl
-held-whole fed style room past least a (packet.Flex g w) = refl
-held-whole fed style room past least a (packet.Stream f s l w x y) = refl
-held-whole fed style room past least a (packet.Reserved w) = refl
-
-pub held-begun : FedPartsAreTheDefinition → (style : Style) (room : ℕ) (past : List Placed) → 6 ≤ room → AreInRange past → (p : Packet) → begun_at_in (state_of style room past) p ≡ begun_before (Some room) (parts_of past) p
-held-begun fed style room past least a (packet.Exclusive g f bytes) =
-    ap (option_map (λ (begun : Begun). begun.start)) (fed.begun room (parts_of past) least (parts_in_range past a) g)
-    ∙ begun-start (opened (Some room) g (parts_of past))
-held-begun fed style room past least a (packet.Utility s v) = refl
-held-begun fed style room past least a (packet.System g m) = refl
-held-begun fed style room past least a (packet.Voice1 g m) = refl
-held-begun fed style room past least a (packet.Voice2 g m) = refl
-held-begun fed style room past least a (packet.Data8 g w) = refl
-held-begun fed style room past least a (packet.Flex g w) = refl
-held-begun fed style room past least a (packet.Stream f s l w x y) = refl
-held-begun fed style room past least a (packet.Reserved w) = refl
-
--- ---- what is refused
-
 -- an answer is that the exclusive is too long exactly when the part exceeds the limit
 bad-answer : (room : Room) (f : Form) (start : Option ℕ) (before : Option (List ℕ)) (bytes : List ℕ) (stray : Bool) →
     bad_answer (answer_from (cond (goes_on f) None start) (ended_by room f before bytes) (cond (goes_on f) (passes_by room before bytes) false) (cond (goes_on f) stray false)) ≡
@@ -112,32 +83,62 @@ bad-answer room form.End start (Some before) bytes stray = go (fits room (length
     go true u = refl
     go false u = refl
 
-pub held-refusal : FedPartsAreTheDefinition → (style : Style) (room : ℕ) (past : List Placed) → 6 ≤ room → AreInRange past → (p : Packet) → refusal_in (state_of style room past) p ≡ bad_step (Some room) (parts_of past) p
-held-refusal fed style room past least a (packet.Exclusive g f bytes) =
-    let part : Part = record { group = g; form = f; bytes = bytes; offset = 0 } in
-    ap bad_answer (fed.answers room (parts_of past) least (parts_in_range past a) part)
-    ∙ bad-answer (Some room) f (started (Some room) g (parts_of past)) (joined (Some room) g (parts_of past)) bytes _
-held-refusal fed style room past least a (packet.Utility s v) = refl
-held-refusal fed style room past least a (packet.System g m) = refl
-held-refusal fed style room past least a (packet.Voice1 g m) = refl
-held-refusal fed style room past least a (packet.Voice2 g m) = refl
-held-refusal fed style room past least a (packet.Data8 g w) = refl
-held-refusal fed style room past least a (packet.Flex g w) = refl
-held-refusal fed style room past least a (packet.Stream f s l w x y) = refl
-held-refusal fed style room past least a (packet.Reserved w) = refl
+module _ (paired : Bool) where
+  pub held-whole : FedPartsAreTheDefinition → (style : Style) (room : ℕ) (past : List Placed) → 6 ≤ room → AreInRange past → (p : Packet) → whole_in (state_of paired style room past) p ≡ whole_by (Some room) (parts_of past) p
+  held-whole fed style room past least a (packet.Exclusive g f bytes) =
+      ap (λ r. ended_by (Some r) f (option_map (λ (begun : Begun). begun.bytes) (begun_in (state_of paired style room past).exclusives g)) bytes) (table_room room (parts_of past))
+      ∙ ap (λ o. ended_by (Some room) f (option_map (λ (begun : Begun). begun.bytes) o) bytes) (fed.begun room (parts_of past) least (parts_in_range past a) g)
+      ∙ ap (λ o. ended_by (Some room) f o bytes) (begun-bytes (opened (Some room) g (parts_of past)))
+  held-whole fed style room past least a (packet.Utility s v) = refl
+  held-whole fed style room past least a (packet.System g m) = refl
+  held-whole fed style room past least a (packet.Voice1 g m) = refl
+  held-whole fed style room past least a (packet.Voice2 g m) = refl
+  held-whole fed style room past least a (packet.Data8 g w) = refl
+  held-whole fed style room past least a (packet.Flex g w) = refl
+  held-whole fed style room past least a (packet.Stream f s l w x y) = refl
+  held-whole fed style room past least a (packet.Reserved w) = refl
 
--- ---- what comes after a packet
+  pub held-begun : FedPartsAreTheDefinition → (style : Style) (room : ℕ) (past : List Placed) → 6 ≤ room → AreInRange past → (p : Packet) → begun_at_in (state_of paired style room past) p ≡ begun_before (Some room) (parts_of past) p
+  held-begun fed style room past least a (packet.Exclusive g f bytes) =
+      ap (option_map (λ (begun : Begun). begun.start)) (fed.begun room (parts_of past) least (parts_in_range past a) g)
+      ∙ begun-start (opened (Some room) g (parts_of past))
+  held-begun fed style room past least a (packet.Utility s v) = refl
+  held-begun fed style room past least a (packet.System g m) = refl
+  held-begun fed style room past least a (packet.Voice1 g m) = refl
+  held-begun fed style room past least a (packet.Voice2 g m) = refl
+  held-begun fed style room past least a (packet.Data8 g w) = refl
+  held-begun fed style room past least a (packet.Flex g w) = refl
+  held-begun fed style room past least a (packet.Stream f s l w x y) = refl
+  held-begun fed style room past least a (packet.Reserved w) = refl
 
-pub held-behind : (style : Style) (room : ℕ) (past : List Placed) (placed : Placed) → down_after placed.offset placed.packet (state_of style room past) ≡ state_of style room (placed ∷ past)
-held-behind style room past placed = go placed.offset placed.packet
-  where
-    go : (offset : ℕ) (p : Packet) → down_after offset p (state_of style room past) ≡ state_of style room (record { offset = offset; packet = p } ∷ past)
-    go offset (packet.Exclusive g f bytes) = refl
-    go offset (packet.Utility s v) = refl
-    go offset (packet.System g m) = refl
-    go offset (packet.Voice1 g m) = refl
-    go offset (packet.Voice2 g m) = refl
-    go offset (packet.Data8 g w) = refl
-    go offset (packet.Flex g w) = refl
-    go offset (packet.Stream f s l w x y) = refl
-    go offset (packet.Reserved w) = refl
+  -- ---- what is refused
+
+  pub held-refusal : FedPartsAreTheDefinition → (style : Style) (room : ℕ) (past : List Placed) → 6 ≤ room → AreInRange past → (p : Packet) → refusal_in (state_of paired style room past) p ≡ bad_step (Some room) (parts_of past) p
+  held-refusal fed style room past least a (packet.Exclusive g f bytes) =
+      let part : Part = record { group = g; form = f; bytes = bytes; offset = 0 } in
+      ap bad_answer (fed.answers room (parts_of past) least (parts_in_range past a) part)
+      ∙ bad-answer (Some room) f (started (Some room) g (parts_of past)) (joined (Some room) g (parts_of past)) bytes _
+  held-refusal fed style room past least a (packet.Utility s v) = refl
+  held-refusal fed style room past least a (packet.System g m) = refl
+  held-refusal fed style room past least a (packet.Voice1 g m) = refl
+  held-refusal fed style room past least a (packet.Voice2 g m) = refl
+  held-refusal fed style room past least a (packet.Data8 g w) = refl
+  held-refusal fed style room past least a (packet.Flex g w) = refl
+  held-refusal fed style room past least a (packet.Stream f s l w x y) = refl
+  held-refusal fed style room past least a (packet.Reserved w) = refl
+
+  -- ---- what comes after a packet
+
+  pub held-behind : (style : Style) (room : ℕ) (past : List Placed) (placed : Placed) → down_after placed.offset placed.packet (state_of paired style room past) ≡ state_of paired style room (placed ∷ past)
+  held-behind style room past placed = go placed.offset placed.packet
+    where
+      go : (offset : ℕ) (p : Packet) → down_after offset p (state_of paired style room past) ≡ state_of paired style room (record { offset = offset; packet = p } ∷ past)
+      go offset (packet.Exclusive g f bytes) = refl
+      go offset (packet.Utility s v) = refl
+      go offset (packet.System g m) = refl
+      go offset (packet.Voice1 g m) = refl
+      go offset (packet.Voice2 g m) = refl
+      go offset (packet.Data8 g w) = refl
+      go offset (packet.Flex g w) = refl
+      go offset (packet.Stream f s l w x y) = refl
+      go offset (packet.Reserved w) = refl

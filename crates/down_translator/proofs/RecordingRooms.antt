@@ -59,5 +59,6 @@ begun-without_room rooms room parts (packet.Flex g wd) w = refl
 begun-without_room rooms room parts (packet.Stream f s l wd x y) w = refl
 begun-without_room rooms room parts (packet.Reserved wd) w = refl
 
-pub line-without_room : RoomsThatAreNotPassedDoNotMatter → (room : ℕ) (past : List Placed) (placed : Placed) → AreWithinRoom room (parts_of past) → line_of (Some room) (parts_of past) placed ≡ line_of None (parts_of past) placed
-line-without_room rooms room past placed w = ap (λ o. listed o placed.offset placed.packet) (begun-without_room rooms room (parts_of past) placed.packet w)
+module _ (paired : Bool) where
+  pub line-without_room : RoomsThatAreNotPassedDoNotMatter → (room : ℕ) (past : List Placed) (placed : Placed) → AreWithinRoom room (parts_of past) → line_of paired (Some room) (parts_of past) placed ≡ line_of paired None (parts_of past) placed
+  line-without_room rooms room past placed w = ap (λ o. listed paired o placed.offset placed.packet) (begun-without_room rooms room (parts_of past) placed.packet w)

@@ -22,7 +22,7 @@ use Rattle.midi1_bytes.specs.RunningStatus.{is_running, running_after, without_s
 use Rattle.midi1_bytes.specs.Sorts.{Sort, voice_status, sort_of}
 use Rattle.midi1_bytes.specs.Stream.{last_status, running, running_by, running_under, without_real_time}
 use Rattle.voice_state.specs.Registers.{Registers, is_null}
-use Rattle.voice_state.specs.Controllers.{number_lsb_index, number_msb_index, role_of}
+use Rattle.voice_state.specs.Controllers.{Role, channel_mode, reset_all, coarse, plain, number_lsb_index, number_msb_index, pairing, role_of}
 use Rattle.voice_state.specs.Compact.{after_reset, compact_piece, has_bank, is_selected, needed_voice}
 use Rattle.voice_state.specs.LaneState.{LaneState, lane_state_behind, registers_at}
 use Rattle.voice_state.specs.Lanes.{lane_bytes}
@@ -30,7 +30,7 @@ use Rattle.voice_state.specs.Laws.{CarriedPacketsHaveAPiece}
 use Rattle.voice_state.specs.Listing.{is_carried, is_carried_role, is_carried_voice}
 use Rattle.voice_state.specs.Packets.{IsInRange}
 use Rattle.voice_state.specs.Parts.{whole_of}
-use Rattle.voice_state.specs.Plain.{plain_piece, program_messages, set_messages}
+use Rattle.voice_state.specs.Plain.{control_messages, plain_piece, program_messages, set_messages}
 use Rattle.voice_state.specs.StyleLaws.{KeptLanesAreThoseOfTheRecording}
 use Rattle.voice_state.specs.Styles.{Style, plain_style, compact_style, styled_behind}
 use Rattle.down_translator.specs.Lanes.{piece_by}
@@ -59,9 +59,12 @@ begins running message messages = ((λ e. left running message (written_under (r
 none_begin : (running : Option ℕ) → Begins running false []
 none_begin running = ((λ e. cc), (λ h. absurd (omega (arith, h))))
 
-control_begins : (running : Option ℕ) (message : Voice1) (carried : Bool) → Begins running carried (cond carried (voice message ∷ []) [])
-control_begins running message true = begins running message []
-control_begins running message false = none_begin running
+control_begins : (running : Option ℕ) (role : Role) (ch i v : ℕ) → Begins running (is_carried_role role) (control_messages role ch i v)
+control_begins running channel_mode ch i v = begins running (voice1.Control ch i (down7 v)) []
+control_begins running reset_all ch i v = begins running (voice1.Control ch i (down7 v)) []
+control_begins running plain ch i v = begins running (voice1.Control ch i (down7 v)) []
+control_begins running coarse ch i v = begins running (voice1.Control ch i (down14 v / 128)) (voice (voice1.Control ch (i + 32) (down14 v % 128)) ∷ [])
+control_begins running _ ch i v = none_begin running
 
 set_begins : (running : Option ℕ) (channel : ℕ) (param : Param) (value : ℕ) (null there : Bool) →
     Begins running (not null) (cond null [] (cond there (drop 2 (set_messages channel param value)) (set_messages channel param value)))
@@ -78,70 +81,12 @@ program_begins running channel program bank true = begins running (voice1.Progra
 program_begins running channel program bank false =
     begins running (voice1.Control channel 0 bank.msb) (voice (voice1.Control channel 32 bank.lsb) ∷ voice (voice1.Program channel program) ∷ [])
 
-voice_begins : (running : Option ℕ) (registers : ℕ → Registers) (message : Voice2) →
-    Begins running (is_carried_voice message) (needed_voice registers message)
-voice_begins running registers (voice2.NoteOff ch n v t a) = begins running (voice1.NoteOff ch n (release_down v)) []
-voice_begins running registers (voice2.NoteOn ch n v t a) = begins running (voice1.NoteOn ch n (velocity_down v)) []
-voice_begins running registers (voice2.PolyPressure ch n v) = begins running (voice1.PolyPressure ch n (down7 v)) []
-voice_begins running registers (voice2.Control ch i v) = control_begins running (voice1.Control ch i (down7 v)) (is_carried_role (role_of i))
-voice_begins running registers (voice2.Set ch param v) = set_begins running ch param (down14 v) (is_null param) (is_selected (registers ch) param)
-voice_begins running registers (voice2.Shift ch param v) = none_begin running
-voice_begins running registers (voice2.Program ch p None) = begins running (voice1.Program ch p) []
-voice_begins running registers (voice2.Program ch p (Some bank)) = program_begins running ch p bank (has_bank (registers ch) bank)
-voice_begins running registers (voice2.Pressure ch v) = begins running (voice1.Pressure ch (down7 v)) []
-voice_begins running registers (voice2.Bend ch v) = begins running (voice1.Bend ch (down14 v)) []
-voice_begins running registers (voice2.NoteController ch k n i v) = none_begin running
-voice_begins running registers (voice2.NoteBend ch n v) = none_begin running
-voice_begins running registers (voice2.NoteManagement ch n f) = none_begin running
-
-pub plain_is : (lane : LaneState) (whole : Option (List ℕ)) (p : Packet) → piece_by plain_style lane whole p ≡ plain_piece whole p
-plain_is lane whole (packet.Voice1 g m) = refl
-plain_is lane whole (packet.Voice2 g m) = refl
-plain_is lane whole (packet.Utility s v) = refl
-plain_is lane whole (packet.System g m) = refl
-plain_is lane whole (packet.Exclusive g f bytes) = refl
-plain_is lane whole (packet.Data8 g wd) = refl
-plain_is lane whole (packet.Flex g wd) = refl
-plain_is lane whole (packet.Stream f s l wd x y) = refl
-plain_is lane whole (packet.Reserved wd) = refl
-
-pub something : CarriedPacketsHaveAPiece → (style : Style) (lane : LaneState) (whole : Option (List ℕ)) (p : Packet) →
-    IsTrue (is_carried whole p) ↔ (0 < length (piece_by style lane whole p))
-something pieces plain_style lane whole (packet.Voice1 g m) = pieces whole (packet.Voice1 g m)
-something pieces plain_style lane whole (packet.Voice2 g m) = pieces whole (packet.Voice2 g m)
-something pieces compact_style lane whole (packet.Voice1 g m) = begins lane.running m []
-something pieces compact_style lane whole (packet.Voice2 g m) = voice_begins lane.running (registers_at lane.channels) m
-something pieces style lane whole (packet.Utility s v) = pieces whole (packet.Utility s v)
-something pieces style lane whole (packet.System g m) = pieces whole (packet.System g m)
-something pieces style lane whole (packet.Exclusive g f bytes) = pieces whole (packet.Exclusive g f bytes)
-something pieces style lane whole (packet.Data8 g wd) = pieces whole (packet.Data8 g wd)
-something pieces style lane whole (packet.Flex g wd) = pieces whole (packet.Flex g wd)
-something pieces style lane whole (packet.Stream f s l wd x y) = pieces whole (packet.Stream f s l wd x y)
-something pieces style lane whole (packet.Reserved wd) = pieces whole (packet.Reserved wd)
-
 -- the lane of a piece that is lent
 lane_from : (group : ℕ) (carried : Bool) (bytes : List ℕ) → (IsTrue carried ↔ (0 < length bytes)) → cond (length bytes == 0) 0 group ≡ lane_of (Some group) carried
 lane_from group true [] h = absurd (omega (arith, h.0 refl))
 lane_from group true (b ∷ bytes) h = cond_both (length (b ∷ bytes) == 0) 0 group (λ l. l ≡ group) (λ e. absurd (omega (arith, eqb-true (length (b ∷ bytes)) 0 e))) (λ e. refl)
 lane_from group false [] h = refl
 lane_from group false (b ∷ bytes) h = cc (h.1 (omega arith))
-
-pub lent1 : CarriedPacketsHaveAPiece → (style : Style) (lane : LaneState) (group : ℕ) (m : Voice1) →
-    cond (length (piece_by style lane None (packet.Voice1 group m)) == 0) 0 group ≡ lane_of (Some group) (is_carried None (packet.Voice1 group m))
-lent1 pieces style lane group m =
-    lane_from group (is_carried None (packet.Voice1 group m)) (piece_by style lane None (packet.Voice1 group m)) (something pieces style lane None (packet.Voice1 group m))
-
-pub lent2 : CarriedPacketsHaveAPiece → (style : Style) (lane : LaneState) (group : ℕ) (m : Voice2) →
-    cond (length (piece_by style lane None (packet.Voice2 group m)) == 0) 0 group ≡ lane_of (Some group) (is_carried None (packet.Voice2 group m))
-lent2 pieces style lane group m =
-    lane_from group (is_carried None (packet.Voice2 group m)) (piece_by style lane None (packet.Voice2 group m)) (something pieces style lane None (packet.Voice2 group m))
-
-pub lent_system : CarriedPacketsHaveAPiece → (style : Style) (lane : LaneState) (group : ℕ) (m : System) →
-    cond (length (piece_by style lane None (packet.System group m)) == 0) 0 group ≡ lane_of (Some group) (is_carried None (packet.System group m))
-lent_system pieces style lane group m =
-    lane_from group (is_carried None (packet.System group m)) (piece_by style lane None (packet.System group m)) (something pieces style lane None (packet.System group m))
-
--- ---- the piece that looks back
 
 -- F0 is no running status
 no_voice : (o : Option ℕ) → running_by o ≡ Some 0xf0 → ⊥
@@ -164,21 +109,80 @@ system_whole : StatusesThatRunCanBeLeftOut → (past : List ℕ) (message : Syst
 system_whole statuses past message =
     ap (without_status (running past)) (spelled_message_of message) ∙ statuses.system message past ∙ sym (spelled_message_of message)
 
-pub looks_back : StatusesThatRunCanBeLeftOut → KeptLanesAreThoseOfTheRecording → (past : List Packet) (p : Packet) (group : ℕ) → AllByRecursion IsInRange past → IsInRange p →
-    piece_by compact_style (lane_state_behind past group) (whole_of past p) p
-    ≡ compact_piece (reverse (lane_bytes group (styled_behind compact_style past))) (whole_of past p) p
-looks_back statuses kept past (packet.Voice1 g m) group a h = kept.piece past (packet.Voice1 g m) group a h
-looks_back statuses kept past (packet.Voice2 g m) group a h = kept.piece past (packet.Voice2 g m) group a h
-looks_back statuses kept past (packet.System g m) group a h =
-    let before : List ℕ = after_reset (reverse (lane_bytes group (styled_behind compact_style past))) in
-    ap (λ l. l ++ []) (sym (system_whole statuses before m))
-looks_back statuses kept past (packet.Exclusive g f bytes) group a h = go (whole_of past (packet.Exclusive g f bytes))
-  where
-    go : (whole : Option (List ℕ)) → plain_piece whole (packet.Exclusive g f bytes) ≡ compact_piece (reverse (lane_bytes group (styled_behind compact_style past))) whole (packet.Exclusive g f bytes)
-    go None = refl
-    go (Some whole) = ap (λ l. l ++ []) (sym (exclusive_whole (after_reset (reverse (lane_bytes group (styled_behind compact_style past)))) whole))
-looks_back statuses kept past (packet.Utility s v) group a h = refl
-looks_back statuses kept past (packet.Data8 g wd) group a h = refl
-looks_back statuses kept past (packet.Flex g wd) group a h = refl
-looks_back statuses kept past (packet.Stream f s l wd x y) group a h = refl
-looks_back statuses kept past (packet.Reserved wd) group a h = refl
+module _ (paired : Bool) where
+  voice_begins : (running : Option ℕ) (registers : ℕ → Registers) (message : Voice2) →
+      Begins running (is_carried_voice paired message) (needed_voice paired registers message)
+  voice_begins running registers (voice2.NoteOff ch n v t a) = begins running (voice1.NoteOff ch n (release_down v)) []
+  voice_begins running registers (voice2.NoteOn ch n v t a) = begins running (voice1.NoteOn ch n (velocity_down v)) []
+  voice_begins running registers (voice2.PolyPressure ch n v) = begins running (voice1.PolyPressure ch n (down7 v)) []
+  voice_begins running registers (voice2.Control ch i v) = control_begins running (pairing paired (role_of i)) ch i v
+  voice_begins running registers (voice2.Set ch param v) = set_begins running ch param (down14 v) (is_null param) (is_selected (registers ch) param)
+  voice_begins running registers (voice2.Shift ch param v) = none_begin running
+  voice_begins running registers (voice2.Program ch p None) = begins running (voice1.Program ch p) []
+  voice_begins running registers (voice2.Program ch p (Some bank)) = program_begins running ch p bank (has_bank (registers ch) bank)
+  voice_begins running registers (voice2.Pressure ch v) = begins running (voice1.Pressure ch (down7 v)) []
+  voice_begins running registers (voice2.Bend ch v) = begins running (voice1.Bend ch (down14 v)) []
+  voice_begins running registers (voice2.NoteController ch k n i v) = none_begin running
+  voice_begins running registers (voice2.NoteBend ch n v) = none_begin running
+  voice_begins running registers (voice2.NoteManagement ch n f) = none_begin running
+
+  pub plain_is : (lane : LaneState) (whole : Option (List ℕ)) (p : Packet) → piece_by paired plain_style lane whole p ≡ plain_piece paired whole p
+  plain_is lane whole (packet.Voice1 g m) = refl
+  plain_is lane whole (packet.Voice2 g m) = refl
+  plain_is lane whole (packet.Utility s v) = refl
+  plain_is lane whole (packet.System g m) = refl
+  plain_is lane whole (packet.Exclusive g f bytes) = refl
+  plain_is lane whole (packet.Data8 g wd) = refl
+  plain_is lane whole (packet.Flex g wd) = refl
+  plain_is lane whole (packet.Stream f s l wd x y) = refl
+  plain_is lane whole (packet.Reserved wd) = refl
+
+  pub something : CarriedPacketsHaveAPiece paired → (style : Style) (lane : LaneState) (whole : Option (List ℕ)) (p : Packet) →
+      IsTrue (is_carried paired whole p) ↔ (0 < length (piece_by paired style lane whole p))
+  something pieces plain_style lane whole (packet.Voice1 g m) = pieces whole (packet.Voice1 g m)
+  something pieces plain_style lane whole (packet.Voice2 g m) = pieces whole (packet.Voice2 g m)
+  something pieces compact_style lane whole (packet.Voice1 g m) = begins lane.running m []
+  something pieces compact_style lane whole (packet.Voice2 g m) = voice_begins lane.running (registers_at lane.channels) m
+  something pieces style lane whole (packet.Utility s v) = pieces whole (packet.Utility s v)
+  something pieces style lane whole (packet.System g m) = pieces whole (packet.System g m)
+  something pieces style lane whole (packet.Exclusive g f bytes) = pieces whole (packet.Exclusive g f bytes)
+  something pieces style lane whole (packet.Data8 g wd) = pieces whole (packet.Data8 g wd)
+  something pieces style lane whole (packet.Flex g wd) = pieces whole (packet.Flex g wd)
+  something pieces style lane whole (packet.Stream f s l wd x y) = pieces whole (packet.Stream f s l wd x y)
+  something pieces style lane whole (packet.Reserved wd) = pieces whole (packet.Reserved wd)
+
+  pub lent1 : CarriedPacketsHaveAPiece paired → (style : Style) (lane : LaneState) (group : ℕ) (m : Voice1) →
+      cond (length (piece_by paired style lane None (packet.Voice1 group m)) == 0) 0 group ≡ lane_of (Some group) (is_carried paired None (packet.Voice1 group m))
+  lent1 pieces style lane group m =
+      lane_from group (is_carried paired None (packet.Voice1 group m)) (piece_by paired style lane None (packet.Voice1 group m)) (something pieces style lane None (packet.Voice1 group m))
+
+  pub lent2 : CarriedPacketsHaveAPiece paired → (style : Style) (lane : LaneState) (group : ℕ) (m : Voice2) →
+      cond (length (piece_by paired style lane None (packet.Voice2 group m)) == 0) 0 group ≡ lane_of (Some group) (is_carried paired None (packet.Voice2 group m))
+  lent2 pieces style lane group m =
+      lane_from group (is_carried paired None (packet.Voice2 group m)) (piece_by paired style lane None (packet.Voice2 group m)) (something pieces style lane None (packet.Voice2 group m))
+
+  pub lent_system : CarriedPacketsHaveAPiece paired → (style : Style) (lane : LaneState) (group : ℕ) (m : System) →
+      cond (length (piece_by paired style lane None (packet.System group m)) == 0) 0 group ≡ lane_of (Some group) (is_carried paired None (packet.System group m))
+  lent_system pieces style lane group m =
+      lane_from group (is_carried paired None (packet.System group m)) (piece_by paired style lane None (packet.System group m)) (something pieces style lane None (packet.System group m))
+
+  -- ---- the piece that looks back
+
+  pub looks_back : StatusesThatRunCanBeLeftOut → KeptLanesAreThoseOfTheRecording paired → (past : List Packet) (p : Packet) (group : ℕ) → AllByRecursion IsInRange past → IsInRange p →
+      piece_by paired compact_style (lane_state_behind paired past group) (whole_of past p) p
+      ≡ compact_piece paired (reverse (lane_bytes group (styled_behind paired compact_style past))) (whole_of past p) p
+  looks_back statuses kept past (packet.Voice1 g m) group a h = kept.piece past (packet.Voice1 g m) group a h
+  looks_back statuses kept past (packet.Voice2 g m) group a h = kept.piece past (packet.Voice2 g m) group a h
+  looks_back statuses kept past (packet.System g m) group a h =
+      let before : List ℕ = after_reset (reverse (lane_bytes group (styled_behind paired compact_style past))) in
+      ap (λ l. l ++ []) (sym (system_whole statuses before m))
+  looks_back statuses kept past (packet.Exclusive g f bytes) group a h = go (whole_of past (packet.Exclusive g f bytes))
+    where
+      go : (whole : Option (List ℕ)) → plain_piece paired whole (packet.Exclusive g f bytes) ≡ compact_piece paired (reverse (lane_bytes group (styled_behind paired compact_style past))) whole (packet.Exclusive g f bytes)
+      go None = refl
+      go (Some whole) = ap (λ l. l ++ []) (sym (exclusive_whole (after_reset (reverse (lane_bytes group (styled_behind paired compact_style past)))) whole))
+  looks_back statuses kept past (packet.Utility s v) group a h = refl
+  looks_back statuses kept past (packet.Data8 g wd) group a h = refl
+  looks_back statuses kept past (packet.Flex g wd) group a h = refl
+  looks_back statuses kept past (packet.Stream f s l wd x y) group a h = refl
+  looks_back statuses kept past (packet.Reserved wd) group a h = refl

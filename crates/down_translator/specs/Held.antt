@@ -1,5 +1,5 @@
 -- What the translator holds, and what that tells of one more packet.
-use Rattle.std.specs.Prelude.{ℕ, List, Option, Some, None}
+use Rattle.std.specs.Prelude.{ℕ, Bool, List, Option, Some, None}
 use Rattle.std.specs.Option.{option_map, option_and_then}
 use Rattle.ump_grammar.specs.declared.packet.Packet.{Packet}
 use Rattle.ump_grammar.specs.declared.packet.Packet.TheVariants as packet
@@ -17,13 +17,18 @@ pub record DownState : Type 0 where
   pub exclusives : Table
   pub lanes : Lanes
 
--- a new translator in a style, with this limit for the bytes of an exclusive: nothing is open, and nothing is written
-abbrev pub new_down : Style → ℕ → DownState
-new_down style limit = record { exclusives = empty_table limit; lanes = new_lanes style }
+-- a new translator in a style, with this limit for the bytes of an exclusive, with paired controllers or without: nothing is open, and
+-- nothing is written
+abbrev pub new_down : Bool → Style → ℕ → DownState
+new_down paired style limit = record { exclusives = empty_table limit; lanes = new_lanes paired style }
 
 -- the style of its lanes
 abbrev pub style_of : DownState → Style
 style_of state = state.lanes.style
+
+-- whether controllers are paired
+abbrev pub paired_of : DownState → Bool
+paired_of state = state.lanes.paired
 
 -- the most bytes of an exclusive between F0 and F7
 abbrev pub limit_of : DownState → ℕ

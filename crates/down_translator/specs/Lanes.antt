@@ -1,12 +1,14 @@
 -- The lanes, as they are written in a style: what is written of a packet, and what is kept of each lane in compact style.
-use Rattle.std.specs.Prelude.{ℕ, Bool, true, false, List, drop, replicate, slice_index_or, slice_set, Option, Some, None}
+use Rattle.std.specs.Prelude.{◌≡◌, ℕ, Bool, true, false, List, drop, replicate, slice_index_or, slice_set, Option, Some, None}
 use Rattle.voice_messages.specs.declared.voice1.System.{System}
 use Rattle.voice_messages.specs.declared.voice1.System.TheVariants as system
 use Rattle.voice_messages.specs.declared.voice2.Voice2.{Voice2}
+use Rattle.voice_messages.specs.declared.voice2.Voice2.TheVariants as voice2
 use Rattle.ump_grammar.specs.declared.packet.Packet.{Packet}
 use Rattle.ump_grammar.specs.declared.packet.Packet.TheVariants as packet
 use Rattle.midi1_bytes.specs.Messages.{Message, message_of}
 use Rattle.midi1_bytes.specs.RunningStatus.{running_after}
+use Rattle.voice_state.specs.Controllers.{Role, channel_mode, coarse, plain, reset_all}
 use Rattle.voice_state.specs.Registers.{Registers}
 use Rattle.voice_state.specs.Plain.{plain_piece, voice_messages}
 use Rattle.voice_state.specs.Compact.{needed_voice}
@@ -22,28 +24,40 @@ abbrev pub style_in : NamedStyle → Style
 style_in Plain = plain_style
 style_in Compact = compact_style
 
--- the style, and what is kept of each of the sixteen lanes; in plain style that stays as it begins
+-- the style, whether controllers are paired, and what is kept of each of the sixteen lanes; in plain style that stays as it begins
 pub record Lanes : Type 0 where
   pub style : Style
+  pub paired : Bool
   pub states : List LaneState
 
-abbrev pub new_lanes : Style → Lanes
-new_lanes style = record { style = style; states = replicate 16 new_lane }
+abbrev pub new_lanes : Bool → Style → Lanes
+new_lanes paired style = record { style = style; paired = paired; states = replicate 16 new_lane }
 
 abbrev pub lane_at : List LaneState → ℕ → LaneState
 lane_at states lane = slice_index_or states lane new_lane
 
 -- ---- what is written
 
+-- a control change of MIDI 2.0 that is carried by one of MIDI 1.0, and one that is carried by two
+abbrev pub is_single : Role → Bool
+is_single channel_mode = true
+is_single reset_all = true
+is_single plain = true
+is_single _ = false
+
+abbrev pub is_pair : Role → Bool
+is_pair coarse = true
+is_pair _ = false
+
+-- a message other than a control change where controllers are paired
+abbrev pub IsAlone : Bool → Voice2 → Type 0
+IsAlone paired (voice2.Control channel index value) = paired ≡ false
+IsAlone paired message = Unit {0}
+
 -- which status bytes are written
 abbrev pub statuses_in : Style → LaneState → Statuses
 statuses_in plain_style lane = All
 statuses_in compact_style lane = Changes lane.running
-
--- the messages of a MIDI 2.0 voice message
-abbrev pub needed_in : Style → (ℕ → Registers) → Voice2 → List Message
-needed_in plain_style registers message = voice_messages message
-needed_in compact_style registers message = needed_voice registers message
 
 -- messages without the two that select, where what they select is there
 abbrev pub unless_there : Bool → List Message → List Message
@@ -55,17 +69,6 @@ abbrev pub is_there : Style → Bool → Bool
 is_there plain_style there = false
 is_there compact_style there = there
 
--- The piece of a packet, with the bytes of the exclusive that it ends, if it ends one. The status byte of a system message or of an
--- exclusive is never the running status.
-abbrev pub voice_piece : Style → LaneState → Packet → List ℕ
-voice_piece plain_style lane packet = plain_piece None packet
-voice_piece compact_style lane packet = compact_by lane None packet
-
-abbrev pub piece_by : Style → LaneState → Option (List ℕ) → Packet → List ℕ
-piece_by style lane whole (packet.Voice1 group message) = voice_piece style lane (packet.Voice1 group message)
-piece_by style lane whole (packet.Voice2 group message) = voice_piece style lane (packet.Voice2 group message)
-piece_by style lane whole packet = plain_piece whole packet
-
 -- ---- what is kept
 
 abbrev pub states_by : Style → ℕ → LaneState → List LaneState → List LaneState
@@ -74,7 +77,7 @@ states_by compact_style group lane states = slice_set states group lane
 
 -- a lane of which this is kept from now on
 abbrev pub with_lane : ℕ → LaneState → Lanes → Lanes
-with_lane group lane lanes = record { style = lanes.style; states = states_by lanes.style group lane lanes.states }
+with_lane group lane lanes = record { style = lanes.style; paired = lanes.paired; states = states_by lanes.style group lane lanes.states }
 
 -- by the status bytes that are written from now on, and a change of registers
 abbrev pub kept_by : ℕ → Statuses → (List Registers → List Registers) → Lanes → Lanes
@@ -99,8 +102,27 @@ lane_written whole _ = None
 abbrev pub lanes_after : Option ℕ → Option (List ℕ) → Packet → Lanes → Lanes
 lanes_after None whole packet lanes = lanes
 lanes_after (Some group) whole packet lanes =
-    with_lane group (lane_state_after (lane_at lanes.states group) whole packet) lanes
+    with_lane group (lane_state_after lanes.paired (lane_at lanes.states group) whole packet) lanes
 
 -- where an exclusive ends, it ends the running status
 abbrev pub with_exclusive : ℕ → Lanes → Lanes
 with_exclusive group lanes = with_lane group (record { running = None; channels = (lane_at lanes.states group).channels }) lanes
+
+-- ---- with paired controllers or without
+
+module _ (paired : Bool) where
+  -- the messages of a MIDI 2.0 voice message
+  abbrev pub needed_in : Style → (ℕ → Registers) → Voice2 → List Message
+  needed_in plain_style registers message = voice_messages paired message
+  needed_in compact_style registers message = needed_voice paired registers message
+
+  -- The piece of a packet, with the bytes of the exclusive that it ends, if it ends one. The status byte of a system message or of an
+  -- exclusive is never the running status.
+  abbrev pub voice_piece : Style → LaneState → Packet → List ℕ
+  voice_piece plain_style lane packet = plain_piece paired None packet
+  voice_piece compact_style lane packet = compact_by paired lane None packet
+
+  abbrev pub piece_by : Style → LaneState → Option (List ℕ) → Packet → List ℕ
+  piece_by style lane whole (packet.Voice1 group message) = voice_piece style lane (packet.Voice1 group message)
+  piece_by style lane whole (packet.Voice2 group message) = voice_piece style lane (packet.Voice2 group message)
+  piece_by style lane whole packet = plain_piece paired whole packet

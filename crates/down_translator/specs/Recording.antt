@@ -1,5 +1,5 @@
 -- What the translator answers to the packets of a recording, one after the other. Packets and answers are listed newest first.
-use Rattle.std.specs.Prelude.{◌≡◌, ℕ, ◌==◌, if◌then◌else◌, List, [], ◌∷◌, ◌++◌, length, map, Some, None}
+use Rattle.std.specs.Prelude.{◌≡◌, ℕ, ◌==◌, if◌then◌else◌, List, [], ◌∷◌, ◌++◌, length, map, Some, None, Bool}
 use Rattle.std.specs.List.{AllByRecursion}
 use Rattle.std.specs.Option.{option_to_list}
 use Rattle.ump_grammar.specs.declared.packet.Packet.{Packet}
@@ -22,26 +22,10 @@ packets_of past = map (λ placed. placed.packet) past
 abbrev pub AreInRange : List Placed → Type 0
 AreInRange past = AllByRecursion (λ placed. IsInRange placed.packet) past
 
--- what is kept of the lanes after these packets, and what is held after them
-abbrev pub lanes_of : Style → ℕ → List Placed → Lanes
-lanes_of style room [] = new_lanes style
-lanes_of style room (placed ∷ past) =
-    lanes_behind placed.packet (record { exclusives = table_after room (parts_of past); lanes = lanes_of style room past })
-
-abbrev pub state_of : Style → ℕ → List Placed → DownState
-state_of style room past = record { exclusives = table_after room (parts_of past); lanes = lanes_of style room past }
-
 -- no packet is refused after those before it
 abbrev pub AreAccepted : ℕ → List Placed → Type 0
 AreAccepted room [] = Unit {0}
 AreAccepted room (placed ∷ past) = (bad_step (Some room) (parts_of past) placed.packet ≡ None) × AreAccepted room past
-
--- each answer is that of its packet after those before it
-abbrev pub AreSteps : Style → ℕ → List Placed → List Carried → Type 0
-AreSteps style room [] [] = Unit {0}
-AreSteps style room (placed ∷ past) (carried ∷ before) =
-    IsStep (state_of style room past) placed.offset placed.packet carried × AreSteps style room past before
-AreSteps style room _ _ = ⊥
 
 -- what is put for an answer: nothing where its piece is empty
 abbrev pub pair_put : Carried → List (ℕ × List ℕ)
@@ -56,3 +40,20 @@ pairs_put (carried ∷ before) = pairs_put before ++ pair_put carried
 abbrev pub lines_put : List Carried → List Listed
 lines_put [] = []
 lines_put (carried ∷ before) = lines_put before ++ option_to_list (line_in carried)
+
+module _ (paired : Bool) where
+  -- what is kept of the lanes after these packets, and what is held after them
+  abbrev pub lanes_of : Style → ℕ → List Placed → Lanes
+  lanes_of style room [] = new_lanes paired style
+  lanes_of style room (placed ∷ past) =
+      lanes_behind placed.packet (record { exclusives = table_after room (parts_of past); lanes = lanes_of style room past })
+
+  abbrev pub state_of : Style → ℕ → List Placed → DownState
+  state_of style room past = record { exclusives = table_after room (parts_of past); lanes = lanes_of style room past }
+
+  -- each answer is that of its packet after those before it
+  abbrev pub AreSteps : Style → ℕ → List Placed → List Carried → Type 0
+  AreSteps style room [] [] = Unit {0}
+  AreSteps style room (placed ∷ past) (carried ∷ before) =
+      IsStep (state_of style room past) placed.offset placed.packet carried × AreSteps style room past before
+  AreSteps style room _ _ = ⊥

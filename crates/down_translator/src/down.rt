@@ -1,13 +1,14 @@
 // The translator down, in both styles.
-ghost use Rattle.std.specs.Prelude.{◌≡◌, ◌≤◌, ◌<◌, IfOk, Some, None, length};
+ghost use Rattle.std.specs.Prelude.{◌≡◌, ◌≤◌, ◌<◌, IfOk, true, Some, None, length};
 ghost use Rattle.sysex_groups.specs.Exclusives.{IsData};
 ghost use Rattle.ump_grammar.specs.Ranges.{IsPacket};
 ghost use Rattle.ump_grammar.specs.declared.packet.Packet.TheVariants as packet;
+ghost use Rattle.voice_messages.specs.declared.voice2.Voice2.TheVariants as voice2;
 
 use crate::carried::Carried;
 use crate::lanes::Lanes;
-use crate::listing::{line, voice_kind};
-use crate::pieces::{Piece, write_system, write_voice1, write_voice2};
+use crate::listing::{line, paired_kind, voice_kind};
+use crate::pieces::{Piece, write_paired, write_system, write_voice1, write_voice2};
 use crate::refusals::{bad_voice1, bad_voice2};
 use crate::style::Style;
 use midi_edge::{NoMemory, U4};
@@ -15,7 +16,7 @@ use std::alloc::Global;
 use std::marker::Model;
 use sysex_groups::{Fed, Groups};
 use ump_grammar::Packet;
-use voice_messages::{Form, System, Voice1, Voice2};
+use voice_messages::{Form, System, U7, Voice1, Voice2};
 use voice_state::laws::carried_packets_have_a_piece;
 use voice_state::{BadStep, Kind, Listed};
 
@@ -41,20 +42,20 @@ impl Down {
     ghost use Rattle.std.specs.Option.{option_map};
     ghost use Rattle.sysex_groups.specs.Table.{begun_in};
     ghost use Rattle.down_translator.specs.Held.{down_after, new_down};
-    ghost use Rattle.down_translator.specs.Lanes.{style_in};
+    ghost use Rattle.down_translator.specs.Lanes.{IsAlone, style_in};
     ghost use Rattle.down_translator.specs.Lend.{KeepsDown};
     ghost use Rattle.down_translator.specs.Step.{Translates};
 
-    /// A translator that writes in this style, in which nothing is open. Reserves memory for what is kept of the lanes, and for
-    /// exclusives of `room` bytes between F0 and F7 in each group, 6 to 1,048,576; no other call takes any. `NoMemory` when there
-    /// isn't that much.
-    pub fn new(alloc: Global, room: u32, style: Style) -> Result<Down, NoMemory>
+    /// A translator that writes in this style, in which nothing is open, with paired controllers or without (own rule). Reserves
+    /// memory for what is kept of the lanes, and for exclusives of `room` bytes between F0 and F7 in each group, 6 to 1,048,576; no
+    /// other call takes any. `NoMemory` when there isn't that much.
+    pub fn new(alloc: Global, room: u32, style: Style, paired: bool) -> Result<Down, NoMemory>
         requires least { 6 ≤ room }
         requires most { room ≤ 1048576 }
-        ensures { IfOk result (λ down. down ≡ new_down (style_in style) room) }
+        ensures { IfOk result (λ down. down ≡ new_down paired (style_in style) room) }
     {
         let groups = Groups::new(alloc, room)?;
-        let lanes = Lanes::new(alloc, style)?;
+        let lanes = Lanes::new(alloc, style, paired)?;
         Ok(Down {
             groups,
             lanes,
@@ -122,9 +123,18 @@ impl Down {
         }
     }
 
-    #[tactic(auto, using(crate::proofs::StyledLaws::lent2))]
     #[inline(always)]
-    fn voice2(&mut self, group: U4, message: &Voice2, offset: u64) -> Result<Carried<'_>, BadStep>
+    fn paired(&self) -> bool
+        ensures { result ≡ self.now.lanes.paired }
+    {
+        self.lanes.paired()
+    }
+
+    /// Takes a voice message of MIDI 2.0, except for a control change where controllers are paired.
+    #[tactic(auto, using(crate::proofs::StyledLaws::lent2, crate::proofs::PieceLaws::alone_kind))]
+    #[inline(always)]
+    fn unpaired(&mut self, group: U4, message: &Voice2, offset: u64) -> Result<Carried<'_>, BadStep>
+        requires { IsAlone self.old.lanes.paired message.now }
         ensures answer { Translates self.old offset (packet.Voice2 group message.now) result }
         ensures* after { sem 𝓛 (KeepsDown self.entry
             (down_after offset (packet.Voice2 group message.now) self.old)) }
@@ -137,6 +147,56 @@ impl Down {
                 write_voice2(&mut self.piece, &mut self.lanes, group, message);
                 Ok(Carried::lent(group, &self.piece, line(offset, group, kind)))
             }
+        }
+    }
+
+    /// Takes a control change of MIDI 2.0 where controllers are paired.
+    #[tactic(auto, using(crate::proofs::StyledLaws::lent2))]
+    #[inline(always)]
+    fn paired_control(
+        &mut self,
+        group: U4,
+        channel: U4,
+        index: U7,
+        value: u32,
+        offset: u64,
+    ) -> Result<Carried<'_>, BadStep>
+        requires { self.old.lanes.paired ≡ true }
+        ensures answer { Translates self.old offset
+            (packet.Voice2 group (voice2.Control channel index value)) result }
+        ensures* after { sem 𝓛 (KeepsDown self.entry
+            (down_after offset (packet.Voice2 group (voice2.Control channel index value)) self.old)) }
+    {
+        carried_packets_have_a_piece();
+        match write_paired(
+            &mut self.piece,
+            &mut self.lanes,
+            group,
+            channel,
+            index,
+            value,
+        ) {
+            Some(bad) => Err(bad),
+            None => {
+                let kind = paired_kind(index);
+                Ok(Carried::lent(group, &self.piece, line(offset, group, kind)))
+            }
+        }
+    }
+
+    #[inline(always)]
+    fn voice2(&mut self, group: U4, message: &Voice2, offset: u64) -> Result<Carried<'_>, BadStep>
+        ensures answer { Translates self.old offset (packet.Voice2 group message.now) result }
+        ensures* after { sem 𝓛 (KeepsDown self.entry
+            (down_after offset (packet.Voice2 group message.now) self.old)) }
+    {
+        match *message {
+            Voice2::Control {
+                channel,
+                index,
+                value,
+            } if self.paired() => self.paired_control(group, channel, index, value, offset),
+            _ => self.unpaired(group, message, offset),
         }
     }
 

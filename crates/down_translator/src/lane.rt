@@ -162,6 +162,13 @@ impl Lane {
         self.channels[channel.get() as usize].select(param);
     }
 
+    /// Keeps the running status.
+    pub fn keep_running(&mut self, running: Option<u8>)
+        ensures { self.new ≡ record { running = running; channels = self.old.channels } }
+    {
+        self.running = running;
+    }
+
     /// Keeps the running status, and a bank.
     pub fn keep_program(&mut self, running: Option<u8>, channel: U4, bank: Bank)
         ensures { self.new ≡ record {

@@ -35,6 +35,7 @@ use voice_messages::{Bank, Form, Param, System, Voice1};
 #[derive(Drop)]
 pub struct Lanes {
     style: Style,
+    paired: bool,
     lanes: Vec<Lane>,
 }
 
@@ -44,15 +45,20 @@ impl Model for Lanes {
 
     ghost Value = { definition.Lanes };
 
-    ghost view = { λ l. record { style = definition.style_in l.style; states = l.lanes.items } };
+    ghost view = { λ l. record {
+      style = definition.style_in l.style;
+      paired = l.paired;
+      states = l.lanes.items;
+    } };
 
     ghost invariant = { λ l. length l.lanes.items ≡ 16 };
 }
 
 impl Lanes {
-    /// Sixteen lanes of which nothing is written. `NoMemory` when there is none for what is kept.
-    pub fn new(alloc: Global, style: Style) -> Result<Lanes, NoMemory>
-        ensures { IfOk result (λ lanes. lanes ≡ new_lanes (style_in style)) }
+    /// Sixteen lanes of which nothing is written, with paired controllers or without (own rule). `NoMemory` when there is none for
+    /// what is kept.
+    pub fn new(alloc: Global, style: Style, paired: bool) -> Result<Lanes, NoMemory>
+        ensures { IfOk result (λ lanes. lanes ≡ new_lanes paired (style_in style)) }
     {
         let Ok(mut lanes) = Vec::with_capacity(alloc, 16) else {
             return Err(NoMemory);
@@ -65,7 +71,19 @@ impl Lanes {
                 return Err(NoMemory);
             }
         }
-        Ok(Lanes { style, lanes })
+        Ok(Lanes {
+            style,
+            paired,
+            lanes,
+        })
+    }
+
+    /// Whether controllers are paired (own rule).
+    #[inline(always)]
+    pub fn paired(&self) -> bool
+        ensures { result ≡ self.now.paired }
+    {
+        self.paired
     }
 
     /// Which status bytes are written in the lane of a group.
@@ -147,6 +165,18 @@ impl Lanes {
         match (self.style, statuses) {
             (Style::Compact, Statuses::Changes(running)) => {
                 self.lanes[group.get() as usize].keep_program(running, channel, bank);
+            }
+            _ => {}
+        }
+    }
+
+    /// Keeps the status bytes that are written from now on: a pair leaves the registers as they are.
+    pub fn keep_statuses(&mut self, group: U4, statuses: Statuses)
+        ensures { self.new ≡ kept_by group statuses (λ channels. channels) self.old }
+    {
+        match (self.style, statuses) {
+            (Style::Compact, Statuses::Changes(running)) => {
+                self.lanes[group.get() as usize].keep_running(running);
             }
             _ => {}
         }

@@ -1,5 +1,5 @@
-// What holds of all recordings. Packets and answers are listed newest first.
-ghost use Rattle.std.specs.Prelude.{◌≡◌, ◌↔◌, ◌<◌, ◌≤◌, ℕ, List, [], length, reverse, Some, IsTrue};
+// What holds of all recordings, with paired controllers or without. Packets and answers are listed newest first.
+ghost use Rattle.std.specs.Prelude.{◌≡◌, ◌↔◌, ◌<◌, ◌≤◌, ℕ, Bool, List, [], length, reverse, Some, IsTrue};
 ghost use Rattle.ump_grammar.specs.declared.packet.Packet.{Packet};
 ghost use Rattle.voice_state.specs.Parts.{Placed};
 ghost use Rattle.voice_state.specs.Listing.{is_carried, lines_behind};
@@ -7,7 +7,7 @@ ghost use Rattle.voice_state.specs.Styles.{Style, styled_behind, styled_pairs};
 ghost use Rattle.voice_state.specs.Translation.{IsTranslation};
 ghost use Rattle.down_translator.specs.declared.carried.Carried.{Carried};
 ghost use Rattle.down_translator.specs.Carried.{lane_in};
-ghost use Rattle.down_translator.specs.Held.{DownState, whole_in};
+ghost use Rattle.down_translator.specs.Held.{DownState, paired_of, whole_in};
 ghost use Rattle.down_translator.specs.Laws.{
   OneMoreAcceptedPacketAddsItsPairAndLine,
   SpelledPacketsAreInRange,
@@ -44,7 +44,7 @@ pub fn spelled_packets_are_in_range()
 /// packets: the exclusive that it ends, where the exclusive that its group has open started, and why it is refused. What is held
 /// after it is what is held after all of them.
 pub fn what_is_held_is_the_definition()
-    ensures { WhatIsHeldIsTheDefinition }
+    ensures { (paired : Bool) → WhatIsHeldIsTheDefinition paired }
 {
     fed_parts_are_the_definition();
 }
@@ -52,7 +52,7 @@ pub fn what_is_held_is_the_definition()
 /// In compact style the translator keeps, of the lane of each group, the running status and the registers that the lane's bytes
 /// after the last System Reset leave; each of these that is set is what all the lane's bytes leave.
 pub fn what_is_kept_is_the_meaning()
-    ensures { WhatIsKeptIsTheMeaning }
+    ensures { (paired : Bool) → WhatIsKeptIsTheMeaning paired }
 {
     fed_parts_are_the_definition();
     rooms_that_are_not_passed_do_not_matter();
@@ -65,7 +65,8 @@ pub fn what_is_kept_is_the_meaning()
 pub fn empty_pieces_are_not_carried()
     ensures carried { (state : DownState) (offset : ℕ) (packet : Packet) (carried : Carried) →
         IsStep state offset packet carried →
-        IsTrue (is_carried (whole_in state packet) packet) ↔ (0 < length carried.piece.now) }
+        IsTrue (is_carried (paired_of state) (whole_in state packet) packet)
+        ↔ (0 < length carried.piece.now) }
     ensures lane { (state : DownState) (offset : ℕ) (packet : Packet) (carried : Carried) →
         IsStep state offset packet carried → carried.piece.now ≡ [] → lane_in carried ≡ 0 }
 {
@@ -75,7 +76,7 @@ pub fn empty_pieces_are_not_carried()
 /// One more packet that the translator accepts, after packets that it accepted: what is put for the answer is the pair of the
 /// packet in the translator's style, and what is listed is its line, which a limit that isn't exceeded doesn't change.
 pub fn one_more_accepted_packet_adds_its_pair_and_line()
-    ensures { OneMoreAcceptedPacketAddsItsPairAndLine }
+    ensures { (paired : Bool) → OneMoreAcceptedPacketAddsItsPairAndLine paired }
 {
     fed_parts_are_the_definition();
     rooms_that_are_not_passed_do_not_matter();
@@ -88,15 +89,17 @@ pub fn one_more_accepted_packet_adds_its_pair_and_line()
 /// The answers to the packets of a recording, one after the other: no packet is refused, what is put is the pairs of the packets
 /// in the translator's style, and what is listed is their lines.
 pub fn answers_are_the_translation()
-    ensures accepted { (style : Style) (room : ℕ) (past : List Placed) (answers : List Carried) →
-        6 ≤ room → AreInRange past → AreSteps style room past answers →
+    ensures accepted { (paired : Bool) (style : Style) (room : ℕ)
+        (past : List Placed) (answers : List Carried) →
+        6 ≤ room → AreInRange past → AreSteps paired style room past answers →
         AreAccepted room past }
-    ensures pairs { (style : Style) (room : ℕ) (past : List Placed) (answers : List Carried) →
-        6 ≤ room → AreInRange past → AreSteps style room past answers →
-        pairs_put answers ≡ styled_behind style (packets_of past) }
-    ensures lines { (style : Style) (room : ℕ) (past : List Placed) (answers : List Carried) →
-        6 ≤ room → AreInRange past → AreSteps style room past answers →
-        lines_put answers ≡ lines_behind (Some room) past }
+    ensures pairs { (paired : Bool) (style : Style) (room : ℕ)
+        (past : List Placed) (answers : List Carried) →
+        6 ≤ room → AreInRange past → AreSteps paired style room past answers →
+        pairs_put answers ≡ styled_behind paired style (packets_of past) }
+    ensures lines { (paired : Bool) (style : Style) (room : ℕ) (past : List Placed) (answers : List Carried) →
+        6 ≤ room → AreInRange past → AreSteps paired style room past answers →
+        lines_put answers ≡ lines_behind paired (Some room) past }
 {
     fed_parts_are_the_definition();
     rooms_that_are_not_passed_do_not_matter();
@@ -106,16 +109,18 @@ pub fn answers_are_the_translation()
     statuses_that_run_can_be_left_out();
 }
 
-/// For a recording in the order in which its packets come, what is put for the answers is its pairs in the translator's style, which
-/// are its translation: one pair for each packet that is carried, in its group's lane, and after each packet the bytes so far of each
-/// lane mean what the packets so far of its group mean.
+/// For a recording in the order in which its packets come, what is put for the answers is its pairs in the translator's style.
+/// They are its translation: one pair for each packet that is carried, in its group's lane, and after each packet the bytes so far
+/// of each lane mean what the packets so far of its group mean.
 pub fn answers_mean_the_packets()
-    ensures pairs { (style : Style) (room : ℕ) (packets : List Placed) (answers : List Carried) →
-        6 ≤ room → AreInRange packets → AreSteps style room (reverse packets) answers →
-        pairs_put answers ≡ styled_pairs style (packets_of packets) }
-    ensures translation { (style : Style) (room : ℕ) (packets : List Placed) (answers : List Carried) →
-        6 ≤ room → AreInRange packets → AreSteps style room (reverse packets) answers →
-        IsTranslation (packets_of packets) (pairs_put answers) }
+    ensures pairs { (paired : Bool) (style : Style) (room : ℕ)
+        (packets : List Placed) (answers : List Carried) →
+        6 ≤ room → AreInRange packets → AreSteps paired style room (reverse packets) answers →
+        pairs_put answers ≡ styled_pairs paired style (packets_of packets) }
+    ensures translation { (paired : Bool) (style : Style) (room : ℕ)
+        (packets : List Placed) (answers : List Carried) →
+        6 ≤ room → AreInRange packets → AreSteps paired style room (reverse packets) answers →
+        IsTranslation paired (packets_of packets) (pairs_put answers) }
 {
     fed_parts_are_the_definition();
     rooms_that_are_not_passed_do_not_matter();

@@ -1,10 +1,10 @@
 // The kinds of the lines of MIDI 2.0 voice messages.
-ghost use Rattle.std.specs.Prelude.{◌≡◌, if◌then◌else◌, Some, None};
+ghost use Rattle.std.specs.Prelude.{◌≡◌, if◌then◌else◌, true, false, Some, None};
 ghost use Rattle.std.specs.Option.{option_map};
 ghost use Rattle.voice_state.specs.declared.listed.Kind.TheVariants as kinds;
 ghost use Rattle.voice_state.specs.Registers.{is_null};
-ghost use Rattle.voice_state.specs.Controllers.{role_of};
-ghost use Rattle.voice_state.specs.Listing.{attribute_kind, voice_kind, is_misplaced};
+ghost use Rattle.voice_state.specs.Controllers.{pairing, role_of};
+ghost use Rattle.voice_state.specs.Listing.{attribute_kind, control_kind, voice_kind};
 
 use midi_edge::U4;
 use voice_messages::{Param, U7, Voice2};
@@ -20,9 +20,10 @@ fn attribute_kind(attribute_type: u8) -> Option<Kind>
     }
 }
 
-/// Whether a control change has an index that has packets of its own in MIDI 2.0, apart from the refused ones.
-fn is_misplaced(index: U7) -> bool
-    ensures { result ≡ is_misplaced (role_of index) }
+/// The kind of a control change whose index has packets of its own in MIDI 2.0, apart from the refused ones, without pairs.
+#[inline(always)]
+fn control_kind(index: U7) -> Option<Kind>
+    ensures { result ≡ control_kind (pairing false (role_of index)) }
 {
     match ControlRole::of(index) {
         ControlRole::BankMsb
@@ -30,22 +31,18 @@ fn is_misplaced(index: U7) -> bool
         | ControlRole::DataMsb
         | ControlRole::DataLsb
         | ControlRole::NumberMsb(_)
-        | ControlRole::NumberLsb(_) => true,
-        ControlRole::DataIncrement
-        | ControlRole::DataDecrement
-        | ControlRole::ResetAll
-        | ControlRole::ChannelMode
-        | ControlRole::Plain => false,
+        | ControlRole::NumberLsb(_) => Some(Kind::MisplacedController),
+        _ => None,
     }
 }
 
-fn control_kind(index: U7) -> Option<Kind>
-    ensures { result ≡ (if is_misplaced (role_of index) then Some kinds.MisplacedController else None) }
+/// The same where controllers are paired, with the LSB of a pair (own rules).
+pub fn paired_kind(index: U7) -> Option<Kind>
+    ensures { result ≡ control_kind (pairing true (role_of index)) }
 {
-    if is_misplaced(index) {
-        Some(Kind::MisplacedController)
-    } else {
-        None
+    match ControlRole::of(index) {
+        ControlRole::Fine => Some(Kind::FineController),
+        _ => control_kind(index),
     }
 }
 
@@ -69,10 +66,11 @@ fn shift_kind(param: &Param) -> Kind
     }
 }
 
-/// The kind that a MIDI 2.0 voice message is listed as, if it is listed.
+/// The kind that a MIDI 2.0 voice message is listed as, if it is listed, without paired controllers (own rules). Inlined,
+/// since a packet that a call sees a part of would not stay in registers.
 #[inline(always)]
 pub fn voice_kind(message: &Voice2) -> Option<Kind>
-    ensures { result ≡ voice_kind message.now }
+    ensures { result ≡ voice_kind false message.now }
 {
     match message {
         Voice2::NoteOff { attribute_type, .. } | Voice2::NoteOn { attribute_type, .. } => {

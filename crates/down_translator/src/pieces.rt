@@ -1,17 +1,18 @@
 // The pieces of voice and system messages.
-ghost use Rattle.std.specs.Prelude.{◌≡◌, ◌≢◌, ◌<◌, ◌≤◌, ◌+◌, ◌++◌, [], ◌∷◌, length, None, Some, MatchOption};
+ghost use Rattle.std.specs.Prelude.{◌≡◌, ◌≢◌, ◌<◌, ◌≤◌, ◌+◌, ◌++◌, [], ◌∷◌, length, true, false, None, Some, IfSome, MatchOption};
 ghost use Rattle.std.specs.List.{flat_map};
 ghost use Rattle.midi1_bytes.specs.Messages.{message_of, spelled, voice};
 ghost use Rattle.voice_messages.specs.declared.voice1.Voice1.TheVariants as voice1;
 ghost use Rattle.voice_messages.specs.declared.voice2.Voice2.TheVariants as voice2;
-ghost use Rattle.voice_state.specs.Controllers.{role_of};
-ghost use Rattle.voice_state.specs.Listing.{is_carried_role};
-ghost use Rattle.voice_state.specs.Plain.{set_messages, program_messages, voice_messages};
+ghost use Rattle.voice_state.specs.Controllers.{pairing, role_of};
+ghost use Rattle.voice_state.specs.Plain.{pair_messages, program_messages, set_messages, voice_messages};
 ghost use Rattle.ump_grammar.specs.declared.packet.Packet.TheVariants as packet;
-ghost use Rattle.down_translator.specs.Lanes.{lane_at, lanes_after, piece_by, unless_there};
+ghost use Rattle.voice_state.specs.Refusal.{bad_control};
+ghost use Rattle.down_translator.specs.Lanes.{IsAlone, is_pair, is_single, lane_at, lanes_after, piece_by, unless_there};
 ghost use Rattle.down_translator.specs.Statuses.{statuses_after_all, written_all};
 
 use crate::lanes::Lanes;
+use crate::refusals::bad_control;
 use crate::statuses::Statuses;
 use crate::voice::{
     lower_bend, lower_control, lower_note_off, lower_note_on, lower_poly_pressure, lower_pressure,
@@ -20,7 +21,7 @@ use bit_scaling::down14;
 use midi_edge::{ShortList, U4};
 use midi1_bytes::write_system as spell_system;
 use voice_messages::{Bank, Param, ParamKind, System, U7, U14, Voice1, Voice2};
-use voice_state::{ControlRole, is_null_param};
+use voice_state::{BadStep, ControlRole, is_null_param};
 
 /// The bytes of at most four messages.
 pub type Piece = ShortList<u8, 12>;
@@ -47,13 +48,12 @@ fn fill_system(piece: &mut Piece, message: &System)
     piece.extend(bytes.as_slice());
 }
 
-/// Whether MIDI 2.0 sends the controller as a control change.
+/// Whether a control change of MIDI 2.0 is carried by one of MIDI 1.0, without pairs.
 #[inline(always)]
-fn is_carried_index(index: U7) -> bool
-    ensures { result ≡ is_carried_role (role_of index) }
+fn is_single_index(index: U7) -> bool
+    ensures { result ≡ is_single (pairing false (role_of index)) }
 {
     match ControlRole::of(index) {
-        ControlRole::ResetAll | ControlRole::ChannelMode | ControlRole::Plain => true,
         ControlRole::BankMsb
         | ControlRole::BankLsb
         | ControlRole::DataMsb
@@ -62,7 +62,21 @@ fn is_carried_index(index: U7) -> bool
         | ControlRole::DataDecrement
         | ControlRole::NumberMsb(_)
         | ControlRole::NumberLsb(_) => false,
+        _ => true,
     }
+}
+
+/// Adds both halves of a pair: the MSB of its value of 14 bits, and the LSB, whose index is higher by 32 (own rule).
+fn add_pair(piece: &mut Piece, statuses: &mut Statuses, channel: U4, index: U7, value: U14)
+    requires empty { piece.old ≡ [] }
+    requires within { index + 32 < 128 }
+    ensures bytes { piece.new ≡ written_all statuses.old (pair_messages channel index value) }
+    ensures after { statuses.new ≡ statuses_after_all (pair_messages channel index value) statuses.old }
+{
+    let index = index.get() as u32;
+    let value = value.get() as u32;
+    statuses.add(piece, &control(channel, index, U7::low_bits(value / 128)));
+    statuses.add(piece, &control(channel, index + 32, U7::low_bits(value)));
 }
 
 /// Adds the control changes that set a parameter: its number, 101 and 100 or 99 and 98, unless that is selected, and its value of
@@ -116,11 +130,13 @@ fn add_program(
     statuses.add(piece, &Voice1::Program { channel, program });
 }
 
-/// The one message that is the plain piece of a MIDI 2.0 voice message; `None` exactly when the piece has none or several.
+/// The one message that is the plain piece of a MIDI 2.0 voice message without pairs; `None` exactly when the piece has none or
+/// several.
+#[tactic(auto, using(crate::proofs::PieceLaws::single_control, crate::proofs::PieceLaws::no_single_control))]
 #[inline(always)]
 fn single_message(message: &Voice2) -> Option<Voice1>
-    ensures { MatchOption result (length (voice_messages message.now) ≢ 1)
-        (λ single. voice_messages message.now ≡ voice single ∷ []) }
+    ensures { MatchOption result (length (voice_messages false message.now) ≢ 1)
+        (λ single. voice_messages false message.now ≡ voice single ∷ []) }
 {
     Some(match *message {
         Voice2::NoteOff {
@@ -144,7 +160,7 @@ fn single_message(message: &Voice2) -> Option<Voice1>
             channel,
             index,
             value,
-        } if is_carried_index(index) => lower_control(channel, index, value),
+        } if is_single_index(index) => lower_control(channel, index, value),
         Voice2::Program {
             channel,
             program,
@@ -160,7 +176,8 @@ fn single_message(message: &Voice2) -> Option<Voice1>
 #[tactic(auto, using(crate::proofs::PieceLaws::piece1, crate::proofs::PieceLaws::kept1))]
 #[inline(always)]
 pub fn write_voice1(piece: &mut Piece, lanes: &mut Lanes, group: U4, message: &Voice1)
-    ensures bytes { piece.new ≡ piece_by lanes.old.style (lane_at lanes.old.states group) None
+    ensures bytes { piece.new
+        ≡ piece_by lanes.old.paired lanes.old.style (lane_at lanes.old.states group) None
         (packet.Voice1 group message.now) }
     ensures after { lanes.new ≡ lanes_after (Some group) None (packet.Voice1 group message.now) lanes.old }
 {
@@ -180,7 +197,8 @@ fn write_set(
     param: &Param,
     value: u32,
 )
-    ensures bytes { piece.new ≡ piece_by lanes.old.style (lane_at lanes.old.states group) None
+    ensures bytes { piece.new
+        ≡ piece_by lanes.old.paired lanes.old.style (lane_at lanes.old.states group) None
         (packet.Voice2 group (voice2.Set channel param.now value)) }
     ensures after { lanes.new ≡ lanes_after (Some group) None
         (packet.Voice2 group (voice2.Set channel param.now value)) lanes.old }
@@ -206,7 +224,8 @@ fn write_program(
     program: U7,
     bank: Bank,
 )
-    ensures bytes { piece.new ≡ piece_by lanes.old.style (lane_at lanes.old.states group) None
+    ensures bytes { piece.new
+        ≡ piece_by lanes.old.paired lanes.old.style (lane_at lanes.old.states group) None
         (packet.Voice2 group (voice2.Program channel program (Some bank))) }
     ensures after { lanes.new ≡ lanes_after (Some group) None
         (packet.Voice2 group (voice2.Program channel program (Some bank))) lanes.old }
@@ -218,13 +237,67 @@ fn write_program(
     lanes.keep_program(group, statuses, channel, bank);
 }
 
+/// Writes both halves of a pair (own rule).
+#[tactic(auto, using(crate::proofs::PieceLaws::piece_pair, crate::proofs::PieceLaws::kept_pair))]
+fn write_pair(piece: &mut Piece, lanes: &mut Lanes, group: U4, channel: U4, index: U7, value: u32)
+    requires pair { is_pair (pairing lanes.old.paired (role_of index)) ≡ true }
+    requires below { index < 32 }
+    ensures bytes { piece.new
+        ≡ piece_by lanes.old.paired lanes.old.style (lane_at lanes.old.states group) None
+        (packet.Voice2 group (voice2.Control channel index value)) }
+    ensures after { lanes.new ≡ lanes_after (Some group) None
+        (packet.Voice2 group (voice2.Control channel index value)) lanes.old }
+{
+    *piece = Piece::new();
+    let mut statuses = lanes.statuses(group);
+    add_pair(piece, &mut statuses, channel, index, down14(value));
+    lanes.keep_statuses(group, statuses);
+}
+
+/// Writes a control change of MIDI 2.0 where controllers are paired: both halves of a pair, nothing of what isn't carried (own
+/// rule). Why it is refused, if it is refused; then nothing is written. Out of line, so that without pairs the packets of all
+/// kinds are translated in few instructions.
+#[tactic(auto, using(crate::proofs::PieceLaws::single_piece, crate::proofs::PieceLaws::kept_single, crate::proofs::PieceLaws::single_control, crate::proofs::PieceLaws::control_piece, crate::proofs::PieceLaws::kept_control))]
+#[inline(never)]
+pub fn write_paired(
+    piece: &mut Piece,
+    lanes: &mut Lanes,
+    group: U4,
+    channel: U4,
+    index: U7,
+    value: u32,
+) -> Option<BadStep>
+    requires { lanes.old.paired ≡ true }
+    ensures refused { result ≡ bad_control index }
+    ensures bytes { result ≡ None → piece.new
+        ≡ piece_by lanes.old.paired lanes.old.style (lane_at lanes.old.states group) None
+        (packet.Voice2 group (voice2.Control channel index value)) }
+    ensures after { result ≡ None → lanes.new ≡ lanes_after (Some group) None
+        (packet.Voice2 group (voice2.Control channel index value)) lanes.old }
+    ensures unchanged { IfSome result (λ bad. lanes.new ≡ lanes.old) }
+{
+    if let Some(bad) = bad_control(index) {
+        return Some(bad);
+    }
+    match ControlRole::of(index) {
+        ControlRole::Coarse => write_pair(piece, lanes, group, channel, index, value),
+        ControlRole::ResetAll | ControlRole::ChannelMode | ControlRole::Plain => {
+            write_voice1(piece, lanes, group, &lower_control(channel, index, value));
+        }
+        _ => *piece = Piece::new(),
+    }
+    None
+}
+
 /// Writes a message that is carried by several messages or by none. What is written of several is out of line, and of the message
 /// these calls see only fields, so that a packet stays in registers.
 #[tactic(auto, using(crate::proofs::PieceLaws::no_piece, crate::proofs::PieceLaws::kept_none))]
 #[inline(always)]
 fn write_others(piece: &mut Piece, lanes: &mut Lanes, group: U4, message: &Voice2)
-    requires { length (voice_messages message.now) ≢ 1 }
-    ensures bytes { piece.new ≡ piece_by lanes.old.style (lane_at lanes.old.states group) None
+    requires alone { IsAlone lanes.old.paired message.now }
+    requires some { length (voice_messages lanes.old.paired message.now) ≢ 1 }
+    ensures bytes { piece.new
+        ≡ piece_by lanes.old.paired lanes.old.style (lane_at lanes.old.states group) None
         (packet.Voice2 group message.now) }
     ensures after { lanes.new ≡ lanes_after (Some group) None (packet.Voice2 group message.now) lanes.old }
 {
@@ -243,12 +316,15 @@ fn write_others(piece: &mut Piece, lanes: &mut Lanes, group: U4, message: &Voice
     }
 }
 
-/// Writes a voice message of MIDI 2.0 into the lane of a group, nothing where it isn't carried (M2-104-UM, default translation). One
-/// that is carried by a single message is written as that one, so that most packets of both protocols are written in one place.
-#[tactic(auto, using(crate::proofs::PieceLaws::single_piece, crate::proofs::PieceLaws::kept_single))]
+/// Writes a voice message of MIDI 2.0, except for a control change where controllers are paired, into the lane of a group, nothing
+/// where it isn't carried (M2-104-UM, default translation). One that is carried by a single message is written as that one, so that
+/// most packets of both protocols are written in one place.
+#[tactic(auto, using(crate::proofs::PieceLaws::alone, crate::proofs::PieceLaws::alone_piece, crate::proofs::PieceLaws::kept_alone))]
 #[inline(always)]
 pub fn write_voice2(piece: &mut Piece, lanes: &mut Lanes, group: U4, message: &Voice2)
-    ensures bytes { piece.new ≡ piece_by lanes.old.style (lane_at lanes.old.states group) None
+    requires { IsAlone lanes.old.paired message.now }
+    ensures bytes { piece.new
+        ≡ piece_by lanes.old.paired lanes.old.style (lane_at lanes.old.states group) None
         (packet.Voice2 group message.now) }
     ensures after { lanes.new ≡ lanes_after (Some group) None (packet.Voice2 group message.now) lanes.old }
 {
@@ -261,7 +337,8 @@ pub fn write_voice2(piece: &mut Piece, lanes: &mut Lanes, group: U4, message: &V
 /// Writes a system message into the lane of a group (MIDI 1.0 Detailed Specification, system common and system Real Time messages).
 #[tactic(auto, using(crate::proofs::PieceLaws::piece_system, crate::proofs::PieceLaws::kept_system))]
 pub fn write_system(piece: &mut Piece, lanes: &mut Lanes, group: U4, message: &System)
-    ensures bytes { piece.new ≡ piece_by lanes.old.style (lane_at lanes.old.states group) None
+    ensures bytes { piece.new
+        ≡ piece_by lanes.old.paired lanes.old.style (lane_at lanes.old.states group) None
         (packet.System group message.now) }
     ensures after { lanes.new ≡ lanes_after (Some group) None (packet.System group message.now) lanes.old }
 {

@@ -5,7 +5,8 @@ ghost use Rattle.voice_state.specs.Refusal.{bad_control, bad_voice1, bad_voice2}
 use voice_messages::{U7, Voice1, Voice2};
 use voice_state::{BadStep, ControlRole};
 
-fn bad_control(index: U7) -> Option<BadStep>
+/// Why a control change is refused, if it is refused (own rule).
+pub fn bad_control(index: U7) -> Option<BadStep>
     ensures { result ≡ bad_control index }
 {
     match ControlRole::of(index) {

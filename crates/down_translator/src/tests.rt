@@ -71,7 +71,7 @@ fn at(offset: u64, group: u32, kind: Kind) -> Option<Listed> {
 
 #[test]
 fn voice_messages_of_midi_2(rt: HostRuntime) {
-    let Ok(mut down) = Down::new(rt.alloc(), 6, Style::Plain) else {
+    let Ok(mut down) = Down::new(rt.alloc(), 6, Style::Plain, false) else {
         assert!(rt; false, "memory is ample");
         return;
     };
@@ -123,7 +123,7 @@ fn voice_messages_of_midi_2(rt: HostRuntime) {
 
 #[test]
 fn exclusives_of_two_groups(rt: HostRuntime) {
-    let Ok(mut down) = Down::new(rt.alloc(), 1_048_576, Style::Plain) else {
+    let Ok(mut down) = Down::new(rt.alloc(), 1_048_576, Style::Plain, false) else {
         assert!(rt; false, "memory is ample");
         return;
     };
@@ -152,7 +152,7 @@ fn exclusives_of_two_groups(rt: HostRuntime) {
 
 #[test]
 fn cut_stray_and_open_exclusives(rt: HostRuntime) {
-    let Ok(mut down) = Down::new(rt.alloc(), 1_048_576, Style::Plain) else {
+    let Ok(mut down) = Down::new(rt.alloc(), 1_048_576, Style::Plain, false) else {
         assert!(rt; false, "memory is ample");
         return;
     };
@@ -176,7 +176,7 @@ fn cut_stray_and_open_exclusives(rt: HostRuntime) {
 
 #[test]
 fn a_keyboard_and_a_clock(rt: HostRuntime) {
-    let Ok(mut down) = Down::new(rt.alloc(), 6, Style::Plain) else {
+    let Ok(mut down) = Down::new(rt.alloc(), 6, Style::Plain, false) else {
         assert!(rt; false, "memory is ample");
         return;
     };
@@ -219,7 +219,7 @@ fn a_keyboard_and_a_clock(rt: HostRuntime) {
 
 #[test]
 fn parameters_of_both_protocols(rt: HostRuntime) {
-    let Ok(mut down) = Down::new(rt.alloc(), 6, Style::Plain) else {
+    let Ok(mut down) = Down::new(rt.alloc(), 6, Style::Plain, false) else {
         assert!(rt; false, "memory is ample");
         return;
     };
@@ -242,7 +242,7 @@ fn parameters_of_both_protocols(rt: HostRuntime) {
 
 #[test]
 fn refusals_and_what_stands_after_them(rt: HostRuntime) {
-    let Ok(mut down) = Down::new(rt.alloc(), 6, Style::Plain) else {
+    let Ok(mut down) = Down::new(rt.alloc(), 6, Style::Plain, false) else {
         assert!(rt; false, "memory is ample");
         return;
     };
@@ -271,7 +271,7 @@ fn refusals_and_what_stands_after_them(rt: HostRuntime) {
 
 #[test]
 fn what_a_receiver_has_in_compact_style(rt: HostRuntime) {
-    let Ok(mut down) = Down::new(rt.alloc(), 6, Style::Compact) else {
+    let Ok(mut down) = Down::new(rt.alloc(), 6, Style::Compact, false) else {
         assert!(rt; false, "memory is ample");
         return;
     };
@@ -287,4 +287,70 @@ fn what_a_receiver_has_in_compact_style(rt: HostRuntime) {
     gives(&rt, down, 32, &[0x20B0_0603], 0, &[0x06, 0x03], None);
     gives(&rt, down, 36, &[0x10FF_0000], 0, &[0xFF], None);
     gives(&rt, down, 40, &set, 0, &whole, None);
+}
+
+// Controllers 7 and 39 in packets of both protocols, by a translator in this style in which they are paired.
+fn gives_pairs(rt: &impl Abort, down: &mut Down, pieces: [&[u8]; 4]) {
+    let volume = [0x40B0_0700, 0xC924_0000];
+    gives(rt, down, 0, &volume, 0, pieces[0], None);
+    let lsb = [0x40B0_2700, 0xC924_0000];
+    gives(rt, down, 8, &lsb, 0, &[], at(8, 0, Kind::FineController));
+    gives(rt, down, 16, &[0x20B0_2705], 0, pieces[1], None);
+    gives(rt, down, 20, &volume, 0, pieces[2], None);
+    gives(rt, down, 28, &[0x40B0_7900, 0], 0, pieces[3], None);
+    let entry = at(36, 0, Kind::MisplacedController);
+    gives(rt, down, 36, &[0x40B0_2600, 0], 0, &[], entry);
+}
+
+#[test]
+fn paired_controllers(rt: HostRuntime) {
+    let Ok(mut down) = Down::new(rt.alloc(), 6, Style::Plain, true) else {
+        assert!(rt; false, "memory is ample");
+        return;
+    };
+    let both = [0xB0, 0x07, 0x64, 0xB0, 0x27, 0x49];
+    let pieces: [&[u8]; 4] = [&both, &[0xB0, 0x27, 0x05], &both, &[0xB0, 0x79, 0x00]];
+    gives_pairs(&rt, &mut down, pieces);
+}
+
+#[test]
+fn paired_controllers_in_compact_style(rt: HostRuntime) {
+    let Ok(mut down) = Down::new(rt.alloc(), 6, Style::Compact, true) else {
+        assert!(rt; false, "memory is ample");
+        return;
+    };
+    let pieces: [&[u8]; 4] = [
+        &[0xB0, 0x07, 0x64, 0x27, 0x49],
+        &[0x27, 0x05],
+        &[0x07, 0x64, 0x27, 0x49],
+        &[0x79, 0x00],
+    ];
+    gives_pairs(&rt, &mut down, pieces);
+}
+
+#[test]
+fn controllers_that_are_not_paired(rt: HostRuntime) {
+    let Ok(mut down) = Down::new(rt.alloc(), 6, Style::Plain, false) else {
+        assert!(rt; false, "memory is ample");
+        return;
+    };
+    let down = &mut down;
+    gives(
+        &rt,
+        down,
+        0,
+        &[0x40B0_0700, 0xC924_0000],
+        0,
+        &[0xB0, 0x07, 0x64],
+        None,
+    );
+    gives(
+        &rt,
+        down,
+        8,
+        &[0x40B0_2700, 0xC924_0000],
+        0,
+        &[0xB0, 0x27, 0x64],
+        None,
+    );
 }

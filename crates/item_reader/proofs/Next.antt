@@ -1,6 +1,7 @@
 -- What `next` answers, from what is at the front of the window.
 use Rattle.std.proofs.Common.{◌≡◌, ◌+◌, ◌-◌, ◌<◌, ◌≤◌, ℕ, List, ◌++◌, length, take, drop, Option, None, Some, refl, ap, sym, ◌∙◌, arith, subst}
 use Rattle.std.proofs.lemmas.List.{append_assoc, length-take-le, take-append-drop}
+use Rattle.std.specs.Prelude.{MatchOption}
 use Rattle.item_reader.specs.Cut.{IsItem, IsLength}
 use Rattle.item_reader.specs.Front.{Sees}
 use Rattle.midi_edge.specs.Outside.{Loses, ahead}
@@ -24,6 +25,12 @@ pub item_seen : (asked : List ℕ → ℕ) → IsLength asked → (window : List
 item_seen asked lengths window room size sees =
     let P : ℕ → Type 0 = λ n. IsItem asked (take n window) in
     subst P (sym sees.0) (item_taken asked lengths window (omega (arith, sees.0, sees.1)))
+
+-- where an item is seen, the items go on: once they have ended there is no room for one
+pub still_going : (asked : List ℕ → ℕ) → IsLength asked → (window : List ℕ) (at limit stop size : ℕ) (end : Option Tail) → MatchOption end (stop ≡ limit) (λ tail. stop ≡ at)
+    → Sees asked window (stop - at) (FrontItem size) → (end ≡ None) × (stop ≡ limit)
+still_going asked lengths window at limit stop size None stops sees = (refl, stops)
+still_going asked lengths window at limit stop size (Some tail) stops sees = absurd (omega (arith, stops, sees.0, sees.2, lengths.some, lengths.least window))
 
 module _ {How : Type 0} (asked : How → List ℕ → ℕ) (how : How) (at limit : ℕ) (end : Option Tail) (pending window : List ℕ) (left now : Option (List ℕ)) (same : ahead window now ≡ ahead pending left) where
   module _ {Item : Type 0} (lengths : IsLength (asked how)) (item_of : How → ℕ → List ℕ → Item) where

@@ -1,3 +1,4 @@
+pub mod ByteReader
 pub mod Cut
 pub mod CutLaws
 pub mod Front

@@ -1,5 +1,5 @@
 // A reader of items from a source.
-ghost use Rattle.std.specs.Prelude.{◌≡◌, ◌≤◌, ◌<◌, ◌+◌, ◌-◌, ◌==◌, ◌^◌, length, take, drop, IfSome, IfOk, OnErr, if◌then◌else◌};
+ghost use Rattle.std.specs.Prelude.{◌≡◌, ◌≤◌, ◌<◌, ◌+◌, ◌-◌, ◌==◌, ◌^◌, None, length, take, drop, IfSome, IfOk, OnErr, if◌then◌else◌};
 ghost use Rattle.item_reader.specs.Cut.{IsRest};
 ghost use Rattle.item_reader.specs.Front.{Sees};
 ghost use Rattle.midi_edge.specs.Outside.{ahead, HasCause, IsUsedUp};
@@ -17,11 +17,13 @@ pub struct ItemReader<H> {
     window: Window,
     offset: u64,
     limit: u64,
+    // Up to where items are given out: the limit, and once the items have ended the offset, so that none is left.
+    stop: u64,
     end: Option<Tail>,
 }
 
 impl<H> Model for ItemReader<H> {
-    ghost use Rattle.std.specs.Prelude.{◌^◌, ◌≤◌};
+    ghost use Rattle.std.specs.Prelude.{◌≡◌, ◌^◌, ◌≤◌, MatchOption};
     ghost use Rattle.item_reader.specs.Reading.{Reading};
 
     ghost Value = { Reading H };
@@ -34,7 +36,8 @@ impl<H> Model for ItemReader<H> {
       end = r.end;
     } };
 
-    ghost invariant = { λ r. (r.offset ≤ r.limit) × (r.limit ≤ 2 ^ 62) };
+    ghost invariant = { λ r. (r.offset ≤ r.limit) × (r.limit ≤ 2 ^ 62)
+        × MatchOption r.end (r.stop ≡ r.limit) (λ tail. r.stop ≡ r.offset) };
 }
 
 impl<H: Cut> ItemReader<H> {
@@ -49,6 +52,7 @@ impl<H: Cut> ItemReader<H> {
             window: Window::new(),
             offset: 0,
             limit,
+            stop: limit,
             end: None,
         }
     }
@@ -70,6 +74,24 @@ impl<H: Cut> ItemReader<H> {
         ensures held { H.asked self.old.how self.old.pending ≤ length self.old.pending → src.new ≡ src.old }
         ensures cause { ReadCause (S.faults src.old) (S.faults src.new) result }
     {
+        let room = self.stop - self.offset;
+        match front_of(&self.how, self.window.bytes(), room) {
+            Front::Item(size) => Ok(Some(self.give(size))),
+            Front::TooLong | Front::Partial => self.next_taken(src),
+        }
+    }
+
+    // The next answer where no whole item is held, so that the source is asked, unless the items have ended.
+    #[inline(always)]
+    fn next_taken<S: Source>(&mut self, src: &mut S) -> Result<Option<H::Item>, ReadStop>
+        ensures answer { self.old.end ≡ None →
+            Answers (H.asked self.old.how) (H.item_of self.old.how) self.old self.new
+            (ahead self.old.pending (S.left src.old)) (ahead self.new.pending (S.left src.new)) result }
+        ensures again { IfSome self.old.end (λ tail.
+            (result ≡ answer_of tail) × (self.new ≡ self.old) × (src.new ≡ src.old)) }
+        ensures held { H.asked self.old.how self.old.pending ≤ length self.old.pending → src.new ≡ src.old }
+        ensures cause { ReadCause (S.faults src.old) (S.faults src.new) result }
+    {
         if let Some(tail) = self.end {
             return answer(tail);
         }
@@ -77,11 +99,13 @@ impl<H: Cut> ItemReader<H> {
         match look_ahead(&self.how, &mut self.window, room, src) {
             Ok(Front::Item(size)) => Ok(Some(self.give(size))),
             Ok(Front::TooLong) => {
+                self.stop = self.offset;
                 self.end = Some(Tail::TooLong);
                 Err(ReadStop::TooLong)
             }
             Ok(Front::Partial) => {
                 let tail = tail_at(self.window.bytes(), self.offset);
+                self.stop = self.offset;
                 self.end = Some(tail);
                 answer(tail)
             }
@@ -92,8 +116,9 @@ impl<H: Cut> ItemReader<H> {
     // Gives out the next item, which has this many bytes.
     #[inline(always)]
     fn give(&mut self, size: usize) -> H::Item
-        requires { Sees (H.asked self.old.how) self.old.pending
+        requires seen { Sees (H.asked self.old.how) self.old.pending
             (self.old.limit - self.old.offset) (Front.Item size) }
+        requires going { self.old.end ≡ None }
         ensures item { result ≡ H.item_of self.old.how self.old.offset (take size self.old.pending) }
         ensures after { self.new ≡ record self.old {
           pending = drop size self.old.pending;
@@ -156,7 +181,6 @@ fn answer<I>(tail: Tail) -> Result<Option<I>, ReadStop>
 }
 
 // What is held at the front, or what comes where that is no whole item.
-#[inline(always)]
 fn look_ahead<H: Cut, S: Source>(
     how: &H,
     window: &mut Window,

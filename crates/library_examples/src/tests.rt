@@ -15,7 +15,7 @@ fn translate_down(alloc: Global, input: &mut MemSource, lanes: &mut MemLanes) ->
     requires { lanes.old.begun ≡ true }
 {
     let mut reader = WordReader::new(Order::Big, 1_000_000);
-    let mut down = Down::new(alloc, 1_024, Style::Plain)?;
+    let mut down = Down::new(alloc, 1_024, Style::Plain, false)?;
     while let Some(framed) = reader.next(input)? {
         let packet = decode(&framed)?;
         let carried = down.packet(&packet, framed.offset)?;
@@ -28,7 +28,7 @@ fn translate_down(alloc: Global, input: &mut MemSource, lanes: &mut MemLanes) ->
 
 // Puts the words of the packet that each byte completes.
 fn translate_up(alloc: Global, bytes: &[u8], output: &mut MemSink) -> Result<(), Fail> {
-    let mut up = Up::new(alloc, U4::low_bits(0), 1_024)?;
+    let mut up = Up::new(alloc, U4::low_bits(0), 1_024, false)?;
     for (offset, byte) in bytes.iter().enumerate() {
         let raised = up.byte(*byte, offset as u64)?;
         if let Some(packet) = raised.packet {

@@ -10,10 +10,7 @@ use crate::step::{AfterCut, CutKind, Step};
 use midi_edge::NoMemory;
 use std::alloc::Global;
 use std::marker::Model;
-
-const START_OF_EXCLUSIVE: u8 = 0xf0;
-
-const END_OF_EXCLUSIVE: u8 = 0xf7;
+use voice_messages::{END_OF_EXCLUSIVE, START_OF_EXCLUSIVE};
 
 // Adds a byte for which memory is reserved.
 fn append(bytes: &mut Vec<u8>, byte: u8)

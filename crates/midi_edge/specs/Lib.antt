@@ -1,7 +1,5 @@
 pub mod Adapters
-pub mod ByteReader
 pub mod Entries
-pub mod Given
 pub mod KeptText
 pub mod MemLanes
 pub mod MemShelf

@@ -3,7 +3,6 @@
 #![tactic(auto)]
 
 pub mod adapters;
-pub mod byte_reader;
 pub mod few_bits;
 mod kept_text;
 pub mod laws;
@@ -15,10 +14,8 @@ pub mod mem_source;
 pub mod outside;
 mod script;
 pub mod short_list;
-pub mod window;
 
 pub use crate::adapters::{FileShelf, FolderLanes, ReadSource, WriteSink};
-pub use crate::byte_reader::ByteReader;
 pub use crate::few_bits::U4;
 pub use crate::lent::LentU4;
 pub use crate::mem_lanes::MemLanes;
@@ -27,7 +24,3 @@ pub use crate::mem_sink::MemSink;
 pub use crate::mem_source::{MemSource, PlainSource};
 pub use crate::outside::{Failed, Lanes, NoMemory, OpenFault, ReadStop, Shelf, Sink, Source};
 pub use crate::short_list::ShortList;
-pub use crate::window::Window;
-
-#[cfg(test)]
-mod byte_reader_tests;

@@ -1,5 +1,5 @@
 -- The packets of a byte, which come down again.
-use Rattle.std.proofs.Common.{◌≡◌, ◌<◌, ◌≤◌, ℕ, List, [], ◌∷◌, ◌++◌, take, refl, ap, sym, ◌∙◌, subst}
+use Rattle.std.proofs.Common.{◌≡◌, ◌<◌, ◌≤◌, ℕ, Bool, List, [], ◌∷◌, ◌++◌, take, refl, ap, sym, ◌∙◌, subst}
 use Rattle.std.specs.Prelude.{Some, reverse}
 use Rattle.std.specs.List.{AllByRecursion}
 use Rattle.std.proofs.lemmas.List.{append_assoc, append-nil, reverse-append}
@@ -27,31 +27,31 @@ pub piece_is_put : (offset : ℕ) → CanBeDone ComesDown (PutsDown offset)
 piece_is_put offset from group form bytes accepted = (_, _, (refl, refl))
 
 -- what comes of packets that come after others
-record ComesDownAfter (room offset : ℕ) (earlier ps : List Packet) (placed : List Placed) : Type 0 where
-  taken : AreTaken ComesDown (PutsDown offset) (state_of plain_style room placed) ps
+record ComesDownAfter (paired : Bool) (room offset : ℕ) (earlier ps : List Packet) (placed : List Placed) : Type 0 where
+  taken : AreTaken ComesDown (PutsDown offset) (state_of paired plain_style room placed) ps
   now : List Placed
   are : packets_of now ≡ reverse (earlier ++ ps)
   range : AreInRange now
-  done : (to : DownState) (puts : List Put) → AreDone (PutsDown offset) (state_of plain_style room placed) ps to puts → (puts ≡ plain_puts (reverse earlier) ps) × (to ≡ state_of plain_style room now)
+  done : (to : DownState) (puts : List Put) → AreDone (PutsDown offset) (state_of paired plain_style room placed) ps to puts → (puts ≡ plain_puts paired (reverse earlier) ps) × (to ≡ state_of paired plain_style room now)
 
-module _ (silence : RaisedPacketsComeBackInSilence) (held : WhatIsHeldIsTheDefinition) (room group : ℕ) (least : 6 ≤ room) (past : List ℕ) (offset : ℕ) where
-  come_down : (ps earlier : List Packet) (placed : List Placed) → earlier ++ ps ≡ packets_up (Some room) group past → AllByRecursion IsPacket ps → AllByRecursion IsInRange ps
-      → packets_of placed ≡ reverse earlier → AreInRange placed → ComesDownAfter room offset earlier ps placed
+module _ (paired : Bool) (silence : RaisedPacketsComeBackInSilence paired) (held : WhatIsHeldIsTheDefinition paired) (room group : ℕ) (least : 6 ≤ room) (past : List ℕ) (offset : ℕ) where
+  come_down : (ps earlier : List Packet) (placed : List Placed) → earlier ++ ps ≡ packets_up paired (Some room) group past → AllByRecursion IsPacket ps → AllByRecursion IsInRange ps
+      → packets_of placed ≡ reverse earlier → AreInRange placed → ComesDownAfter paired room offset earlier ps placed
   come_down [] earlier placed e spelled fit are range =
       record { taken = tt; now = placed; are = are ∙ ap reverse (sym (append-nil earlier)); range = range; done = λ to puts done. (done.1, done.0) }
   come_down (p ∷ ps) earlier placed e spelled fit are range =
       let here : Placed = record { offset = offset; packet = p } in
       let upto : List Packet = earlier ++ p ∷ [] in
-      let state : DownState = state_of plain_style room placed in
+      let state : DownState = state_of paired plain_style room placed in
       let moved : upto ++ ps ≡ earlier ++ p ∷ ps = append_assoc earlier (p ∷ []) ps in
       let turned : reverse upto ≡ p ∷ reverse earlier = reverse-append earlier (p ∷ []) in
       let are' : packets_of (here ∷ placed) ≡ reverse upto = ap (λ xs. p ∷ xs) are ∙ sym turned in
       let back = (silence.each room group past upto ps (here ∷ placed) (moved ∙ e) are').0 in
-      let after : down_after offset p state ≡ state_of plain_style room (here ∷ placed) = held.behind plain_style room placed here in
+      let after : down_after offset p state ≡ state_of paired plain_style room (here ∷ placed) = held.behind plain_style room placed here in
       let rest = come_down ps upto (here ∷ placed) (moved ∙ e) spelled.1 fit.1 are' (fit.0, range) in
       let whole : whole_in state p ≡ whole_of (reverse earlier) p = held.whole plain_style room placed least range p ∙ back.whole ∙ ap (λ q. whole_of q p) are in
-      let piece : List Put = piece_puts (plain_piece (whole_of (reverse earlier) p) p) in
-      let plain : piece_of state p ≡ plain_piece (whole_in state p) p = held.plain room placed p in
+      let piece : List Put = piece_puts (plain_piece paired (whole_of (reverse earlier) p) p) in
+      let plain : piece_of state p ≡ plain_piece paired (whole_in state p) p = held.plain room placed p in
       let A : DownState → Type 0 = λ s. AreTaken ComesDown (PutsDown offset) s ps in
       record {
         taken = ((spelled.0, held.refusal plain_style room placed least range p ∙ back.accepted), λ between puts one. subst A (sym (one.0 ∙ after)) rest.taken);
@@ -62,25 +62,25 @@ module _ (silence : RaisedPacketsComeBackInSilence) (held : WhatIsHeldIsTheDefin
             let D : DownState → Type 0 = λ s. AreDone (PutsDown offset) s ps to done.2 in
             let others = rest.done to done.2 (subst D (done.3.0 ∙ after) done.4) in (
               done.5
-                  ∙ ap (λ xs. xs ++ done.2) (done.3.1 ∙ ap piece_puts plain ∙ ap (λ w. piece_puts (plain_piece w p)) whole)
-                  ∙ ap (λ xs. piece ++ xs) (others.0 ∙ ap (λ q. plain_puts q ps) turned),
+                  ∙ ap (λ xs. xs ++ done.2) (done.3.1 ∙ ap piece_puts plain ∙ ap (λ w. piece_puts (plain_piece paired w p)) whole)
+                  ∙ ap (λ xs. piece ++ xs) (others.0 ∙ ap (λ q. plain_puts paired q ps) turned),
               others.1,
             );
       }
 
 -- what comes of the packets of one more byte
-pub record ByteComesDown (room group : ℕ) (past : List (ℕ × ℕ)) (item : ℕ × ℕ) (from : DownState) : Type 0 where
-  pub taken : AreTaken ComesDown (PutsDown item.0) from (byte_packets room group past item)
-  pub done : (to : DownState) (puts : List Put) → AreDone (PutsDown item.0) from (byte_packets room group past item) to puts
-      → (puts ≡ byte_pieces room group past item) × HoldsReturned room group (item.1 ∷ bytes_of past) to
+pub record ByteComesDown (paired : Bool) (room group : ℕ) (past : List (ℕ × ℕ)) (item : ℕ × ℕ) (from : DownState) : Type 0 where
+  pub taken : AreTaken ComesDown (PutsDown item.0) from (byte_packets paired room group past item)
+  pub done : (to : DownState) (puts : List Put) → AreDone (PutsDown item.0) from (byte_packets paired room group past item) to puts
+      → (puts ≡ byte_pieces paired room group past item) × HoldsReturned paired room group (item.1 ∷ bytes_of past) to
 
-pub byte_comes_down : RaisedPacketsComeBackInSilence → WhatIsHeldIsTheDefinition → RaisedPacketsAreInRange → (room group : ℕ) → 6 ≤ room → group < 16 → (past : List (ℕ × ℕ)) (item : ℕ × ℕ) (from : DownState)
-    → HoldsReturned room group (bytes_of past) from → ByteComesDown room group past item from
-byte_comes_down silence held in_range room group least few past item from holds =
+pub byte_comes_down : (paired : Bool) → RaisedPacketsComeBackInSilence paired → WhatIsHeldIsTheDefinition paired → RaisedPacketsAreInRange paired → (room group : ℕ) → 6 ≤ room → group < 16 → (past : List (ℕ × ℕ)) (item : ℕ × ℕ) (from : DownState)
+    → HoldsReturned paired room group (bytes_of past) from → ByteComesDown paired room group past item from
+byte_comes_down paired silence held in_range room group least few past item from holds =
     let bytes : List ℕ = bytes_of past in
-    let F : DownState → Type 0 = λ s. ByteComesDown room group past item s in
+    let F : DownState → Type 0 = λ s. ByteComesDown paired room group past item s in
     let down =
-    come_down silence held room group least (item.1 ∷ bytes) item.0 (byte_packets room group past item) (packets_up (Some room) group bytes) holds.placed refl
+    come_down paired silence held room group least (item.1 ∷ bytes) item.0 (byte_packets paired room group past item) (packets_up paired (Some room) group bytes) holds.placed refl
     (in_range.packets (Some room) group bytes item.1 few) (in_range.in_range (Some room) group bytes item.1 few) holds.are holds.range in
     subst F (sym holds.down_is) (record {
       taken = down.taken;
@@ -90,8 +90,8 @@ byte_comes_down silence held in_range room group least few past item from holds 
     })
 
 -- accepted bytes mean what the pieces for them mean
-pub returned_bytes_mean : (room group : ℕ) → group < 16 → BytesThatComeBackMeanTheSame → RoomsThatAreNotReachedDoNotMatterInBytes → ReturnedBytesMean room group
-returned_bytes_mean room group few same rooms = λ past accepted count.
+pub returned_bytes_mean : (paired : Bool) (room group : ℕ) → group < 16 → BytesThatComeBackMeanTheSame paired → RoomsThatAreNotReachedDoNotMatterInBytes paired → ReturnedBytesMean paired room group
+returned_bytes_mean paired room group few same rooms = λ past accepted count.
     let front : List ℕ = take count (reverse past) in
-    let S : List ℕ → Type 0 = λ xs. SameState (mean1 xs) (mean1 front) in
+    let S : List ℕ → Type 0 = λ xs. SameState (mean1 paired xs) (mean1 paired front) in
     subst S (sym (rooms.pieces room group (reverse front) (rooms.accepted room (reverse front) (front_accepted room count past accepted)))) (same.after_each group count (reverse past) few)

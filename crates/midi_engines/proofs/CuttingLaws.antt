@@ -5,8 +5,8 @@ use Rattle.std.proofs.lemmas.List.{length-append}
 use Rattle.ump_words.specs.Cut.{Cuts, IsCutInto, framed_from, words_of}
 use Rattle.ump_words.specs.declared.words.Framed.{Framed}
 use Rattle.ump_words.specs.declared.words.Order.{Order}
-use Rattle.ump_words.specs.declared.words.Tail as tails
-use Rattle.ump_words.specs.declared.words.Tail.TheVariants as tail
+use Rattle.item_reader.specs.declared.cutting.Tail as tails
+use Rattle.item_reader.specs.declared.cutting.Tail.TheVariants as tail
 use Rattle.ump_words.specs.Laws.{FrontsAreCutAsTheStream, StreamsAreCutInOneWay}
 use Rattle.ump_grammar.specs.declared.packet.Bad.{Bad}
 use Rattle.ump_grammar.specs.declared.packet.Packet.{Packet}

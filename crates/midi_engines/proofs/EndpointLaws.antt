@@ -159,7 +159,7 @@ said_is_ended room (Some begun) group form.End bytes = by_fit (fits room (length
     by_fit false = refl
 
 lost_is_listed : (room : Room) (begun : Option Begun) (group offset : ℕ) (f : Form) (bytes : List ℕ)
-    → lost_by group offset (answer_of room begun f bytes) ≡ option_to_list (listed (option_map (λ (b : Begun). b.start) begun) offset (packets.Exclusive group f bytes))
+    → lost_by group offset (answer_of room begun f bytes) ≡ option_to_list (listed false (option_map (λ (b : Begun). b.start) begun) offset (packets.Exclusive group f bytes))
 lost_is_listed room None group offset form.Complete bytes = refl
 lost_is_listed room None group offset form.Start bytes = refl
 lost_is_listed room None group offset form.Continue bytes = refl
@@ -197,9 +197,9 @@ module _ (history : HeldIsTheHistory) (setup : Facts) (room : ℕ) (told : List 
 
 -- ---- one packet after others
 
-module _ (laws : WhatIsHeldIsTheDefinition) (history : HeldIsTheHistory) (setup : Facts) (room : ℕ) (before : List Placed) (least : 6 ≤ room) (range : AreInRange before) where
+module _ (laws : WhatIsHeldIsTheDefinition false) (history : HeldIsTheHistory) (setup : Facts) (room : ℕ) (before : List Placed) (least : 6 ≤ room) (range : AreInRange before) where
   abbrev table : Table
-  table = (state_of plain_style room before).exclusives
+  table = (state_of false plain_style room before).exclusives
 
   abbrev told : List Told
   told = told_in_packets room before
@@ -226,12 +226,12 @@ module _ (laws : WhatIsHeldIsTheDefinition) (history : HeldIsTheHistory) (setup 
   part_lines_are offset (packets.Exclusive g f b) =
       let answer : Answer = answer_of (Some table.room) (begun_in table g) f b in
       let placed : Placed = record { offset = offset; packet = packets.Exclusive g f b } in
-      let lost : lost_by g offset answer ≡ option_to_list (line_of (Some room) parts placed) =
+      let lost : lost_by g offset answer ≡ option_to_list (line_of false (Some room) parts placed) =
       lost_is_listed (Some table.room) (begun_in table g) g offset f b
-      ∙ ap (λ start. option_to_list (listed start offset (packets.Exclusive g f b))) (laws.begun plain_style room before least range (packets.Exclusive g f b)) in
+      ∙ ap (λ start. option_to_list (listed false start offset (packets.Exclusive g f b))) (laws.begun plain_style room before least range (packets.Exclusive g f b)) in
       ap (λ xs. said_lines (held_at setup room told) g offset (said_of g answer) ++ line_puts xs) lost
-      ∙ ap (λ said. said_lines (held_at setup room told) g offset said ++ line_puts (option_to_list (line_of (Some room) parts placed))) (said_is (packets.Exclusive g f b))
-      ∙ ap (λ xs. xs ++ line_puts (option_to_list (line_of (Some room) parts placed))) (lines_are history setup room told g offset f b (said_by room parts (packets.Exclusive g f b)))
+      ∙ ap (λ said. said_lines (held_at setup room told) g offset said ++ line_puts (option_to_list (line_of false (Some room) parts placed))) (said_is (packets.Exclusive g f b))
+      ∙ ap (λ xs. xs ++ line_puts (option_to_list (line_of false (Some room) parts placed))) (lines_are history setup room told g offset f b (said_by room parts (packets.Exclusive g f b)))
   part_lines_are offset (packets.Stream f s l w x y) = refl
   part_lines_are offset (packets.Utility s v) = refl
   part_lines_are offset (packets.System g m) = refl

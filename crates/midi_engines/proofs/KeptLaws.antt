@@ -90,24 +90,24 @@ same_end room (Some begun) form.End bytes group = by_fit (fits room (length (beg
     by_fit true = refl
     by_fit false = refl
 
-module _ (law : PacketsAreKept) (past : List Packet) (old new : Kept) (stands : StandsFor raised old (meaning2 past)) where
+module _ (law : PacketsAreKept) (past : List Packet) (old new : Kept) (stands : StandsFor raised old (meaning2 false past)) where
   -- a packet that ends no exclusive
-  silent : (packet : Packet) → whole_of past packet ≡ None → KeepsPacket None packet old new → StandsFor raised new (meaning2 (packet ∷ past))
+  silent : (packet : Packet) → whole_of past packet ≡ None → KeepsPacket None packet old new → StandsFor raised new (meaning2 false (packet ∷ past))
   silent packet none keeps =
-      stands_too raised new (after_packet packet None (meaning2 past)) (meaning2 (packet ∷ past)) (λ groups kept. law.next groups past packet none kept) ((keeps (exclusive [])).1 (meaning2 past) stands)
+      stands_too raised new (after_packet packet None (meaning2 false past)) (meaning2 false (packet ∷ past)) (λ groups kept. law.next groups past packet none kept) ((keeps (exclusive [])).1 (meaning2 false past) stands)
 
   -- a packet that ends one, or none
   by_whole : (group : ℕ) (f : Form) (bytes : List ℕ) (joined : Option (List ℕ)) → whole_of past (packets.Exclusive group f bytes) ≡ joined
-      → KeepsPacket (option_map (λ bytes. group) joined) (packets.Exclusive group f bytes) old new → StandsFor raised new (meaning2 (packets.Exclusive group f bytes ∷ past))
+      → KeepsPacket (option_map (λ bytes. group) joined) (packets.Exclusive group f bytes) old new → StandsFor raised new (meaning2 false (packets.Exclusive group f bytes ∷ past))
   by_whole group f bytes None e keeps = silent (packets.Exclusive group f bytes) e keeps
   by_whole group f bytes (Some joined) e keeps =
       let packet : Packet = packets.Exclusive group f bytes in
-      stands_too raised new (with_ended (Some group) (exclusive joined) (after_packet packet None (meaning2 past))) (meaning2 (packet ∷ past)) (λ groups kept. law.whole groups past group f bytes joined e kept)
-      ((keeps (exclusive joined)).1 (meaning2 past) stands)
+      stands_too raised new (with_ended (Some group) (exclusive joined) (after_packet packet None (meaning2 false past))) (meaning2 false (packet ∷ past)) (λ groups kept. law.whole groups past group f bytes joined e kept)
+      ((keeps (exclusive joined)).1 (meaning2 false past) stands)
 
   -- what is kept after a packet stands for what all packets mean
   pub packet_kept : (table : Table) (packet : Packet) → option_and_then (whole_with table) (part_of 0 packet) ≡ whole_of past packet → KeepsPacket (ended_in table packet) packet old new
-      → StandsFor raised new (meaning2 (packet ∷ past))
+      → StandsFor raised new (meaning2 false (packet ∷ past))
   packet_kept table (packets.Exclusive group f bytes) ends keeps =
       let packet : Packet = packets.Exclusive group f bytes in
       let K : Option ℕ → Type 0 = λ ended. KeepsPacket ended packet old new in
@@ -158,16 +158,16 @@ whole_is rooms offsets room offset past (packets.Reserved w) fine within = refl
 -- ---- one more byte
 
 -- what is kept after a byte stands for what all bytes mean
-pub byte_kept : BytesAreKept → (past : List ℕ) (byte : ℕ) (old new : Kept) → StandsFor as_they_come old (states_of_stream (meaning1 past)) → KeepsStep (step_of None past byte) old new
-    → StandsFor as_they_come new (states_of_stream (meaning1 (byte ∷ past)))
-byte_kept law past byte old new stands keeps = by_completed (completed_by (step_of None past byte)) refl (keeps.1 (states_of_stream (meaning1 past)) stands)
+pub byte_kept : BytesAreKept → (past : List ℕ) (byte : ℕ) (old new : Kept) → StandsFor as_they_come old (states_of_stream (meaning1 false past)) → KeepsStep (step_of None past byte) old new
+    → StandsFor as_they_come new (states_of_stream (meaning1 false (byte ∷ past)))
+byte_kept law past byte old new stands keeps = by_completed (completed_by (step_of None past byte)) refl (keeps.1 (states_of_stream (meaning1 false past)) stands)
   where
-    by_completed : (completed : Option Message) → completed_by (step_of None past byte) ≡ completed → StandsFor as_they_come new (after_completed completed (states_of_stream (meaning1 past)))
-        → StandsFor as_they_come new (states_of_stream (meaning1 (byte ∷ past)))
+    by_completed : (completed : Option Message) → completed_by (step_of None past byte) ≡ completed → StandsFor as_they_come new (after_completed completed (states_of_stream (meaning1 false past)))
+        → StandsFor as_they_come new (states_of_stream (meaning1 false (byte ∷ past)))
     by_completed None e kept =
-        stands_too as_they_come new (states_of_stream (meaning1 past)) (states_of_stream (meaning1 (byte ∷ past))) (λ groups keeps. law.silent groups past byte e keeps) kept
+        stands_too as_they_come new (states_of_stream (meaning1 false past)) (states_of_stream (meaning1 false (byte ∷ past))) (λ groups keeps. law.silent groups past byte e keeps) kept
     by_completed (Some message) e kept =
-        stands_too as_they_come new (after_completed (Some message) (states_of_stream (meaning1 past))) (states_of_stream (meaning1 (byte ∷ past))) (λ groups keeps. law.completing groups past byte message e keeps) kept
+        stands_too as_they_come new (after_completed (Some message) (states_of_stream (meaning1 false past))) (states_of_stream (meaning1 false (byte ∷ past))) (λ groups keeps. law.completing groups past byte message e keeps) kept
 
 -- a byte that isn't refused doesn't pass the room
 pub step_within : (step : Step) (offset : ℕ) → refusal_of step offset ≡ None → step ≢ steps.too_long

@@ -1,5 +1,5 @@
 -- One more byte of a stream that is raised, by the laws of the crates below.
-use Rattle.std.proofs.Common.{◌≡◌, ℕ, List, [], ◌∷◌, ◌++◌, length, take, drop, ap, sym, ◌∙◌, subst}
+use Rattle.std.proofs.Common.{◌≡◌, ℕ, Bool, List, [], ◌∷◌, ◌++◌, length, take, drop, ap, sym, ◌∙◌, subst}
 use Rattle.std.specs.Prelude.{Some, Ok, reverse}
 use Rattle.std.proofs.lemmas.List.{length-map, reverse-append, reverse-reverse, take-append-drop}
 use Rattle.midi1_bytes.specs.Laws.{ParsedBytesAreTheDefinition}
@@ -33,12 +33,12 @@ front_accepted room count past accepted =
 
 -- ---- one more byte
 
-module _ (law : RaisedBytesAreTheDefinition) (room group : ℕ) (past : List (ℕ × ℕ)) (up : UpState) (holds : HoldsUp room group (bytes_of past) up) (offset byte : ℕ) (place : offset ≡ length past) where
+module _ (paired : Bool) (law : RaisedBytesAreTheDefinition paired) (room group : ℕ) (past : List (ℕ × ℕ)) (up : UpState) (holds : HoldsUp paired room group (bytes_of past) up) (offset byte : ℕ) (place : offset ≡ length past) where
   at : offset ≡ length (bytes_of past)
   at = place ∙ sym (length-map past (λ (item : ℕ × ℕ). item.1))
 
   -- what the translator answers is what the definition tells
-  pub answered : (raised : Raised) → Raises up offset byte (Ok raised) → IsRaisedAt room group (bytes_of past) byte raised
+  pub answered : (raised : Raised) → Raises up offset byte (Ok raised) → IsRaisedAt paired room group (bytes_of past) byte raised
   answered raised raises =
       let R : ℕ → Type 0 = λ n. Raises up n byte (Ok raised) in
       law.answer room group (bytes_of past) byte up (Ok raised) holds (subst R at raises)
@@ -49,10 +49,10 @@ module _ (law : RaisedBytesAreTheDefinition) (room group : ℕ) (past : List (�
       (ap (λ parsing. (parse parsing offset byte).step) holds.parsing_is ∙ ap (λ n. (parse (held_behind room (bytes_of past)) n byte).step) at ∙ parsed.step room (bytes_of past) byte)
 
   -- it then holds what all bytes leave
-  pub holds_more : RoomsThatAreNotReachedDoNotMatterInBytes → (new : UpState) → AreAcceptedUp (Some room) (byte ∷ bytes_of past) → KeepsBehind up.holding (step_in up offset byte) → new ≡ up_behind up offset byte
-      → HoldsUp room group (byte ∷ bytes_of past) new
+  pub holds_more : RoomsThatAreNotReachedDoNotMatterInBytes paired → (new : UpState) → AreAcceptedUp (Some room) (byte ∷ bytes_of past) → KeepsBehind up.holding (step_in up offset byte) → new ≡ up_behind up offset byte
+      → HoldsUp paired room group (byte ∷ bytes_of past) new
   holds_more rooms new accepted keeps is =
       let K : ℕ → Type 0 = λ n. KeepsBehind up.holding (step_in up n byte) in
-      let H : ℕ → Type 0 = λ n. HoldsUp room group (byte ∷ bytes_of past) (up_behind up n byte) in
-      let U : UpState → Type 0 = λ u. HoldsUp room group (byte ∷ bytes_of past) u in
+      let H : ℕ → Type 0 = λ n. HoldsUp paired room group (byte ∷ bytes_of past) (up_behind up n byte) in
+      let U : UpState → Type 0 = λ u. HoldsUp paired room group (byte ∷ bytes_of past) u in
       subst U (sym is) (subst H (sym at) (law.after room group (bytes_of past) byte up (rooms.accepted room (byte ∷ bytes_of past) accepted) holds (subst K at keeps)))

@@ -1,5 +1,5 @@
 -- The packets of a byte, whose words are put one after the other.
-use Rattle.std.proofs.Common.{◌≡◌, ℕ, List, [], ◌∷◌, take, refl, ap, sym, ◌∙◌, subst}
+use Rattle.std.proofs.Common.{◌≡◌, ℕ, Bool, List, [], ◌∷◌, take, refl, ap, sym, ◌∙◌, subst}
 use Rattle.std.specs.Prelude.{reverse}
 use Rattle.std.specs.List.{AllByRecursion}
 use Rattle.ump_words.specs.declared.words.Order.{Order}
@@ -45,8 +45,8 @@ exclusive_is_written law from group form bytes fits =
 
 -- ---- accepted bytes mean what their packets mean
 
-pub raised_bytes_mean : (room group : ℕ) → RaisedPacketsMeanTheBytes → RoomsThatAreNotReachedDoNotMatterInBytes → RaisedBytesMean room group
-raised_bytes_mean room group means rooms = λ past accepted count.
+pub raised_bytes_mean : (paired : Bool) (room group : ℕ) → RaisedPacketsMeanTheBytes paired → RoomsThatAreNotReachedDoNotMatterInBytes paired → RaisedBytesMean paired room group
+raised_bytes_mean paired room group means rooms = λ past accepted count.
     let front : List ℕ = take count (reverse past) in
-    let P : List Packet → Type 0 = λ ps. Agrees (mean1 front) (mean2 ps group) in
+    let P : List Packet → Type 0 = λ ps. Agrees paired (mean1 paired front) (mean2 paired ps group) in
     subst P (sym (rooms.packets room group (reverse front) (rooms.accepted room (reverse front) (front_accepted room count past accepted)))) (means.after_each group count (reverse past))

@@ -1,5 +1,5 @@
 -- What is put for bytes that come back means what they mean.
-use Rattle.std.proofs.Common.{◌≡◌, ℕ, List, [], ◌∷◌, ◌++◌, refl, ap, sym, ◌∙◌, subst}
+use Rattle.std.proofs.Common.{◌≡◌, ℕ, Bool, List, [], ◌∷◌, ◌++◌, refl, ap, sym, ◌∙◌, subst}
 use Rattle.std.specs.Prelude.{Some, reverse}
 use Rattle.std.proofs.lemmas.List.{append-nil}
 use Rattle.std.proofs.lemmas.List.Concat.{flat_map-append}
@@ -28,22 +28,22 @@ piece_named : (piece : List ℕ) → AreNamed output_and_notes (piece_puts piece
 piece_named [] = tt
 piece_named (byte ∷ bytes) = (refl, tt)
 
-plain_named : (past packets : List Packet) → AreNamed output_and_notes (plain_puts past packets)
-plain_named past [] = tt
-plain_named past (packet ∷ packets) =
-    let piece : List ℕ = plain_piece (whole_of past packet) packet in
-    named-then (piece_puts piece) (plain_puts (packet ∷ past) packets) (piece_named piece)
-    (plain_named (packet ∷ past) packets)
+plain_named : (paired : Bool) (past packets : List Packet) → AreNamed output_and_notes (plain_puts paired past packets)
+plain_named paired past [] = tt
+plain_named paired past (packet ∷ packets) =
+    let piece : List ℕ = plain_piece paired (whole_of past packet) packet in
+    named-then (piece_puts piece) (plain_puts paired (packet ∷ past) packets) (piece_named piece)
+    (plain_named paired (packet ∷ past) packets)
 
 pub returns_named : (options : BackOptions) (past : List (ℕ × ℕ)) (item : ℕ × ℕ) (puts : List Put) →
     (returning options).IsPut past item puts → AreNamed output_and_notes puts
 returns_named options past item puts put =
     let A : List Put → Type 0 = λ ps. AreNamed output_and_notes ps in
-    let before : List Packet = reverse (packets_up (Some options.room) options.group (bytes_of past)) in
-    let lines : List Listed = lines_at (Some options.room) options.group (bytes_of past) item.1 in
+    let before : List Packet = reverse (packets_up options.paired (Some options.room) options.group (bytes_of past)) in
+    let lines : List Listed = lines_at options.paired (Some options.room) options.group (bytes_of past) item.1 in
     subst A (sym put)
-    (named-then (byte_pieces options.room options.group past item) (line_puts lines)
-    (plain_named before (byte_packets options.room options.group past item)) (lines_named lines))
+    (named-then (byte_pieces options.paired options.room options.group past item) (line_puts lines)
+    (plain_named options.paired before (byte_packets options.paired options.room options.group past item)) (lines_named lines))
 
 -- ---- the bytes in the output
 
@@ -51,13 +51,13 @@ output-piece : (piece : List ℕ) → output_in (piece_puts piece) ≡ piece
 output-piece [] = refl
 output-piece (byte ∷ bytes) = append-nil (byte ∷ bytes)
 
-output-plain : (past packets : List Packet) → output_in (plain_puts past packets) ≡ pieces_of past packets
-output-plain past [] = refl
-output-plain past (packet ∷ packets) =
-    let piece : List ℕ = plain_piece (whole_of past packet) packet in
-    flat_map-append output_of (piece_puts piece) (plain_puts (packet ∷ past) packets)
-    ∙ ap (λ xs. xs ++ output_in (plain_puts (packet ∷ past) packets)) (output-piece piece)
-    ∙ ap (λ xs. piece ++ xs) (output-plain (packet ∷ past) packets)
+output-plain : (paired : Bool) (past packets : List Packet) → output_in (plain_puts paired past packets) ≡ pieces_of paired past packets
+output-plain paired past [] = refl
+output-plain paired past (packet ∷ packets) =
+    let piece : List ℕ = plain_piece paired (whole_of past packet) packet in
+    flat_map-append output_of (piece_puts piece) (plain_puts paired (packet ∷ past) packets)
+    ∙ ap (λ xs. xs ++ output_in (plain_puts paired (packet ∷ past) packets)) (output-piece piece)
+    ∙ ap (λ xs. piece ++ xs) (output-plain paired (packet ∷ past) packets)
 
 output-lines : (lines : List Listed) → output_in (line_puts lines) ≡ []
 output-lines [] = refl
@@ -65,28 +65,28 @@ output-lines (line ∷ lines) = output-lines lines
 
 output-byte : (options : BackOptions) (past : List (ℕ × ℕ)) (item : ℕ × ℕ) (puts : List Put) →
     (returning options).IsPut past item puts
-    → output_in puts ≡ back_at (Some options.room) options.group (bytes_of past) item.1
+    → output_in puts ≡ back_at options.paired (Some options.room) options.group (bytes_of past) item.1
 output-byte options past item puts put =
-    let before : List Packet = reverse (packets_up (Some options.room) options.group (bytes_of past)) in
-    let packets : List Packet = byte_packets options.room options.group past item in
-    let pieces : List Put = byte_pieces options.room options.group past item in
-    let lines : List Put = byte_lines options.room options.group past item in
+    let before : List Packet = reverse (packets_up options.paired (Some options.room) options.group (bytes_of past)) in
+    let packets : List Packet = byte_packets options.paired options.room options.group past item in
+    let pieces : List Put = byte_pieces options.paired options.room options.group past item in
+    let lines : List Put = byte_lines options.paired options.room options.group past item in
     ap output_in put
     ∙ flat_map-append output_of pieces lines
     ∙ ap (λ xs. output_in pieces ++ xs)
-    (output-lines (lines_at (Some options.room) options.group (bytes_of past) item.1))
+    (output-lines (lines_at options.paired (Some options.room) options.group (bytes_of past) item.1))
     ∙ append-nil (output_in pieces)
-    ∙ output-plain before packets
+    ∙ output-plain options.paired before packets
 
 output-all : (options : BackOptions) (past : List (ℕ × ℕ)) (puts : List Put) →
     ArePut (returning options) past puts
-    → output_in puts ≡ back (Some options.room) options.group (bytes_of past)
+    → output_in puts ≡ back options.paired (Some options.room) options.group (bytes_of past)
 output-all options [] puts put = ap output_in put
 output-all options (item ∷ past) puts put =
     ap output_in put.4
     ∙ flat_map-append output_of put.0 put.1
     ∙ ap (λ xs. xs ++ output_in put.1) (output-all options past put.0 put.2)
-    ∙ ap (λ xs. back (Some options.room) options.group (bytes_of past) ++ xs)
+    ∙ ap (λ xs. back options.paired (Some options.room) options.group (bytes_of past) ++ xs)
     (output-byte options past item put.1 put.3)
 
 pub returned_means : (options : BackOptions) (up : UpState) (down : DownState) (past : List (ℕ × ℕ)) (puts : List Put) → HoldsBack options up down past → ArePut (returning options) past puts

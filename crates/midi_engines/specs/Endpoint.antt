@@ -134,7 +134,7 @@ message_lines setup past offset _ _ = []
 -- the line of an exclusive packet that is stray or cuts another exclusive
 abbrev pub exclusive_lines : ℕ → List Part → Placed → List Put
 exclusive_lines room parts placed =
-    option_map_or (λ part. line_puts (option_to_list (line_of (Some room) parts placed)))
+    option_map_or (λ part. line_puts (option_to_list (line_of false (Some room) parts placed)))
     (part_of 0 placed.packet) []
 
 -- ---- a packet after others

@@ -57,7 +57,7 @@ lost_named : (room : ℕ) (parts : List Part) (offset : ℕ) (packet : Packet) �
     Fine (exclusive_lines room parts (record { offset = offset; packet = packet }))
 lost_named room parts offset (packets.Exclusive g f b) =
     lines_named (option_to_list
-    (line_of (Some room) parts (record { offset = offset; packet = packets.Exclusive g f b })))
+    (line_of false (Some room) parts (record { offset = offset; packet = packets.Exclusive g f b })))
 lost_named room parts offset (packets.Stream f s l w x y) = tt
 lost_named room parts offset (packets.Utility s v) = tt
 lost_named room parts offset (packets.System g m) = tt

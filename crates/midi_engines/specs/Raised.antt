@@ -1,5 +1,5 @@
 -- The packets to which a byte is raised, and what is done with them, one after the other.
-use Rattle.std.specs.Prelude.{◌≡◌, ℕ, true, false, List, [], ◌∷◌, ◌++◌, map, None, Some, Result, Ok, Err}
+use Rattle.std.specs.Prelude.{◌≡◌, ℕ, Bool, true, false, List, [], ◌∷◌, ◌++◌, map, None, Some, Result, Ok, Err}
 use Rattle.std.specs.Option.{option_map}
 use Rattle.voice_messages.specs.declared.voice2.Form.{Form}
 use Rattle.ump_grammar.specs.declared.packet.Packet.{Packet}
@@ -38,12 +38,13 @@ output_puts (in_notes text ∷ puts) = output_puts puts
 abbrev pub refusal_at : ℕ → List (ℕ × ℕ) → ℕ × ℕ → Tail
 refusal_at room past item = refusal_by (refusal_up (Some room) (bytes_of past) item.1) item.0
 
--- the packets of a byte, and the puts of its lines
-abbrev pub byte_packets : ℕ → ℕ → List (ℕ × ℕ) → ℕ × ℕ → List Packet
-byte_packets room group past item = packets_at (Some room) group (bytes_of past) item.1
+module _ (paired : Bool) where
+  -- the packets of a byte, and the puts of its lines
+  abbrev pub byte_packets : ℕ → ℕ → List (ℕ × ℕ) → ℕ × ℕ → List Packet
+  byte_packets room group past item = packets_at paired (Some room) group (bytes_of past) item.1
 
-abbrev pub byte_lines : ℕ → ℕ → List (ℕ × ℕ) → ℕ × ℕ → List Put
-byte_lines room group past item = line_puts (lines_at (Some room) group (bytes_of past) item.1)
+  abbrev pub byte_lines : ℕ → ℕ → List (ℕ × ℕ) → ℕ × ℕ → List Put
+  byte_lines room group past item = line_puts (lines_at paired (Some room) group (bytes_of past) item.1)
 
 -- the put of the line of what is open at the end
 abbrev pub last_lines : ℕ → ℕ → List (ℕ × ℕ) → List Put

@@ -1,5 +1,5 @@
 -- A stream of bytes that is raised: the words of the packets of each byte, and its lines; at the end the line of what is open.
-use Rattle.std.specs.Prelude.{◌≡◌, ℕ, false, ◌<◌, List, [], ◌∷◌, ◌++◌, reverse, take, Some}
+use Rattle.std.specs.Prelude.{◌≡◌, ℕ, Bool, false, ◌<◌, List, [], ◌∷◌, ◌++◌, reverse, take, Some}
 use Rattle.std.specs.List.{flat_map}
 use Rattle.ump_words.specs.Cut.{word_bytes}
 use Rattle.ump_words.specs.declared.words.Order.{Order}
@@ -35,11 +35,16 @@ abbrev pub AreWrittenAndListed : Order → List Packet → List Put → List Put
 AreWrittenAndListed order packets lines puts =
     (written : List Put) × AreWritten order packets written × (puts ≡ written ++ lines)
 
--- after each of these bytes, the newest first, the packets so far mean what the bytes so far mean
-abbrev pub RaisedMean : ℕ → ℕ → List ℕ → Type 0
-RaisedMean room group past =
-    (count : ℕ) → Agrees (mean1 (take count (reverse past)))
-    (mean2 (packets_of_bytes (Some room) group (take count (reverse past))) group)
+module _ (paired : Bool) where
+  -- after each of these bytes, the newest first, the packets so far mean what the bytes so far mean
+  abbrev pub RaisedMean : ℕ → ℕ → List ℕ → Type 0
+  RaisedMean room group past =
+      (count : ℕ) → Agrees paired (mean1 paired (take count (reverse past)))
+      (mean2 paired (packets_of_bytes paired (Some room) group (take count (reverse past))) group)
+
+  -- what accepted bytes mean, which is a law of the state of voices
+  abbrev pub RaisedBytesMean : ℕ → ℕ → Type 0
+  RaisedBytesMean room group = (past : List ℕ) → AreAcceptedUp (Some room) past → RaisedMean room group past
 
 -- What is done with a stream that is raised. What is put in the output is the words of all packets; after each byte the packets so
 -- far mean what the bytes so far mean.
@@ -50,25 +55,21 @@ raising options =
       grows = false;
       refusal = λ past item. refusal_at options.room past item;
       IsPut = λ past item puts.
-          AreWrittenAndListed options.order (byte_packets options.room options.group past item)
-          (byte_lines options.room options.group past item) puts;
+          AreWrittenAndListed options.order (byte_packets options.paired options.room options.group past item)
+          (byte_lines options.paired options.room options.group past item) puts;
       IsPutAtEnd = λ past puts. puts ≡ last_lines options.room options.group past;
       Means = λ past puts.
-          AreWritten options.order (packets_up (Some options.room) options.group (bytes_of past))
-          (output_puts puts) × RaisedMean options.room options.group (bytes_of past);
+          AreWritten options.order (packets_up options.paired (Some options.room) options.group (bytes_of past))
+          (output_puts puts) × RaisedMean options.paired options.room options.group (bytes_of past);
     }
 
 -- the options of an engine
 abbrev pub options_of : UpState → Order → UpOptions
-options_of up order = record { group = up.group; order = order; room = up.parsing.room }
-
--- what accepted bytes mean, which is a law of the state of voices
-abbrev pub RaisedBytesMean : ℕ → ℕ → Type 0
-RaisedBytesMean room group = (past : List ℕ) → AreAcceptedUp (Some room) past → RaisedMean room group past
+options_of up order = record { paired = up.holding.paired; group = up.group; order = order; room = up.parsing.room }
 
 -- the translator holds what these bytes leave, which are accepted
 pub record HoldsRaised (options : UpOptions) (up : UpState) (past : List (ℕ × ℕ)) : Type 0 where
   pub few : options.group < 16
-  pub law : RaisedBytesMean options.room options.group
+  pub law : RaisedBytesMean options.paired options.room options.group
   pub accepted : AreAcceptedUp (Some options.room) (bytes_of past)
-  pub holds : HoldsUp options.room options.group (bytes_of past) up
+  pub holds : HoldsUp options.paired options.room options.group (bytes_of past) up

@@ -34,8 +34,8 @@ pub raises_named : (options : UpOptions) (past : List (ℕ × ℕ)) (item : ℕ 
     (raising options).IsPut past item puts → AreNamed output_and_notes puts
 raises_named options past item puts put =
     let A : List Put → Type 0 = λ ps. AreNamed output_and_notes ps in
-    let packets : List Packet = packets_at (Some options.room) options.group (bytes_of past) item.1 in
-    let lines : List Listed = lines_at (Some options.room) options.group (bytes_of past) item.1 in
+    let packets : List Packet = packets_at options.paired (Some options.room) options.group (bytes_of past) item.1 in
+    let lines : List Listed = lines_at options.paired (Some options.room) options.group (bytes_of past) item.1 in
     subst A (sym put.2)
     (named-then put.0 (line_puts lines) (written_named options.order packets put.0 put.1) (lines_named lines))
 
@@ -64,18 +64,18 @@ written-then order (packet ∷ packets) others ps qs first second = (
 
 written-all : (options : UpOptions) (past : List (ℕ × ℕ)) (puts : List Put) →
     ArePut (raising options) past puts
-    → AreWritten options.order (packets_up (Some options.room) options.group (bytes_of past))
+    → AreWritten options.order (packets_up options.paired (Some options.room) options.group (bytes_of past))
     (output_puts puts)
 written-all options [] puts put = ap output_puts put
 written-all options (item ∷ past) puts put =
     let bytes : List ℕ = bytes_of past in
-    let packets : List Packet = packets_at (Some options.room) options.group bytes item.1 in
-    let lines : List Listed = lines_at (Some options.room) options.group bytes item.1 in
-    let W : List Put → Type 0 = λ xs. AreWritten options.order (packets_up (Some options.room) options.group bytes ++ packets) xs in
+    let packets : List Packet = packets_at options.paired (Some options.room) options.group bytes item.1 in
+    let lines : List Listed = lines_at options.paired (Some options.room) options.group bytes item.1 in
+    let W : List Put → Type 0 = λ xs. AreWritten options.order (packets_up options.paired (Some options.room) options.group bytes ++ packets) xs in
     let now : output_puts put.1 ≡ put.3.0 = output-listed put.3.0 put.1 lines put.3.2 ∙ output-written options.order packets put.3.0 put.3.1 in
     let all : output_puts puts ≡ output_puts put.0 ++ put.3.0 = ap output_puts put.4 ∙ output-then put.0 put.1 ∙ ap (λ xs. output_puts put.0 ++ xs) now in
     subst W (sym all)
-    (written-then options.order (packets_up (Some options.room) options.group bytes) packets
+    (written-then options.order (packets_up options.paired (Some options.room) options.group bytes) packets
     (output_puts put.0) put.3.0 (written-all options past put.0 put.2) put.3.1)
 
 pub raised_means : (options : UpOptions) (up : UpState) (past : List (ℕ × ℕ)) (puts : List Put) →

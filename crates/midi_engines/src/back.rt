@@ -14,7 +14,8 @@ ghost use Rattle.midi_engines.specs.RaisedMeans.{last_named};
 use crate::raised::{PacketWork, put_byte, put_open};
 use down_translator::laws::what_is_held_is_the_definition;
 use down_translator::{Down, Style};
-use midi_edge::{ByteReader, Lanes, NoMemory, Sink, Source, U4};
+use item_reader::ByteReader;
+use midi_edge::{Lanes, NoMemory, Sink, Source, U4};
 use midi_pass::laws::bytes_are_cut_once;
 use midi_pass::places::put_output;
 use midi_pass::{Engine, LIMIT, RunEnd, drive};
@@ -48,23 +49,25 @@ impl Model for BackRun {
 
     ghost view = { λ r. options_of r.up };
 
-    ghost invariant = { λ r. HoldsUp r.up.parsing.room r.up.group [] r.up
-        × (r.down ≡ new_down plain_style r.up.parsing.room) × (6 ≤ r.up.parsing.room) × (r.up.group < 16) };
+    ghost invariant = { λ r. HoldsUp r.up.holding.paired r.up.parsing.room r.up.group [] r.up
+        × (r.down ≡ new_down r.up.holding.paired plain_style r.up.parsing.room)
+        × (6 ≤ r.up.parsing.room) × (r.up.group < 16) };
 }
 
 impl BackRun {
-    /// A translation into this group and down again in plain style. `room` is the most bytes of an exclusive between F0 and F7, 6 to
-    /// 1,048,576, for which both ways reserve memory; `NoMemory` where there isn't so much. No other call takes any.
-    pub fn new(alloc: Global, group: U4, room: u32) -> Result<BackRun, NoMemory>
+    /// A translation into this group and down again in plain style, with paired controllers or without (own rule). `room` is the
+    /// most bytes of an exclusive between F0 and F7, 6 to 1,048,576, for which both ways reserve memory; `NoMemory` where there
+    /// isn't so much. No other call takes any.
+    pub fn new(alloc: Global, group: U4, room: u32, paired: bool) -> Result<BackRun, NoMemory>
         requires least { 6 ≤ room }
         requires most { room ≤ 1048576 }
-        ensures { IfOk result (λ run. run ≡ record { group = group; room = room }) }
+        ensures { IfOk result (λ run. run ≡ record { paired = paired; group = group; room = room }) }
     {
-        let up = match Up::new(alloc, group, room) {
+        let up = match Up::new(alloc, group, room, paired) {
             Ok(up) => up,
             Err(no_memory) => return Err(no_memory),
         };
-        match Down::new(alloc, room, Style::Plain) {
+        match Down::new(alloc, room, Style::Plain, paired) {
             Ok(down) => Ok(BackRun { up, down }),
             Err(no_memory) => Err(no_memory),
         }
@@ -214,8 +217,8 @@ fn translate<S: Source, L: Lanes, W: Sink, N: Sink>(
     output: &mut W,
     notes: &mut N,
 ) -> RunEnd
-    requires new { HoldsUp up.parsing.room up.group [] up }
-    requires empty { down ≡ new_down plain_style up.parsing.room }
+    requires new { HoldsUp up.holding.paired up.parsing.room up.group [] up }
+    requires empty { down ≡ new_down up.holding.paired plain_style up.parsing.room }
     requires least { 6 ≤ up.parsing.room }
     requires few { up.group < 16 }
     ensures ends { Ends byte_cutting (returning (options_of up))

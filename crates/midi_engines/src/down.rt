@@ -4,7 +4,7 @@ ghost use Rattle.std.specs.Option.{option_map, option_to_list};
 ghost use Rattle.sysex_groups.specs.Table.{Table, begun_in};
 ghost use Rattle.ump_grammar.specs.declared.packet.Packet.{Packet};
 ghost use Rattle.ump_grammar.specs.Ranges.{IsPacket};
-ghost use Rattle.down_translator.specs.Held.{down_after, limit_of, new_down, style_of};
+ghost use Rattle.down_translator.specs.Held.{down_after, limit_of, new_down, paired_of, style_of};
 ghost use Rattle.down_translator.specs.Lanes.{style_in};
 ghost use Rattle.midi_pass.specs.Pass.{Ends, IsDoneUnless, seen};
 ghost use Rattle.midi_pass.specs.Places.{Puts, places};
@@ -42,27 +42,39 @@ pub struct DownRun {
 
 impl Model for DownRun {
     ghost use Rattle.std.specs.Prelude.{◌≡◌, ◌≤◌};
-    ghost use Rattle.down_translator.specs.Held.{limit_of, new_down, style_of};
+    ghost use Rattle.down_translator.specs.Held.{limit_of, new_down, paired_of, style_of};
     ghost use Rattle.midi_engines.specs.Options.{DownOptions};
 
     ghost Value = { DownOptions };
 
-    ghost view = { λ r. record { style = style_of r.down; order = r.order; room = limit_of r.down } };
+    ghost view = { λ r. record {
+      paired = paired_of r.down;
+      style = style_of r.down;
+      order = r.order;
+      room = limit_of r.down;
+    } };
 
-    ghost invariant = { λ r. (r.down ≡ new_down (style_of r.down) (limit_of r.down))
+    ghost invariant = { λ r. (r.down ≡ new_down (paired_of r.down) (style_of r.down) (limit_of r.down))
         × (6 ≤ limit_of r.down) };
 }
 
 impl DownRun {
-    /// A translation in this style of a recording whose words have this order. `room` is the most bytes of an exclusive between F0
-    /// and F7, 6 to 1,048,576, for which each group reserves memory; `NoMemory` where there isn't so much. No other call takes any.
-    pub fn new(alloc: Global, style: Style, order: Order, room: u32) -> Result<DownRun, NoMemory>
+    /// A translation in this style of a recording whose words have this order, with paired controllers or without (own rule).
+    /// `room` is the most bytes of an exclusive between F0 and F7, 6 to 1,048,576, for which each group reserves memory; `NoMemory`
+    /// where there isn't so much. No other call takes any.
+    pub fn new(
+        alloc: Global,
+        style: Style,
+        order: Order,
+        room: u32,
+        paired: bool,
+    ) -> Result<DownRun, NoMemory>
         requires least { 6 ≤ room }
         requires most { room ≤ 1048576 }
         ensures { IfOk result (λ engine. engine
-            ≡ record { style = style_in style; order = order; room = room }) }
+            ≡ record { paired = paired; style = style_in style; order = order; room = room }) }
     {
-        match Down::new(alloc, room, style) {
+        match Down::new(alloc, room, style, paired) {
             Ok(down) => Ok(DownRun { down, order }),
             Err(no_memory) => Err(no_memory),
         }
@@ -160,15 +172,25 @@ fn translate<S: Source, L: Lanes, W: Sink, N: Sink>(
     output: &mut W,
     notes: &mut N,
 ) -> RunEnd
-    requires empty { down ≡ new_down (style_of down) (limit_of down) }
+    requires empty { down ≡ new_down (paired_of down) (style_of down) (limit_of down) }
     requires least { 6 ≤ limit_of down }
     requires begun { L.begun lanes.old ≡ true }
     ensures ends { Ends (packet_cutting order)
-        (carrying (record { style = style_of down; order = order; room = limit_of down }))
+        (carrying (record {
+          paired = paired_of down;
+          style = style_of down;
+          order = order;
+          room = limit_of down;
+        }))
         (seen S.Source L.Lanes W.Sink N.Sink input.old lanes.old output.old notes.old)
         (seen S.Source L.Lanes W.Sink N.Sink input.new lanes.new output.new notes.new) result }
     ensures complete { IsDoneUnless (packet_cutting order)
-        (carrying (record { style = style_of down; order = order; room = limit_of down }))
+        (carrying (record {
+          paired = paired_of down;
+          style = style_of down;
+          order = order;
+          room = limit_of down;
+        }))
         (seen S.Source L.Lanes W.Sink N.Sink input.old lanes.old output.old notes.old)
         (seen S.Source L.Lanes W.Sink N.Sink input.new lanes.new output.new notes.new) result }
 {

@@ -28,11 +28,11 @@ impl PacketReader {
 }
 
 impl Items<Framed, Packet> for PacketReader {
-    ghost IsCut = { λ first. packet_cutting first.words.order };
+    ghost IsCut = { λ first. packet_cutting first.words.how };
 
-    ghost IsNew = { λ first. first.words ≡ new_words first.words.order };
+    ghost IsNew = { λ first. first.words ≡ new_words first.words.how };
 
-    ghost HasGiven = { λ first now all left items. GivenSoFar first.words.order now.words all left items };
+    ghost HasGiven = { λ first now all left items. GivenSoFar first.words.how now.words all left items };
 
     ghost Promises = { λ past item. IsPacket item.1 };
 
@@ -69,5 +69,5 @@ impl Items<Framed, Packet> for PacketReader {
         }
     }
 
-    ghost starts = { λ first all new. no_packets first.words first.words.order all new };
+    ghost starts = { λ first all new. no_packets first.words first.words.how all new };
 }

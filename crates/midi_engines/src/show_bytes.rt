@@ -26,7 +26,8 @@ ghost use Rattle.midi_engines.specs.ShowBytes.{
 };
 
 use crate::kept_state::{facts_of, keep_step, put_facts};
-use midi_edge::{ByteReader, Lanes, NoMemory, Sink, Source};
+use item_reader::ByteReader;
+use midi_edge::{Lanes, NoMemory, Sink, Source};
 use midi_lines::{Line, fill_byte_listing, fill_step_line};
 use midi_pass::laws::bytes_are_cut_once;
 use midi_pass::places::put_output;

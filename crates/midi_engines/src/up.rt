@@ -9,7 +9,8 @@ ghost use Rattle.midi_engines.specs.RaisedMeans.{last_named};
 ghost use Rattle.midi_engines.specs.UpMeans.{raised_means, raises_named};
 
 use crate::raised::{PacketWork, put_byte, put_open};
-use midi_edge::{ByteReader, Lanes, NoMemory, Sink, Source, U4};
+use item_reader::ByteReader;
+use midi_edge::{Lanes, NoMemory, Sink, Source, U4};
 use midi_pass::laws::bytes_are_cut_once;
 use midi_pass::{Engine, LIMIT, RunEnd, drive};
 use midi1_bytes::laws::parsed_bytes_are_the_definition;
@@ -39,20 +40,34 @@ impl Model for UpRun {
 
     ghost Value = { UpOptions };
 
-    ghost view = { λ r. record { group = r.up.group; order = r.order; room = r.up.parsing.room } };
+    ghost view = { λ r. record {
+      paired = r.up.holding.paired;
+      group = r.up.group;
+      order = r.order;
+      room = r.up.parsing.room;
+    } };
 
-    ghost invariant = { λ r. HoldsUp r.up.parsing.room r.up.group [] r.up × (r.up.group < 16) };
+    ghost invariant = { λ r. HoldsUp r.up.holding.paired r.up.parsing.room r.up.group [] r.up
+        × (r.up.group < 16) };
 }
 
 impl UpRun {
-    /// A translation into this group, whose words have this order. `room` is the most bytes of an exclusive between F0 and F7, 6
-    /// to 1,048,576, for which memory is reserved; `NoMemory` where there isn't so much. No other call takes any.
-    pub fn new(alloc: Global, group: U4, order: Order, room: u32) -> Result<UpRun, NoMemory>
+    /// A translation into this group, whose words have this order, with paired controllers or without (own rule). `room` is the
+    /// most bytes of an exclusive between F0 and F7, 6 to 1,048,576, for which memory is reserved; `NoMemory` where there isn't so
+    /// much. No other call takes any.
+    pub fn new(
+        alloc: Global,
+        group: U4,
+        order: Order,
+        room: u32,
+        paired: bool,
+    ) -> Result<UpRun, NoMemory>
         requires least { 6 ≤ room }
         requires most { room ≤ 1048576 }
-        ensures { IfOk result (λ run. run ≡ record { group = group; order = order; room = room }) }
+        ensures { IfOk result (λ run. run
+            ≡ record { paired = paired; group = group; order = order; room = room }) }
     {
-        match Up::new(alloc, group, room) {
+        match Up::new(alloc, group, room, paired) {
             Ok(up) => Ok(UpRun { up, order }),
             Err(no_memory) => Err(no_memory),
         }
@@ -190,7 +205,7 @@ fn translate<S: Source, L: Lanes, W: Sink, N: Sink>(
     output: &mut W,
     notes: &mut N,
 ) -> RunEnd
-    requires new { HoldsUp up.parsing.room up.group [] up }
+    requires new { HoldsUp up.holding.paired up.parsing.room up.group [] up }
     requires few { up.group < 16 }
     ensures ends { Ends byte_cutting (raising (options_of up order))
         (seen S.Source L.Lanes W.Sink N.Sink input.old lanes.old output.old notes.old)

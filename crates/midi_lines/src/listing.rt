@@ -92,6 +92,7 @@ fn kind_name(kind: Kind) -> &'static str
         Kind::NullParameter => "null-parameter",
         Kind::RelativeParameter => "relative-parameter",
         Kind::MisplacedController => "misplaced-controller",
+        Kind::FineController => "fine-controller",
         Kind::StrayExclusive => "stray-exclusive",
         Kind::CutExclusive => "cut-exclusive",
         Kind::OpenExclusive => "open-exclusive",

@@ -223,6 +223,7 @@ fn listing_lines(rt: HostRuntime) {
             Kind::MisplacedController,
             "18446744073709551615 0 misplaced-controller\n",
         ),
+        (0, Some(0), Kind::FineController, "0 0 fine-controller\n"),
         (
             48,
             Some(15),

@@ -1,36 +1,40 @@
--- A stream is cut into its bytes in one way.
-use Rattle.std.proofs.Common.{◌≡◌, ◌+◌, ◌-◌, ℕ, List, [], ◌∷◌, ◌++◌, length, take, None, Some, ap, sym, ◌∙◌, inl, inr, arith}
-use Rattle.std.proofs.Math.Seq.{take-append-add}
-use Rattle.midi_pass.specs.Bytes.{limit, placed_from, byte_cutting}
+-- An input is cut into its items in one way.
+use Rattle.std.proofs.Common.{◌≡◌, ◌+◌, ℕ, List, [], ◌∷◌, ◌++◌, length, None, Some, refl, ap, sym, ◌∙◌, subst, arith}
+use Rattle.std.specs.List.{concat}
+use Rattle.std.proofs.lemmas.List.{length-append}
+use Rattle.item_reader.specs.Cut.{Cuts, items_from}
+use Rattle.item_reader.specs.CutLaws.{CutsStreams}
+use Rattle.item_reader.specs.declared.cutting.Tail as tails
+use Rattle.item_reader.specs.declared.cutting.Tail.TheVariants as tail
+use Rattle.midi_pass.specs.Items.{item_cutting, limit, refusal_at}
 use Rattle.midi_pass.specs.Pass.{Tail, CutsOnce, IsFront}
-use Rattle.midi_pass.specs.declared.ends.Reason.TheVariants.{InputTooLong}
 
-placed-then : (at : ℕ) (xs ys : List ℕ) → placed_from at (xs ++ ys) ≡ placed_from at xs ++ placed_from (at + length xs) ys
-placed-then at [] ys = let e : at ≡ at + 0 = omega arith in ap (λ n. placed_from n ys) e
-placed-then at (x ∷ xs) ys =
-    let e : (at + 1) + length xs ≡ at + length (x ∷ xs) = omega arith in
-    ap (λ zs. (at, x) ∷ zs) (placed-then (at + 1) xs ys ∙ ap (λ n. placed_from (at + 1) xs ++ placed_from n ys) e)
+items-then : {Item : Type 0} (item_of : ℕ → List ℕ → Item) (at : ℕ) (cs ds : List (List ℕ)) → items_from item_of at (cs ++ ds) ≡ items_from item_of at cs ++ items_from item_of (at + length (concat cs)) ds
+items-then item_of at [] ds = ap (λ n. items_from item_of n ds) (omega arith)
+items-then item_of at (c ∷ cs) ds =
+    ap (λ xs. item_of at c ∷ xs)
+    (items-then item_of (at + length c) cs ds ∙ ap (λ n. items_from item_of (at + length c) cs ++ items_from item_of n ds) (omega (arith, length-append c (concat cs))))
 
-one_cut : (bytes : List ℕ) (items others : List (ℕ × ℕ)) (tail other : Tail) → byte_cutting bytes items tail → byte_cutting bytes others other → (items ≡ others) × (tail ≡ other)
-one_cut bytes items others tail other (inl p) (inl q) = (p.2 ∙ sym q.2, p.0 ∙ sym q.0)
-one_cut bytes items others tail other (inl p) (inr q) = absurd (omega (arith, p.1, q.1))
-one_cut bytes items others tail other (inr p) (inl q) = absurd (omega (arith, p.1, q.1))
-one_cut bytes items others tail other (inr p) (inr q) = (p.2 ∙ sym q.2, p.0 ∙ sym q.0)
+is_end : (t : tails.Tail) → None ≡ refusal_at t → t ≡ tail.End
+is_end tail.End e = refl
+is_end (tail.Truncated offset) e = let f : None ≡ refusal_at (tail.Truncated offset) = e in cc
+is_end tail.TooLong e = let f : None ≡ refusal_at tail.TooLong = e in cc
 
--- the bytes of a front are the first of the bytes
-front_of : (bytes front rest : List ℕ) (first : List (ℕ × ℕ)) → bytes ≡ front ++ rest → first ≡ placed_from 0 front → placed_from 0 bytes ≡ first ++ placed_from (length front) rest
-front_of bytes front rest first parts is =
-    let e : 0 + length front ≡ length front = omega arith in
-    ap (placed_from 0) parts ∙ placed-then 0 front rest ∙ ap (λ n. placed_from 0 front ++ placed_from n rest) e ∙ ap (λ xs. xs ++ placed_from (length front) rest) (sym is)
+module _ {Item : Type 0} (asked : List ℕ → ℕ) (item_of : ℕ → List ℕ → Item) (laws : CutsStreams asked) where
+  one_cut : (bytes : List ℕ) (items others : List Item) (end other : Tail) → item_cutting asked item_of bytes items end → item_cutting asked item_of bytes others other → (items ≡ others) × (end ≡ other)
+  one_cut bytes items others end other p q =
+      let one = laws.one limit bytes p.1.chunks q.1.chunks p.0 q.0 p.1.cuts q.1.cuts in
+      (p.1.same ∙ ap (items_from item_of 0) one.0 ∙ sym q.1.same, p.2 ∙ ap refusal_at one.1 ∙ sym q.2)
 
-one_front : (bytes : List ℕ) (items first : List (ℕ × ℕ)) (tail : Tail) → byte_cutting bytes items tail → IsFront byte_cutting bytes first → (rest : List (ℕ × ℕ)) × (items ≡ first ++ rest)
-one_front bytes items first tail cut (front, rest, parts, inr long) = let e : None ≡ Some (InputTooLong, limit) = long.0 in absurd cc
-one_front bytes items first tail (inl cut) (front, rest, parts, inl whole) = (placed_from (length front) rest, cut.2 ∙ front_of bytes front rest first parts whole.2)
-one_front bytes items first tail (inr cut) (front, rest, parts, inl whole) =
-    let left : List ℕ = take (limit - length front) rest in
-    let e : limit ≡ length front + (limit - length front) = omega (arith, whole.1) in
-    let begin : take limit bytes ≡ front ++ left = ap (take limit) parts ∙ ap (λ n. take n (front ++ rest)) e ∙ take-append-add front rest (limit - length front) in
-    (placed_from (length front) left, cut.2 ∙ front_of (take limit bytes) front left first begin whole.2)
+  one_front : (bytes : List ℕ) (items first : List Item) (end : Tail) → item_cutting asked item_of bytes items end → IsFront (item_cutting asked item_of) bytes first → (rest : List Item) × (items ≡ first ++ rest)
+  one_front bytes items first end p (start, rest, parts, q) =
+      let B : List ℕ → Type 0 = λ xs. Cuts asked limit xs p.1.chunks p.0 in
+      let T : tails.Tail → Type 0 = λ t. Cuts asked limit start q.1.chunks t in
+      let chunks = laws.front limit start rest p.1.chunks q.1.chunks p.0 (subst B parts p.1.cuts) (subst T (is_end q.0 q.2) q.1.cuts) in
+      let at : ℕ = 0 + length (concat q.1.chunks) in (
+        items_from item_of at chunks.0,
+        p.1.same ∙ ap (items_from item_of 0) chunks.1 ∙ items-then item_of 0 q.1.chunks chunks.0 ∙ ap (λ xs. xs ++ items_from item_of at chunks.0) (sym q.1.same),
+      )
 
-pub bytes_once : CutsOnce byte_cutting
-bytes_once = record { one = one_cut; front = one_front }
+  pub items_once : CutsOnce (item_cutting asked item_of)
+  items_once = record { one = one_cut; front = one_front }

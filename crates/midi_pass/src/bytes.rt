@@ -1,15 +1,17 @@
 // The bytes of a stream, one by one.
 ghost use Rattle.std.specs.Prelude.{◌≡◌, ◌-◌, ℕ, List, Option, length, None, Some};
 ghost use Rattle.midi_edge.specs.Outside.{ahead};
-ghost use Rattle.midi_edge.specs.ByteReader.{new_reading};
+ghost use Rattle.item_reader.specs.ByteReader.{new_bytes};
 ghost use Rattle.midi_pass.specs.Bytes.{GivenSoFar, byte_cutting, limit};
 ghost use Rattle.midi_pass.specs.Next.{ComesNearer, GivesNext, NextCause};
 ghost use Rattle.midi_pass.specs.Pass.{Cutting};
 ghost use Rattle.midi_pass.specs.Starting.{none_given};
 
 use crate::ends::Reason;
+use crate::laws::items_are_taken_in_order;
 use crate::pass::{Items, Next};
-use midi_edge::{ByteReader, ReadStop, Source};
+use item_reader::{ByteReader, EachByte};
+use midi_edge::{ReadStop, Source};
 
 /// The most bytes that an input may have.
 pub const LIMIT: u64 = 4_294_967_296;
@@ -17,7 +19,7 @@ pub const LIMIT: u64 = 4_294_967_296;
 impl Items<u64, u8> for ByteReader {
     ghost IsCut = { λ first. byte_cutting };
 
-    ghost IsNew = { λ first. first ≡ new_reading limit };
+    ghost IsNew = { λ first. first ≡ new_bytes limit };
 
     ghost HasGiven = { λ first now all left items. GivenSoFar now all left items };
 
@@ -25,8 +27,9 @@ impl Items<u64, u8> for ByteReader {
 
     ghost to_go = { λ reader. reader.limit - reader.offset };
 
-    #[inline]
+    #[inline(always)]
     fn next<S: Source>(&mut self, input: &mut S) -> Next<u64, u8> {
+        items_are_taken_in_order::<EachByte, (u64, u8)>();
         match ByteReader::next(self, input) {
             Ok(Some((byte, offset))) => Next::Item {
                 at: offset,

@@ -9,10 +9,13 @@ ghost use Rattle.midi_engines.specs.Endpoint.{answering};
 ghost use Rattle.midi_engines.specs.ShowBytes.{showing_bytes};
 ghost use Rattle.midi_engines.specs.ShowPackets.{showing};
 ghost use Rattle.midi_engines.specs.Up.{raising};
+ghost use Rattle.usb_engines.specs.Pack.{packing};
+ghost use Rattle.usb_engines.specs.Split.{splitting};
 ghost use Rattle.midi_pass.specs.Pass.{seen};
 ghost use Rattle.midi_pass.specs.Places.{places};
 ghost use Rattle.midi_tool.specs.Command.{
   byte_pass,
+  event_pass,
   order_of as order_in,
   packet_pass,
   plan_of,
@@ -53,21 +56,25 @@ use midi_pass::places::put_output;
 use self_test::count;
 use std::alloc::Global;
 use ump_words::Order;
+use usb_engines::{PackRun, run_pack, run_split};
 
 /// Does what the words of a command line, without the program's name, ask for (own rules). All objects are new ones.
 ///
-/// `translate down --folder F` turns the recording of Universal MIDI Packets in `input` into a MIDI 1.0 stream for each group,
-/// in `lanes`, and lists in `notes` what has no counterpart; with `--compact` what the receiver of a lane already has since the
-/// lane's last System Reset isn't sent again: the running status, a selected parameter, a bank of which both halves are set.
-/// `translate up` turns the MIDI 1.0 stream in `input` into the words of packets of one group, in `output`, and
-/// `translate back` into the stream that these packets give on the way down; both list in `notes` what gave no packet. `show`
-/// puts a line for each packet of a recording in `output`, `show --bytes` the lines of a stream; with `--state` those of what
-/// the input leaves in a receiver follow. `endpoint SETUP` reads the setup of that name from the shelf and answers the packets
-/// of a peer in `input`: the words of the replies come in `output`, and a line for each message in `notes`. `selftest SEED`
-/// takes packets that a generator draws, `--packets` of them (1 to 1,000,000, at first 10,000), down, up and down again, and
-/// puts one line of counts in `output`; the input is left unread. `--group` is 0 to 15, at first 0; `--room`, the most bytes of
-/// an exclusive between F0 and F7, is 6 to 1,048,576, at first 1,048,576; with `--little` each word has its least significant
-/// byte first.
+/// `translate down --folder F` turns the recording of Universal MIDI Packets in `input` into a MIDI 1.0 stream for each group, in
+/// `lanes`, and lists in `notes` what has no counterpart; with `--compact` what the receiver of a lane already has since the lane's
+/// last System Reset isn't sent again: the running status, a selected parameter, a bank of which both halves are set.
+/// `translate up` turns the MIDI 1.0 stream in `input` into the words of packets of one group, in `output`, and `translate back`
+/// into the stream that these packets give on the way down; both list in `notes` what gave no packet. With `--paired` each
+/// translation sees controllers 1 to 31 but 6 at fourteen bits, each with the controller whose index is greater by 32. `show` puts
+/// a line for each packet of a recording in `output`, `show --bytes` the lines of a stream; with `--state` those of what the input
+/// leaves in a receiver follow. `endpoint SETUP` reads the setup of that name from the shelf and answers the packets of a peer in
+/// `input`: the words of the replies come in `output`, and a line for each message in `notes`. `usb split --folder F` turns the
+/// USB-MIDI 1.0 events in `input` into a MIDI 1.0 stream for each cable, in `lanes`, and lists in `notes` those whose code is
+/// reserved; `usb pack` turns the MIDI 1.0 stream in `input` into the events of one cable, in `output`, and lists in `notes` what
+/// gave no event. `selftest SEED` takes packets that a generator draws, `--packets` of them (1 to 1,000,000, at first 10,000),
+/// down, up and down again, and puts one line of counts in `output`; the input is left unread. `--group` and `--cable` are 0 to 15,
+/// at first 0; `--room`, the most bytes of an exclusive between F0 and F7, is 6 to 1,048,576, at first 1,048,576; with `--little`
+/// each word has its least significant byte first.
 ///
 /// `Done` says that the input was read to its end, or that the line of a self test was put. `Refused` comes at the first packet
 /// or byte that is refused, with its reason and its offset, the number of input bytes before it. `ReadFault`, `LaneFault`,
@@ -170,10 +177,11 @@ fn perform<S: Source, L: Lanes, W: Sink, N: Sink, K: Shelf>(
         Command::Down {
             folder,
             compact,
+            paired,
             little,
             room,
         } => translate_down(
-            alloc, folder, *compact, *little, *room, input, lanes, output, notes,
+            alloc, folder, *compact, *paired, *little, *room, input, lanes, output, notes,
         ),
         Command::Show {
             state,
@@ -185,12 +193,17 @@ fn perform<S: Source, L: Lanes, W: Sink, N: Sink, K: Shelf>(
         }
         Command::Up {
             group,
+            paired,
             little,
             room,
-        } => raise(alloc, *group, *little, *room, input, lanes, output, notes),
-        Command::Back { group, room } => {
-            bring_back(alloc, *group, *room, input, lanes, output, notes)
-        }
+        } => raise(
+            alloc, *group, *paired, *little, *room, input, lanes, output, notes,
+        ),
+        Command::Back {
+            group,
+            paired,
+            room,
+        } => bring_back(alloc, *group, *paired, *room, input, lanes, output, notes),
         Command::Endpoint {
             setup,
             little,
@@ -199,6 +212,10 @@ fn perform<S: Source, L: Lanes, W: Sink, N: Sink, K: Shelf>(
             Ok(setup) => answer_peer(alloc, setup, *little, *room, input, lanes, output, notes),
             Err(status) => status,
         },
+        Command::UsbSplit { folder } => split_events(folder, input, lanes, output, notes),
+        Command::UsbPack { cable, room } => {
+            pack_bytes(alloc, *cable, *room, input, lanes, output, notes)
+        }
         Command::SelfTest { seed, packets } => {
             test_self(alloc, *seed, *packets, lanes, output, notes)
         }
@@ -243,6 +260,7 @@ fn translate_down<S: Source, L: Lanes, W: Sink, N: Sink>(
     alloc: Global,
     folder: &str,
     compact: bool,
+    paired: bool,
     little: bool,
     room: u32,
     input: &mut S,
@@ -254,6 +272,7 @@ fn translate_down<S: Source, L: Lanes, W: Sink, N: Sink>(
     requires folder { L.folder lanes.old ≡ None }
     ensures says { RunsInto folder.now
         (packet_pass (order_in little) (carrying (record {
+          paired = paired;
           style = style_in (style_asked compact);
           order = order_in little;
           room = room;
@@ -262,6 +281,7 @@ fn translate_down<S: Source, L: Lanes, W: Sink, N: Sink>(
         (seen S.Source L.Lanes W.Sink N.Sink input.new lanes.new output.new notes.new) result }
     ensures complete { IsDonePass
         (packet_pass (order_in little) (carrying (record {
+          paired = paired;
           style = style_in (style_asked compact);
           order = order_in little;
           room = room;
@@ -269,7 +289,7 @@ fn translate_down<S: Source, L: Lanes, W: Sink, N: Sink>(
         (seen S.Source L.Lanes W.Sink N.Sink input.old lanes.old output.old notes.old)
         (seen S.Source L.Lanes W.Sink N.Sink input.new lanes.new output.new notes.new) result }
 {
-    let Ok(engine) = DownRun::new(alloc, style_of(compact), order_of(little), room) else {
+    let Ok(engine) = DownRun::new(alloc, style_of(compact), order_of(little), room, paired) else {
         return Status::NoMemory;
     };
     match lanes.begin(folder) {
@@ -283,6 +303,7 @@ fn translate_down<S: Source, L: Lanes, W: Sink, N: Sink>(
 fn raise<S: Source, L: Lanes, W: Sink, N: Sink>(
     alloc: Global,
     group: U4,
+    paired: bool,
     little: bool,
     room: u32,
     input: &mut S,
@@ -292,15 +313,25 @@ fn raise<S: Source, L: Lanes, W: Sink, N: Sink>(
 ) -> Status
     requires room { IsRoom room }
     ensures says { Runs
-        (byte_pass (raising (record { group = group; order = order_in little; room = room })))
+        (byte_pass (raising (record {
+          paired = paired;
+          group = group;
+          order = order_in little;
+          room = room;
+        })))
         (seen S.Source L.Lanes W.Sink N.Sink input.old lanes.old output.old notes.old)
         (seen S.Source L.Lanes W.Sink N.Sink input.new lanes.new output.new notes.new) result }
     ensures complete { IsDonePass
-        (byte_pass (raising (record { group = group; order = order_in little; room = room })))
+        (byte_pass (raising (record {
+          paired = paired;
+          group = group;
+          order = order_in little;
+          room = room;
+        })))
         (seen S.Source L.Lanes W.Sink N.Sink input.old lanes.old output.old notes.old)
         (seen S.Source L.Lanes W.Sink N.Sink input.new lanes.new output.new notes.new) result }
 {
-    match UpRun::new(alloc, group, order_of(little), room) {
+    match UpRun::new(alloc, group, order_of(little), room, paired) {
         Ok(engine) => status_of(run_up(engine, input, lanes, output, notes)),
         Err(_) => Status::NoMemory,
     }
@@ -310,6 +341,7 @@ fn raise<S: Source, L: Lanes, W: Sink, N: Sink>(
 fn bring_back<S: Source, L: Lanes, W: Sink, N: Sink>(
     alloc: Global,
     group: U4,
+    paired: bool,
     room: u32,
     input: &mut S,
     lanes: &mut L,
@@ -318,15 +350,15 @@ fn bring_back<S: Source, L: Lanes, W: Sink, N: Sink>(
 ) -> Status
     requires room { IsRoom room }
     ensures says { Runs
-        (byte_pass (returning (record { group = group; room = room })))
+        (byte_pass (returning (record { paired = paired; group = group; room = room })))
         (seen S.Source L.Lanes W.Sink N.Sink input.old lanes.old output.old notes.old)
         (seen S.Source L.Lanes W.Sink N.Sink input.new lanes.new output.new notes.new) result }
     ensures complete { IsDonePass
-        (byte_pass (returning (record { group = group; room = room })))
+        (byte_pass (returning (record { paired = paired; group = group; room = room })))
         (seen S.Source L.Lanes W.Sink N.Sink input.old lanes.old output.old notes.old)
         (seen S.Source L.Lanes W.Sink N.Sink input.new lanes.new output.new notes.new) result }
 {
-    match BackRun::new(alloc, group, room) {
+    match BackRun::new(alloc, group, room, paired) {
         Ok(engine) => status_of(run_back(engine, input, lanes, output, notes)),
         Err(_) => Status::NoMemory,
     }
@@ -439,6 +471,55 @@ fn answer_peer<S: Source, L: Lanes, W: Sink, N: Sink>(
 {
     match EndpointRun::new(alloc, setup, order_of(little), room) {
         Ok(engine) => status_of(run_endpoint(engine, input, lanes, output, notes)),
+        Err(_) => Status::NoMemory,
+    }
+}
+
+// Splits a stream of events into a folder.
+fn split_events<S: Source, L: Lanes, W: Sink, N: Sink>(
+    folder: &str,
+    input: &mut S,
+    lanes: &mut L,
+    output: &mut W,
+    notes: &mut N,
+) -> Status
+    requires folder { L.folder lanes.old ≡ None }
+    ensures says { RunsInto folder.now (event_pass splitting)
+        (seen S.Source L.Lanes W.Sink N.Sink input.old lanes.old output.old notes.old)
+        (seen S.Source L.Lanes W.Sink N.Sink input.new lanes.new output.new notes.new) result }
+    ensures complete { IsDonePass (event_pass splitting)
+        (seen S.Source L.Lanes W.Sink N.Sink input.old lanes.old output.old notes.old)
+        (seen S.Source L.Lanes W.Sink N.Sink input.new lanes.new output.new notes.new) result }
+{
+    if let Err(fault) = lanes.begin(folder) {
+        return match fault {
+            OpenFault::Failed => Status::LaneFault,
+            OpenFault::NoMemory => Status::NoMemory,
+        };
+    }
+    status_of(run_split(input, lanes, output, notes))
+}
+
+// Packs a stream of bytes into the events of a cable.
+fn pack_bytes<S: Source, L: Lanes, W: Sink, N: Sink>(
+    alloc: Global,
+    cable: U4,
+    room: u32,
+    input: &mut S,
+    lanes: &mut L,
+    output: &mut W,
+    notes: &mut N,
+) -> Status
+    requires room { IsRoom room }
+    ensures says { Runs (byte_pass (packing (record { cable = cable; room = room })))
+        (seen S.Source L.Lanes W.Sink N.Sink input.old lanes.old output.old notes.old)
+        (seen S.Source L.Lanes W.Sink N.Sink input.new lanes.new output.new notes.new) result }
+    ensures complete { IsDonePass (byte_pass (packing (record { cable = cable; room = room })))
+        (seen S.Source L.Lanes W.Sink N.Sink input.old lanes.old output.old notes.old)
+        (seen S.Source L.Lanes W.Sink N.Sink input.new lanes.new output.new notes.new) result }
+{
+    match PackRun::new(alloc, cable, room) {
+        Ok(engine) => status_of(run_pack(engine, input, lanes, output, notes)),
         Err(_) => Status::NoMemory,
     }
 }

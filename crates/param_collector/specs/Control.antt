@@ -1,13 +1,13 @@
 -- What a control change gives and leaves, by what is held.
-use Rattle.std.specs.Prelude.{◌≡◌, ℕ, ◌+◌, ◌*◌, ◌<◌, Option, Some, None, IfSome, slice_set}
+use Rattle.std.specs.Prelude.{◌≡◌, ℕ, ◌+◌, ◌-◌, ◌*◌, ◌<◌, Option, Some, None, IfSome, slice_set}
 use Rattle.voice_messages.specs.declared.voice2.Param.{Param}
 use Rattle.voice_messages.specs.Ranges.{IsParam}
 use Rattle.voice_state.specs.Registers.{Registers, with_bank_msb, with_bank_lsb, with_number_msb, with_number_lsb, without_selection, selected}
-use Rattle.voice_state.specs.Controllers.{Role, bank_msb, bank_lsb, data_msb, data_lsb, data_increment, data_decrement, number_msb, number_lsb, reset_all, channel_mode, plain}
+use Rattle.voice_state.specs.Controllers.{Role, bank_msb, bank_lsb, data_msb, data_lsb, data_increment, data_decrement, number_msb, number_lsb, reset_all, channel_mode, coarse, fine, plain}
 use Rattle.param_collector.specs.declared.collected.Collected.{Collected}
 use Rattle.param_collector.specs.declared.collected.Collected.TheVariants as collected
-use Rattle.param_collector.specs.Holding.{Holding, registers_at, msb_at}
-use Rattle.param_collector.specs.Msbs.{place_of}
+use Rattle.param_collector.specs.Holding.{Holding, registers_at, msb_at, pair_at}
+use Rattle.param_collector.specs.Msbs.{place_of, pair_place}
 
 -- ---- the answer
 
@@ -16,26 +16,33 @@ abbrev pub entered : Option Param → (Param → ℕ) → Collected
 entered None values = collected.Ignored
 entered (Some param) values = collected.Set param (values param)
 
-abbrev pub answer_by : Role → Option Param → (Param → ℕ) → Collected
-answer_by bank_msb param values = collected.Held
-answer_by bank_lsb param values = collected.Held
-answer_by data_msb param values = entered param values
-answer_by data_lsb param values = entered param values
-answer_by data_increment param values = collected.DataStep
-answer_by data_decrement param values = collected.DataStep
-answer_by (number_msb kind) param values = collected.Held
-answer_by (number_lsb kind) param values = collected.Held
-answer_by reset_all param values = collected.Plain
-answer_by channel_mode param values = collected.Plain
-answer_by plain param values = collected.Plain
+-- by the values of parameters and of controllers after it; a pair is named by the index of its MSB
+abbrev pub answer_by : Role → ℕ → Option Param → (Param → ℕ) → (ℕ → ℕ) → Collected
+answer_by bank_msb index param values controllers = collected.Held
+answer_by bank_lsb index param values controllers = collected.Held
+answer_by data_msb index param values controllers = entered param values
+answer_by data_lsb index param values controllers = entered param values
+answer_by data_increment index param values controllers = collected.DataStep
+answer_by data_decrement index param values controllers = collected.DataStep
+answer_by (number_msb kind) index param values controllers = collected.Held
+answer_by (number_lsb kind) index param values controllers = collected.Held
+answer_by reset_all index param values controllers = collected.Plain
+answer_by channel_mode index param values controllers = collected.Plain
+answer_by coarse index param values controllers = collected.Pair index (controllers index)
+answer_by fine index param values controllers = collected.Pair (index - 32) (controllers (index - 32))
+answer_by plain index param values controllers = collected.Plain
 
--- the value after a data entry: the MSB sets the LSB to 0, the LSB keeps the MSB
+-- the value after a data entry or a half of a pair: the MSB sets the LSB to 0, the LSB keeps the MSB
 abbrev pub value_behind : Role → ℕ → ℕ → ℕ
 value_behind data_msb value msb = value * 128
+value_behind coarse value msb = value * 128
 value_behind _ value msb = msb * 128 + value
 
-abbrev pub answer_of : Role → Holding → ℕ → ℕ → Collected
-answer_of role holding channel value = answer_by role (selected (registers_at holding channel)) (λ param. value_behind role value (msb_at holding channel param))
+abbrev pub answer_of : Role → Holding → ℕ → ℕ → ℕ → Collected
+answer_of role holding channel index value =
+    answer_by role index (selected (registers_at holding channel))
+    (λ param. value_behind role value (msb_at holding channel param))
+    (λ coarse. value_behind role value (pair_at holding channel coarse))
 
 -- ---- what is held after it
 
@@ -50,18 +57,27 @@ abbrev pub with_entry : Option Param → ℕ → ℕ → Holding → Holding
 with_entry None channel msb holding = holding
 with_entry (Some param) channel msb holding = with_msb_at channel param msb holding
 
-abbrev pub holding_behind : Role → Holding → ℕ → ℕ → Holding
-holding_behind bank_msb holding channel value = at_registers channel (with_bank_msb value) holding
-holding_behind bank_lsb holding channel value = at_registers channel (with_bank_lsb value) holding
-holding_behind data_msb holding channel value = with_entry (selected (registers_at holding channel)) channel value holding
-holding_behind data_lsb holding channel value = holding
-holding_behind data_increment holding channel value = holding
-holding_behind data_decrement holding channel value = holding
-holding_behind (number_msb kind) holding channel value = at_registers channel (with_number_msb kind value) holding
-holding_behind (number_lsb kind) holding channel value = at_registers channel (with_number_lsb kind value) holding
-holding_behind reset_all holding channel value = at_registers channel without_selection holding
-holding_behind channel_mode holding channel value = holding
-holding_behind plain holding channel value = holding
+abbrev pub with_pair_at : ℕ → ℕ → ℕ → Holding → Holding
+with_pair_at channel index msb holding = record holding { pairs = slice_set holding.pairs (pair_place channel index) msb }
+
+-- reset all controllers: expression, 11, is at its greatest, and modulation, 1, at 0 (RP-015)
+abbrev pub with_reset : ℕ → Holding → Holding
+with_reset channel holding = with_pair_at channel 1 0 (with_pair_at channel 11 127 (at_registers channel without_selection holding))
+
+abbrev pub holding_behind : Role → Holding → ℕ → ℕ → ℕ → Holding
+holding_behind bank_msb holding channel index value = at_registers channel (with_bank_msb value) holding
+holding_behind bank_lsb holding channel index value = at_registers channel (with_bank_lsb value) holding
+holding_behind data_msb holding channel index value = with_entry (selected (registers_at holding channel)) channel value holding
+holding_behind data_lsb holding channel index value = holding
+holding_behind data_increment holding channel index value = holding
+holding_behind data_decrement holding channel index value = holding
+holding_behind (number_msb kind) holding channel index value = at_registers channel (with_number_msb kind value) holding
+holding_behind (number_lsb kind) holding channel index value = at_registers channel (with_number_lsb kind value) holding
+holding_behind reset_all holding channel index value = with_reset channel holding
+holding_behind channel_mode holding channel index value = holding
+holding_behind coarse holding channel index value = with_pair_at channel index value holding
+holding_behind fine holding channel index value = holding
+holding_behind plain holding channel index value = holding
 
 -- after these answers nothing has changed
 abbrev pub Leaves : Collected → Holding → Holding → Type 0
@@ -71,12 +87,15 @@ Leaves _ old new = Unit {0}
 
 -- ---- ranges
 
--- the channel, the number of the selected parameter, and the data entry
+-- the channel, the value, and the number of the selected parameter
 abbrev pub AreInRange : ℕ → Option Param → ℕ → Type 0
-AreInRange channel param value = (channel < 16) × IfSome param (λ entry. IsParam entry × (value < 128))
+AreInRange channel param value = (channel < 16) × (value < 128) × IfSome param IsParam
 
--- those of a data entry, where it is one
+-- those that a data entry, a pair or a reset asks for
 abbrev pub EntryInRange : Role → ℕ → Option Param → ℕ → Type 0
 EntryInRange data_msb channel param value = AreInRange channel param value
 EntryInRange data_lsb channel param value = AreInRange channel param value
+EntryInRange coarse channel param value = (channel < 16) × (value < 128)
+EntryInRange fine channel param value = (channel < 16) × (value < 128)
+EntryInRange reset_all channel param value = channel < 16
 EntryInRange _ channel param value = Unit {0}

@@ -1,12 +1,14 @@
--- The indexes of each answer.
-use Rattle.std.specs.Prelude.{◌≡◌, ℕ, ◌⊎◌}
-use Rattle.voice_state.specs.Indexes.{IsHalf, IsDataEntry, IsOther}
+-- The indexes of each answer, where controllers are paired or aren't.
+use Rattle.std.specs.Prelude.{◌≡◌, ℕ, ◌+◌, ◌⊎◌, Bool, true}
+use Rattle.voice_state.specs.Indexes.{IsHalf, IsDataEntry, IsCoarse, IsFine, IsAlone}
 use Rattle.param_collector.specs.declared.collected.Collected.{Collected}
 use Rattle.param_collector.specs.declared.collected.Collected.TheVariants as collected
 
-abbrev pub IsIndexOf : Collected → ℕ → Type 0
-IsIndexOf collected.DataStep index = (index ≡ 96) ⊎ (index ≡ 97)
-IsIndexOf collected.Held index = IsHalf index
-IsIndexOf (collected.Set param value) index = IsDataEntry index
-IsIndexOf collected.Ignored index = IsDataEntry index
-IsIndexOf collected.Plain index = IsOther index
+abbrev pub IsIndexOf : Bool → Collected → ℕ → Type 0
+IsIndexOf paired collected.DataStep index = (index ≡ 96) ⊎ (index ≡ 97)
+IsIndexOf paired collected.Held index = IsHalf index
+IsIndexOf paired (collected.Set param value) index = IsDataEntry index
+IsIndexOf paired collected.Ignored index = IsDataEntry index
+IsIndexOf paired (collected.Pair coarse value) index =
+    (paired ≡ true) × ((IsCoarse index × (coarse ≡ index)) ⊎ (IsFine index × (coarse + 32 ≡ index)))
+IsIndexOf paired collected.Plain index = IsAlone paired index

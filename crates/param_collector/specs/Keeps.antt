@@ -6,35 +6,47 @@ use Rattle.voice_messages.specs.declared.voice2.Param.{Param}
 use Rattle.voice_messages.specs.Ranges.{IsParam}
 use Rattle.midi1_bytes.specs.Messages.{Message, voice}
 use Rattle.voice_state.specs.Registers.{selected}
-use Rattle.voice_state.specs.Controllers.{role_of}
+use Rattle.voice_state.specs.Controllers.{coarse, pairing, role_of}
 use Rattle.voice_state.specs.State.{Channel, GroupState}
 use Rattle.voice_state.specs.Messages.{step1}
 use Rattle.param_collector.specs.declared.collected.Collected.{Collected}
-use Rattle.param_collector.specs.Holding.{Holding, registers_at, msb_at}
+use Rattle.param_collector.specs.Holding.{Holding, registers_at, msb_at, pair_at}
 use Rattle.param_collector.specs.Control.{answer_by}
 
 -- the value of a parameter, 0 where it has none
 abbrev pub value_of : Channel → Param → ℕ
 value_of channel param = unwrap_or (channel.params param) 0
 
--- the registers of each channel, and the MSB of each parameter's value of fourteen bits
+-- the value of a controller, 0 where it has none
+abbrev pub controller_of : Channel → ℕ → ℕ
+controller_of channel index = unwrap_or (channel.controllers index) 0
+
+-- The registers of each channel, and the MSB of each parameter's value of fourteen bits. Where controllers are paired, also the MSB
+-- of each pair's value of fourteen bits.
 pub record Keeps (holding : Holding) (group : GroupState) : Type 0 where
   pub registers : (channel : ℕ) → channel < 16 → registers_at holding channel ≡ (group.channels channel).registers
   pub msbs : (channel : ℕ) (param : Param) → channel < 16 → IsParam param → msb_at holding channel param ≡ value_of (group.channels channel) param / 128
+  pub pairs : (channel index : ℕ) → channel < 16 → pairing holding.paired (role_of index) ≡ coarse →
+      pair_at holding channel index ≡ controller_of (group.channels channel) index / 128
 
 -- ---- a control change
 
 -- after a control change, by the meaning of MIDI 1.0
-abbrev pub control_step : GroupState → ℕ → ℕ → ℕ → GroupState
-control_step group channel index value = step1 group (voice (voice1.Control channel index value))
+abbrev pub control_step : Bool → GroupState → ℕ → ℕ → ℕ → GroupState
+control_step paired group channel index value = step1 paired group (voice (voice1.Control channel index value))
 
--- its answer, by that meaning: a data entry answers the value that the selected parameter has after it
-abbrev pub meant : GroupState → ℕ → ℕ → ℕ → Collected
-meant group channel index value = answer_by (role_of index) (selected (group.channels channel).registers) (λ param. value_of ((control_step group channel index value).channels channel) param)
+-- Its answer, by that meaning: a data entry answers the value that the selected parameter has after it, and a half of a pair the
+-- pair's.
+abbrev pub meant : Bool → GroupState → ℕ → ℕ → ℕ → Collected
+meant paired group channel index value =
+    let after = (control_step paired group channel index value).channels channel in
+    answer_by (pairing paired (role_of index)) index (selected (group.channels channel).registers) (value_of after) (controller_of after)
 
 -- each state that was kept is kept after the step, with the answer that it means
 abbrev pub IsMeant : Holding → Holding → ℕ → ℕ → ℕ → Collected → Type 0
-IsMeant old new channel index value answer = (group : GroupState) → Keeps old group → Keeps new (control_step group channel index value) × (answer ≡ meant group channel index value)
+IsMeant old new channel index value answer =
+    (group : GroupState) → Keeps old group →
+    Keeps new (control_step old.paired group channel index value) × (answer ≡ meant old.paired group channel index value)
 
 -- ---- all other messages
 

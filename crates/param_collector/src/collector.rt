@@ -1,7 +1,7 @@
 // The registers and parameters that the control changes of a stream have set.
-ghost use Rattle.std.specs.Prelude.{◌≡◌, ℕ, ◌<◌, ◌+◌, ◌*◌, IfOk, IfSome};
+ghost use Rattle.std.specs.Prelude.{◌≡◌, ℕ, Bool, ◌<◌, ◌+◌, ◌*◌, IfOk, IfSome};
 ghost use Rattle.voice_messages.specs.Ranges.{IsParam};
-ghost use Rattle.voice_state.specs.Controllers.{role_of, data_msb, data_lsb};
+ghost use Rattle.voice_state.specs.Controllers.{coarse, fine, pairing, role_of};
 ghost use Rattle.voice_state.specs.Indexes.{HasIndex};
 ghost use Rattle.voice_state.specs.Messages.{as_they_come, start};
 ghost use Rattle.voice_state.specs.Registers.{bank_of, selected};
@@ -10,17 +10,21 @@ ghost use Rattle.voice_state.specs.State.{GroupState};
 ghost use Rattle.param_collector.specs.Control.{
   answer_of,
   at_registers,
+  entered,
   holding_behind,
+  with_entry,
+  with_reset,
   AreInRange,
   EntryInRange,
   Leaves,
 };
-ghost use Rattle.param_collector.specs.Holding.{IsHolding, fresh, registers_at};
+ghost use Rattle.param_collector.specs.Holding.{IsHolding, fresh, msb_at, registers_at};
 ghost use Rattle.param_collector.specs.Indexes.{IsIndexOf};
 ghost use Rattle.param_collector.specs.Keeps.{IsMeant, Keeps};
 
 use crate::collected::Collected;
 use crate::msbs::Msbs;
+use crate::pairs::PairMsbs;
 use midi_edge::{NoMemory, U4};
 use std::alloc::Global;
 use std::marker::Model;
@@ -28,15 +32,18 @@ use voice_messages::{Bank, Param, U7, U14};
 use voice_state::{ControlRole, Registers};
 
 /// What the control changes of a MIDI 1.0 stream have set: for each of sixteen channels the halves of the bank and of the two
-/// parameter numbers, and for each parameter the MSB of its value. A contract sees these registers and MSBs.
+/// parameter numbers, and for each parameter the MSB of its value; where controllers are paired (own rule), also the MSB of each
+/// pair. A contract sees these registers and MSBs, and whether controllers are paired.
 #[derive(Drop)]
 pub struct Collector {
     registers: Vec<Registers>,
     msbs: Msbs,
+    paired: bool,
+    pairs: PairMsbs,
 }
 
 impl Model for Collector {
-    ghost use Rattle.std.specs.Prelude.{◌≡◌, length};
+    ghost use Rattle.std.specs.Prelude.{◌≡◌, true, length};
     ghost use Rattle.param_collector.specs.Holding.{Holding};
 
     ghost Value = { Holding };
@@ -44,9 +51,12 @@ impl Model for Collector {
     ghost view = { λ c. record {
       registers = c.registers.items;
       msbs = c.msbs;
+      paired = c.paired;
+      pairs = c.pairs;
     } };
 
-    ghost invariant = { λ c. (length c.registers.items ≡ 16) × (length c.msbs ≡ 524288) };
+    ghost invariant = { λ c. (length c.registers.items ≡ 16) × (length c.msbs ≡ 524288) ×
+        (c.paired ≡ true → length c.pairs ≡ 512) };
 }
 
 // A value of fourteen bits by its halves.
@@ -60,10 +70,11 @@ fn of_halves(msb: U7, lsb: U7) -> U14
 }
 
 impl Collector {
-    /// A collector for a stream that has had no byte yet: no half of a register is set, and no parameter has a value. All memory
-    /// that it ever needs is taken here; `NoMemory` when there is none.
-    pub fn new(alloc: Global) -> Result<Collector, NoMemory>
-        ensures fresh { IfOk result (λ collector. collector ≡ fresh) }
+    /// A collector for a stream that has had no byte yet: no half of a register is set, and no parameter or controller has a value.
+    /// Controllers are paired or aren't (own rule): where they are, the MSB and the LSB of a controller are one value of 14 bits. All
+    /// memory that it ever needs is taken here; `NoMemory` when there is none.
+    pub fn new(alloc: Global, paired: bool) -> Result<Collector, NoMemory>
+        ensures fresh { IfOk result (λ collector. collector ≡ fresh paired) }
         ensures holding { IfOk result IsHolding }
         ensures start { IfOk result (λ collector. Keeps collector (start as_they_come)) }
     {
@@ -75,8 +86,16 @@ impl Collector {
                 return Err(NoMemory);
             }
         }
-        match Msbs::new(alloc) {
-            Ok(msbs) => Ok(Collector { registers, msbs }),
+        let Ok(msbs) = Msbs::new(alloc) else {
+            return Err(NoMemory);
+        };
+        match PairMsbs::new(alloc, paired) {
+            Ok(pairs) => Ok(Collector {
+                registers,
+                msbs,
+                paired,
+                pairs,
+            }),
             Err(NoMemory) => Err(NoMemory),
         }
     }
@@ -85,26 +104,30 @@ impl Collector {
     /// parameter numbers; RP-015).
     #[inline(always)]
     pub fn control(&mut self, channel: U4, index: U7, value: U7) -> Collected
-        ensures answer { result ≡ answer_of (role_of index) self.old channel value }
-        ensures behind { self.new ≡ holding_behind (role_of index) self.old channel value }
+        ensures answer { result ≡
+            answer_of (pairing self.old.paired (role_of index)) self.old channel index value }
+        ensures behind { self.new ≡
+            holding_behind (pairing self.old.paired (role_of index)) self.old channel index value }
         ensures unchanged { Leaves result self.old self.new }
-        ensures index { IsIndexOf result index }
+        ensures index { IsIndexOf self.old.paired result index }
         ensures holding { IsHolding self.new }
         ensures meant { IsMeant self.old self.new channel index value result }
     {
         let role = ControlRole::of(index);
-        self.act(channel, role, value)
+        self.act(channel, role, index, value)
     }
 
-    // Takes a control change of a role.
+    // Takes a control change by its role, of which those of pairs count only where controllers are paired: that is asked for last.
     #[inline(always)]
-    fn act(&mut self, channel: U4, role: ControlRole, value: U7) -> Collected
-        ensures answer { result ≡ answer_of (role_in role) self.old channel value }
-        ensures behind { self.new ≡ holding_behind (role_in role) self.old channel value }
+    fn act(&mut self, channel: U4, role: ControlRole, index: U7, value: U7) -> Collected
+        ensures answer { result ≡
+            answer_of (pairing self.old.paired (role_in role)) self.old channel index value }
+        ensures behind { self.new ≡
+            holding_behind (pairing self.old.paired (role_in role)) self.old channel index value }
         ensures unchanged { Leaves result self.old self.new }
-        ensures index { (index : ℕ) → HasIndex (role_in role) index → IsIndexOf result index }
+        ensures index { HasIndex (role_in role) index → IsIndexOf self.old.paired result index }
         ensures before { IsHolding self.old }
-        ensures in_range { EntryInRange (role_in role) channel
+        ensures in_range { EntryInRange (pairing self.old.paired (role_in role)) channel
             (selected (registers_at self.old channel)) value }
     {
         // opened here, so that the sizes are known in each arm
@@ -113,11 +136,16 @@ impl Collector {
             ControlRole::DataMsb => self.enter_msb(channel, value),
             ControlRole::DataLsb => self.enter_lsb(channel, value),
             ControlRole::DataIncrement | ControlRole::DataDecrement => Collected::DataStep,
-            ControlRole::ChannelMode | ControlRole::Plain => Collected::Plain,
             ControlRole::ResetAll => {
-                self.take(channel, role, value);
+                self.reset(channel);
                 Collected::Plain
             }
+            ControlRole::Coarse if self.paired => self.enter_coarse(channel, index, value),
+            ControlRole::Fine if self.paired => self.enter_fine(channel, index, value),
+            ControlRole::ChannelMode
+            | ControlRole::Coarse
+            | ControlRole::Fine
+            | ControlRole::Plain => Collected::Plain,
             ControlRole::BankMsb
             | ControlRole::BankLsb
             | ControlRole::NumberMsb(_)
@@ -126,6 +154,16 @@ impl Collector {
                 Collected::Held
             }
         }
+    }
+
+    // Reset all controllers (RP-015).
+    fn reset(&mut self, channel: U4)
+        ensures behind { self.new ≡ with_reset channel self.old }
+        ensures channel_below { channel < 16 }
+    {
+        self.take(channel, ControlRole::ResetAll, U7::low_bits(0));
+        self.pairs.set(channel, U7::low_bits(11), U7::low_bits(127));
+        self.pairs.set(channel, U7::low_bits(1), U7::low_bits(0));
     }
 
     // The channel's registers take a control change that is no data entry.
@@ -148,8 +186,10 @@ impl Collector {
 
     // A data entry of the MSB, after which the LSB is 0.
     fn enter_msb(&mut self, channel: U4, value: U7) -> Collected
-        ensures answer { result ≡ answer_of data_msb self.old channel value }
-        ensures behind { self.new ≡ holding_behind data_msb self.old channel value }
+        ensures answer { result ≡
+            entered (selected (registers_at self.old channel)) (λ param. value * 128) }
+        ensures behind { self.new ≡
+            with_entry (selected (registers_at self.old channel)) channel value self.old }
         ensures unchanged { Leaves result self.old self.new }
         ensures in_range { AreInRange channel (selected (registers_at self.old channel)) value }
     {
@@ -164,7 +204,8 @@ impl Collector {
 
     // A data entry of the LSB, which keeps the MSB of its parameter.
     fn enter_lsb(&self, channel: U4, value: U7) -> Collected
-        ensures answer { result ≡ answer_of data_lsb self.now channel value }
+        ensures answer { result ≡ entered (selected (registers_at self.now channel))
+            (λ param. msb_at self.now channel param * 128 + value) }
         ensures in_range { AreInRange channel (selected (registers_at self.now channel)) value }
     {
         match self.selected(channel) {
@@ -174,6 +215,26 @@ impl Collector {
                 Collected::Set(param, of_halves(msb, value))
             }
         }
+    }
+
+    // The MSB of a pair, after which the LSB is 0.
+    fn enter_coarse(&mut self, channel: U4, index: U7, value: U7) -> Collected
+        ensures answer { result ≡ answer_of coarse self.old channel index value }
+        ensures behind { self.new ≡ holding_behind coarse self.old channel index value }
+        ensures in_range { (channel < 16) × (value < 128) }
+    {
+        self.pairs.set(channel, index, value);
+        Collected::Pair(index, of_halves(value, U7::low_bits(0)))
+    }
+
+    // The LSB of a pair, which keeps the MSB. Its index is higher by 32.
+    fn enter_fine(&self, channel: U4, index: U7, value: U7) -> Collected
+        ensures answer { result ≡ answer_of fine self.now channel index value }
+        ensures in_range { (channel < 16) × (value < 128) }
+    {
+        let coarse = U7::low_bits(index.get().saturating_sub(32) as u32);
+        let msb = self.pairs.get(channel, coarse);
+        Collected::Pair(coarse, of_halves(msb, value))
     }
 
     /// The bank that a program change would take now: an unset half is 0; `None` exactly when neither half was set.

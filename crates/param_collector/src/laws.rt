@@ -1,7 +1,7 @@
 // What holds of all collectors.
 ghost use Rattle.std.specs.Prelude.{◌≡◌, ℕ, false};
 ghost use Rattle.midi1_bytes.specs.Messages.{Message};
-ghost use Rattle.voice_state.specs.Controllers.{Role, role_of};
+ghost use Rattle.voice_state.specs.Controllers.{Role, pairing, role_of};
 ghost use Rattle.voice_state.specs.Messages.{step1};
 ghost use Rattle.voice_state.specs.Registers.{selected};
 ghost use Rattle.voice_state.specs.State.{GroupState};
@@ -9,19 +9,24 @@ ghost use Rattle.param_collector.specs.Control.{answer_of, holding_behind, AreIn
 ghost use Rattle.param_collector.specs.Holding.{Holding, IsHolding, registers_at};
 ghost use Rattle.param_collector.specs.Keeps.{IsMeant, Keeps, is_control_change};
 
-/// What a control change gives and leaves is what it means: each state that is kept before it is kept after its step.
+/// What a control change gives and leaves is what it means: each state that is kept before it is kept after its step. Whether
+/// controllers are paired stays.
 pub fn control_changes_are_kept()
     ensures meant { (holding : Holding) (channel index value : ℕ) → IsHolding holding →
         AreInRange channel (selected (registers_at holding channel)) value →
-        IsMeant holding (holding_behind (role_of index) holding channel value) channel index value
-        (answer_of (role_of index) holding channel value) }
-    ensures sizes { (holding : Holding) (role : Role) (channel value : ℕ) → IsHolding holding →
-        IsHolding (holding_behind role holding channel value) }
+        IsMeant holding
+        (holding_behind (pairing holding.paired (role_of index)) holding channel index value)
+        channel index value
+        (answer_of (pairing holding.paired (role_of index)) holding channel index value) }
+    ensures sizes { (holding : Holding) (role : Role) (channel index value : ℕ) → IsHolding holding →
+        IsHolding (holding_behind role holding channel index value) }
+    ensures paired { (holding : Holding) (role : Role) (channel index value : ℕ) →
+        (holding_behind role holding channel index value).paired ≡ holding.paired }
 {}
 
 /// A message that is no control change leaves what a collector has to keep.
 pub fn other_messages_change_nothing_kept()
     ensures { (holding : Holding) (group : GroupState) (message : Message) →
         is_control_change message ≡ false → Keeps holding group →
-        Keeps holding (step1 group message) }
+        Keeps holding (step1 holding.paired group message) }
 {}

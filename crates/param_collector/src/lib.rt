@@ -5,6 +5,7 @@ pub mod collected;
 pub mod collector;
 pub mod laws;
 mod msbs;
+mod pairs;
 
 pub use crate::collected::Collected;
 pub use crate::collector::Collector;

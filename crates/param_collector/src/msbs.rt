@@ -24,7 +24,7 @@ fn place_of(channel: U4, param: &Param) -> usize
 }
 
 #[tactic(auto, unfolding(crate::specs::Msbs::zeros))]
-fn zeros(alloc: Global, count: usize) -> Result<Vec<U7>, NoMemory>
+pub(crate) fn zeros(alloc: Global, count: usize) -> Result<Vec<U7>, NoMemory>
     ensures { IfOk result (λ table. table.items ≡ zeros count) }
 {
     match Vec::from_elem(alloc, U7::low_bits(0), count) {

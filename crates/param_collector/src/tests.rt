@@ -45,7 +45,7 @@ fn bank(msb: u32, lsb: u32) -> Option<Bank> {
 
 #[test]
 fn coarse_and_fine_entry(rt: HostRuntime) {
-    let Ok(mut collector) = Collector::new(rt.alloc()) else {
+    let Ok(mut collector) = Collector::new(rt.alloc(), false) else {
         assert!(rt; false, "memory is ample");
         return;
     };
@@ -75,7 +75,7 @@ fn coarse_and_fine_entry(rt: HostRuntime) {
 
 #[test]
 fn two_parameters_in_turn(rt: HostRuntime) {
-    let Ok(mut collector) = Collector::new(rt.alloc()) else {
+    let Ok(mut collector) = Collector::new(rt.alloc(), false) else {
         assert!(rt; false, "memory is ample");
         return;
     };
@@ -134,7 +134,7 @@ fn two_parameters_in_turn(rt: HostRuntime) {
 
 #[test]
 fn ends_of_a_selection(rt: HostRuntime) {
-    let Ok(mut collector) = Collector::new(rt.alloc()) else {
+    let Ok(mut collector) = Collector::new(rt.alloc(), false) else {
         assert!(rt; false, "memory is ample");
         return;
     };
@@ -184,7 +184,7 @@ fn ends_of_a_selection(rt: HostRuntime) {
 
 #[test]
 fn halves_of_a_bank(rt: HostRuntime) {
-    let Ok(mut collector) = Collector::new(rt.alloc()) else {
+    let Ok(mut collector) = Collector::new(rt.alloc(), false) else {
         assert!(rt; false, "memory is ample");
         return;
     };
@@ -204,7 +204,7 @@ fn halves_of_a_bank(rt: HostRuntime) {
 
 #[test]
 fn channels_stand_apart(rt: HostRuntime) {
-    let Ok(mut collector) = Collector::new(rt.alloc()) else {
+    let Ok(mut collector) = Collector::new(rt.alloc(), false) else {
         assert!(rt; false, "memory is ample");
         return;
     };
@@ -219,4 +219,49 @@ fn channels_stand_apart(rt: HostRuntime) {
         gives(&rt, collector, channel, (38, 1), value);
         assert_eq!(rt; collector.program(U4::low_bits(channel)), bank(channel, 0));
     }
+}
+
+#[test]
+fn halves_of_paired_controllers(rt: HostRuntime) {
+    let Ok(mut collector) = Collector::new(rt.alloc(), true) else {
+        assert!(rt; false, "memory is ample");
+        return;
+    };
+    let collector = &mut collector;
+    let pair = |index: u32, value: u32| Collected::Pair(U7::low_bits(index), U14::low_bits(value));
+    // an LSB without an MSB; then volume, 7, in both halves
+    gives(&rt, collector, 0, (39, 5), pair(7, 5));
+    gives(&rt, collector, 0, (7, 100), pair(7, 12800));
+    gives(&rt, collector, 0, (39, 5), pair(7, 12805));
+    gives(&rt, collector, 0, (39, 6), pair(7, 12806));
+    // another channel and another controller have MSBs of their own
+    gives(&rt, collector, 1, (39, 5), pair(7, 5));
+    gives(&rt, collector, 0, (40, 5), pair(8, 5));
+    // a new MSB clears the LSB
+    gives(&rt, collector, 0, (7, 100), pair(7, 12800));
+    // the ends of the pairs, and what is none
+    gives(&rt, collector, 15, (31, 1), pair(31, 128));
+    gives(&rt, collector, 15, (63, 2), pair(31, 130));
+    gives(&rt, collector, 15, (33, 2), pair(1, 2));
+    gives(&rt, collector, 15, (64, 2), Collected::Plain);
+    gives(&rt, collector, 0, (6, 5), Collected::Ignored);
+    gives(&rt, collector, 0, (38, 5), Collected::Ignored);
+    holds(&rt, collector, 0, &[(0, 1), (32, 2)]);
+    // reset all controllers: expression at its greatest, modulation at 0
+    gives(&rt, collector, 0, (1, 100), pair(1, 12800));
+    gives(&rt, collector, 0, (121, 0), Collected::Plain);
+    gives(&rt, collector, 0, (43, 5), pair(11, 16261));
+    gives(&rt, collector, 0, (33, 5), pair(1, 5));
+    gives(&rt, collector, 0, (39, 5), pair(7, 12805));
+}
+
+#[test]
+fn without_pairs_halves_are_plain(rt: HostRuntime) {
+    let Ok(mut collector) = Collector::new(rt.alloc(), false) else {
+        assert!(rt; false, "memory is ample");
+        return;
+    };
+    let collector = &mut collector;
+    gives(&rt, collector, 0, (7, 100), Collected::Plain);
+    gives(&rt, collector, 0, (39, 5), Collected::Plain);
 }

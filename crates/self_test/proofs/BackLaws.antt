@@ -1,5 +1,5 @@
 -- One more byte of channel voice messages comes back.
-use Rattle.std.proofs.Common.{◌≡◌, ◌<◌, ◌≤◌, ℕ, ◌+◌, ◌==◌, get_or, take, drop, append_assoc, List, [], ◌∷◌, ◌++◌, length, map, Option, None, Some, refl, ap, sym, ◌∙◌, subst, arith, length-append, zero-add}
+use Rattle.std.proofs.Common.{◌≡◌, ◌<◌, ◌≤◌, ℕ, ◌+◌, ◌==◌, get_or, take, drop, append_assoc, List, [], ◌∷◌, ◌++◌, length, map, Option, None, Some, refl, ap, sym, ◌∙◌, subst, arith, length-append, zero-add, false}
 use Rattle.std.specs.Prelude.{Ok, Err, IfSome, reverse}
 use Rattle.std.specs.List.{AllByRecursion}
 use Rattle.std.specs.Option.{option_to_list}
@@ -18,7 +18,7 @@ use Rattle.midi1_bytes.specs.Parsing.{Parsing, held_behind, parse}
 use Rattle.midi1_bytes.specs.Steps.{Step, held, completes, too_long, completed_by, step_of}
 use Rattle.voice_state.specs.declared.listed.BadStep.{BadStep}
 use Rattle.voice_state.specs.Back.{back, pieces_of}
-use Rattle.voice_state.specs.Controllers.{Role, bank_msb, bank_lsb, data_msb, data_lsb, data_increment, data_decrement, number_msb, number_lsb, reset_all, channel_mode, plain, role_of}
+use Rattle.voice_state.specs.Controllers.{Role, data_msb, data_lsb, reset_all, channel_mode, coarse, fine, plain, pairing, role_of}
 use Rattle.voice_state.specs.Messages.{channel_of, meaning1}
 use Rattle.voice_state.specs.Parts.{whole_of}
 use Rattle.voice_state.specs.Plain.{plain_piece}
@@ -55,20 +55,18 @@ entry_accepted : (channel value : ℕ) (param : Option Param) → AllByRecursion
 entry_accepted channel value None = tt
 entry_accepted channel value (Some param) = (refl, tt)
 
-control_accepted : (role : Role) (state : Channel) (channel index value : ℕ) → bad_control index ≡ None → AllByRecursion IsAccepted (raised_control state role channel index value)
-control_accepted bank_msb state channel index value good = tt
-control_accepted bank_lsb state channel index value good = tt
+-- controllers aren't paired
+control_accepted : (role : Role) (state : Channel) (channel index value : ℕ) → bad_control index ≡ None → AllByRecursion IsAccepted (raised_control state (pairing false role) channel index value)
 control_accepted data_msb state channel index value good = entry_accepted channel _ (selected state.registers)
 control_accepted data_lsb state channel index value good = entry_accepted channel _ (selected state.registers)
-control_accepted data_increment state channel index value good = tt
-control_accepted data_decrement state channel index value good = tt
-control_accepted (number_msb kind) state channel index value good = tt
-control_accepted (number_lsb kind) state channel index value good = tt
 control_accepted reset_all state channel index value good = (good, tt)
 control_accepted channel_mode state channel index value good = (good, tt)
+control_accepted coarse state channel index value good = (good, tt)
+control_accepted fine state channel index value good = (good, tt)
 control_accepted plain state channel index value good = (good, tt)
+control_accepted _ state channel index value good = tt
 
-voice_accepted : (state : Channel) (m : Voice1) → bad_voice1 m ≡ None → AllByRecursion IsAccepted (raised_voice state m)
+voice_accepted : (state : Channel) (m : Voice1) → bad_voice1 m ≡ None → AllByRecursion IsAccepted (raised_voice false state m)
 voice_accepted state (voice1.NoteOff ch n v) good = (refl, tt)
 voice_accepted state (voice1.NoteOn ch n v) good = (cond_both (v == 0) _ _ IsAccepted (λ e. refl) (λ e. refl), tt)
 voice_accepted state (voice1.PolyPressure ch n v) good = (refl, tt)
@@ -86,7 +84,7 @@ record IsQuiet (step : Step) : Type 0 where
   accepted : refusal_of_step step ≡ None
   within : step ≡ too_long → ⊥
   payload : payload_by (completed_by step) ≡ None
-  returned : (state : GroupState) → AllByRecursion IsReturned (raised_step state 0 step)
+  returned : (state : GroupState) → AllByRecursion IsReturned (raised_step false state 0 step)
 
 is_quiet : (step : Step) → IsPlayedStep step → IsQuiet step
 is_quiet held h = record { accepted = refl; within = λ e. cc; payload = refl; returned = λ state. tt }
@@ -94,7 +92,7 @@ is_quiet (completes (voice m)) h = record {
   accepted = h;
   within = λ e. cc;
   payload = refl;
-  returned = λ state. all_returned 0 (raised_voice (state.channels (channel_of m)) m) (voice_accepted (state.channels (channel_of m)) m h);
+  returned = λ state. all_returned 0 (raised_voice false (state.channels (channel_of m)) m) (voice_accepted (state.channels (channel_of m)) m h);
 }
 is_quiet _ h = absurd h
 
@@ -105,7 +103,7 @@ steps_within (byte ∷ past) played = ((is_quiet _ played.0).within, steps_withi
 -- ---- what the translator up answers to it
 
 pub record IsAnswered (past : List ℕ) (byte : ℕ) (raised : Raised) : Type 0 where
-  pub packets : packets_at (Some 6) 0 past byte ≡ option_to_list (packet_in raised)
+  pub packets : packets_at false (Some 6) 0 past byte ≡ option_to_list (packet_in raised)
   pub returned : IfSome (packet_in raised) IsReturned
   pub spelled : IfSome (packet_in raised) IsPacket
 
@@ -118,7 +116,7 @@ only_returned : (one : Option Packet) → AllByRecursion IsReturned (option_to_l
 only_returned None a = tt
 only_returned (Some p) a = a.0
 
-module _ (law : RaisedBytesAreTheDefinition) (parsed : ParsedBytesAreTheDefinition) (past : List ℕ) (byte : ℕ) (up : UpState) (holds : HoldsUp 6 0 past up) (played : IsPlayedStep (step_of (Some 6) past byte)) (offset : ℕ) (place : offset ≡ length past) where
+module _ (law : RaisedBytesAreTheDefinition false) (parsed : ParsedBytesAreTheDefinition) (past : List ℕ) (byte : ℕ) (up : UpState) (holds : HoldsUp false 6 0 past up) (played : IsPlayedStep (step_of (Some 6) past byte)) (offset : ℕ) (place : offset ≡ length past) where
   step_is : step_in up offset byte ≡ step_of (Some 6) past byte
   step_is = ap (λ (parsing : Parsing). (parse parsing offset byte).step) holds.parsing_is ∙ ap (λ n. (parse (held_behind 6 past) n byte).step) place ∙ parsed.step 6 past byte
 
@@ -137,77 +135,77 @@ module _ (law : RaisedBytesAreTheDefinition) (parsed : ParsedBytesAreTheDefiniti
       let A : List Packet → Type 0 = λ ps. AllByRecursion IsReturned ps in
       let answer = law.answer 6 0 past byte up (Ok raised) holds (subst R place raises) in
       let silent : payload_in raised ≡ None = raises.payload ∙ quiet.payload in
-      let packets : packets_at (Some 6) 0 past byte ≡ option_to_list (packet_in raised) = sym answer.packets ∙ without_payload (group_in raised) (packet_in raised) (payload_in raised) silent in
+      let packets : packets_at false (Some 6) 0 past byte ≡ option_to_list (packet_in raised) = sym answer.packets ∙ without_payload (group_in raised) (packet_in raised) (payload_in raised) silent in
       record {
         packets = packets;
-        returned = only_returned (packet_in raised) (subst A packets ((is_quiet _ played).returned (meaning1 past)));
+        returned = only_returned (packet_in raised) (subst A packets ((is_quiet _ played).returned (meaning1 false past)));
         spelled = raises.spelled;
       }
 
-  pub up_after : (new : UpState) → ArePlayed past → KeepsBehind up.holding (step_in up offset byte) → new ≡ up_behind up offset byte → HoldsUp 6 0 (byte ∷ past) new
+  pub up_after : (new : UpState) → ArePlayed past → KeepsBehind up.holding (step_in up offset byte) → new ≡ up_behind up offset byte → HoldsUp false 6 0 (byte ∷ past) new
   up_after new before keeps is =
       let K : ℕ → Type 0 = λ n. KeepsBehind up.holding (step_in up n byte) in
-      let H : ℕ → Type 0 = λ n. HoldsUp 6 0 (byte ∷ past) (up_behind up n byte) in
-      let U : UpState → Type 0 = λ u. HoldsUp 6 0 (byte ∷ past) u in
+      let H : ℕ → Type 0 = λ n. HoldsUp false 6 0 (byte ∷ past) (up_behind up n byte) in
+      let U : UpState → Type 0 = λ u. HoldsUp false 6 0 (byte ∷ past) u in
       subst U (sym is) (subst H (sym place) (law.after 6 0 past byte up (steps_within (byte ∷ past) (played, before)) holds (subst K place keeps)))
 
 -- ---- what the translator down does with its packet
 
-pub returned_accepted : (p : Packet) → IsReturned p → refusal_in (new_down plain_style 6) p ≡ None
+pub returned_accepted : (p : Packet) → IsReturned p → refusal_in (new_down false plain_style 6) p ≡ None
 returned_accepted (packet.Voice2 group message) h = h
 returned_accepted _ h = absurd h
 
-pub returned_short : (p : Packet) → IsReturned p → length (plain_piece (whole_in (new_down plain_style 6) p) p) ≤ 12
+pub returned_short : (p : Packet) → IsReturned p → length (plain_piece false (whole_in (new_down false plain_style 6) p) p) ≤ 12
 returned_short (packet.Voice2 group message) h = piece_short message
 returned_short _ h = absurd h
 
-returned_whole : (past : List Packet) (p : Packet) → IsReturned p → whole_in (new_down plain_style 6) p ≡ whole_of past p
+returned_whole : (past : List Packet) (p : Packet) → IsReturned p → whole_in (new_down false plain_style 6) p ≡ whole_of past p
 returned_whole past (packet.Voice2 group message) h = refl
 returned_whole past _ h = absurd h
 
-pub returned_piece : (p : Packet) → IsReturned p → piece_of (new_down plain_style 6) p ≡ plain_piece (whole_in (new_down plain_style 6) p) p
+pub returned_piece : (p : Packet) → IsReturned p → piece_of (new_down false plain_style 6) p ≡ plain_piece false (whole_in (new_down false plain_style 6) p) p
 returned_piece (packet.Voice2 group message) h = refl
 returned_piece _ h = absurd h
 
-pub returned_after : (offset : ℕ) (p : Packet) → IsReturned p → down_after offset p (new_down plain_style 6) ≡ new_down plain_style 6
+pub returned_after : (offset : ℕ) (p : Packet) → IsReturned p → down_after offset p (new_down false plain_style 6) ≡ new_down false plain_style 6
 returned_after offset (packet.Voice2 group message) h = λ i. record {
-  exclusives = (new_down plain_style 6).exclusives;
-  lanes = lanes_after (unless_refused (h i) (Some group)) None (packet.Voice2 group message) (new_lanes plain_style);
+  exclusives = (new_down false plain_style 6).exclusives;
+  lanes = lanes_after (unless_refused (h i) (Some group)) None (packet.Voice2 group message) (new_lanes false plain_style);
 }
 returned_after offset _ h = absurd h
 
 -- ---- what comes back
 
-counted_none : (past : List ℕ) (byte : ℕ) → packets_at (Some 6) 0 past byte ≡ [] → length (back (Some 6) 0 past) ≡ length (back (Some 6) 0 (byte ∷ past))
+counted_none : (past : List ℕ) (byte : ℕ) → packets_at false (Some 6) 0 past byte ≡ [] → length (back false (Some 6) 0 past) ≡ length (back false (Some 6) 0 (byte ∷ past))
 counted_none past byte e =
-    let before : List Packet = reverse (packets_up (Some 6) 0 past) in
-    ap length (sym (append-nil (back (Some 6) 0 past)) ∙ ap (λ ps. back (Some 6) 0 past ++ pieces_of before ps) (sym e))
+    let before : List Packet = reverse (packets_up false (Some 6) 0 past) in
+    ap length (sym (append-nil (back false (Some 6) 0 past)) ∙ ap (λ ps. back false (Some 6) 0 past ++ pieces_of false before ps) (sym e))
 
-counted_some : (past : List ℕ) (byte : ℕ) (p : Packet) → packets_at (Some 6) 0 past byte ≡ p ∷ [] → IsReturned p
-    → length (plain_piece (whole_in (new_down plain_style 6) p) p) + length (back (Some 6) 0 past) ≡ length (back (Some 6) 0 (byte ∷ past))
+counted_some : (past : List ℕ) (byte : ℕ) (p : Packet) → packets_at false (Some 6) 0 past byte ≡ p ∷ [] → IsReturned p
+    → length (plain_piece false (whole_in (new_down false plain_style 6) p) p) + length (back false (Some 6) 0 past) ≡ length (back false (Some 6) 0 (byte ∷ past))
 counted_some past byte p e h =
-    let before : List Packet = reverse (packets_up (Some 6) 0 past) in
-    let piece : List ℕ = plain_piece (whole_of before p) p in
-    let same : length (plain_piece (whole_in (new_down plain_style 6) p) p) ≡ length piece = ap (λ whole. length (plain_piece whole p)) (returned_whole before p h) in
-    let all : length (back (Some 6) 0 (byte ∷ past)) ≡ length (back (Some 6) 0 past) + length piece =
-    ap (λ ps. length (back (Some 6) 0 past ++ pieces_of before ps)) e ∙ ap (λ bytes. length (back (Some 6) 0 past ++ bytes)) (append-nil piece) ∙ length-append (back (Some 6) 0 past) piece in
+    let before : List Packet = reverse (packets_up false (Some 6) 0 past) in
+    let piece : List ℕ = plain_piece false (whole_of before p) p in
+    let same : length (plain_piece false (whole_in (new_down false plain_style 6) p) p) ≡ length piece = ap (λ whole. length (plain_piece false whole p)) (returned_whole before p h) in
+    let all : length (back false (Some 6) 0 (byte ∷ past)) ≡ length (back false (Some 6) 0 past) + length piece =
+    ap (λ ps. length (back false (Some 6) 0 past ++ pieces_of false before ps)) e ∙ ap (λ bytes. length (back false (Some 6) 0 past ++ bytes)) (append-nil piece) ∙ length-append (back false (Some 6) 0 past) piece in
     omega arith
 
-module _ (past : List ℕ) (byte : ℕ) (raised : Raised) (answer : IsAnswered past byte raised) (up : UpState) (holds : HoldsUp 6 0 (byte ∷ past) up) (played : ArePlayed (byte ∷ past)) where
-  pub comes_back_none : (down : DownState) → down ≡ new_down plain_style 6 → packet_in raised ≡ None → ComesBack past (byte ∷ past) 0 up down
+module _ (past : List ℕ) (byte : ℕ) (raised : Raised) (answer : IsAnswered past byte raised) (up : UpState) (holds : HoldsUp false 6 0 (byte ∷ past) up) (played : ArePlayed (byte ∷ past)) where
+  pub comes_back_none : (down : DownState) → down ≡ new_down false plain_style 6 → packet_in raised ≡ None → ComesBack past (byte ∷ past) 0 up down
   comes_back_none down is e = record {
     returned = record { played = played; up_holds = holds; down_is = is };
-    count = zero-add (length (back (Some 6) 0 past)) ∙ counted_none past byte (answer.packets ∙ ap option_to_list e);
+    count = zero-add (length (back false (Some 6) 0 past)) ∙ counted_none past byte (answer.packets ∙ ap option_to_list e);
   }
 
-  pub comes_back_some : (down from : DownState) (offset again : ℕ) (p : Packet) → packet_in raised ≡ Some p → from ≡ new_down plain_style 6 → down ≡ down_after offset p from → again ≡ length (piece_of from p) → ComesBack past (byte ∷ past) again up down
+  pub comes_back_some : (down from : DownState) (offset again : ℕ) (p : Packet) → packet_in raised ≡ Some p → from ≡ new_down false plain_style 6 → down ≡ down_after offset p from → again ≡ length (piece_of from p) → ComesBack past (byte ∷ past) again up down
   comes_back_some down from offset again p e is after count =
       let I : Option Packet → Type 0 = λ one. IfSome one IsReturned in
       let h : IsReturned p = subst I e answer.returned in
       record {
         returned = record { played = played; up_holds = holds; down_is = after ∙ ap (down_after offset p) is ∙ returned_after offset p h };
         count =
-            ap (λ n. n + length (back (Some 6) 0 past)) (count ∙ ap (λ (d : DownState). length (piece_of d p)) is ∙ ap length (returned_piece p h))
+            ap (λ n. n + length (back false (Some 6) 0 past)) (count ∙ ap (λ (d : DownState). length (piece_of d p)) is ∙ ap length (returned_piece p h))
             ∙ counted_some past byte p (answer.packets ∙ ap option_to_list e) h;
       }
 
@@ -238,11 +236,11 @@ pub comes_back_more : (past piece : List ℕ) (i again one : ℕ) (before after 
     → ComesBack (reverse (take i piece) ++ past) (get_or piece i 0 ∷ (reverse (take i piece) ++ past)) one after to → ComesBack past (reverse (take (i + 1) piece) ++ past) (again + one) after to
 comes_back_more past piece i again one before after from to lt first second =
     let C : List ℕ → Type 0 = λ xs. ComesBack past xs (again + one) after to in
-    let m : ℕ = length (back (Some 6) 0 (reverse (take i piece) ++ past)) in
-    let n : ℕ = length (back (Some 6) 0 (get_or piece i 0 ∷ (reverse (take i piece) ++ past))) in
-    let a : again + length (back (Some 6) 0 past) ≡ m = first.count in
+    let m : ℕ = length (back false (Some 6) 0 (reverse (take i piece) ++ past)) in
+    let n : ℕ = length (back false (Some 6) 0 (get_or piece i 0 ∷ (reverse (take i piece) ++ past))) in
+    let a : again + length (back false (Some 6) 0 past) ≡ m = first.count in
     let b : one + m ≡ n = second.count in
-    let e : (again + one) + length (back (Some 6) 0 past) ≡ n = omega (arith, a, b) in
+    let e : (again + one) + length (back false (Some 6) 0 past) ≡ n = omega (arith, a, b) in
     subst C (sym (turned past piece i lt)) (record { returned = second.returned; count = e })
 
 pub comes_back_all : (past piece : List ℕ) (i again : ℕ) (up : UpState) (down : DownState) → length piece ≤ i → ComesBack past (reverse (take i piece) ++ past) again up down → ComesBack past (reverse piece ++ past) again up down
@@ -251,4 +249,4 @@ comes_back_all past piece i again up down most comes =
     subst C (take_all i piece most) comes
 
 pub nothing_comes_back : (past piece : List ℕ) (up : UpState) (down : DownState) → HasReturned past up down → ComesBack past (reverse (take 0 piece) ++ past) 0 up down
-nothing_comes_back past piece up down returned = record { returned = returned; count = zero-add (length (back (Some 6) 0 past)) }
+nothing_comes_back past piece up down returned = record { returned = returned; count = zero-add (length (back false (Some 6) 0 past)) }

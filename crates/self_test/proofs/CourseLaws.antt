@@ -19,7 +19,7 @@ use Rattle.voice_state.specs.UpLaws.{RoomsThatAreNotReachedDoNotMatterInBytes}
 use Rattle.down_translator.specs.declared.carried.Carried.{Carried}
 use Rattle.down_translator.specs.Carried.{line_in}
 use Rattle.voice_state.specs.Styles.{plain_style}
-use Rattle.down_translator.specs.Held.{begun_at_in, down_after, new_down, whole_in}
+use Rattle.down_translator.specs.Held.{begun_at_in, down_after, new_down, paired_of, whole_in}
 use Rattle.down_translator.specs.Recording.{packets_of}
 use Rattle.down_translator.specs.Step.{IsStep, piece_of}
 use Rattle.self_test.specs.declared.counts.Counts.{Counts}
@@ -40,12 +40,12 @@ pub is_returned : (p : Packet) → IsPlayed p → IsReturned p
 is_returned (packet.Voice2 group message) h = h.2
 is_returned _ h = absurd h
 
-pub is_read : (p : Packet) (bytes : List ℕ) → IsPlayed p → open_in (Some 6) bytes ≡ None → ArePlayed bytes → IsRead bytes (plain_piece (whole_in (new_down plain_style 6) p) p)
-is_read (packet.Voice2 group message) bytes h closed played = read_all (voice_messages message) bytes (messages_played message h.1 h.2) closed played
+pub is_read : (p : Packet) (bytes : List ℕ) → IsPlayed p → open_in (Some 6) bytes ≡ None → ArePlayed bytes → IsRead bytes (plain_piece false (whole_in (new_down false plain_style 6) p) p)
+is_read (packet.Voice2 group message) bytes h closed played = read_all (voice_messages false message) bytes (messages_played message h.1 h.2) closed played
 is_read _ bytes h closed played = absurd h
 
 module _ (past : List Placed) (old : Course) (offset : ℕ) (p : Packet) (carried : Carried) (played : IsPlayed p) (taken : HasTaken past old) (step : IsStep old.down offset p carried) where
-  own_piece : carried.piece.now ≡ plain_piece (whole_in (new_down plain_style 6) p) p
+  own_piece : carried.piece.now ≡ plain_piece false (whole_in (new_down false plain_style 6) p) p
   own_piece = step.piece ∙ ap (λ state. piece_of state p) taken.down_is ∙ returned_piece p (is_returned p played)
 
   pub piece_is_read : IsRead (bytes_behind (packets_of past)) carried.piece.now
@@ -68,13 +68,13 @@ pair_count group false (byte ∷ bytes) h = cc (h.1 (omega arith))
 
 -- the pair, the line and the bytes of a packet after others
 record IsCounted (past : List Placed) (offset : ℕ) (p : Packet) : Type 0 where
-  pairs : length (pair_of (packets_of past) p) ≡ cond (length (plain_piece (whole_in (new_down plain_style 6) p) p) == 0) 0 1
-  line : listed (begun_at_in (new_down plain_style 6) p) offset p ≡ line_of None (parts_of past) (record { offset = offset; packet = p })
-  piece : plain_piece (whole_of (packets_of past) p) p ≡ plain_piece (whole_in (new_down plain_style 6) p) p
+  pairs : length (pair_of false (packets_of past) p) ≡ cond (length (plain_piece false (whole_in (new_down false plain_style 6) p) p) == 0) 0 1
+  line : listed false (begun_at_in (new_down false plain_style 6) p) offset p ≡ line_of false None (parts_of past) (record { offset = offset; packet = p })
+  piece : plain_piece false (whole_of (packets_of past) p) p ≡ plain_piece false (whole_in (new_down false plain_style 6) p) p
 
-is_counted : CarriedPacketsHaveAPiece → (past : List Placed) (offset : ℕ) (p : Packet) → IsPlayed p → IsCounted past offset p
+is_counted : CarriedPacketsHaveAPiece false → (past : List Placed) (offset : ℕ) (p : Packet) → IsPlayed p → IsCounted past offset p
 is_counted pieces past offset (packet.Voice2 group message) h = record {
-  pairs = pair_count group (is_carried None (packet.Voice2 group message)) (plain_piece None (packet.Voice2 group message)) (pieces None (packet.Voice2 group message));
+  pairs = pair_count group (is_carried false None (packet.Voice2 group message)) (plain_piece false None (packet.Voice2 group message)) (pieces None (packet.Voice2 group message));
   line = refl;
   piece = refl;
 }
@@ -86,12 +86,12 @@ one_line (Some line) = omega arith
 
 -- ---- one more
 
-module _ (pieces : CarriedPacketsHaveAPiece) (rooms : RoomsThatAreNotReachedDoNotMatterInBytes) (past : List Placed) (old new : Course) (offset : ℕ) (p : Packet) (carried : Carried) (again : ℕ) (played : IsPlayed p) (taken : HasTaken past old) (step : IsStep old.down offset p carried) where
+module _ (pieces : CarriedPacketsHaveAPiece false) (rooms : RoomsThatAreNotReachedDoNotMatterInBytes false) (past : List Placed) (old new : Course) (offset : ℕ) (p : Packet) (carried : Carried) (again : ℕ) (played : IsPlayed p) (taken : HasTaken past old) (step : IsStep old.down offset p carried) where
   abbrev pub bytes : List ℕ
   bytes = bytes_behind (packets_of past)
 
   abbrev pub piece : List ℕ
-  piece = plain_piece (whole_in (new_down plain_style 6) p) p
+  piece = plain_piece false (whole_in (new_down false plain_style 6) p) p
 
   counted : IsCounted past offset p
   counted = is_counted pieces past offset p played
@@ -99,8 +99,8 @@ module _ (pieces : CarriedPacketsHaveAPiece) (rooms : RoomsThatAreNotReachedDoNo
   piece_is : carried.piece.now ≡ piece
   piece_is = own_piece past old offset p carried played taken step
 
-  line_is : line_in carried ≡ line_of None (parts_of past) (record { offset = offset; packet = p })
-  line_is = step.line ∙ ap (λ state. listed (begun_at_in state p) offset p) taken.down_is ∙ counted.line
+  line_is : line_in carried ≡ line_of false None (parts_of past) (record { offset = offset; packet = p })
+  line_is = step.line ∙ ap (λ state. listed (paired_of state) (begun_at_in state p) offset p) taken.down_is ∙ counted.line
 
   abbrev pub now : List ℕ
   now = reverse carried.piece.now ++ bytes
@@ -108,19 +108,19 @@ module _ (pieces : CarriedPacketsHaveAPiece) (rooms : RoomsThatAreNotReachedDoNo
   now_is : now ≡ bytes_behind (p ∷ packets_of past)
   now_is = ap (λ xs. reverse xs ++ bytes) (piece_is ∙ sym counted.piece)
 
-  carried_is : old.counts.carried + cond (length carried.piece.now == 0) 0 1 ≡ length (pairs_behind (p ∷ packets_of past))
+  carried_is : old.counts.carried + cond (length carried.piece.now == 0) 0 1 ≡ length (pairs_behind false (p ∷ packets_of past))
   carried_is =
-      let one : length (pair_of (packets_of past) p) ≡ cond (length carried.piece.now == 0) 0 1 = counted.pairs ∙ ap (λ xs. cond (length xs == 0) 0 1) (sym piece_is) in
-      let before : old.counts.carried ≡ length (pairs_behind (packets_of past)) = ap (λ (c : Counts). c.carried) taken.counts_are in
-      let all = length-append (pairs_behind (packets_of past)) (pair_of (packets_of past) p) in
+      let one : length (pair_of false (packets_of past) p) ≡ cond (length carried.piece.now == 0) 0 1 = counted.pairs ∙ ap (λ xs. cond (length xs == 0) 0 1) (sym piece_is) in
+      let before : old.counts.carried ≡ length (pairs_behind false (packets_of past)) = ap (λ (c : Counts). c.carried) taken.counts_are in
+      let all = length-append (pairs_behind false (packets_of past)) (pair_of false (packets_of past) p) in
       omega (arith, one, before, all)
 
-  listed_is : old.counts.listed + length (option_to_list (line_in carried)) ≡ length (lines_behind None (record { offset = offset; packet = p } ∷ past))
+  listed_is : old.counts.listed + length (option_to_list (line_in carried)) ≡ length (lines_behind false None (record { offset = offset; packet = p } ∷ past))
   listed_is =
-      let line : Option Listed = line_of None (parts_of past) (record { offset = offset; packet = p }) in
+      let line : Option Listed = line_of false None (parts_of past) (record { offset = offset; packet = p }) in
       let one : length (option_to_list (line_in carried)) ≡ length (option_to_list line) = ap (λ o. length (option_to_list o)) line_is in
-      let before : old.counts.listed ≡ length (lines_behind None past) = ap (λ (c : Counts). c.listed) taken.counts_are in
-      let all = length-append (lines_behind None past) (option_to_list line) in
+      let before : old.counts.listed ≡ length (lines_behind false None past) = ap (λ (c : Counts). c.listed) taken.counts_are in
+      let all = length-append (lines_behind false None past) (option_to_list line) in
       omega (arith, one, before, all)
 
   bytes_are : old.counts.bytes + length carried.piece.now ≡ length (bytes_behind (p ∷ packets_of past))
@@ -131,12 +131,12 @@ module _ (pieces : CarriedPacketsHaveAPiece) (rooms : RoomsThatAreNotReachedDoNo
       let all : length now ≡ length (bytes_behind (p ∷ packets_of past)) = ap length now_is in
       omega (arith, before, both, turned, all)
 
-  again_is : ArePlayed now → again + length (back (Some 6) 0 bytes) ≡ length (back (Some 6) 0 now) → old.counts.again + again ≡ length (back None 0 (bytes_behind (p ∷ packets_of past)))
+  again_is : ArePlayed now → again + length (back false (Some 6) 0 bytes) ≡ length (back false (Some 6) 0 now) → old.counts.again + again ≡ length (back false None 0 (bytes_behind (p ∷ packets_of past)))
   again_is all count =
-      let before : old.counts.again ≡ length (back None 0 bytes) = ap (λ (c : Counts). c.again) taken.counts_are in
-      let same : length (back (Some 6) 0 bytes) ≡ length (back None 0 bytes) = ap length (rooms.pieces 6 0 bytes (steps_within bytes taken.returned.played)) in
-      let after : length (back (Some 6) 0 now) ≡ length (back None 0 now) = ap length (rooms.pieces 6 0 now (steps_within now all)) in
-      let moved : length (back None 0 now) ≡ length (back None 0 (bytes_behind (p ∷ packets_of past))) = ap (λ xs. length (back None 0 xs)) now_is in
+      let before : old.counts.again ≡ length (back false None 0 bytes) = ap (λ (c : Counts). c.again) taken.counts_are in
+      let same : length (back false (Some 6) 0 bytes) ≡ length (back false None 0 bytes) = ap length (rooms.pieces 6 0 bytes (steps_within bytes taken.returned.played)) in
+      let after : length (back false (Some 6) 0 now) ≡ length (back false None 0 now) = ap length (rooms.pieces 6 0 now (steps_within now all)) in
+      let moved : length (back false None 0 now) ≡ length (back false None 0 (bytes_behind (p ∷ packets_of past))) = ap (λ xs. length (back false None 0 xs)) now_is in
       omega (arith, before, same, after, moved, count)
 
   pub one_more : new.down ≡ down_after offset p old.down → ComesBack bytes now again new.up new.again → again ≤ 12 * length carried.piece.now → new.counts ≡ counts_with old.counts carried again

@@ -49,4 +49,6 @@ not_refused index below =
     cond_both (index == 100) _ _ P (λ e. refl) (λ e.
     cond_both (index == 101) _ _ P (λ e. refl) (λ e.
     cond_both (index == 121) _ _ P (λ e. refl) (λ e.
-    cond_both (nat_le 120 index) _ _ P (λ e. refl) (λ e. refl))))))))))))
+    cond_both (nat_le 120 index) _ _ P (λ e. refl) (λ e.
+    cond_both (nat_le index 31) _ _ P (λ e. refl) (λ e.
+    cond_both (nat_le index 63) _ _ P (λ e. refl) (λ e. refl))))))))))))))

@@ -1,5 +1,5 @@
 -- The bytes of channel voice messages, read after bytes in which nothing is open.
-use Rattle.std.proofs.Common.{◌≡◌, ◌<◌, ◌≤◌, ℕ, ◌+◌, ◌*◌, ◌/◌, ◌%◌, List, [], ◌∷◌, ◌++◌, reverse, length, None, Some, refl, ap, sym, ◌∙◌, subst, arith, append_assoc}
+use Rattle.std.proofs.Common.{◌≡◌, ◌<◌, ◌≤◌, ℕ, ◌+◌, ◌*◌, ◌/◌, ◌%◌, List, [], ◌∷◌, ◌++◌, reverse, length, None, Some, refl, ap, sym, ◌∙◌, subst, arith, append_assoc, false}
 use Rattle.std.proofs.lemmas.Bool.{cond_both, lt-ltb, le-ltb}
 use Rattle.std.proofs.lemmas.List.{reverse-append}
 use Rattle.std.specs.List.{AllByRecursion, flat_map}
@@ -15,9 +15,8 @@ use Rattle.midi1_bytes.specs.Sorts.{one, two, data_byte, voice_status, sort_of}
 use Rattle.midi1_bytes.specs.Messages.{Message, voice, common, exclusive, real_time, spelled, spelled_voice, voice_of, voice_of_one, voice_of_two}
 use Rattle.midi1_bytes.specs.Steps.{Step, held, completes, step_of}
 use Rattle.midi1_bytes.specs.Stream.{open_in}
-use Rattle.voice_state.specs.Controllers.{role_of, number_msb_index, number_lsb_index}
-use Rattle.voice_state.specs.Listing.{is_carried_role}
-use Rattle.voice_state.specs.Plain.{voice_messages}
+use Rattle.voice_state.specs.Controllers.{Role, channel_mode, reset_all, coarse, fine, plain, pairing, role_of, number_msb_index, number_lsb_index}
+use Rattle.voice_state.specs.Plain.{control_messages, voice_messages}
 use Rattle.voice_state.specs.Refusal.{bad_control, bad_voice1, bad_voice2}
 use Rattle.voice_state.specs.Registers.{is_null}
 use Rattle.self_test.specs.Played.{ArePlayed, IsPlayedStep}
@@ -139,11 +138,20 @@ are_halves : AreHalves
 unfolding role_of
 are_halves = record { bank_msb_good = refl; bank_lsb_good = refl; data_msb_good = refl; data_lsb_good = refl }
 
-pub messages_played : (m : Voice2) → IsVoice2 m → bad_voice2 m ≡ None → AllByRecursion IsPlayedMessage (voice_messages m)
+-- controllers aren't paired
+control_played : (role : Role) (ch i v : ℕ) → IsVoice2 (voice2.Control ch i v) → bad_control i ≡ None → AllByRecursion IsPlayedMessage (control_messages (pairing false role) ch i v)
+control_played channel_mode ch i v b good = (((b.0, b.1, down7_fits v b.2), good), tt)
+control_played reset_all ch i v b good = (((b.0, b.1, down7_fits v b.2), good), tt)
+control_played coarse ch i v b good = (((b.0, b.1, down7_fits v b.2), good), tt)
+control_played fine ch i v b good = (((b.0, b.1, down7_fits v b.2), good), tt)
+control_played plain ch i v b good = (((b.0, b.1, down7_fits v b.2), good), tt)
+control_played _ ch i v b good = tt
+
+pub messages_played : (m : Voice2) → IsVoice2 m → bad_voice2 m ≡ None → AllByRecursion IsPlayedMessage (voice_messages false m)
 messages_played (voice2.NoteOff ch n v t a) b good = (((b.0, b.1, release_down_fits v b.2), refl), tt)
 messages_played (voice2.NoteOn ch n v t a) b good = (((b.0, b.1, velocity_down_fits v b.2), refl), tt)
 messages_played (voice2.PolyPressure ch n v) b good = (((b.0, b.1, down7_fits v b.2), refl), tt)
-messages_played (voice2.Control ch i v) b good = cond_both (is_carried_role (role_of i)) _ _ (AllByRecursion IsPlayedMessage) (λ e. (((b.0, b.1, down7_fits v b.2), good), tt)) (λ e. tt)
+messages_played (voice2.Control ch i v) b good = control_played (role_of i) ch i v b good
 messages_played (voice2.Set ch p v) b good =
     let w = down14_fits v b.2 in
     let k = are_numbers p.kind in
@@ -156,12 +164,20 @@ messages_played (voice2.Pressure ch v) b good = (((b.0, down7_fits v b.1), refl)
 messages_played (voice2.Bend ch v) b good = (((b.0, down14_fits v b.1), refl), tt)
 messages_played _ b good = tt
 
+control_short : (role : Role) (ch i v : ℕ) → length (flat_map spelled (control_messages (pairing false role) ch i v)) ≤ 12
+control_short channel_mode ch i v = omega arith
+control_short reset_all ch i v = omega arith
+control_short coarse ch i v = omega arith
+control_short fine ch i v = omega arith
+control_short plain ch i v = omega arith
+control_short _ ch i v = omega arith
+
 -- its piece has at most twelve bytes
-pub piece_short : (m : Voice2) → length (flat_map spelled (voice_messages m)) ≤ 12
+pub piece_short : (m : Voice2) → length (flat_map spelled (voice_messages false m)) ≤ 12
 piece_short (voice2.NoteOff ch n v t a) = omega arith
 piece_short (voice2.NoteOn ch n v t a) = omega arith
 piece_short (voice2.PolyPressure ch n v) = omega arith
-piece_short (voice2.Control ch i v) = cond_both (is_carried_role (role_of i)) _ _ (λ ms. length (flat_map spelled ms) ≤ 12) (λ e. omega arith) (λ e. omega arith)
+piece_short (voice2.Control ch i v) = control_short (role_of i) ch i v
 piece_short (voice2.Set ch p v) = cond_both (is_null p) _ _ (λ ms. length (flat_map spelled ms) ≤ 12) (λ e. omega arith) (λ e. omega arith)
 piece_short (voice2.Shift ch p v) = omega arith
 piece_short (voice2.Program ch p None) = omega arith

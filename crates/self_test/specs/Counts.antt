@@ -1,5 +1,5 @@
 -- What a self test counts, over the generated packets, their plain pieces, and the packets of the bytes of these.
-use Rattle.std.specs.Prelude.{ℕ, ◌+◌, ◌*◌, ◌==◌, if◌then◌else◌, zero, suc, List, [], ◌∷◌, ◌++◌, length, reverse, None}
+use Rattle.std.specs.Prelude.{ℕ, ◌+◌, ◌*◌, ◌==◌, if◌then◌else◌, zero, suc, List, [], ◌∷◌, ◌++◌, length, reverse, None, false}
 use Rattle.std.specs.Option.{option_to_list}
 use Rattle.ump_grammar.specs.declared.packet.Packet.{Packet}
 use Rattle.voice_state.specs.Back.{back}
@@ -16,7 +16,7 @@ use Rattle.self_test.specs.Generator.{generated}
 -- the bytes of the plain pieces of packets; both are listed newest first
 abbrev pub bytes_behind : List Packet → List ℕ
 bytes_behind [] = []
-bytes_behind (packet ∷ past) = reverse (plain_piece (whole_of past packet) packet) ++ bytes_behind past
+bytes_behind (packet ∷ past) = reverse (plain_piece false (whole_of past packet) packet) ++ bytes_behind past
 
 -- The counts over packets of group 0, the newest first: those that are carried, which have a pair each; their lines; the bytes of
 -- their plain pieces; and the bytes of the plain pieces of the packets to which these bytes are raised in group 0.
@@ -24,10 +24,10 @@ abbrev pub counts_of : List Placed → Counts
 counts_of past =
     let bytes : List ℕ = bytes_behind (packets_of past) in
     record {
-      carried = length (pairs_behind (packets_of past));
-      listed = length (lines_behind None past);
+      carried = length (pairs_behind false (packets_of past));
+      listed = length (lines_behind false None past);
       bytes = length bytes;
-      again = length (back None 0 bytes);
+      again = length (back false None 0 bytes);
     }
 
 -- the first packets of a seed, the newest first; each has eight bytes

@@ -34,9 +34,9 @@ impl Course {
     pub(crate) fn new(alloc: Global) -> Result<Course, NoMemory>
         ensures { IfOk result (HasTaken []) }
     {
-        let down = Down::new(alloc, ROOM, Style::Plain)?;
-        let up = Up::new(alloc, U4::low_bits(0), ROOM)?;
-        let again = Down::new(alloc, ROOM, Style::Plain)?;
+        let down = Down::new(alloc, ROOM, Style::Plain, false)?;
+        let up = Up::new(alloc, U4::low_bits(0), ROOM, false)?;
+        let again = Down::new(alloc, ROOM, Style::Plain, false)?;
         Ok(Course {
             down,
             up,

@@ -1,19 +1,15 @@
 -- A payload cut into the packets of one exclusive (M2-104-UM, system exclusive 7-bit messages): six bytes in each but the last.
-use Rattle.std.specs.Prelude.{ℕ, ◌+◌, max, ◌==◌, nat_lt, if◌then◌else◌, List, ◌∷◌, length, Option, Some, None}
+use Rattle.std.specs.Prelude.{ℕ, ◌+◌, max, nat_lt, if◌then◌else◌, List, ◌∷◌, length, Option, Some, None}
 use Rattle.std.proofs.Common.{zero, suc}
 use Rattle.std.specs.Int.{div_ceil}
 use Rattle.std.specs.Fork.{slice_chunk}
 use Rattle.voice_messages.specs.declared.voice2.Form.{Form}
-use Rattle.voice_messages.specs.declared.voice2.Form.TheVariants as form
 use Rattle.sysex_groups.specs.Exclusives.{Part}
+pub use Rattle.voice_messages.specs.Forms.{form_at}
 
 -- how many packets; a payload without bytes has one as well
 abbrev pub part_count : List ℕ → ℕ
 part_count payload = max 1 (div_ceil (length payload) 6)
-
--- the form of packet k of this many
-abbrev pub form_at : ℕ → ℕ → Form
-form_at count k = if count == 1 then form.Complete else (if k == 0 then form.Start else (if k + 1 == count then form.End else form.Continue))
 
 -- packet k, counted from 0
 abbrev pub part_at : List ℕ → ℕ → Option (Form × List ℕ)

@@ -23,11 +23,7 @@ ghost use Rattle.voice_messages.specs.declared.voice2.Form.TheVariants as form;
 
 use crate::fed::Fed;
 use std::alloc::{AllocError, Global};
-use voice_messages::Form;
-
-const START_OF_EXCLUSIVE: u8 = 0xF0;
-
-const END_OF_EXCLUSIVE: u8 = 0xF7;
+use voice_messages::{END_OF_EXCLUSIVE, Form, START_OF_EXCLUSIVE};
 
 /// The exclusive that a group has open, if any. The bytes always begin with F0; F7 is added after them at the end. There is
 /// memory for `room` bytes between the two.

@@ -1,29 +1,13 @@
 // A payload cut into packets.
-ghost use Rattle.std.specs.Prelude.{◌≡◌, ◌<◌};
+ghost use Rattle.std.specs.Prelude.{◌≡◌};
 ghost use Rattle.std.specs.Fork.{slice_chunk};
-ghost use Rattle.sysex_groups.specs.Cut.{form_at, part_at};
+ghost use Rattle.sysex_groups.specs.Cut.{part_at};
 
 use midi_edge::ShortList;
 use voice_messages::Form;
 
 /// The most bytes of an exclusive that a packet carries.
 const PACKET_BYTES: usize = 6;
-
-/// The form of packet `k` of `count`.
-fn form_of(count: usize, k: usize) -> Form
-    requires { k < count }
-    ensures { result ≡ form_at count k }
-{
-    if count == 1 {
-        Form::Complete
-    } else if k == 0 {
-        Form::Start
-    } else if k + 1 == count {
-        Form::End
-    } else {
-        Form::Continue
-    }
-}
 
 /// The bytes of packet `k`.
 fn bytes_of(payload: &[u8], k: usize) -> ShortList<u8, 6>
@@ -44,7 +28,7 @@ pub fn part(payload: &[u8], k: usize) -> Option<(Form, ShortList<u8, 6>)>
 {
     let count = payload.len().div_ceil(PACKET_BYTES).max(1);
     if k < count {
-        Some((form_of(count, k), bytes_of(payload, k)))
+        Some((Form::at(k, count), bytes_of(payload, k)))
     } else {
         None
     }

@@ -1,24 +1,20 @@
 -- A text cut into packets, each of which has as many bytes as its kind says; zeros fill the last one.
-use Rattle.std.specs.Prelude.{ℕ, ◌+◌, ◌-◌, ◌==◌, nat_lt, if◌then◌else◌, List, ◌∷◌, ◌++◌, length, replicate, Option, Some, None}
+use Rattle.std.specs.Prelude.{ℕ, ◌+◌, ◌-◌, nat_lt, if◌then◌else◌, List, ◌∷◌, ◌++◌, length, replicate, Option, Some, None}
 use Rattle.std.proofs.Common.{zero, suc}
 use Rattle.std.specs.Int.{div_ceil}
 use Rattle.std.specs.Fork.{slice_chunk}
 use Rattle.voice_messages.specs.declared.voice2.Form.{Form}
-use Rattle.voice_messages.specs.declared.voice2.Form.TheVariants as form
 use Rattle.ump_grammar.specs.declared.packet.Packet.{Packet}
 use Rattle.system_stream.specs.declared.message.StreamMessage.{StreamMessage}
 use Rattle.system_stream.specs.declared.texts.TextKind.{TextKind}
 use Rattle.system_stream.specs.Layout.{packet_of}
 use Rattle.system_stream.specs.Parts.{Part}
 use Rattle.system_stream.specs.Texts.{part_size, part_message}
+pub use Rattle.voice_messages.specs.Forms.{form_at}
 
 -- how many packets
 abbrev pub part_count : TextKind → List ℕ → ℕ
 part_count kind text = div_ceil (length text) (part_size kind)
-
--- the form of packet k of this many
-abbrev pub form_at : ℕ → ℕ → Form
-form_at count k = if count == 1 then form.Complete else (if k == 0 then form.Start else (if k + 1 == count then form.End else form.Continue))
 
 -- these bytes, and zeros after them
 abbrev pub filled : ℕ → List ℕ → List ℕ

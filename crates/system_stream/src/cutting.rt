@@ -2,7 +2,7 @@
 ghost use Rattle.std.specs.Prelude.{◌≡◌, ◌<◌, ◌≤◌, length, IfSome};
 ghost use Rattle.std.specs.Fork.{slice_chunk};
 ghost use Rattle.ump_grammar.specs.Ranges.{IsPacket};
-ghost use Rattle.system_stream.specs.Cut.{form_at, packet_at, part_bytes as bytes_at};
+ghost use Rattle.system_stream.specs.Cut.{packet_at, part_bytes as bytes_at};
 ghost use Rattle.system_stream.specs.Texts.{limit_of};
 
 use crate::message::StreamMessage;
@@ -25,7 +25,7 @@ pub fn cut_text(kind: TextKind, block: u8, text: &[u8], k: usize) -> Option<Pack
     if k >= count {
         return None;
     }
-    let form = form_of(count, k);
+    let form = Form::at(k, count);
     let message = match kind {
         TextKind::EndpointName => StreamMessage::Name {
             form,
@@ -42,22 +42,6 @@ pub fn cut_text(kind: TextKind, block: u8, text: &[u8], k: usize) -> Option<Pack
         },
     };
     Some(write(&message))
-}
-
-// The form of packet `k` of `count`.
-fn form_of(count: usize, k: usize) -> Form
-    requires { k < count }
-    ensures { result ≡ form_at count k }
-{
-    if count == 1 {
-        Form::Complete
-    } else if k == 0 {
-        Form::Start
-    } else if k + 1 == count {
-        Form::End
-    } else {
-        Form::Continue
-    }
 }
 
 // The bytes that are cut off for packet `k`.

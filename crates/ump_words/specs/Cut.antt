@@ -1,14 +1,12 @@
 -- How a stream of bytes is cut into packets.
-use Rattle.std.specs.Prelude.{◌≡◌, ◌⊎◌, ℕ, ◌+◌, ◌-◌, ◌*◌, ◌/◌, ◌^◌, ◌<◌, ◌≤◌, List, [], ◌∷◌, ◌++◌, length, take, drop, slice_index, slice_index_or}
+use Rattle.std.specs.Prelude.{◌≡◌, ℕ, ◌*◌, ◌/◌, ◌^◌, nat_lt, if◌then◌else◌, List, [], ◌∷◌, ◌++◌, length, take, drop, slice_index, slice_index_or}
 use Rattle.std.proofs.Common.{zero, suc}
-use Rattle.std.specs.List.{concat}
-use Rattle.std.specs.List.{AllByRecursion}
 use Rattle.byteorder.specs.Endian.{big_number, little_number, big_bytes, little_bytes}
+use Rattle.item_reader.specs.Cut as cut
+use Rattle.item_reader.specs.declared.cutting.Tail.{Tail}
 use Rattle.ump_words.specs.declared.words.Framed.{Framed}
 use Rattle.ump_words.specs.declared.words.Order.{Order}
 use Rattle.ump_words.specs.declared.words.Order.TheVariants.{Big, Little}
-use Rattle.ump_words.specs.declared.words.Tail.{Tail}
-use Rattle.ump_words.specs.declared.words.Tail.TheVariants.{End, Truncated, TooLong}
 
 -- how many words a packet of each type has, the types being the top four bits of its first word
 -- (Universal MIDI Packet Format and MIDI 2.0 Protocol, the table of message types)
@@ -41,12 +39,12 @@ first_words order bytes (suc n) = first_words order bytes n ++ word_at order byt
 abbrev pub words_of : Order → List ℕ → List ℕ
 words_of order bytes = first_words order bytes (length bytes / 4)
 
--- as many bytes as the type of the first word asks for
+-- as many bytes as the type of the first word asks for; the first word itself asks for four
 abbrev pub bytes_asked : Order → List ℕ → ℕ
-bytes_asked order bytes = 4 * words_asked (word_at order bytes 0)
+bytes_asked order bytes = if nat_lt (length bytes) 4 then 4 else 4 * words_asked (word_at order bytes 0)
 
 abbrev pub IsPacket : Order → List ℕ → Type 0
-IsPacket order bytes = length bytes ≡ bytes_asked order bytes
+IsPacket order bytes = cut.IsItem (bytes_asked order) bytes
 
 -- as many words as the first of them asks for
 abbrev pub IsWhole : List ℕ → Type 0
@@ -54,33 +52,20 @@ IsWhole words = length words ≡ words_asked (slice_index words 0)
 
 -- too few bytes for a packet: no whole word, or fewer than its first word asks for
 abbrev pub IsRest : Order → List ℕ → Type 0
-IsRest order bytes = (length bytes < 4) ⊎ (length bytes < bytes_asked order bytes)
+IsRest order bytes = cut.IsRest (bytes_asked order) bytes
 
--- how the packets end, where these bytes follow them at an offset
-abbrev pub Ends : Order → ℕ → ℕ → List ℕ → Tail → Type 0
-Ends order limit at bytes End = (bytes ≡ []) × (at ≤ limit)
-Ends order limit at bytes (Truncated o) = (o ≡ at) × (0 < length bytes) × IsRest order bytes × (at + length bytes ≤ limit)
-Ends order limit at bytes TooLong = (at ≤ limit) × (limit < at + length bytes) × IsRest order (take (limit - at) bytes)
+-- a packet as it is handed out
+abbrev pub framed_at : Order → ℕ → List ℕ → Framed
+framed_at order at chunk = record { offset = at; words = words_of order chunk }
 
 -- the packets as they are handed out, the first of them at this offset
 abbrev pub framed_from : Order → ℕ → List (List ℕ) → List Framed
-framed_from order at [] = []
-framed_from order at (chunk ∷ chunks) =
-    record { offset = at; words = words_of order chunk } ∷ framed_from order (at + length chunk) chunks
-
--- From this offset on the bytes are these packets, one after the other, all within the limit, and then what makes the tail.
-pub record CutsFrom (order : Order) (limit at : ℕ) (bytes : List ℕ) (chunks : List (List ℕ)) (tail : Tail) : Type 0 where
-  pub rest : List ℕ
-  pub whole : bytes ≡ concat chunks ++ rest
-  pub each : AllByRecursion (IsPacket order) chunks
-  pub ends : Ends order limit (at + length (concat chunks)) rest tail
+framed_from order at chunks = cut.items_from (framed_at order) at chunks
 
 -- The bytes of a whole stream are these packets, and then what makes the tail.
 abbrev pub Cuts : Order → ℕ → List ℕ → List (List ℕ) → Tail → Type 0
-Cuts order limit bytes chunks tail = CutsFrom order limit 0 bytes chunks tail
+Cuts order limit bytes chunks tail = cut.Cuts (bytes_asked order) limit bytes chunks tail
 
 -- these bytes are cut into these packets, and then what makes the tail
-pub record IsCutInto (order : Order) (limit : ℕ) (bytes : List ℕ) (framed : List Framed) (tail : Tail) : Type 0 where
-  pub chunks : List (List ℕ)
-  pub cuts : Cuts order limit bytes chunks tail
-  pub same : framed ≡ framed_from order 0 chunks
+abbrev pub IsCutInto : Order → ℕ → List ℕ → List Framed → Tail → Type 0
+IsCutInto order limit bytes framed tail = cut.IsCutInto (bytes_asked order) (framed_at order) limit bytes framed tail

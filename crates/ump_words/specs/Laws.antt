@@ -1,38 +1,14 @@
--- What holds of all streams.
-use Rattle.std.specs.Prelude.{◌≡◌, ℕ, List, [], ◌∷◌, ◌++◌, Option, Some, IfSome}
-use Rattle.midi_edge.specs.Outside.{ahead}
-use Rattle.ump_words.specs.Cut.{Cuts, IsCutInto}
-use Rattle.ump_words.specs.Reader.{Reading, GivesPacket, Finishes}
-use Rattle.ump_words.specs.SoFar.{ReadSoFar, StandsBehind}
-use Rattle.ump_words.specs.declared.words.Framed.{Framed}
+-- What holds of all recordings.
+use Rattle.std.specs.Prelude.{◌≡◌, ℕ, List, ◌++◌}
+use Rattle.item_reader.specs.CutLaws.{ItemsAreReadInOrder}
+use Rattle.item_reader.specs.declared.cutting.Tail.{Tail}
+use Rattle.item_reader.specs.declared.cutting.Tail.TheVariants.{End}
+use Rattle.ump_words.specs.Cut.{Cuts, bytes_asked, framed_at}
 use Rattle.ump_words.specs.declared.words.Order.{Order}
-use Rattle.ump_words.specs.declared.words.Tail.{Tail}
-use Rattle.ump_words.specs.declared.words.Tail.TheVariants.{End}
 
--- By what a reader that goes on has given of a stream (`before`, of which `now` is left), and by its next answer: with one more
--- packet it has given that too, and it stands in the stream after the others; at the end the stream is cut into its packets, and
--- where it ends with the last of them nothing is left.
-pub record PacketsAreReadInOrder : Type 0 where
-  pub step : (order : Order) (limit : ℕ) (reader : Reading) (before now : Option (List ℕ)) (read : List Framed) →
-      ReadSoFar order limit reader before now read →
-      (reader' : Reading) (now' : Option (List ℕ)) (framed : Framed) →
-      GivesPacket reader reader' (ahead reader.pending now) (ahead reader'.pending now') framed →
-      ReadSoFar order limit reader' before now' (read ++ framed ∷ [])
-  pub stands_behind : (order : Order) (limit : ℕ) (reader : Reading) (before now : Option (List ℕ)) (read : List Framed) →
-      ReadSoFar order limit reader before now read →
-      (reader' : Reading) (now' : Option (List ℕ)) (framed : Framed) →
-      GivesPacket reader reader' (ahead reader.pending now) (ahead reader'.pending now') framed →
-      IfSome before (λ bytes. StandsBehind order limit bytes read framed)
-  pub finishes : (order : Order) (limit : ℕ) (reader : Reading) (before now : Option (List ℕ)) (read : List Framed) →
-      ReadSoFar order limit reader before now read →
-      (reader' : Reading) (now' : Option (List ℕ)) (tail : Tail) →
-      Finishes reader reader' (ahead reader.pending now) (ahead reader'.pending now') tail →
-      IfSome before (λ bytes. IsCutInto order limit bytes read tail)
-  pub nothing_left : (order : Order) (limit : ℕ) (reader : Reading) (before now : Option (List ℕ)) (read : List Framed) →
-      ReadSoFar order limit reader before now read →
-      (reader' : Reading) (now' : Option (List ℕ)) →
-      Finishes reader reader' (ahead reader.pending now) (ahead reader'.pending now') End →
-      IfSome before (λ bytes. now' ≡ Some [])
+-- What a reader has given of a recording are the packets at its front, with each one more; at the end they are all of its packets.
+abbrev pub PacketsAreReadInOrder : Type 0
+PacketsAreReadInOrder = ItemsAreReadInOrder bytes_asked framed_at
 
 abbrev pub StreamsAreCutInOneWay : Type 0
 StreamsAreCutInOneWay =

@@ -17,17 +17,6 @@ pub enum Order {
     Little,
 }
 
-/// How the packets of a stream end.
-#[derive(Clone, Copy, Debug, PartialEq, Eq)]
-pub enum Tail {
-    /// With the last packet.
-    End,
-    /// Within the packet that begins at this offset, counted in bytes from 0.
-    Truncated(u64),
-    /// With more bytes than the limit.
-    TooLong,
-}
-
 /// One to four words of 32 bits. A contract sees it as the list of the words.
 #[derive(Drop)]
 pub struct Words {

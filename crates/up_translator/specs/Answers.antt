@@ -1,5 +1,5 @@
 -- What the translator answers to one more byte of a stream, by all the bytes before, which are listed newest first.
-use Rattle.std.specs.Prelude.{◌≡◌, ℕ, List, Some, None, IfSome, Result, Ok, Err}
+use Rattle.std.specs.Prelude.{◌≡◌, ℕ, Bool, List, Some, None, IfSome, Result, Ok, Err}
 use Rattle.midi1_bytes.specs.Messages.{AreData}
 use Rattle.voice_state.specs.declared.listed.BadStep.{BadStep}
 use Rattle.voice_state.specs.Raising.{packets_at}
@@ -9,13 +9,13 @@ use Rattle.up_translator.specs.declared.raised.Raised.{Raised}
 use Rattle.up_translator.specs.Raised.{payload_in, packets_in, lines_in}
 
 -- the byte is accepted with its packets and its lines
-pub record IsRaisedAt (room group : ℕ) (past : List ℕ) (byte : ℕ) (raised : Raised) : Type 0 where
+pub record IsRaisedAt (paired : Bool) (room group : ℕ) (past : List ℕ) (byte : ℕ) (raised : Raised) : Type 0 where
   pub accepted : refusal_up (Some room) past byte ≡ None
-  pub packets : packets_in raised ≡ packets_at (Some room) group past byte
-  pub lines : lines_in raised ≡ lines_at (Some room) group past byte
+  pub packets : packets_in raised ≡ packets_at paired (Some room) group past byte
+  pub lines : lines_in raised ≡ lines_at paired (Some room) group past byte
   pub data_bytes : IfSome (payload_in raised) AreData
 
 -- It is refused exactly when there is a reason to refuse it, and for that reason.
-abbrev pub IsAnswerAt : ℕ → ℕ → List ℕ → ℕ → Result Raised BadStep → Type 0
-IsAnswerAt room group past byte (Ok raised) = IsRaisedAt room group past byte raised
-IsAnswerAt room group past byte (Err bad) = refusal_up (Some room) past byte ≡ Some bad
+abbrev pub IsAnswerAt : Bool → ℕ → ℕ → List ℕ → ℕ → Result Raised BadStep → Type 0
+IsAnswerAt paired room group past byte (Ok raised) = IsRaisedAt paired room group past byte raised
+IsAnswerAt paired room group past byte (Err bad) = refusal_up (Some room) past byte ≡ Some bad

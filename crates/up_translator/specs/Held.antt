@@ -1,5 +1,5 @@
 -- What the translator holds between two bytes, and what a byte leaves.
-use Rattle.std.specs.Prelude.{ℕ, Option, Some, None}
+use Rattle.std.specs.Prelude.{ℕ, Bool, Option, Some, None}
 use Rattle.midi1_bytes.specs.Messages.{Message, voice}
 use Rattle.midi1_bytes.specs.Parsing.{Parsing, parse}
 use Rattle.midi1_bytes.specs.Steps.{Step, completed_by}
@@ -43,10 +43,12 @@ up_behind up offset byte = record {
 
 -- ---- by the meaning of MIDI 1.0
 
-abbrev pub state_behind : GroupState → Option Message → GroupState
-state_behind state None = state
-state_behind state (Some message) = step1 state message
+abbrev pub state_behind : Bool → GroupState → Option Message → GroupState
+state_behind paired state None = state
+state_behind paired state (Some message) = step1 paired state message
 
 -- each state that is kept is kept after a step, as it then is
 abbrev pub KeepsBehind : Holding → Step → Type 0
-KeepsBehind holding step = (state : GroupState) → Keeps holding state → Keeps (holding_behind_step holding step) (state_behind state (completed_by step))
+KeepsBehind holding step =
+    (state : GroupState) → Keeps holding state →
+    Keeps (holding_behind_step holding step) (state_behind holding.paired state (completed_by step))

@@ -1,5 +1,5 @@
--- What holds of all streams of bytes, which are listed newest first.
-use Rattle.std.specs.Prelude.{◌≡◌, ℕ, List, ◌∷◌, length, map, Some, Result}
+-- What holds of all streams of bytes, which are listed newest first, with paired controllers or without.
+use Rattle.std.specs.Prelude.{◌≡◌, ℕ, Bool, List, ◌∷◌, length, map, Some, Result}
 use Rattle.std.specs.Option.{option_map}
 use Rattle.midi1_bytes.specs.Parsing.{open_of}
 use Rattle.voice_state.specs.declared.listed.BadStep.{BadStep}
@@ -11,14 +11,14 @@ use Rattle.up_translator.specs.Held.{UpState, KeepsBehind, step_in, up_behind}
 use Rattle.up_translator.specs.Recording.{HoldsUp}
 use Rattle.up_translator.specs.Step.{Raises}
 
-pub record RaisedBytesAreTheDefinition : Type 0 where
+pub record RaisedBytesAreTheDefinition (paired : Bool) : Type 0 where
   pub answer : (room group : ℕ) (past : List ℕ) (byte : ℕ) (up : UpState) (result : Result Raised BadStep) →
-      HoldsUp room group past up → Raises up (length past) byte result → IsAnswerAt room group past byte result
+      HoldsUp paired room group past up → Raises up (length past) byte result → IsAnswerAt paired room group past byte result
   pub after : (room group : ℕ) (past : List ℕ) (byte : ℕ) (up : UpState) →
-      AreStepsWithinRoom room (byte ∷ past) → HoldsUp room group past up →
+      AreStepsWithinRoom room (byte ∷ past) → HoldsUp paired room group past up →
       KeepsBehind up.holding (step_in up (length past) byte) →
-      HoldsUp room group (byte ∷ past) (up_behind up (length past) byte)
-  pub end : (room group : ℕ) (past : List ℕ) (up : UpState) → HoldsUp room group past up →
+      HoldsUp paired room group (byte ∷ past) (up_behind up (length past) byte)
+  pub end : (room group : ℕ) (past : List ℕ) (up : UpState) → HoldsUp paired room group past up →
       map (line_up up.group)
       (kinds_at_end (option_map (λ begun. (begun.start, begun.kind)) (open_of up.parsing))) ≡
       map (line_up group) (kinds_at_end (open_pair (Some room) past))

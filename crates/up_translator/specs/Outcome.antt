@@ -8,7 +8,7 @@ use Rattle.voice_messages.specs.Ranges.{IsVoice2}
 use Rattle.bit_scaling.specs.Scaling.{up}
 use Rattle.voice_state.specs.declared.listed.BadStep.{BadStep}
 use Rattle.voice_state.specs.declared.listed.BadStep.TheVariants as bad
-use Rattle.voice_state.specs.Controllers.{Role, data_decrement, role_of}
+use Rattle.voice_state.specs.Controllers.{Role, data_decrement, pairing, role_of}
 use Rattle.voice_state.specs.State.{GroupState}
 use Rattle.voice_state.specs.Messages.{channel_of}
 use Rattle.voice_state.specs.Raising.{raised_voice}
@@ -39,9 +39,9 @@ abbrev pub FitsVoice2 : Outcome → Type 0
 FitsVoice2 (outcome.Message message) = IsVoice2 message
 FitsVoice2 _ = Unit {0}
 
--- from the state of the group before the message
-pub record IsRaisedVoice (state : GroupState) (message : Voice1) (result : Outcome) : Type 0 where
-  pub messages : messages_in result ≡ raised_voice (state.channels (channel_of message)) message
+-- from the state of the group before the message, with paired controllers or without
+pub record IsRaisedVoice (paired : Bool) (state : GroupState) (message : Voice1) (result : Outcome) : Type 0 where
+  pub messages : messages_in result ≡ raised_voice paired (state.channels (channel_of message)) message
   pub ignored : is_ignored_in result ≡ is_ignored_voice (state.channels (channel_of message)) message
 
 -- ---- a control change
@@ -57,10 +57,12 @@ outcome_by collected.DataStep channel index value = outcome.Refused (bad_data_st
 outcome_by collected.Held channel index value = outcome.Nothing
 outcome_by (collected.Set param entered) channel index value = outcome.Message (voice2.Set channel param (up entered 14 32))
 outcome_by collected.Ignored channel index value = outcome.Ignored
+outcome_by (collected.Pair coarse entered) channel index value = outcome.Message (voice2.Control channel coarse (up entered 14 32))
 outcome_by collected.Plain channel index value = outcome.Message (voice2.Control channel index (up value 7 32))
 
 -- ---- what is held after a voice message: a control change is collected
 
 abbrev pub holding_with : Holding → Voice1 → Holding
-holding_with holding (voice1.Control channel index value) = holding_behind (role_of index) holding channel value
+holding_with holding (voice1.Control channel index value) =
+    holding_behind (pairing holding.paired (role_of index)) holding channel index value
 holding_with holding _ = holding

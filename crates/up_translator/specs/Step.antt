@@ -1,5 +1,5 @@
 -- What the translator answers to a byte, by what it holds.
-use Rattle.std.specs.Prelude.{◌≡◌, ℕ, List, map, Option, Some, None, IfSome, Result, Ok, Err}
+use Rattle.std.specs.Prelude.{◌≡◌, ℕ, Bool, List, map, Option, Some, None, IfSome, Result, Ok, Err}
 use Rattle.ump_grammar.specs.Ranges.{IsPacket}
 use Rattle.midi1_bytes.specs.Messages.{Message, exclusive}
 use Rattle.midi1_bytes.specs.Steps.{Step, completed_by}
@@ -14,9 +14,9 @@ use Rattle.up_translator.specs.declared.raised.Raised.{Raised}
 use Rattle.up_translator.specs.Raised.{packet_in, payload_in, packets_in, lines_in, IsApart}
 use Rattle.up_translator.specs.Held.{UpState, step_in}
 
--- the packets and the lines of a step, from the state of the group before it
-pub record IsRaised (state : GroupState) (group offset : ℕ) (step : Step) (raised : Raised) : Type 0 where
-  pub packets : packets_in raised ≡ raised_step state group step
+-- the packets and the lines of a step, from the state of the group before it, with paired controllers or without
+pub record IsRaised (paired : Bool) (state : GroupState) (group offset : ℕ) (step : Step) (raised : Raised) : Type 0 where
+  pub packets : packets_in raised ≡ raised_step paired state group step
   pub lines : lines_in raised ≡ map (line_up group) (kinds_up state step offset)
 
 -- the bytes of the exclusive that a step completes
@@ -31,7 +31,7 @@ pub record Accepts (holding : Holding) (group offset : ℕ) (step : Step) (raise
   pub apart : IsApart raised
   pub payload : payload_in raised ≡ payload_by (completed_by step)
   pub spelled : IfSome (packet_in raised) IsPacket
-  pub raised_of : (state : GroupState) → Keeps holding state → IsRaised state group offset step raised
+  pub raised_of : (state : GroupState) → Keeps holding state → IsRaised holding.paired state group offset step raised
 
 -- It is refused exactly when there is a reason to refuse it, and for that reason.
 abbrev pub RaisesStep : Holding → ℕ → ℕ → Step → Result Raised BadStep → Type 0

@@ -2,7 +2,7 @@
 ghost use Rattle.std.specs.Prelude.{◌≡◌};
 ghost use Rattle.midi1_bytes.specs.Messages.{voice};
 ghost use Rattle.voice_messages.specs.declared.voice1.Voice1.TheVariants as voice1;
-ghost use Rattle.voice_state.specs.Controllers.{role_of};
+ghost use Rattle.voice_state.specs.Controllers.{pairing, role_of};
 ghost use Rattle.voice_state.specs.Messages.{step1};
 ghost use Rattle.voice_state.specs.Refusal.{bad_control, bad_voice1};
 ghost use Rattle.voice_state.specs.State.{GroupState};
@@ -19,7 +19,7 @@ ghost use Rattle.up_translator.specs.Outcome.{
 };
 
 use crate::voice::{
-    raise_bend, raise_control, raise_data_entry, raise_note_off, raise_note_on,
+    raise_bend, raise_control, raise_data_entry, raise_note_off, raise_note_on, raise_pair,
     raise_poly_pressure, raise_pressure, raise_program,
 };
 use param_collector::laws::other_messages_change_nothing_kept;
@@ -63,6 +63,7 @@ fn outcome_of(collected: Collected, channel: U4, index: U7, value: U7) -> Outcom
             Outcome::Message(raise_data_entry(channel, param, entered))
         }
         Collected::Ignored => Outcome::Ignored,
+        Collected::Pair(coarse, entered) => Outcome::Message(raise_pair(channel, coarse, entered)),
         Collected::Plain => Outcome::Message(raise_control(channel, index, value)),
     }
 }
@@ -72,11 +73,13 @@ fn outcome_of(collected: Collected, channel: U4, index: U7, value: U7) -> Outcom
 fn raise_control_change(collector: &mut Collector, channel: U4, index: U7, value: U7) -> Outcome
     ensures refused { refusal_in result ≡ bad_control index }
     ensures raised { (state : GroupState) → Keeps collector.old state →
-        IsRaisedVoice state (voice1.Control channel index value) result }
+        IsRaisedVoice collector.old.paired state (voice1.Control channel index value) result }
     ensures fits { FitsVoice2 result }
-    ensures behind { collector.new ≡ holding_behind (role_of index) collector.old channel value }
+    ensures behind { collector.new ≡
+        holding_behind (pairing collector.old.paired (role_of index)) collector.old channel index value }
     ensures kept { (state : GroupState) → Keeps collector.old state →
-        Keeps collector.new (step1 state (voice (voice1.Control channel index value))) }
+        Keeps collector.new
+        (step1 collector.old.paired state (voice (voice1.Control channel index value))) }
 {
     let collected = collector.control(channel, index, value);
     outcome_of(collected, channel, index, value)
@@ -88,11 +91,11 @@ fn raise_control_change(collector: &mut Collector, channel: U4, index: U7, value
 pub fn raise(collector: &mut Collector, message: &Voice1) -> Outcome
     ensures refused { refusal_in result ≡ bad_voice1 message.now }
     ensures raised { (state : GroupState) → Keeps collector.old state →
-        IsRaisedVoice state message.now result }
+        IsRaisedVoice collector.old.paired state message.now result }
     ensures fits { FitsVoice2 result }
     ensures behind { collector.new ≡ holding_with collector.old message.now }
     ensures kept { (state : GroupState) → Keeps collector.old state →
-        Keeps collector.new (step1 state (voice message.now)) }
+        Keeps collector.new (step1 collector.old.paired state (voice message.now)) }
 {
     other_messages_change_nothing_kept();
     match *message {

@@ -9,7 +9,7 @@ use ump_grammar::encode;
 const GROUP: u32 = 0;
 
 fn new_up(rt: &impl Abort, alloc: Global) -> Up {
-    Up::new(alloc, U4::low_bits(GROUP), 16).expect(rt, "memory is ample")
+    Up::new(alloc, U4::low_bits(GROUP), 16, false).expect(rt, "memory is ample")
 }
 
 fn at(offset: u64, kind: Kind) -> Listed {
@@ -28,7 +28,28 @@ fn raises(
     words: &[u32],
     lines: &[Listed],
 ) -> Result<(), AllocError> {
-    let mut up = new_up(rt, alloc);
+    raises_in(rt, alloc, &mut new_up(rt, alloc), bytes, words, lines)
+}
+
+// The same by a translator in which controllers are paired.
+fn raises_pairs(
+    rt: &impl Abort,
+    alloc: Global,
+    bytes: &[u8],
+    words: &[u32],
+) -> Result<(), AllocError> {
+    let mut up = Up::new(alloc, U4::low_bits(GROUP), 16, true).expect(rt, "memory is ample");
+    raises_in(rt, alloc, &mut up, bytes, words, &[])
+}
+
+fn raises_in(
+    rt: &impl Abort,
+    alloc: Global,
+    up: &mut Up,
+    bytes: &[u8],
+    words: &[u32],
+    lines: &[Listed],
+) -> Result<(), AllocError> {
     let mut found = Vec::new(alloc);
     let mut listed = Vec::new(alloc);
     for (offset, &byte) in (0..64u64).zip(bytes) {
@@ -229,4 +250,30 @@ fn open_at_the_end(rt: HostRuntime) {
     assert_eq!(rt; up.end(), Some(at(7, Kind::OpenMessage)));
     assert!(rt; up.byte(0xF0, 8).is_ok());
     assert_eq!(rt; up.end(), Some(at(8, Kind::OpenExclusive)));
+}
+
+#[test]
+fn halves_of_paired_controllers(rt: HostRuntime) -> Result<(), Fail> {
+    let alloc = rt.alloc();
+    raises_pairs(
+        &rt,
+        alloc,
+        &[0xB0, 0x07, 0x64, 0x27, 0x05],
+        &[0x40B0_0700, 0xC802_4012, 0x40B0_0700, 0xC816_40B2],
+    )?;
+    // expression, 11, is reset to its greatest value
+    raises_pairs(
+        &rt,
+        alloc,
+        &[0xB0, 0x79, 0x00, 0x2B, 0x05],
+        &[0x40B0_7900, 0x0000_0000, 0x40B0_0B00, 0xFE17_F0BF],
+    )?;
+    raises(
+        &rt,
+        alloc,
+        &[0xB0, 0x07, 0x64, 0x27, 0x05],
+        &[0x40B0_0700, 0xC924_9249, 0x40B0_2700, 0x0A00_0000],
+        &[],
+    )?;
+    Ok(())
 }

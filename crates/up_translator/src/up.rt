@@ -12,9 +12,8 @@ use param_collector::Collector;
 use param_collector::laws::other_messages_change_nothing_kept;
 use std::alloc::Global;
 use std::marker::Model;
+use voice_messages::END_OF_EXCLUSIVE;
 use voice_state::{BadStep, Listed};
-
-const END_OF_EXCLUSIVE: u8 = 0xf7;
 
 /// Translates the bytes of one MIDI 1.0 stream to packets of one group. A contract sees the group, what is open of a message or
 /// an exclusive, and what control changes have set.
@@ -46,19 +45,20 @@ impl Up {
     ghost use Rattle.up_translator.specs.Step.{Raises};
 
     /// A translator into a group, for a stream that has had no byte yet. Takes all memory that it ever needs: for exclusives of
-    /// `room` bytes between F0 and F7, 6 to 1,048,576, and for what control changes set. `NoMemory` when there isn't that much.
-    pub fn new(alloc: Global, group: U4, room: u32) -> Result<Up, NoMemory>
+    /// `room` bytes between F0 and F7, 6 to 1,048,576, and for what control changes set. Controllers are paired or aren't (own rule).
+    /// `NoMemory` when there isn't that much.
+    pub fn new(alloc: Global, group: U4, room: u32, paired: bool) -> Result<Up, NoMemory>
         requires least { 6 ≤ room }
         requires most { room ≤ 1048576 }
         ensures fresh { IfOk result (λ up.
-            up ≡ record { group = group; parsing = idle room; holding = fresh }) }
-        ensures holds { IfOk result (HoldsUp room group []) }
+            up ≡ record { group = group; parsing = idle room; holding = fresh paired }) }
+        ensures holds { IfOk result (HoldsUp paired room group []) }
     {
         let parser = match Parser::new(alloc, room) {
             Ok(parser) => parser,
             Err(NoMemory) => return Err(NoMemory),
         };
-        match Collector::new(alloc) {
+        match Collector::new(alloc, paired) {
             Ok(collector) => Ok(Up {
                 parser,
                 raiser: Raiser::new(group, collector),

@@ -90,6 +90,19 @@ pub fn raise_data_entry(channel: U4, param: Param, value: U14) -> Voice2
     }
 }
 
+/// A half of a pair, by the index of its MSB and the value that it gives it (own rule).
+#[inline(always)]
+pub fn raise_pair(channel: U4, index: U7, value: U14) -> Voice2
+    ensures message { result ≡ voice2.Control channel index (up value 14 32) }
+    ensures fits { IsVoice2 result }
+{
+    Voice2::Control {
+        channel,
+        index,
+        value: up14(value),
+    }
+}
+
 /// A program change, with the bank that it takes.
 #[inline(always)]
 pub fn raise_program(channel: U4, program: U7, bank: Option<Bank>) -> Voice2

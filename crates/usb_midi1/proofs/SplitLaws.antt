@@ -183,7 +183,7 @@ stream-is room cable (byte ∷ past) =
     ∙ ap (λ xs. flat_map (message_events cable) (completed_in room past) ++ xs) (events-one cable one)
     ∙ sym (flat_map-then (message_events cable) (completed_in room past) (option_to_list one))
 
-within-is : RoomsThatAreNotReachedDoNotMatterInBytes → (room : ℕ) (past : List ℕ) → AreStepsWithinRoom room past → completed_in (Some room) past ≡ completed past
+within-is : RoomsThatAreNotReachedDoNotMatterInBytes false → (room : ℕ) (past : List ℕ) → AreStepsWithinRoom room past → completed_in (Some room) past ≡ completed past
 unfolding completed_in
 within-is rooms room [] within = refl
 within-is rooms room (byte ∷ past) within =
@@ -209,7 +209,7 @@ all-on in_range room cable past below =
     let P : List (List ℕ) → Type 0 = λ xs. AllByRecursion (λ (piece : ℕ × List ℕ). piece.0 ≡ cable) (split (concat xs)) in
     subst P (sym (stream-is (Some room) cable past)) (messages-on cable below (completed_in (Some room) past) (are-messages in_range (Some room) past))
 
-same-messages : CompletedMessagesAreInRange → RoomsThatAreNotReachedDoNotMatterInBytes → WrittenMessagesAreReadAgain → (room cable : ℕ) (past : List ℕ) → cable < 16 → AreStepsWithinRoom room past
+same-messages : CompletedMessagesAreInRange → RoomsThatAreNotReachedDoNotMatterInBytes false → WrittenMessagesAreReadAgain → (room cable : ℕ) (past : List ℕ) → cable < 16 → AreStepsWithinRoom room past
     → completed (reverse (on_cable cable (split (concat (stream_events (Some room) cable past))))) ≡ completed past
 same-messages in_range rooms written room cable past below within =
     let messages : List Message = completed_in (Some room) past in
@@ -221,7 +221,7 @@ same-messages in_range rooms written room cable past below within =
     ∙ (written messages [] are refl).completes
     ∙ within-is rooms room past within
 
-pub split_means : CompletedMessagesAreInRange → RoomsThatAreNotReachedDoNotMatterInBytes → WrittenMessagesAreReadAgain → SplitEventsMeanTheBytes
+pub split_means : CompletedMessagesAreInRange → RoomsThatAreNotReachedDoNotMatterInBytes false → WrittenMessagesAreReadAgain → SplitEventsMeanTheBytes
 split_means in_range rooms written =
     record {
       cable = λ room cable past below. all-on in_range room cable past below;

@@ -1,6 +1,8 @@
 -- What comes of a byte: its events and its lines of the listing.
 use Rattle.std.specs.Prelude.{◌≡◌, ◌≢◌, ℕ, List, [], ◌∷◌, ◌++◌, map, Option, Some, None, Result, Ok, Err}
 use Rattle.std.specs.Option.{option_map, option_to_list}
+use Rattle.midi1_bytes.specs.Answers.{framed}
+use Rattle.midi1_bytes.specs.Messages.{Message, exclusive}
 use Rattle.midi1_bytes.specs.Steps.{Step, completed_by, too_long}
 use Rattle.voice_state.specs.StepListing.{kinds_of_step, line_up}
 use Rattle.voice_state.specs.declared.listed.Kind.{Kind}
@@ -32,6 +34,11 @@ abbrev pub AreApart : Option (List ℕ) → Option (List ℕ) → Type 0
 AreApart (Some event) (Some whole) = ⊥
 AreApart _ _ = Unit {0}
 
+-- the exclusive from F0 to F7, where the message is one
+abbrev pub whole_of : Option Message → Option (List ℕ)
+whole_of (Some (exclusive bytes)) = Some (framed bytes)
+whole_of _ = None
+
 -- at most one of the two is there
 abbrev pub IsApart : Packed → Type 0
 IsApart packed = AreApart packed.event (whole_in packed)
@@ -57,10 +64,11 @@ lines_in packed = option_to_list (first_in packed) ++ option_to_list (second_in 
 
 -- ---- of a step
 
--- a step within the limit, with the events of the message that it completes, and its lines
+-- a step within the limit, with the events of the message that it completes, a whole exclusive by itself, and its lines
 pub record IsPacked (cable offset : ℕ) (step : Step) (packed : Packed) : Type 0 where
   pub within : step ≢ too_long
   pub apart : IsApart packed
+  pub whole : whole_in packed ≡ whole_of (completed_by step)
   pub events : events_in packed ≡ events_by cable (completed_by step)
   pub lines : lines_in packed ≡ map (line_up cable) (kinds_of_step step offset)
 

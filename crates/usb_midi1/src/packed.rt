@@ -70,6 +70,7 @@ impl<'a> Packed<'a> {
     /// Lines alone, at most two, in order.
     pub(crate) fn only_listed(cable: U4, first: Option<Line>, second: Option<Line>) -> Packed<'a>
         ensures apart { IsApart result }
+        ensures whole { whole_in result ≡ None }
         ensures events { events_in result ≡ [] }
         ensures lines { lines_in result ≡
             map (line_up cable) (map told_of (option_to_list first ++ option_to_list second)) }
@@ -80,6 +81,7 @@ impl<'a> Packed<'a> {
     /// An event, and a line if there is one.
     pub(crate) fn of_event(cable: U4, event: [u8; 4], first: Option<Line>) -> Packed<'a>
         ensures apart { IsApart result }
+        ensures whole { whole_in result ≡ None }
         ensures events { events_in result ≡ event ∷ [] }
         ensures lines { lines_in result ≡ map (line_up cable) (map told_of (option_to_list first)) }
     {
@@ -89,10 +91,18 @@ impl<'a> Packed<'a> {
     /// An exclusive from F0 to F7.
     pub(crate) fn of_whole(cable: U4, whole: &'a [u8]) -> Packed<'a>
         ensures apart { IsApart result }
+        ensures whole { whole_in result ≡ Some whole.now }
         ensures events { events_in result ≡ exclusive_events cable whole.now }
         ensures lines { lines_in result ≡ [] }
     {
         Packed::new(cable, None, Some(whole), None, None)
+    }
+
+    /// The cable of its events.
+    pub fn cable(&self) -> U4
+        ensures { result ≡ cable_in self.now }
+    {
+        self.cable.get()
     }
 
     // A line on the cable.

@@ -45,3 +45,9 @@ pub enum System {
     /// FF: system reset.
     Reset,
 }
+
+/// The status byte that begins a system exclusive message (MIDI 1.0 Detailed Specification, system exclusive messages).
+pub const START_OF_EXCLUSIVE: u8 = 0xF0;
+
+/// The status byte that ends a system exclusive message.
+pub const END_OF_EXCLUSIVE: u8 = 0xF7;

@@ -1,4 +1,7 @@
 // Messages of the MIDI 2.0 protocol.
+ghost use Rattle.std.specs.Prelude.{◌≡◌, ◌<◌};
+ghost use Rattle.voice_messages.specs.Forms.{form_at};
+
 use crate::small::U7;
 use midi_edge::U4;
 
@@ -119,4 +122,22 @@ pub enum Form {
     Continue,
     /// Its end.
     End,
+}
+
+impl Form {
+    /// The form of packet `k`, counted from 0, of a message in `count` packets (M2-104-UM, system exclusive and stream messages).
+    pub fn at(k: usize, count: usize) -> Form
+        requires { k < count }
+        ensures { result ≡ form_at count k }
+    {
+        if count == 1 {
+            Form::Complete
+        } else if k == 0 {
+            Form::Start
+        } else if k + 1 == count {
+            Form::End
+        } else {
+            Form::Continue
+        }
+    }
 }

@@ -113,22 +113,23 @@ step_in_room room past b a = step_under-same room past b (sort_of b) (fits_withi
 pub open_in_room : (room : ℕ) (past : List ℕ) → AreStepsWithinRoom room past → open_in (Some room) past ≡ open_in None past
 open_in_room room past a = open-same room past (fits_within room past a)
 
-pub packets_in_room : (room g : ℕ) (past : List ℕ) → AreStepsWithinRoom room past → packets_up (Some room) g past ≡ packets_up None g past
-packets_in_room room g [] a = refl
-packets_in_room room g (b ∷ past) a = λ i. packets_in_room room g past a.1 i ++ raised_step (meaning1 past) g (step_in_room room past b a i)
+module _ (paired : Bool) where
+  pub packets_in_room : (room g : ℕ) (past : List ℕ) → AreStepsWithinRoom room past → packets_up paired (Some room) g past ≡ packets_up paired None g past
+  packets_in_room room g [] a = refl
+  packets_in_room room g (b ∷ past) a = λ i. packets_in_room room g past a.1 i ++ raised_step paired (meaning1 paired past) g (step_in_room room past b a i)
 
-pub pieces_in_room : (room g : ℕ) (past : List ℕ) → AreStepsWithinRoom room past → back (Some room) g past ≡ back None g past
-pieces_in_room room g [] a = refl
-pieces_in_room room g (b ∷ past) a = λ i. pieces_in_room room g past a.1 i ++ pieces_of (reverse (packets_in_room room g past a.1 i)) (raised_step (meaning1 past) g (step_in_room room past b a i))
+  pub pieces_in_room : (room g : ℕ) (past : List ℕ) → AreStepsWithinRoom room past → back paired (Some room) g past ≡ back paired None g past
+  pieces_in_room room g [] a = refl
+  pieces_in_room room g (b ∷ past) a = λ i. pieces_in_room room g past a.1 i ++ pieces_of paired (reverse (packets_in_room room g past a.1 i)) (raised_step paired (meaning1 paired past) g (step_in_room room past b a i))
 
-pub lines_in_room : (room g : ℕ) (past : List ℕ) → AreStepsWithinRoom room past → lines_up (Some room) g past ≡ lines_up None g past
-lines_in_room room g [] a = refl
-lines_in_room room g (b ∷ past) a = λ i. lines_in_room room g past a.1 i ++ map (line_up g) (kinds_up (meaning1 past) (step_in_room room past b a i) (length past))
+  pub lines_in_room : (room g : ℕ) (past : List ℕ) → AreStepsWithinRoom room past → lines_up paired (Some room) g past ≡ lines_up paired None g past
+  lines_in_room room g [] a = refl
+  lines_in_room room g (b ∷ past) a = λ i. lines_in_room room g past a.1 i ++ map (line_up g) (kinds_up (meaning1 paired past) (step_in_room room past b a i) (length past))
 
-pub lines_to_end_in_room : (room g : ℕ) (past : List ℕ) → AreStepsWithinRoom room past → lines_up_to_end (Some room) g past ≡ lines_up_to_end None g past
-lines_to_end_in_room room g past a =
-    let begun : Option CutKind → List Listed = λ o. map (line_up g) (kinds_at_end (option_map {T = Open} (λ begun. (begun.start, begun.kind)) (option_map (λ kind. record { start = start_in past; kind = kind }) o))) in
-    λ i. lines_in_room room g past a i ++ begun (open_in_room room past a i)
+  pub lines_to_end_in_room : (room g : ℕ) (past : List ℕ) → AreStepsWithinRoom room past → lines_up_to_end paired (Some room) g past ≡ lines_up_to_end paired None g past
+  lines_to_end_in_room room g past a =
+      let begun : Option CutKind → List Listed = λ o. map (line_up g) (kinds_at_end (option_map {T = Open} (λ begun. (begun.start, begun.kind)) (option_map (λ kind. record { start = start_in past; kind = kind }) o))) in
+      λ i. lines_in_room room g past a i ++ begun (open_in_room room past a i)
 
 -- bytes that are accepted exceed no limit
 pub accepted_within : (room : ℕ) (past : List ℕ) → AreAcceptedUp (Some room) past → AreStepsWithinRoom room past

@@ -20,13 +20,13 @@ use Rattle.midi1_bytes.specs.RunningStatus.{IsKnownIn, is_running, without_statu
 use Rattle.midi1_bytes.specs.Steps.{ReadsAs}
 use Rattle.midi1_bytes.specs.Stream.{open_in, running}
 use Rattle.voice_state.specs.Registers.{Pair, is_null}
-use Rattle.voice_state.specs.Controllers.{role_of}
+use Rattle.voice_state.specs.Controllers.{Role, channel_mode, reset_all, coarse, plain, role_of, pairing}
 use Rattle.voice_state.specs.Parts.{whole_of}
 use Rattle.voice_state.specs.State.{GroupState}
 use Rattle.voice_state.specs.Messages.{meaning1, step1}
 use Rattle.voice_state.specs.Packets.{meaning2, step2, IsInRange}
-use Rattle.voice_state.specs.Listing.{is_carried, is_carried_role}
-use Rattle.voice_state.specs.Plain.{set_messages, voice_messages, ended_messages, plain_messages, plain_piece}
+use Rattle.voice_state.specs.Listing.{is_carried}
+use Rattle.voice_state.specs.Plain.{control_messages, set_messages, voice_messages, ended_messages, plain_messages, plain_piece}
 use Rattle.voice_state.specs.Lanes.{Denotes}
 use Rattle.voice_state.specs.Compact.{after_reset, registers_in, needed_messages, compact_piece}
 use Rattle.voice_state.specs.Relied.{PairIsSameIn, AreSameIn, IsRelied}
@@ -99,153 +99,157 @@ after_others (b ∷ bytes) past h = rw h.0 (ap (λ l. b ∷ l) (after_others byt
 abbrev pub IsReset : Packet → Type 0
 IsReset p = (gr : ℕ) × (p ≡ packet.System gr system.Reset)
 
-not_reset_control : (t : Bool) (ms : List Message) → AllByRecursion NotReset ms → AllByRecursion NotReset (cond t ms [])
-not_reset_control true ms h = h
-not_reset_control false ms h = tt
+not_reset_control : (r : Role) (ch i v : ℕ) → AllByRecursion NotReset (control_messages r ch i v)
+not_reset_control channel_mode ch i v = (tt, tt)
+not_reset_control reset_all ch i v = (tt, tt)
+not_reset_control plain ch i v = (tt, tt)
+not_reset_control coarse ch i v = (tt, (tt, tt))
+not_reset_control _ ch i v = tt
 
 not_reset_set : (t : Bool) (ms : List Message) → AllByRecursion NotReset ms → AllByRecursion NotReset (cond t [] ms)
 not_reset_set true ms h = tt
 not_reset_set false ms h = h
 
-not_reset_voice : (v : Voice2) → AllByRecursion NotReset (voice_messages v)
-not_reset_voice (voice2.Control ch i v) = not_reset_control (is_carried_role (role_of i)) _ (tt, tt)
-not_reset_voice (voice2.Set ch p v) = not_reset_set (is_null p) (set_messages ch p (down14 v)) (tt, (tt, (tt, (tt, tt))))
-not_reset_voice (voice2.Program ch p None) = (tt, tt)
-not_reset_voice (voice2.Program ch p (Some b)) = (tt, (tt, (tt, tt)))
-not_reset_voice (voice2.NoteOff ch n v t a) = (tt, tt)
-not_reset_voice (voice2.NoteOn ch n v t a) = (tt, tt)
-not_reset_voice (voice2.PolyPressure ch n v) = (tt, tt)
-not_reset_voice (voice2.Pressure ch v) = (tt, tt)
-not_reset_voice (voice2.Bend ch v) = (tt, tt)
-not_reset_voice _ = tt
-
 not_reset_ended : (whole : Option (List ℕ)) → AllByRecursion NotReset (ended_messages whole)
 not_reset_ended None = tt
 not_reset_ended (Some bytes) = (tt, tt)
-
-pub reset_or_other : (whole : Option (List ℕ)) (p : Packet) → IsReset p ⊎ AllByRecursion NotReset (plain_messages whole p)
-reset_or_other whole (packet.System gr system.Reset) = inl (gr, refl)
-reset_or_other whole (packet.System gr (system.Quarter n)) = inr (tt, tt)
-reset_or_other whole (packet.System gr (system.Position n)) = inr (tt, tt)
-reset_or_other whole (packet.System gr (system.Song n)) = inr (tt, tt)
-reset_or_other whole (packet.System gr system.Tune) = inr (tt, tt)
-reset_or_other whole (packet.System gr system.Clock) = inr (tt, tt)
-reset_or_other whole (packet.System gr system.Start) = inr (tt, tt)
-reset_or_other whole (packet.System gr system.Continue) = inr (tt, tt)
-reset_or_other whole (packet.System gr system.Stop) = inr (tt, tt)
-reset_or_other whole (packet.System gr system.Sensing) = inr (tt, tt)
-reset_or_other whole (packet.Voice1 gr v) = inr (tt, tt)
-reset_or_other whole (packet.Exclusive gr f bytes) = inr (not_reset_ended whole)
-reset_or_other whole (packet.Voice2 gr v) = inr (not_reset_voice v)
-reset_or_other whole _ = inr tt
-
--- what is written of a packet that is no System Reset comes after what was relied on
-pub after_piece : (past : List ℕ) (whole : Option (List ℕ)) (p : Packet) → AllByRecursion IsMessage (plain_messages whole p) → AllByRecursion NotReset (plain_messages whole p) → after_reset (reverse (compact_piece past whole p) ++ past) ≡ reverse (compact_piece past whole p) ++ after_reset past
-after_piece past whole p a n =
-    let before = after_reset past in
-    let r = registers_in before in
-    let piece = compact_piece past whole p in
-    let others : AllByRecursion IsOther piece = written_others (needed_messages r whole p) before (all_needed IsMessage r whole p a) (all_needed NotReset r whole p n) in
-    after_others (reverse piece) past (others_reverse piece [] others tt)
-
--- nothing is relied on after System Reset
-pub reset_piece : StatusesThatRunCanBeLeftOut → (all : List ℕ) (whole : Option (List ℕ)) (gr : ℕ) → reverse (compact_piece all whole (packet.System gr system.Reset)) ++ all ≡ 0xff ∷ all
-reset_piece rules all whole gr = ap (λ l. reverse (l ++ []) ++ all) (rules.system system.Reset (after_reset all))
-
-pub start_relied : IsRelied []
-start_relied = record { running = λ s e. e; registers = λ j. record { bank = same_pair; registered = same_pair; assignable = same_pair; touched = λ x e. e }; closed = refl }
-  where
-    same_pair : {p : Pair} → PairIsSameIn p p
-    same_pair = record { msb = λ x e. e; lsb = λ x e. e }
-
-reset_relied : (all : List ℕ) → IsRelied (0xff ∷ all)
-reset_relied all = record {
-  running = λ s e. cc;
-  registers = λ j. record { bank = nothing_in; registered = nothing_in; assignable = nothing_in; touched = λ x e. cc };
-  closed = refl;
-}
-  where
-    nothing_in : {p : Pair} → PairIsSameIn (record { msb = None; lsb = None }) p
-    nothing_in = record { msb = λ x e. cc; lsb = λ x e. cc }
-
--- ---- one more packet
-
--- after the last bytes alone
-pub last_read : StatusesThatRunCanBeLeftOut → (all : List ℕ) (whole : Option (List ℕ)) (p : Packet) → AllByRecursion IsMessage (plain_messages whole p) → IsRelied all → ReadsAs (after_reset all) (compact_piece all whole p) (needed_messages (registers_in (after_reset all)) whole p)
-last_read rules all whole p a k = let before = after_reset all in rules.reads (needed_messages (registers_in before) whole p) before before (all_needed IsMessage (registers_in before) whole p a) k.closed (λ s e. e)
-
--- what a piece leaves, after all bytes and after those that are relied on
-record BothRead (all : List ℕ) (whole : Option (List ℕ)) (p : Packet) : Type 0 where
-  all_reads : ReadsAs all (compact_piece all whole p) (needed_messages (registers_in (after_reset all)) whole p)
-  last_reads : ReadsAs (after_reset all) (compact_piece all whole p) (needed_messages (registers_in (after_reset all)) whole p)
-
-both_read : StatusesThatRunCanBeLeftOut → (all : List ℕ) (whole : Option (List ℕ)) (p : Packet) → AllByRecursion IsMessage (plain_messages whole p) → open_in None all ≡ None → IsRelied all → BothRead all whole p
-both_read rules all whole p a closed k =
-    let before = after_reset all in
-    let ms = needed_messages (registers_in before) whole p in
-    let am : AllByRecursion IsMessage ms = all_needed IsMessage (registers_in before) whole p a in
-    record { all_reads = rules.reads ms before all am closed k.running; last_reads = last_read rules all whole p a k }
 
 -- the registers of a channel
 abbrev SameAt : ℕ → GroupState → GroupState → Type 0
 SameAt j g1 g2 = AreSameIn (g1.channels j).registers (g2.channels j).registers
 
-other_relied : StatusesThatRunCanBeLeftOut → (all : List ℕ) (whole : Option (List ℕ)) (p : Packet) → AllByRecursion IsMessage (plain_messages whole p) → AllByRecursion NotReset (plain_messages whole p) → BothRead all whole p → IsRelied all → IsRelied (reverse (compact_piece all whole p) ++ all)
-other_relied rules all whole p a n both k =
-    let before = after_reset all in
-    let piece = compact_piece all whole p in
-    let ms = needed_messages (registers_in before) whole p in
-    let grown : after_reset (reverse piece ++ all) ≡ reverse piece ++ before = after_piece all whole p a n in
-    record {
-      running = subst (λ l. IsKnownIn (running l) (reverse piece ++ all)) (sym grown) (rules.known (reverse piece) before all k.running);
-      registers = λ j. subst (λ l. AreSameIn (registers_in l j) (registers_in (reverse piece ++ all) j)) (sym grown)
-          (subst₂ (SameAt j) (sym (meaning1-piece before piece ms both.last_reads)) (sym (meaning1-piece all piece ms both.all_reads)) (same-fold ms (meaning1 before) (meaning1 all) k.registers j));
-      closed = ap (open_in None) grown ∙ both.last_reads.closed;
-    }
+module _ (paired : Bool) where
+  not_reset_voice : (v : Voice2) → AllByRecursion NotReset (voice_messages paired v)
+  not_reset_voice (voice2.Control ch i v) = not_reset_control (pairing paired (role_of i)) ch i v
+  not_reset_voice (voice2.Set ch p v) = not_reset_set (is_null p) (set_messages ch p (down14 v)) (tt, (tt, (tt, (tt, tt))))
+  not_reset_voice (voice2.Program ch p None) = (tt, tt)
+  not_reset_voice (voice2.Program ch p (Some b)) = (tt, (tt, (tt, tt)))
+  not_reset_voice (voice2.NoteOff ch n v t a) = (tt, tt)
+  not_reset_voice (voice2.NoteOn ch n v t a) = (tt, tt)
+  not_reset_voice (voice2.PolyPressure ch n v) = (tt, tt)
+  not_reset_voice (voice2.Pressure ch v) = (tt, tt)
+  not_reset_voice (voice2.Bend ch v) = (tt, tt)
+  not_reset_voice _ = tt
 
-pub more_relied : StatusesThatRunCanBeLeftOut → (all : List ℕ) (whole : Option (List ℕ)) (p : Packet) → AllByRecursion IsMessage (plain_messages whole p) → open_in None all ≡ None → IsRelied all → IsRelied (reverse (compact_piece all whole p) ++ all)
-more_relied rules all whole p a closed k = either (reset_or_other whole p)
-  where
-    either : IsReset p ⊎ AllByRecursion NotReset (plain_messages whole p) → IsRelied (reverse (compact_piece all whole p) ++ all)
-    either (inl e) = subst IsRelied (sym (ap (λ q. reverse (compact_piece all whole q) ++ all) e.1 ∙ reset_piece rules all whole e.0)) (reset_relied all)
-    either (inr n) = other_relied rules all whole p a n (both_read rules all whole p a closed k) k
+  pub reset_or_other : (whole : Option (List ℕ)) (p : Packet) → IsReset p ⊎ AllByRecursion NotReset (plain_messages paired whole p)
+  reset_or_other whole (packet.System gr system.Reset) = inl (gr, refl)
+  reset_or_other whole (packet.System gr (system.Quarter n)) = inr (tt, tt)
+  reset_or_other whole (packet.System gr (system.Position n)) = inr (tt, tt)
+  reset_or_other whole (packet.System gr (system.Song n)) = inr (tt, tt)
+  reset_or_other whole (packet.System gr system.Tune) = inr (tt, tt)
+  reset_or_other whole (packet.System gr system.Clock) = inr (tt, tt)
+  reset_or_other whole (packet.System gr system.Start) = inr (tt, tt)
+  reset_or_other whole (packet.System gr system.Continue) = inr (tt, tt)
+  reset_or_other whole (packet.System gr system.Stop) = inr (tt, tt)
+  reset_or_other whole (packet.System gr system.Sensing) = inr (tt, tt)
+  reset_or_other whole (packet.Voice1 gr v) = inr (tt, tt)
+  reset_or_other whole (packet.Exclusive gr f bytes) = inr (not_reset_ended whole)
+  reset_or_other whole (packet.Voice2 gr v) = inr (not_reset_voice v)
+  reset_or_other whole _ = inr tt
 
-pub compact_matches : StatusesThatRunCanBeLeftOut → (all : List ℕ) (past : List Packet) (p : Packet) (g : ℕ) → AllByRecursion IsInRange past → IsInRange p → Denotes all past g → IsRelied all → GroupMatches (meaning1 (reverse (compact_piece all (whole_of past p) p) ++ all)) (step2 (meaning2 past g) p (whole_of past p)) × (open_in None (reverse (compact_piece all (whole_of past p) p) ++ all) ≡ None)
-compact_matches rules all past p g a b d k =
-    let whole = whole_of past p in
-    let before = after_reset all in
-    let piece = compact_piece all whole p in
-    let ms = needed_messages (registers_in before) whole p in
-    let both = both_read rules all whole p (plain_is_message whole p (whole_data past p a b) b) d.closed k in
-    let means : meaning1 (reverse piece ++ all) ≡ fold step1 (meaning1 all) (plain_messages whole p) = meaning1-piece all piece ms both.all_reads ∙ needed-means (registers_in before) whole p (meaning1 all) k.registers in
-    (subst (λ s. GroupMatches s (step2 (meaning2 past g) p whole)) (sym means) (matches-packet whole p (meaning1 all) (meaning2 past g) b (matches_of all past g d)), both.all_reads.closed)
+  -- what is written of a packet that is no System Reset comes after what was relied on
+  pub after_piece : (past : List ℕ) (whole : Option (List ℕ)) (p : Packet) → AllByRecursion IsMessage (plain_messages paired whole p) → AllByRecursion NotReset (plain_messages paired whole p) → after_reset (reverse (compact_piece paired past whole p) ++ past) ≡ reverse (compact_piece paired past whole p) ++ after_reset past
+  after_piece past whole p a n =
+      let before = after_reset past in
+      let r = registers_in paired before in
+      let piece = compact_piece paired past whole p in
+      let others : AllByRecursion IsOther piece = written_others (needed_messages paired r whole p) before (all_needed paired IsMessage r whole p a) (all_needed paired NotReset r whole p n) in
+      after_others (reverse piece) past (others_reverse piece [] others tt)
 
--- ---- pieces that are empty
+  -- nothing is relied on after System Reset
+  pub reset_piece : StatusesThatRunCanBeLeftOut → (all : List ℕ) (whole : Option (List ℕ)) (gr : ℕ) → reverse (compact_piece paired all whole (packet.System gr system.Reset)) ++ all ≡ 0xff ∷ all
+  reset_piece rules all whole gr = ap (λ l. reverse (l ++ []) ++ all) (rules.system system.Reset (after_reset all))
 
-pub uncarried_compact : (past : List ℕ) (whole : Option (List ℕ)) (p : Packet) → is_carried whole p ≡ false → compact_piece past whole p ≡ []
-uncarried_compact past whole p e = ap (written_after (after_reset past)) (uncarried-needs (registers_in (after_reset past)) whole p e)
+  pub start_relied : IsRelied paired []
+  start_relied = record { running = λ s e. e; registers = λ j. record { bank = same_pair; registered = same_pair; assignable = same_pair; touched = λ x e. e }; closed = refl }
+    where
+      same_pair : {p : Pair} → PairIsSameIn p p
+      same_pair = record { msb = λ x e. e; lsb = λ x e. e }
 
-pub carried_compact : StatusesThatRunCanBeLeftOut → (past : List ℕ) (whole : Option (List ℕ)) (p : Packet) → is_carried whole p ≡ true → 0 < length (compact_piece past whole p)
-carried_compact rules past whole p e = some (needed_messages (registers_in (after_reset past)) whole p) (carried-needs (registers_in (after_reset past)) whole p e)
-  where
-    some : (ms : List Message) → IsSome ms → 0 < length (written_after (after_reset past) ms)
-    some [] h = absurd h
-    some (m ∷ ms) h = rules.something m ms (after_reset past)
+  reset_relied : (all : List ℕ) → IsRelied paired (0xff ∷ all)
+  reset_relied all = record {
+    running = λ s e. cc;
+    registers = λ j. record { bank = nothing_in; registered = nothing_in; assignable = nothing_in; touched = λ x e. cc };
+    closed = refl;
+  }
+    where
+      nothing_in : {p : Pair} → PairIsSameIn (record { msb = None; lsb = None }) p
+      nothing_in = record { msb = λ x e. cc; lsb = λ x e. cc }
 
--- ---- system messages and exclusives are written whole
+  -- ---- one more packet
 
-pub system_plain : StatusesThatRunCanBeLeftOut → (past : List ℕ) (whole : Option (List ℕ)) (gr : ℕ) (m : System) → compact_piece past whole (packet.System gr m) ≡ plain_piece whole (packet.System gr m)
-system_plain rules past whole gr (system.Quarter n) = ap (λ l. l ++ []) (rules.system (system.Quarter n) (after_reset past))
-system_plain rules past whole gr (system.Position n) = ap (λ l. l ++ []) (rules.system (system.Position n) (after_reset past))
-system_plain rules past whole gr (system.Song n) = ap (λ l. l ++ []) (rules.system (system.Song n) (after_reset past))
-system_plain rules past whole gr system.Tune = ap (λ l. l ++ []) (rules.system system.Tune (after_reset past))
-system_plain rules past whole gr system.Clock = ap (λ l. l ++ []) (rules.system system.Clock (after_reset past))
-system_plain rules past whole gr system.Start = ap (λ l. l ++ []) (rules.system system.Start (after_reset past))
-system_plain rules past whole gr system.Continue = ap (λ l. l ++ []) (rules.system system.Continue (after_reset past))
-system_plain rules past whole gr system.Stop = ap (λ l. l ++ []) (rules.system system.Stop (after_reset past))
-system_plain rules past whole gr system.Sensing = ap (λ l. l ++ []) (rules.system system.Sensing (after_reset past))
-system_plain rules past whole gr system.Reset = ap (λ l. l ++ []) (rules.system system.Reset (after_reset past))
+  -- after the last bytes alone
+  pub last_read : StatusesThatRunCanBeLeftOut → (all : List ℕ) (whole : Option (List ℕ)) (p : Packet) → AllByRecursion IsMessage (plain_messages paired whole p) → IsRelied paired all → ReadsAs (after_reset all) (compact_piece paired all whole p) (needed_messages paired (registers_in paired (after_reset all)) whole p)
+  last_read rules all whole p a k = let before = after_reset all in rules.reads (needed_messages paired (registers_in paired before) whole p) before before (all_needed paired IsMessage (registers_in paired before) whole p a) k.closed (λ s e. e)
 
-pub exclusive_plain : StatusesThatRunCanBeLeftOut → (past : List ℕ) (whole : Option (List ℕ)) (gr : ℕ) (f : Form) (bytes : List ℕ) → compact_piece past whole (packet.Exclusive gr f bytes) ≡ plain_piece whole (packet.Exclusive gr f bytes)
-exclusive_plain rules past None gr f bytes = refl
-exclusive_plain rules past (Some js) gr f bytes = ap (λ l. l ++ []) (rules.exclusive js (after_reset past))
+  -- what a piece leaves, after all bytes and after those that are relied on
+  record BothRead (all : List ℕ) (whole : Option (List ℕ)) (p : Packet) : Type 0 where
+    all_reads : ReadsAs all (compact_piece paired all whole p) (needed_messages paired (registers_in paired (after_reset all)) whole p)
+    last_reads : ReadsAs (after_reset all) (compact_piece paired all whole p) (needed_messages paired (registers_in paired (after_reset all)) whole p)
+
+  both_read : StatusesThatRunCanBeLeftOut → (all : List ℕ) (whole : Option (List ℕ)) (p : Packet) → AllByRecursion IsMessage (plain_messages paired whole p) → open_in None all ≡ None → IsRelied paired all → BothRead all whole p
+  both_read rules all whole p a closed k =
+      let before = after_reset all in
+      let ms = needed_messages paired (registers_in paired before) whole p in
+      let am : AllByRecursion IsMessage ms = all_needed paired IsMessage (registers_in paired before) whole p a in
+      record { all_reads = rules.reads ms before all am closed k.running; last_reads = last_read rules all whole p a k }
+
+  other_relied : StatusesThatRunCanBeLeftOut → (all : List ℕ) (whole : Option (List ℕ)) (p : Packet) → AllByRecursion IsMessage (plain_messages paired whole p) → AllByRecursion NotReset (plain_messages paired whole p) → BothRead all whole p → IsRelied paired all → IsRelied paired (reverse (compact_piece paired all whole p) ++ all)
+  other_relied rules all whole p a n both k =
+      let before = after_reset all in
+      let piece = compact_piece paired all whole p in
+      let ms = needed_messages paired (registers_in paired before) whole p in
+      let grown : after_reset (reverse piece ++ all) ≡ reverse piece ++ before = after_piece all whole p a n in
+      record {
+        running = subst (λ l. IsKnownIn (running l) (reverse piece ++ all)) (sym grown) (rules.known (reverse piece) before all k.running);
+        registers = λ j. subst (λ l. AreSameIn (registers_in paired l j) (registers_in paired (reverse piece ++ all) j)) (sym grown)
+            (subst₂ (SameAt j) (sym (meaning1-piece paired before piece ms both.last_reads)) (sym (meaning1-piece paired all piece ms both.all_reads)) (same-fold paired ms (meaning1 paired before) (meaning1 paired all) k.registers j));
+        closed = ap (open_in None) grown ∙ both.last_reads.closed;
+      }
+
+  pub more_relied : StatusesThatRunCanBeLeftOut → (all : List ℕ) (whole : Option (List ℕ)) (p : Packet) → AllByRecursion IsMessage (plain_messages paired whole p) → open_in None all ≡ None → IsRelied paired all → IsRelied paired (reverse (compact_piece paired all whole p) ++ all)
+  more_relied rules all whole p a closed k = either (reset_or_other whole p)
+    where
+      either : IsReset p ⊎ AllByRecursion NotReset (plain_messages paired whole p) → IsRelied paired (reverse (compact_piece paired all whole p) ++ all)
+      either (inl e) = subst (IsRelied paired) (sym (ap (λ q. reverse (compact_piece paired all whole q) ++ all) e.1 ∙ reset_piece rules all whole e.0)) (reset_relied all)
+      either (inr n) = other_relied rules all whole p a n (both_read rules all whole p a closed k) k
+
+  pub compact_matches : StatusesThatRunCanBeLeftOut → (all : List ℕ) (past : List Packet) (p : Packet) (g : ℕ) → AllByRecursion IsInRange past → IsInRange p → Denotes paired all past g → IsRelied paired all → GroupMatches paired (meaning1 paired (reverse (compact_piece paired all (whole_of past p) p) ++ all)) (step2 paired (meaning2 paired past g) p (whole_of past p)) × (open_in None (reverse (compact_piece paired all (whole_of past p) p) ++ all) ≡ None)
+  compact_matches rules all past p g a b d k =
+      let whole = whole_of past p in
+      let before = after_reset all in
+      let piece = compact_piece paired all whole p in
+      let ms = needed_messages paired (registers_in paired before) whole p in
+      let both = both_read rules all whole p (plain_is_message paired whole p (whole_data past p a b) b) d.closed k in
+      let means : meaning1 paired (reverse piece ++ all) ≡ fold (step1 paired) (meaning1 paired all) (plain_messages paired whole p) = meaning1-piece paired all piece ms both.all_reads ∙ needed-means paired (registers_in paired before) whole p (meaning1 paired all) k.registers in
+      (subst (λ s. GroupMatches paired s (step2 paired (meaning2 paired past g) p whole)) (sym means) (matches-packet paired whole p (meaning1 paired all) (meaning2 paired past g) b (matches_of paired all past g d)), both.all_reads.closed)
+
+  -- ---- pieces that are empty
+
+  pub uncarried_compact : (past : List ℕ) (whole : Option (List ℕ)) (p : Packet) → is_carried paired whole p ≡ false → compact_piece paired past whole p ≡ []
+  uncarried_compact past whole p e = ap (written_after (after_reset past)) (uncarried-needs paired (registers_in paired (after_reset past)) whole p e)
+
+  pub carried_compact : StatusesThatRunCanBeLeftOut → (past : List ℕ) (whole : Option (List ℕ)) (p : Packet) → is_carried paired whole p ≡ true → 0 < length (compact_piece paired past whole p)
+  carried_compact rules past whole p e = some (needed_messages paired (registers_in paired (after_reset past)) whole p) (carried-needs paired (registers_in paired (after_reset past)) whole p e)
+    where
+      some : (ms : List Message) → IsSome ms → 0 < length (written_after (after_reset past) ms)
+      some [] h = absurd h
+      some (m ∷ ms) h = rules.something m ms (after_reset past)
+
+  -- ---- system messages and exclusives are written whole
+
+  pub system_plain : StatusesThatRunCanBeLeftOut → (past : List ℕ) (whole : Option (List ℕ)) (gr : ℕ) (m : System) → compact_piece paired past whole (packet.System gr m) ≡ plain_piece paired whole (packet.System gr m)
+  system_plain rules past whole gr (system.Quarter n) = ap (λ l. l ++ []) (rules.system (system.Quarter n) (after_reset past))
+  system_plain rules past whole gr (system.Position n) = ap (λ l. l ++ []) (rules.system (system.Position n) (after_reset past))
+  system_plain rules past whole gr (system.Song n) = ap (λ l. l ++ []) (rules.system (system.Song n) (after_reset past))
+  system_plain rules past whole gr system.Tune = ap (λ l. l ++ []) (rules.system system.Tune (after_reset past))
+  system_plain rules past whole gr system.Clock = ap (λ l. l ++ []) (rules.system system.Clock (after_reset past))
+  system_plain rules past whole gr system.Start = ap (λ l. l ++ []) (rules.system system.Start (after_reset past))
+  system_plain rules past whole gr system.Continue = ap (λ l. l ++ []) (rules.system system.Continue (after_reset past))
+  system_plain rules past whole gr system.Stop = ap (λ l. l ++ []) (rules.system system.Stop (after_reset past))
+  system_plain rules past whole gr system.Sensing = ap (λ l. l ++ []) (rules.system system.Sensing (after_reset past))
+  system_plain rules past whole gr system.Reset = ap (λ l. l ++ []) (rules.system system.Reset (after_reset past))
+
+  pub exclusive_plain : StatusesThatRunCanBeLeftOut → (past : List ℕ) (whole : Option (List ℕ)) (gr : ℕ) (f : Form) (bytes : List ℕ) → compact_piece paired past whole (packet.Exclusive gr f bytes) ≡ plain_piece paired whole (packet.Exclusive gr f bytes)
+  exclusive_plain rules past None gr f bytes = refl
+  exclusive_plain rules past (Some js) gr f bytes = ap (λ l. l ++ []) (rules.exclusive js (after_reset past))

@@ -6,6 +6,7 @@ pub mod Induction
 pub mod Joined
 pub mod Messages
 pub mod Packets
+pub mod Pairs
 pub mod RaisedRanges
 pub mod Raising
 pub mod Recording

@@ -15,51 +15,38 @@ use Rattle.voice_messages.specs.declared.voice1.Voice1.{Voice1}
 use Rattle.voice_messages.specs.declared.voice1.Voice1.TheVariants as voice1
 use Rattle.voice_messages.specs.declared.voice1.System.{System}
 use Rattle.voice_messages.specs.declared.voice1.System.TheVariants as system
-use Rattle.bit_scaling.specs.Scaling.{down7, down14}
-use Rattle.midi1_bytes.specs.Messages.{Message, voice, message_of, spelled, spelled_voice}
+use Rattle.bit_scaling.specs.Scaling.{down14}
+use Rattle.midi1_bytes.specs.Messages.{Message, message_of, spelled, spelled_voice}
 use Rattle.midi1_bytes.specs.Laws.{WrittenMessagesAreReadAgain}
 use Rattle.voice_state.specs.Registers.{is_null}
-use Rattle.voice_state.specs.Controllers.{role_of}
+use Rattle.voice_state.specs.Controllers.{Role, channel_mode, reset_all, coarse, plain, role_of, pairing}
 use Rattle.voice_state.specs.Parts.{group_of, is_group, whole_of}
 use Rattle.voice_state.specs.Messages.{mean1}
 use Rattle.voice_state.specs.Packets.{mean2, IsInRange}
 use Rattle.voice_state.specs.Agreement.{Agrees}
 use Rattle.voice_state.specs.Listing.{is_carried, is_carried_voice, is_carried_role}
-use Rattle.voice_state.specs.Plain.{set_messages, voice_messages, plain_piece}
+use Rattle.voice_state.specs.Plain.{set_messages, control_messages, voice_messages, plain_piece}
 use Rattle.voice_state.specs.Lanes.{pair_by, pair_of, pairs_behind, plain_pairs, bytes_for, lane_bytes, Denotes, lane_after}
 use Rattle.voice_state.proofs.Induction.{start_denotes, one_more}
 
--- ---- a packet that isn't carried has no piece
+-- ---- control changes of MIDI 2.0
 
-uncarried_voice : (m : Voice2) → is_carried_voice m ≡ false → flat_map spelled (voice_messages m) ≡ []
-uncarried_voice (voice2.Control ch i v) e = at (is_carried_role (role_of i)) _ e
-  where
-    at : (t : Bool) (ms : List Message) → t ≡ false → flat_map spelled (cond t ms []) ≡ []
-    at true ms e = cc
-    at false ms e = refl
-uncarried_voice (voice2.Set ch p v) e = at (is_null p) _ e
-  where
-    at : (t : Bool) (ms : List Message) → not t ≡ false → flat_map spelled (cond t [] ms) ≡ []
-    at true ms e = refl
-    at false ms e = cc
-uncarried_voice (voice2.Shift ch p v) e = refl
-uncarried_voice (voice2.NoteController ch k n i v) e = refl
-uncarried_voice (voice2.NoteBend ch n v) e = refl
-uncarried_voice (voice2.NoteManagement ch n f) e = refl
-uncarried_voice _ e = cc
-
-pub uncarried : (whole : Option (List ℕ)) (p : Packet) → is_carried whole p ≡ false → plain_piece whole p ≡ []
-uncarried whole (packet.System g m) e = cc
-uncarried whole (packet.Voice1 g m) e = cc
-uncarried None (packet.Exclusive g f bytes) e = refl
-uncarried (Some js) (packet.Exclusive g f bytes) e = cc
-uncarried whole (packet.Voice2 g m) e = uncarried_voice m e
-uncarried whole _ e = refl
-
--- ---- a packet that is carried has one
+pub uncarried_control : (r : Role) (ch i v : ℕ) → is_carried_role r ≡ false → control_messages r ch i v ≡ []
+uncarried_control channel_mode ch i v e = cc
+uncarried_control reset_all ch i v e = cc
+uncarried_control coarse ch i v e = cc
+uncarried_control plain ch i v e = cc
+uncarried_control _ ch i v e = refl
 
 abbrev IsPiece : List ℕ → Type 0
 IsPiece bytes = 0 < length bytes
+
+carried_control : (r : Role) (ch i v : ℕ) → is_carried_role r ≡ true → IsPiece (flat_map spelled (control_messages r ch i v))
+carried_control channel_mode ch i v e = omega arith
+carried_control reset_all ch i v e = omega arith
+carried_control coarse ch i v e = omega arith
+carried_control plain ch i v e = omega arith
+carried_control _ ch i v e = cc
 
 spelled_voice_piece : (m : Voice1) → IsPiece (spelled_voice m)
 spelled_voice_piece (voice1.NoteOff ch n v) = omega arith
@@ -74,80 +61,102 @@ first_piece : (xs ys : List ℕ) → IsPiece xs → IsPiece (xs ++ ys)
 first_piece [] ys h = absurd (omega (arith, h))
 first_piece (x ∷ xs) ys h = omega arith
 
-carried_voice : (m : Voice2) → is_carried_voice m ≡ true → IsPiece (flat_map spelled (voice_messages m))
-carried_voice (voice2.NoteOff ch n v t a) e = omega arith
-carried_voice (voice2.NoteOn ch n v t a) e = omega arith
-carried_voice (voice2.PolyPressure ch n v) e = omega arith
-carried_voice (voice2.Control ch i v) e = at (is_carried_role (role_of i)) e
-  where
-    at : (t : Bool) → t ≡ true → IsPiece (flat_map spelled (cond t (voice (voice1.Control ch i (down7 v)) ∷ []) []))
-    at true e = omega arith
-    at false e = cc
-carried_voice (voice2.Set ch p v) e = at (is_null p) e
-  where
-    at : (t : Bool) → not t ≡ true → IsPiece (flat_map spelled (cond t [] (set_messages ch p (down14 v))))
-    at true e = cc
-    at false e = omega arith
-carried_voice (voice2.Program ch p None) e = omega arith
-carried_voice (voice2.Program ch p (Some b)) e = omega arith
-carried_voice (voice2.Pressure ch v) e = omega arith
-carried_voice (voice2.Bend ch v) e = omega arith
-carried_voice _ e = cc
-
 carried_system : (m : System) → IsPiece (flat_map spelled (message_of m ∷ []))
 carried_system (system.Quarter n) = omega arith
 carried_system (system.Position n) = omega arith
 carried_system (system.Song n) = omega arith
 carried_system _ = omega arith
 
-pub carried : (whole : Option (List ℕ)) (p : Packet) → is_carried whole p ≡ true → IsPiece (plain_piece whole p)
-carried whole (packet.System g m) e = carried_system m
-carried whole (packet.Voice1 g m) e = first_piece (spelled_voice m) [] (spelled_voice_piece m)
-carried None (packet.Exclusive g f bytes) e = cc
-carried (Some js) (packet.Exclusive g f bytes) e = omega arith
-carried whole (packet.Voice2 g m) e = carried_voice m e
-carried whole _ e = cc
-
-pub carried_has_piece : (whole : Option (List ℕ)) (p : Packet) → IsTrue (is_carried whole p) ↔ (0 < length (plain_piece whole p))
-carried_has_piece whole p = (carried whole p, go (is_carried whole p) refl)
-  where
-    go : (t : Bool) → is_carried whole p ≡ t → 0 < length (plain_piece whole p) → is_carried whole p ≡ true
-    go true e h = e
-    go false e h = absurd (nothing_below (plain_piece whole p) (uncarried whole p e) h)
-      where
-        nothing_below : (xs : List ℕ) → xs ≡ [] → 0 < length xs → ⊥
-        nothing_below xs e h = omega (arith, subst (λ ys. 0 < length ys) e h)
-
--- ---- the lanes
-
 pub lane_bytes-pair : (g : ℕ) (o : Option ℕ) (t : Bool) (piece : List ℕ) → (t ≡ false → piece ≡ []) → lane_bytes g (pair_by o t piece) ≡ cond (is_group o g) piece []
 lane_bytes-pair g None t piece h = refl
 lane_bytes-pair g (Some l) true piece h = append-nil (cond (eqb l g) piece [])
 lane_bytes-pair g (Some l) false piece h = cond_both (eqb l g) piece [] (λ bytes. [] ≡ bytes) (λ e. sym (h refl)) (λ e. refl)
 
-lane_bytes-more : (g : ℕ) (past : List Packet) (p : Packet) → reverse (lane_bytes g (pairs_behind (p ∷ past))) ≡ lane_after (reverse (lane_bytes g (pairs_behind past))) past p g
-lane_bytes-more g past p =
-    let whole = whole_of past p in
-    let piece = plain_piece whole p in
-    let bytes = lane_bytes g (pairs_behind past) in
-    ap reverse (flat_map-append (bytes_for g) (pairs_behind past) (pair_of past p) ∙ ap (λ l. bytes ++ l) (lane_bytes-pair g (group_of p) (is_carried whole p) piece (uncarried whole p)))
-    ∙ at (is_group (group_of p) g) bytes piece
-  where
-    at : (t : Bool) (bytes piece : List ℕ) → reverse (bytes ++ cond t piece []) ≡ cond t (reverse piece ++ reverse bytes) (reverse bytes)
-    at true bytes piece = reverse-append bytes piece
-    at false bytes piece = ap reverse (append-nil bytes)
-
-pub recording_denotes : WrittenMessagesAreReadAgain → (g : ℕ) (past : List Packet) → AllByRecursion IsInRange past → Denotes (reverse (lane_bytes g (pairs_behind past))) past g
-recording_denotes reads g [] a = start_denotes g
-recording_denotes reads g (p ∷ past) a = subst (λ bytes. Denotes bytes (p ∷ past) g) (sym (lane_bytes-more g past p)) (one_more reads (reverse (lane_bytes g (pairs_behind past))) past p g a.1 a.0 (recording_denotes reads g past a.1))
-
 all_reverse : (xs acc : List Packet) → AllByRecursion IsInRange xs → AllByRecursion IsInRange acc → AllByRecursion IsInRange (reverse_aux xs acc)
 all_reverse [] acc h k = k
 all_reverse (x ∷ xs) acc h k = all_reverse xs (x ∷ acc) h.1 (h.0, k)
 
-pub recording_agrees : WrittenMessagesAreReadAgain → (packets : List Packet) (g : ℕ) → AllByRecursion IsInRange packets → Agrees (mean1 (lane_bytes g (plain_pairs packets))) (mean2 packets g)
-recording_agrees reads packets g a = (recording_denotes reads g (reverse packets) (all_reverse packets [] a tt)).agrees
+-- ---- a packet that isn't carried has no piece
 
--- the pairs of one more packet come after those before
-pub plain_pairs-more : (packets : List Packet) (p : Packet) → plain_pairs (packets ++ p ∷ []) ≡ plain_pairs packets ++ pair_of (reverse packets) p
-plain_pairs-more packets p = ap pairs_behind (reverse-append packets (p ∷ []))
+module _ (paired : Bool) where
+  uncarried_voice : (m : Voice2) → is_carried_voice paired m ≡ false → flat_map spelled (voice_messages paired m) ≡ []
+  uncarried_voice (voice2.Control ch i v) e = ap (flat_map spelled) (uncarried_control (pairing paired (role_of i)) ch i v e)
+  uncarried_voice (voice2.Set ch p v) e = at (is_null p) _ e
+    where
+      at : (t : Bool) (ms : List Message) → not t ≡ false → flat_map spelled (cond t [] ms) ≡ []
+      at true ms e = refl
+      at false ms e = cc
+  uncarried_voice (voice2.Shift ch p v) e = refl
+  uncarried_voice (voice2.NoteController ch k n i v) e = refl
+  uncarried_voice (voice2.NoteBend ch n v) e = refl
+  uncarried_voice (voice2.NoteManagement ch n f) e = refl
+  uncarried_voice _ e = cc
+
+  pub uncarried : (whole : Option (List ℕ)) (p : Packet) → is_carried paired whole p ≡ false → plain_piece paired whole p ≡ []
+  uncarried whole (packet.System g m) e = cc
+  uncarried whole (packet.Voice1 g m) e = cc
+  uncarried None (packet.Exclusive g f bytes) e = refl
+  uncarried (Some js) (packet.Exclusive g f bytes) e = cc
+  uncarried whole (packet.Voice2 g m) e = uncarried_voice m e
+  uncarried whole _ e = refl
+
+  -- ---- a packet that is carried has one
+
+  carried_voice : (m : Voice2) → is_carried_voice paired m ≡ true → IsPiece (flat_map spelled (voice_messages paired m))
+  carried_voice (voice2.NoteOff ch n v t a) e = omega arith
+  carried_voice (voice2.NoteOn ch n v t a) e = omega arith
+  carried_voice (voice2.PolyPressure ch n v) e = omega arith
+  carried_voice (voice2.Control ch i v) e = carried_control (pairing paired (role_of i)) ch i v e
+  carried_voice (voice2.Set ch p v) e = at (is_null p) e
+    where
+      at : (t : Bool) → not t ≡ true → IsPiece (flat_map spelled (cond t [] (set_messages ch p (down14 v))))
+      at true e = cc
+      at false e = omega arith
+  carried_voice (voice2.Program ch p None) e = omega arith
+  carried_voice (voice2.Program ch p (Some b)) e = omega arith
+  carried_voice (voice2.Pressure ch v) e = omega arith
+  carried_voice (voice2.Bend ch v) e = omega arith
+  carried_voice _ e = cc
+
+  pub carried : (whole : Option (List ℕ)) (p : Packet) → is_carried paired whole p ≡ true → IsPiece (plain_piece paired whole p)
+  carried whole (packet.System g m) e = carried_system m
+  carried whole (packet.Voice1 g m) e = first_piece (spelled_voice m) [] (spelled_voice_piece m)
+  carried None (packet.Exclusive g f bytes) e = cc
+  carried (Some js) (packet.Exclusive g f bytes) e = omega arith
+  carried whole (packet.Voice2 g m) e = carried_voice m e
+  carried whole _ e = cc
+
+  pub carried_has_piece : (whole : Option (List ℕ)) (p : Packet) → IsTrue (is_carried paired whole p) ↔ (0 < length (plain_piece paired whole p))
+  carried_has_piece whole p = (carried whole p, go (is_carried paired whole p) refl)
+    where
+      go : (t : Bool) → is_carried paired whole p ≡ t → 0 < length (plain_piece paired whole p) → is_carried paired whole p ≡ true
+      go true e h = e
+      go false e h = absurd (nothing_below (plain_piece paired whole p) (uncarried whole p e) h)
+        where
+          nothing_below : (xs : List ℕ) → xs ≡ [] → 0 < length xs → ⊥
+          nothing_below xs e h = omega (arith, subst (λ ys. 0 < length ys) e h)
+
+  -- ---- the lanes
+
+  lane_bytes-more : (g : ℕ) (past : List Packet) (p : Packet) → reverse (lane_bytes g (pairs_behind paired (p ∷ past))) ≡ lane_after paired (reverse (lane_bytes g (pairs_behind paired past))) past p g
+  lane_bytes-more g past p =
+      let whole = whole_of past p in
+      let piece = plain_piece paired whole p in
+      let bytes = lane_bytes g (pairs_behind paired past) in
+      ap reverse (flat_map-append (bytes_for g) (pairs_behind paired past) (pair_of paired past p) ∙ ap (λ l. bytes ++ l) (lane_bytes-pair g (group_of p) (is_carried paired whole p) piece (uncarried whole p)))
+      ∙ at (is_group (group_of p) g) bytes piece
+    where
+      at : (t : Bool) (bytes piece : List ℕ) → reverse (bytes ++ cond t piece []) ≡ cond t (reverse piece ++ reverse bytes) (reverse bytes)
+      at true bytes piece = reverse-append bytes piece
+      at false bytes piece = ap reverse (append-nil bytes)
+
+  pub recording_denotes : WrittenMessagesAreReadAgain → (g : ℕ) (past : List Packet) → AllByRecursion IsInRange past → Denotes paired (reverse (lane_bytes g (pairs_behind paired past))) past g
+  recording_denotes reads g [] a = start_denotes paired g
+  recording_denotes reads g (p ∷ past) a = subst (λ bytes. Denotes paired bytes (p ∷ past) g) (sym (lane_bytes-more g past p)) (one_more paired reads (reverse (lane_bytes g (pairs_behind paired past))) past p g a.1 a.0 (recording_denotes reads g past a.1))
+
+  pub recording_agrees : WrittenMessagesAreReadAgain → (packets : List Packet) (g : ℕ) → AllByRecursion IsInRange packets → Agrees paired (mean1 paired (lane_bytes g (plain_pairs paired packets))) (mean2 paired packets g)
+  recording_agrees reads packets g a = (recording_denotes reads g (reverse packets) (all_reverse packets [] a tt)).agrees
+
+  -- the pairs of one more packet come after those before
+  pub plain_pairs-more : (packets : List Packet) (p : Packet) → plain_pairs paired (packets ++ p ∷ []) ≡ plain_pairs paired packets ++ pair_of paired (reverse packets) p
+  plain_pairs-more packets p = ap (pairs_behind paired) (reverse-append packets (p ∷ []))

@@ -14,10 +14,10 @@ use Rattle.voice_messages.specs.declared.voice2.Param.{Param}
 use Rattle.voice_messages.specs.declared.voice2.Bank.{Bank}
 use Rattle.midi1_bytes.specs.Messages.{Message, voice, common, exclusive, real_time}
 use Rattle.voice_state.specs.Registers.{Registers, number_of, selected, selected_of, selected_by, with_number_msb, with_number_lsb}
-use Rattle.voice_state.specs.Controllers.{Role, bank_msb, bank_lsb, data_msb, data_lsb, data_increment, data_decrement, number_msb, number_lsb, reset_all, channel_mode, plain, role_of}
+use Rattle.voice_state.specs.Controllers.{Role, bank_msb, bank_lsb, data_msb, data_lsb, data_increment, data_decrement, number_msb, number_lsb, reset_all, channel_mode, coarse, fine, plain, role_of, pairing}
 use Rattle.voice_state.specs.Roles.{registers_behind}
 use Rattle.voice_state.specs.State.{Channel, GroupState, at_channel}
-use Rattle.voice_state.specs.Messages.{as_they_come, enter_msb, enter_lsb, control, voice_at, channel_of, step1}
+use Rattle.voice_state.specs.Messages.{of_bytes, as_they_come, enter_msb, enter_lsb, control, voice_at, channel_of, step1}
 use Rattle.voice_state.specs.Compact.{is_half, has_bank}
 use Rattle.voice_state.specs.Relied.{AreSameIn}
 
@@ -30,19 +30,6 @@ entered_msb-registers (Some p) v c = refl
 entered_lsb-registers : (o : Option Param) (v : ℕ) (c : Channel) → (enter_lsb as_they_come o v c).registers ≡ c.registers
 entered_lsb-registers None v c = refl
 entered_lsb-registers (Some p) v c = refl
-
-pub control-registers : (r : Role) (i v : ℕ) (c : Channel) → (control as_they_come r i v c).registers ≡ registers_behind r v c.registers
-control-registers data_msb i v c = entered_msb-registers (selected c.registers) v c
-control-registers data_lsb i v c = entered_lsb-registers (selected c.registers) v c
-control-registers bank_msb i v c = refl
-control-registers bank_lsb i v c = refl
-control-registers (number_msb k) i v c = refl
-control-registers (number_lsb k) i v c = refl
-control-registers data_increment i v c = refl
-control-registers data_decrement i v c = refl
-control-registers reset_all i v c = refl
-control-registers channel_mode i v c = refl
-control-registers plain i v c = refl
 
 same-control : (r : Role) (v : ℕ) (a b : Registers) → AreSameIn a b → AreSameIn (registers_behind r v a) (registers_behind r v b)
 same-control bank_msb v a b h = record { bank = record { msb = λ x e. e; lsb = h.bank.lsb }; registered = h.registered; assignable = h.assignable; touched = h.touched }
@@ -57,41 +44,16 @@ same-control data_lsb v a b h = h
 same-control data_increment v a b h = h
 same-control data_decrement v a b h = h
 same-control channel_mode v a b h = h
+same-control coarse v a b h = h
+same-control fine v a b h = h
 same-control plain v a b h = h
-
--- ---- messages
 
 abbrev ChannelIsSameIn : Channel → Channel → Type 0
 ChannelIsSameIn c1 c2 = AreSameIn c1.registers c2.registers
 
-same-voice : (m : Voice1) (c1 c2 : Channel) → ChannelIsSameIn c1 c2 → ChannelIsSameIn (voice_at as_they_come m c1) (voice_at as_they_come m c2)
-same-voice (voice1.Control ch i v) c1 c2 h = simp (control-registers) (same-control (role_of i) v c1.registers c2.registers h)
-same-voice (voice1.NoteOff ch n v) c1 c2 h = h
-same-voice (voice1.NoteOn ch n v) c1 c2 h = h
-same-voice (voice1.PolyPressure ch n v) c1 c2 h = h
-same-voice (voice1.Program ch p) c1 c2 h = h
-same-voice (voice1.Pressure ch v) c1 c2 h = h
-same-voice (voice1.Bend ch v) c1 c2 h = h
-
 -- of all channels
 abbrev pub GroupIsSameIn : GroupState → GroupState → Type 0
 GroupIsSameIn g1 g2 = (j : ℕ) → ChannelIsSameIn (g1.channels j) (g2.channels j)
-
-same-step : (m : Message) (g1 g2 : GroupState) → GroupIsSameIn g1 g2 → GroupIsSameIn (step1 g1 m) (step1 g2 m)
-same-step (voice v) g1 g2 h j = either (eqb j (channel_of v)) _ _ _ _ (same-voice v _ _ (h j)) (h j)
-  where
-    either : (b : Bool) (x1 y1 x2 y2 : Channel) → ChannelIsSameIn x1 x2 → ChannelIsSameIn y1 y2 → ChannelIsSameIn (cond b x1 y1) (cond b x2 y2)
-    either true x1 y1 x2 y2 p q = p
-    either false x1 y1 x2 y2 p q = q
-same-step (common m) g1 g2 h j = h j
-same-step (exclusive bytes) g1 g2 h j = h j
-same-step (real_time m) g1 g2 h j = h j
-
-pub same-fold : (ms : List Message) (g1 g2 : GroupState) → GroupIsSameIn g1 g2 → GroupIsSameIn (fold step1 g1 ms) (fold step1 g2 ms)
-same-fold [] g1 g2 h = h
-same-fold (m ∷ ms) g1 g2 h = same-fold ms (step1 g1 m) (step1 g2 m) (same-step m g1 g2 h)
-
--- ---- what is selected
 
 selected_by-parts : (k : ParamKind) (a b : Option ℕ) (p : Param) → selected_by k a b ≡ Some p → (a ≡ Some p.bank) × (b ≡ Some p.index) × (k ≡ p.kind)
 selected_by-parts k None b p h = cc
@@ -153,3 +115,44 @@ bank_again r b s = λ i. record r { bank = record { msb = sym s.msb i; lsb = sym
 -- a change that changes nothing of its channel
 pub at_channel_same : (ch : ℕ) (f : Channel → Channel) (g : GroupState) → f (g.channels ch) ≡ g.channels ch → at_channel ch f g ≡ g
 at_channel_same ch f g h = λ i. record g { channels = fun_ext {f = λ j. cond (eqb j ch) (f (g.channels j)) (g.channels j)} {g = g.channels} (λ j. cond_both (eqb j ch) (f (g.channels j)) (g.channels j) (λ c. c ≡ g.channels j) (λ e. let same = eqb-true j ch e in subst (λ k. f (g.channels k) ≡ g.channels k) (sym same) h) (λ e. refl)) i }
+
+module _ (paired : Bool) where
+  pub control-registers : (r : Role) (i v : ℕ) (c : Channel) → (control (of_bytes paired) r i v c).registers ≡ registers_behind r v c.registers
+  control-registers data_msb i v c = entered_msb-registers (selected c.registers) v c
+  control-registers data_lsb i v c = entered_lsb-registers (selected c.registers) v c
+  control-registers bank_msb i v c = refl
+  control-registers bank_lsb i v c = refl
+  control-registers (number_msb k) i v c = refl
+  control-registers (number_lsb k) i v c = refl
+  control-registers data_increment i v c = refl
+  control-registers data_decrement i v c = refl
+  control-registers reset_all i v c = refl
+  control-registers channel_mode i v c = refl
+  control-registers coarse i v c = refl
+  control-registers fine i v c = refl
+  control-registers plain i v c = refl
+
+  -- ---- messages
+
+  same-voice : (m : Voice1) (c1 c2 : Channel) → ChannelIsSameIn c1 c2 → ChannelIsSameIn (voice_at (of_bytes paired) m c1) (voice_at (of_bytes paired) m c2)
+  same-voice (voice1.Control ch i v) c1 c2 h = simp (control-registers) (same-control (pairing paired (role_of i)) v c1.registers c2.registers h)
+  same-voice (voice1.NoteOff ch n v) c1 c2 h = h
+  same-voice (voice1.NoteOn ch n v) c1 c2 h = h
+  same-voice (voice1.PolyPressure ch n v) c1 c2 h = h
+  same-voice (voice1.Program ch p) c1 c2 h = h
+  same-voice (voice1.Pressure ch v) c1 c2 h = h
+  same-voice (voice1.Bend ch v) c1 c2 h = h
+
+  same-step : (m : Message) (g1 g2 : GroupState) → GroupIsSameIn g1 g2 → GroupIsSameIn (step1 paired g1 m) (step1 paired g2 m)
+  same-step (voice v) g1 g2 h j = either (eqb j (channel_of v)) _ _ _ _ (same-voice v _ _ (h j)) (h j)
+    where
+      either : (b : Bool) (x1 y1 x2 y2 : Channel) → ChannelIsSameIn x1 x2 → ChannelIsSameIn y1 y2 → ChannelIsSameIn (cond b x1 y1) (cond b x2 y2)
+      either true x1 y1 x2 y2 p q = p
+      either false x1 y1 x2 y2 p q = q
+  same-step (common m) g1 g2 h j = h j
+  same-step (exclusive bytes) g1 g2 h j = h j
+  same-step (real_time m) g1 g2 h j = h j
+
+  pub same-fold : (ms : List Message) (g1 g2 : GroupState) → GroupIsSameIn g1 g2 → GroupIsSameIn (fold (step1 paired) g1 ms) (fold (step1 paired) g2 ms)
+  same-fold [] g1 g2 h = h
+  same-fold (m ∷ ms) g1 g2 h = same-fold ms (step1 paired g1 m) (step1 paired g2 m) (same-step m g1 g2 h)

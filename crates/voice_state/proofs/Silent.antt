@@ -1,5 +1,5 @@
 -- The raised packets are accepted on the way down, carried unless they are held, and not listed.
-use Rattle.std.proofs.Common.{ℕ, ◌+◌, ◌*◌, ◌≡◌, ◌<◌, ◌≤◌, ◌∙◌, ap, sym, refl, subst, zero, suc, map, List, [], ◌∷◌, ◌++◌, reverse, take, drop, length, Option, Some, None, true, false, cond, arith, length-take, length-drop, length-append, inl, inr}
+use Rattle.std.proofs.Common.{ℕ, ◌+◌, ◌*◌, ◌≡◌, ◌<◌, ◌≤◌, ◌∙◌, ap, sym, refl, subst, zero, suc, map, List, [], ◌∷◌, ◌++◌, reverse, take, drop, length, Option, Some, None, true, false, cond, arith, length-take, length-drop, length-append, inl, inr, Bool, ◌-◌}
 use Rattle.std.specs.Prelude.{is_some}
 use Rattle.std.proofs.lemmas.Bool.{cond_both, eq-eqb, ne_eqb, cases_eq}
 use Rattle.std.proofs.lemmas.Option.{same_Some}
@@ -23,7 +23,7 @@ use Rattle.sysex_groups.specs.Cut.{part_count, form_at}
 use Rattle.midi1_bytes.specs.Messages.{Message, voice, common, exclusive, real_time}
 use Rattle.midi1_bytes.specs.Steps.{completed_by, step_of}
 use Rattle.voice_state.specs.Registers.{selected}
-use Rattle.voice_state.specs.Controllers.{Role, data_msb, data_lsb, reset_all, channel_mode, plain, role_of}
+use Rattle.voice_state.specs.Controllers.{Role, data_msb, data_lsb, reset_all, channel_mode, coarse, fine, plain, role_of, pairing}
 use Rattle.voice_state.specs.State.{Channel, GroupState}
 use Rattle.voice_state.specs.Messages.{channel_of, meaning1}
 use Rattle.voice_state.specs.Parts.{group_of, part_of, packet_parts}
@@ -31,6 +31,7 @@ use Rattle.voice_state.specs.Listing.{is_carried_role, is_carried_voice, voice_k
 use Rattle.voice_state.specs.Refusal.{bad_role, bad_voice2}
 use Rattle.voice_state.specs.Raising.{raised_entry, raised_control, raised_voice, exclusive_packet, exclusive_packets, raised_message, raised_completed, packets_up}
 use Rattle.voice_state.proofs.Joined.{begun_with, joined_by_part, joined-is}
+use Rattle.voice_state.proofs.Pairs.{bad-pairing, pair_coarse}
 use Rattle.voice_state.proofs.Raising.{selected-is}
 use Rattle.voice_state.proofs.Up.{turned, behind, turned-first, packets_up-turned}
 use Rattle.voice_state.proofs.Back.{AreOf}
@@ -45,52 +46,6 @@ begun g past = joined None g (packet_parts past)
 pub record IsSilentPart (room : ℕ) (before : Option (List ℕ)) (f : Form) (bytes : List ℕ) : Type 0 where
   pub follows : goes_on f ≡ is_some before
   pub fits : length (unwrap_or before [] ++ bytes) ≤ room
-
-pub record IsSilentVoice (m : Voice2) : Type 0 where
-  pub unlisted : voice_kind m ≡ None
-  pub accepted : bad_voice2 m ≡ None
-  pub carried : is_carried_voice m ≡ true
-
-abbrev pub IsSilent : ℕ → List Packet → Packet → Type 0
-IsSilent room past (packet.System g m) = Unit {0}
-IsSilent room past (packet.Exclusive g f bytes) = IsSilentPart room (begun g past) f bytes
-IsSilent room past (packet.Voice2 g m) = IsSilentVoice m
-IsSilent room past _ = ⊥
-
-abbrev pub AreSilent : ℕ → List Packet → Type 0
-AreSilent room [] = Unit {0}
-AreSilent room (p ∷ past) = IsSilent room past p × AreSilent room past
-
--- ---- voice messages
-
-control_silent : (r : Role) (ch i v : ℕ) → role_of i ≡ r → is_carried_role r ≡ true → IsSilentVoice (voice2.Control ch i v)
-control_silent reset_all ch i v e c = record { unlisted = simp e; accepted = ap bad_role e; carried = simp e }
-control_silent channel_mode ch i v e c = record { unlisted = simp e; accepted = ap bad_role e; carried = simp e }
-control_silent plain ch i v e c = record { unlisted = simp e; accepted = ap bad_role e; carried = simp e }
-control_silent _ ch i v e c = cc
-
-entry_silent : (o : Option Param) (s : Channel) (ch w : ℕ) → selected s.registers ≡ o → AllByRecursion IsSilentVoice (raised_entry ch o w)
-entry_silent None s ch w e = tt
-entry_silent (Some p) s ch w e = let n = selected-is s.registers p e in (record { unlisted = simp n; accepted = refl; carried = simp n }, tt)
-
-raised_control_silent : (r : Role) (s : Channel) (ch i v : ℕ) → role_of i ≡ r → AllByRecursion IsSilentVoice (raised_control s r ch i v)
-raised_control_silent data_msb s ch i v e = entry_silent (selected s.registers) s ch _ refl
-raised_control_silent data_lsb s ch i v e = entry_silent (selected s.registers) s ch _ refl
-raised_control_silent reset_all s ch i v e = (control_silent reset_all ch i (up v 7 32) e refl, tt)
-raised_control_silent channel_mode s ch i v e = (control_silent channel_mode ch i (up v 7 32) e refl, tt)
-raised_control_silent plain s ch i v e = (control_silent plain ch i (up v 7 32) e refl, tt)
-raised_control_silent _ s ch i v e = tt
-
-voice_silent : (m : Voice1) (s : Channel) → AllByRecursion IsSilentVoice (raised_voice s m)
-voice_silent (voice1.NoteOff ch n v) s = (record { unlisted = refl; accepted = refl; carried = refl }, tt)
-voice_silent (voice1.NoteOn ch n v) s = (cond_both (eqb v 0) (voice2.NoteOff ch n 0x8000 0 0) (voice2.NoteOn ch n (up v 7 16) 0 0) IsSilentVoice (λ e. record { unlisted = refl; accepted = refl; carried = refl }) (λ e. record { unlisted = refl; accepted = refl; carried = refl }), tt)
-voice_silent (voice1.PolyPressure ch n v) s = (record { unlisted = refl; accepted = refl; carried = refl }, tt)
-voice_silent (voice1.Control ch i v) s = raised_control_silent (role_of i) s ch i v refl
-voice_silent (voice1.Program ch p) s = (record { unlisted = refl; accepted = refl; carried = refl }, tt)
-voice_silent (voice1.Pressure ch v) s = (record { unlisted = refl; accepted = refl; carried = refl }, tt)
-voice_silent (voice1.Bend ch v) s = (record { unlisted = refl; accepted = refl; carried = refl }, tt)
-
--- ---- exclusives
 
 -- the first packet continues nothing, and all others go on
 first_form : (count : ℕ) → goes_on (form_at count 0) ≡ false
@@ -147,45 +102,6 @@ part_silent room g payload past (suc k) n b h = subst (λ o. IsSilentPart room o
   fits = omega (arith, length-append (take (suc k * 6) payload) (slice_chunk payload 6 (suc k)), length-take (suc k * 6) payload, length-take 6 (drop (suc k * 6) payload), length-drop (suc k * 6) payload);
 })
 
-behind_silent : (room g : ℕ) (payload : List ℕ) (past : List Packet) (k : ℕ) → begun g past ≡ None → length payload ≤ room → AreSilent room past → k ≤ part_count payload → AreSilent room (behind g payload past k)
-unfolding behind
-behind_silent room g payload past zero n b a h = a
-behind_silent room g payload past (suc k) n b a h = (part_silent room g payload past k n b (omega arith), behind_silent room g payload past k n b a (omega arith))
-
--- ---- the packets of a message
-
--- after these packets nothing of the group is open
-pub record LeavesNothing (room g : ℕ) (past : List Packet) : Type 0 where
-  pub silent : AreSilent room past
-  pub nothing : begun g past ≡ None
-
-exclusive_silent : (room g : ℕ) (payload : List ℕ) (past : List Packet) → length payload ≤ room → LeavesNothing room g past → LeavesNothing room g (reverse (exclusive_packets g payload) ++ past)
-exclusive_silent room g payload past b h = subst (LeavesNothing room g) (sym (turned-first g payload past (part_count payload))) (go (part_count payload) refl)
-  where
-    go : (n : ℕ) → part_count payload ≡ n → LeavesNothing room g (behind g payload past n)
-    go zero e = absurd (omega (arith, e))
-    go (suc n) e = record { silent = behind_silent room g payload past (suc n) h.nothing b h.silent (omega (arith, e)); nothing = begun-end g payload past n e }
-
-voices_silent : (room g : ℕ) (ms : List Voice2) (past : List Packet) → AllByRecursion IsSilentVoice ms → LeavesNothing room g past → LeavesNothing room g (reverse (map (packet.Voice2 g) ms) ++ past)
-voices_silent room g [] past a h = h
-voices_silent room g (m ∷ ms) past a h = subst (LeavesNothing room g) (sym (turned (packet.Voice2 g m) (map (packet.Voice2 g) ms) past)) (voices_silent room g ms (packet.Voice2 g m ∷ past) a.1 (record { silent = (a.0, h.silent); nothing = h.nothing }))
-
-message_silent : (room g : ℕ) (s : GroupState) (m : Message) (past : List Packet) → FitsMessage room (Some m) → LeavesNothing room g past → LeavesNothing room g (reverse (raised_message s g m) ++ past)
-message_silent room g s (voice m) past b h = voices_silent room g (raised_voice (s.channels (channel_of m)) m) past (voice_silent m (s.channels (channel_of m))) h
-message_silent room g s (common m) past b h = record { silent = (tt, h.silent); nothing = h.nothing }
-message_silent room g s (real_time m) past b h = record { silent = (tt, h.silent); nothing = h.nothing }
-message_silent room g s (exclusive bytes) past b h = exclusive_silent room g bytes past b h
-
-completed_silent : (room g : ℕ) (s : GroupState) (o : Option Message) (past : List Packet) → FitsMessage room o → LeavesNothing room g past → LeavesNothing room g (reverse (raised_completed s g o) ++ past)
-completed_silent room g s None past b h = h
-completed_silent room g s (Some m) past b h = message_silent room g s m past b h
-
-pub raised_silent : (room g : ℕ) (past : List ℕ) → LeavesNothing room g (reverse (packets_up (Some room) g past))
-raised_silent room g [] = record { silent = tt; nothing = refl }
-raised_silent room g (b ∷ past) = subst (LeavesNothing room g) (sym (packets_up-turned (Some room) g past b)) (completed_silent room g (meaning1 past) (completed_by (step_of (Some room) past b)) (reverse (packets_up (Some room) g past)) (completed_fits_room room past b) (raised_silent room g past))
-
--- ---- no other group begins anything
-
 pub others_begin_nothing : (g other : ℕ) (past : List Packet) → AreOf g past → (g ≡ other → ⊥) → begun other past ≡ None
 others_begin_nothing g other past o n = joined-is other (packet_parts past) ∙ go past o
   where
@@ -203,3 +119,90 @@ others_begin_nothing g other past o n = joined-is other (packet_parts past) ∙ 
     go : (ps : List Packet) → AreOf g ps → joined_by_part other (packet_parts ps) ≡ None
     go [] o = refl
     go (p ∷ ps) o = one p (packet_parts ps) o.0 (go ps o.1)
+
+module _ (paired : Bool) where
+  pub record IsSilentVoice (m : Voice2) : Type 0 where
+    pub unlisted : voice_kind paired m ≡ None
+    pub accepted : bad_voice2 m ≡ None
+    pub carried : is_carried_voice paired m ≡ true
+
+  abbrev pub IsSilent : ℕ → List Packet → Packet → Type 0
+  IsSilent room past (packet.System g m) = Unit {0}
+  IsSilent room past (packet.Exclusive g f bytes) = IsSilentPart room (begun g past) f bytes
+  IsSilent room past (packet.Voice2 g m) = IsSilentVoice m
+  IsSilent room past _ = ⊥
+
+  abbrev pub AreSilent : ℕ → List Packet → Type 0
+  AreSilent room [] = Unit {0}
+  AreSilent room (p ∷ past) = IsSilent room past p × AreSilent room past
+
+  -- ---- voice messages
+
+  control_silent : (r : Role) (ch i v : ℕ) → pairing paired (role_of i) ≡ r → is_carried_role r ≡ true → IsSilentVoice (voice2.Control ch i v)
+  control_silent reset_all ch i v e c = record { unlisted = simp e; accepted = sym (bad-pairing paired (role_of i)) ∙ ap bad_role e; carried = simp e }
+  control_silent channel_mode ch i v e c = record { unlisted = simp e; accepted = sym (bad-pairing paired (role_of i)) ∙ ap bad_role e; carried = simp e }
+  control_silent coarse ch i v e c = record { unlisted = simp e; accepted = sym (bad-pairing paired (role_of i)) ∙ ap bad_role e; carried = simp e }
+  control_silent plain ch i v e c = record { unlisted = simp e; accepted = sym (bad-pairing paired (role_of i)) ∙ ap bad_role e; carried = simp e }
+  control_silent _ ch i v e c = cc
+
+  entry_silent : (o : Option Param) (s : Channel) (ch w : ℕ) → selected s.registers ≡ o → AllByRecursion IsSilentVoice (raised_entry ch o w)
+  entry_silent None s ch w e = tt
+  entry_silent (Some p) s ch w e = let n = selected-is s.registers p e in (record { unlisted = simp n; accepted = refl; carried = simp n }, tt)
+
+  raised_control_silent : (r : Role) (s : Channel) (ch i v : ℕ) → pairing paired (role_of i) ≡ r → AllByRecursion IsSilentVoice (raised_control s r ch i v)
+  raised_control_silent data_msb s ch i v e = entry_silent (selected s.registers) s ch _ refl
+  raised_control_silent data_lsb s ch i v e = entry_silent (selected s.registers) s ch _ refl
+  raised_control_silent reset_all s ch i v e = (control_silent reset_all ch i (up v 7 32) e refl, tt)
+  raised_control_silent channel_mode s ch i v e = (control_silent channel_mode ch i (up v 7 32) e refl, tt)
+  raised_control_silent coarse s ch i v e = (control_silent coarse ch i _ e refl, tt)
+  raised_control_silent fine s ch i v e = (control_silent coarse ch (i - 32) _ (pair_coarse paired i e) refl, tt)
+  raised_control_silent plain s ch i v e = (control_silent plain ch i (up v 7 32) e refl, tt)
+  raised_control_silent _ s ch i v e = tt
+
+  voice_silent : (m : Voice1) (s : Channel) → AllByRecursion IsSilentVoice (raised_voice paired s m)
+  voice_silent (voice1.NoteOff ch n v) s = (record { unlisted = refl; accepted = refl; carried = refl }, tt)
+  voice_silent (voice1.NoteOn ch n v) s = (cond_both (eqb v 0) (voice2.NoteOff ch n 0x8000 0 0) (voice2.NoteOn ch n (up v 7 16) 0 0) IsSilentVoice (λ e. record { unlisted = refl; accepted = refl; carried = refl }) (λ e. record { unlisted = refl; accepted = refl; carried = refl }), tt)
+  voice_silent (voice1.PolyPressure ch n v) s = (record { unlisted = refl; accepted = refl; carried = refl }, tt)
+  voice_silent (voice1.Control ch i v) s = raised_control_silent (pairing paired (role_of i)) s ch i v refl
+  voice_silent (voice1.Program ch p) s = (record { unlisted = refl; accepted = refl; carried = refl }, tt)
+  voice_silent (voice1.Pressure ch v) s = (record { unlisted = refl; accepted = refl; carried = refl }, tt)
+  voice_silent (voice1.Bend ch v) s = (record { unlisted = refl; accepted = refl; carried = refl }, tt)
+
+  -- ---- exclusives
+
+  behind_silent : (room g : ℕ) (payload : List ℕ) (past : List Packet) (k : ℕ) → begun g past ≡ None → length payload ≤ room → AreSilent room past → k ≤ part_count payload → AreSilent room (behind g payload past k)
+  unfolding behind
+  behind_silent room g payload past zero n b a h = a
+  behind_silent room g payload past (suc k) n b a h = (part_silent room g payload past k n b (omega arith), behind_silent room g payload past k n b a (omega arith))
+
+  -- ---- the packets of a message
+
+  -- after these packets nothing of the group is open
+  pub record LeavesNothing (room g : ℕ) (past : List Packet) : Type 0 where
+    pub silent : AreSilent room past
+    pub nothing : begun g past ≡ None
+
+  exclusive_silent : (room g : ℕ) (payload : List ℕ) (past : List Packet) → length payload ≤ room → LeavesNothing room g past → LeavesNothing room g (reverse (exclusive_packets g payload) ++ past)
+  exclusive_silent room g payload past b h = subst (LeavesNothing room g) (sym (turned-first g payload past (part_count payload))) (go (part_count payload) refl)
+    where
+      go : (n : ℕ) → part_count payload ≡ n → LeavesNothing room g (behind g payload past n)
+      go zero e = absurd (omega (arith, e))
+      go (suc n) e = record { silent = behind_silent room g payload past (suc n) h.nothing b h.silent (omega (arith, e)); nothing = begun-end g payload past n e }
+
+  voices_silent : (room g : ℕ) (ms : List Voice2) (past : List Packet) → AllByRecursion IsSilentVoice ms → LeavesNothing room g past → LeavesNothing room g (reverse (map (packet.Voice2 g) ms) ++ past)
+  voices_silent room g [] past a h = h
+  voices_silent room g (m ∷ ms) past a h = subst (LeavesNothing room g) (sym (turned (packet.Voice2 g m) (map (packet.Voice2 g) ms) past)) (voices_silent room g ms (packet.Voice2 g m ∷ past) a.1 (record { silent = (a.0, h.silent); nothing = h.nothing }))
+
+  message_silent : (room g : ℕ) (s : GroupState) (m : Message) (past : List Packet) → FitsMessage room (Some m) → LeavesNothing room g past → LeavesNothing room g (reverse (raised_message paired s g m) ++ past)
+  message_silent room g s (voice m) past b h = voices_silent room g (raised_voice paired (s.channels (channel_of m)) m) past (voice_silent m (s.channels (channel_of m))) h
+  message_silent room g s (common m) past b h = record { silent = (tt, h.silent); nothing = h.nothing }
+  message_silent room g s (real_time m) past b h = record { silent = (tt, h.silent); nothing = h.nothing }
+  message_silent room g s (exclusive bytes) past b h = exclusive_silent room g bytes past b h
+
+  completed_silent : (room g : ℕ) (s : GroupState) (o : Option Message) (past : List Packet) → FitsMessage room o → LeavesNothing room g past → LeavesNothing room g (reverse (raised_completed paired s g o) ++ past)
+  completed_silent room g s None past b h = h
+  completed_silent room g s (Some m) past b h = message_silent room g s m past b h
+
+  pub raised_silent : (room g : ℕ) (past : List ℕ) → LeavesNothing room g (reverse (packets_up paired (Some room) g past))
+  raised_silent room g [] = record { silent = tt; nothing = refl }
+  raised_silent room g (b ∷ past) = subst (LeavesNothing room g) (sym (packets_up-turned paired (Some room) g past b)) (completed_silent room g (meaning1 paired past) (completed_by (step_of (Some room) past b)) (reverse (packets_up paired (Some room) g past)) (completed_fits_room room past b) (raised_silent room g past))

@@ -19,25 +19,25 @@ use Rattle.voice_state.proofs.Up.{meaning1-more}
 alike : (scale : Scale) (kept : List KeptGroup) (states others : States) → ((group : ℕ) → states group ≡ others group) → Keeps scale kept states → Keeps scale kept others
 alike scale kept states others same keeps = λ index other below. subst (KeepsGroup scale _) (same index) (keeps index other below)
 
-next_packet : (past : List Packet) (packet : Packet) → whole_of past packet ≡ None → (group : ℕ) → after_packet packet None (meaning2 past) group ≡ meaning2 (packet ∷ past) group
-next_packet past packet none group = ap (λ whole. if is_group (group_of packet) group then step2 (meaning2 past group) packet whole else meaning2 past group) (sym none)
+next_packet : (past : List Packet) (packet : Packet) → whole_of past packet ≡ None → (group : ℕ) → after_packet packet None (meaning2 false past) group ≡ meaning2 false (packet ∷ past) group
+next_packet past packet none group = ap (λ whole. if is_group (group_of packet) group then step2 false (meaning2 false past group) packet whole else meaning2 false past group) (sym none)
 
 counted : (is_own : Bool) (joined : List ℕ) (state : GroupState) → cond is_own (with_common (exclusive joined) (cond is_own state state)) (cond is_own state state) ≡ cond is_own (with_common (exclusive joined) state) state
 counted true joined state = refl
 counted false joined state = refl
 
 whole_packet : (past : List Packet) (group : ℕ) (form : Form) (bytes joined : List ℕ) → whole_of past (packet.Exclusive group form bytes) ≡ Some joined → (other : ℕ) →
-    at_group group (with_common (exclusive joined)) (after_packet (packet.Exclusive group form bytes) None (meaning2 past)) other ≡ meaning2 (packet.Exclusive group form bytes ∷ past) other
+    at_group group (with_common (exclusive joined)) (after_packet (packet.Exclusive group form bytes) None (meaning2 false past)) other ≡ meaning2 false (packet.Exclusive group form bytes ∷ past) other
 whole_packet past group form bytes joined is other =
-    counted (group == other) joined (meaning2 past other)
-    ∙ ap (λ whole. if is_group (Some group) other then step2 (meaning2 past other) (packet.Exclusive group form bytes) whole else meaning2 past other) (sym is)
+    counted (group == other) joined (meaning2 false past other)
+    ∙ ap (λ whole. if is_group (Some group) other then step2 false (meaning2 false past other) (packet.Exclusive group form bytes) whole else meaning2 false past other) (sym is)
 
 pub packets_kept : PacketsAreKept
 packets_kept = record {
   first = λ kept keeps. keeps;
-  next = λ kept past packet none keeps. alike raised kept (after_packet packet None (meaning2 past)) (meaning2 (packet ∷ past)) (next_packet past packet none) keeps;
+  next = λ kept past packet none keeps. alike raised kept (after_packet packet None (meaning2 false past)) (meaning2 false (packet ∷ past)) (next_packet past packet none) keeps;
   whole = λ kept past group form bytes joined is keeps.
-      alike raised kept (at_group group (with_common (exclusive joined)) (after_packet (packet.Exclusive group form bytes) None (meaning2 past))) (meaning2 (packet.Exclusive group form bytes ∷ past))
+      alike raised kept (at_group group (with_common (exclusive joined)) (after_packet (packet.Exclusive group form bytes) None (meaning2 false past))) (meaning2 false (packet.Exclusive group form bytes ∷ past))
       (whole_packet past group form bytes joined is) keeps;
 }
 
@@ -45,18 +45,18 @@ same_start : (is_stream : Bool) → start as_they_come ≡ cond is_stream (start
 same_start true = refl
 same_start false = refl
 
-stepped : (is_stream : Bool) (message : Message) (state other : GroupState) → cond is_stream (step1 (cond is_stream state other) message) (cond is_stream state other) ≡ cond is_stream (step1 state message) other
+stepped : (is_stream : Bool) (message : Message) (state other : GroupState) → cond is_stream (step1 false (cond is_stream state other) message) (cond is_stream state other) ≡ cond is_stream (step1 false state message) other
 stepped true message state other = refl
 stepped false message state other = refl
 
-behind : (past : List ℕ) (byte : ℕ) (completed : Option Message) → completed_by (step_of None past byte) ≡ completed → meaning1 (byte ∷ past) ≡ fold step1 (meaning1 past) (option_to_list completed)
-behind past byte completed is = meaning1-more past byte ∙ ap (λ message. fold step1 (meaning1 past) (option_to_list message)) is
+behind : (past : List ℕ) (byte : ℕ) (completed : Option Message) → completed_by (step_of None past byte) ≡ completed → meaning1 false (byte ∷ past) ≡ fold (step1 false) (meaning1 false past) (option_to_list completed)
+behind past byte completed is = meaning1-more false past byte ∙ ap (λ message. fold (step1 false) (meaning1 false past) (option_to_list message)) is
 
 pub bytes_kept : BytesAreKept
 bytes_kept = record {
-  first = λ kept keeps. alike as_they_come kept (first_states as_they_come) (states_of_stream (meaning1 [])) (λ group. same_start (0 == group)) keeps;
+  first = λ kept keeps. alike as_they_come kept (first_states as_they_come) (states_of_stream (meaning1 false [])) (λ group. same_start (0 == group)) keeps;
   silent = λ kept past byte none keeps. subst (λ state. Keeps as_they_come kept (states_of_stream state)) (sym (behind past byte None none)) keeps;
   completing = λ kept past byte message is keeps.
       subst (λ state. Keeps as_they_come kept (states_of_stream state)) (sym (behind past byte (Some message) is))
-      (alike as_they_come kept (after_message 0 message (states_of_stream (meaning1 past))) (states_of_stream (step1 (meaning1 past) message)) (λ group. stepped (0 == group) message (meaning1 past) (start as_they_come)) keeps);
+      (alike as_they_come kept (after_message 0 message (states_of_stream (meaning1 false past))) (states_of_stream (step1 false (meaning1 false past) message)) (λ group. stepped (0 == group) message (meaning1 false past) (start as_they_come)) keeps);
 }

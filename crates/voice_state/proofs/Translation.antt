@@ -23,38 +23,6 @@ pair_by-lane None t piece = refl
 pair_by-lane (Some l) true piece = refl
 pair_by-lane (Some l) false piece = refl
 
-pairs-lanes : (past : List Packet) → map (λ (pair : ℕ × List ℕ). pair.0) (pairs_behind past) ≡ lanes_behind past
-pairs-lanes [] = refl
-pairs-lanes (p ∷ past) =
-    let whole = whole_of past p in
-    map-append (λ (pair : ℕ × List ℕ). pair.0) (pairs_behind past) (pair_of past p)
-    ∙ ap (λ l. l ++ map (λ (pair : ℕ × List ℕ). pair.0) (pair_of past p)) (pairs-lanes past)
-    ∙ ap (λ l. lanes_behind past ++ l) (pair_by-lane (group_of p) (is_carried whole p) (plain_piece whole p))
-
-length-pairs : (packets : List Packet) → length (plain_pairs packets) ≡ length (carried_lanes packets)
-length-pairs packets = sym (length-map (plain_pairs packets) (λ (pair : ℕ × List ℕ). pair.0)) ∙ ap length (pairs-lanes (reverse packets))
-
--- ---- the pairs of the first packets come first
-
--- the pairs of further packets, newest first as those before them
-pairs_since : List Packet → List Packet → List (ℕ × List ℕ)
-pairs_since past [] = []
-pairs_since past (p ∷ more) = pairs_since past more ++ pair_of (more ++ past) p
-
-pairs_behind-more : (more past : List Packet) → pairs_behind (more ++ past) ≡ pairs_behind past ++ pairs_since past more
-unfolding pairs_since
-pairs_behind-more [] past = sym (append-nil (pairs_behind past))
-pairs_behind-more (p ∷ more) past = ap (λ l. l ++ pair_of (more ++ past) p) (pairs_behind-more more past) ∙ append_assoc (pairs_behind past) (pairs_since past more) (pair_of (more ++ past) p)
-
-plain_pairs-append : (before after : List Packet) → plain_pairs (before ++ after) ≡ plain_pairs before ++ pairs_since (reverse before) (reverse after)
-plain_pairs-append before after = ap pairs_behind (reverse-append before after) ∙ pairs_behind-more (reverse after) (reverse before)
-
-pairs_of_first : (before after : List Packet) → take (length (carried_lanes before)) (plain_pairs (before ++ after)) ≡ plain_pairs before
-pairs_of_first before after =
-    ap (λ n. take n (plain_pairs (before ++ after))) (sym (length-pairs before))
-    ∙ ap (take (length (plain_pairs before))) (plain_pairs-append before after)
-    ∙ take-append_seam (plain_pairs before) (pairs_since (reverse before) (reverse after))
-
 pub all_take : (count : ℕ) (packets : List Packet) → AllByRecursion IsInRange packets → AllByRecursion IsInRange (take count packets)
 all_take count packets a = first (take count packets) (drop count packets) (subst (AllByRecursion IsInRange) (sym (take-append-drop count packets)) a)
   where
@@ -62,11 +30,44 @@ all_take count packets a = first (take count packets) (drop count packets) (subs
     first [] after a = tt
     first (p ∷ before) after a = (a.0, first before after a.1)
 
-pub plain_is_translation : WrittenMessagesAreReadAgain → (packets : List Packet) → AllByRecursion IsInRange packets → IsTranslation packets (plain_pairs packets)
-plain_is_translation reads packets a = record {
-  lanes = pairs-lanes (reverse packets);
-  agrees = λ count group.
-      let before = take count packets in
-      let first : take (length (carried_lanes before)) (plain_pairs packets) ≡ plain_pairs before = ap (λ l. take (length (carried_lanes before)) (plain_pairs l)) (sym (take-append-drop count packets)) ∙ pairs_of_first before (drop count packets) in
-      subst (λ pairs. Agrees (mean1 (lane_bytes group pairs)) (mean2 before group)) (sym first) (recording_agrees reads before group (all_take count packets a));
-}
+module _ (paired : Bool) where
+  pairs-lanes : (past : List Packet) → map (λ (pair : ℕ × List ℕ). pair.0) (pairs_behind paired past) ≡ lanes_behind paired past
+  pairs-lanes [] = refl
+  pairs-lanes (p ∷ past) =
+      let whole = whole_of past p in
+      map-append (λ (pair : ℕ × List ℕ). pair.0) (pairs_behind paired past) (pair_of paired past p)
+      ∙ ap (λ l. l ++ map (λ (pair : ℕ × List ℕ). pair.0) (pair_of paired past p)) (pairs-lanes past)
+      ∙ ap (λ l. lanes_behind paired past ++ l) (pair_by-lane (group_of p) (is_carried paired whole p) (plain_piece paired whole p))
+
+  length-pairs : (packets : List Packet) → length (plain_pairs paired packets) ≡ length (carried_lanes paired packets)
+  length-pairs packets = sym (length-map (plain_pairs paired packets) (λ (pair : ℕ × List ℕ). pair.0)) ∙ ap length (pairs-lanes (reverse packets))
+
+  -- ---- the pairs of the first packets come first
+
+  -- the pairs of further packets, newest first as those before them
+  pairs_since : List Packet → List Packet → List (ℕ × List ℕ)
+  pairs_since past [] = []
+  pairs_since past (p ∷ more) = pairs_since past more ++ pair_of paired (more ++ past) p
+
+  pairs_behind-more : (more past : List Packet) → pairs_behind paired (more ++ past) ≡ pairs_behind paired past ++ pairs_since past more
+  unfolding pairs_since
+  pairs_behind-more [] past = sym (append-nil (pairs_behind paired past))
+  pairs_behind-more (p ∷ more) past = ap (λ l. l ++ pair_of paired (more ++ past) p) (pairs_behind-more more past) ∙ append_assoc (pairs_behind paired past) (pairs_since past more) (pair_of paired (more ++ past) p)
+
+  plain_pairs-append : (before after : List Packet) → plain_pairs paired (before ++ after) ≡ plain_pairs paired before ++ pairs_since (reverse before) (reverse after)
+  plain_pairs-append before after = ap (pairs_behind paired) (reverse-append before after) ∙ pairs_behind-more (reverse after) (reverse before)
+
+  pairs_of_first : (before after : List Packet) → take (length (carried_lanes paired before)) (plain_pairs paired (before ++ after)) ≡ plain_pairs paired before
+  pairs_of_first before after =
+      ap (λ n. take n (plain_pairs paired (before ++ after))) (sym (length-pairs before))
+      ∙ ap (take (length (plain_pairs paired before))) (plain_pairs-append before after)
+      ∙ take-append_seam (plain_pairs paired before) (pairs_since (reverse before) (reverse after))
+
+  pub plain_is_translation : WrittenMessagesAreReadAgain → (packets : List Packet) → AllByRecursion IsInRange packets → IsTranslation paired packets (plain_pairs paired packets)
+  plain_is_translation reads packets a = record {
+    lanes = pairs-lanes (reverse packets);
+    agrees = λ count group.
+        let before = take count packets in
+        let first : take (length (carried_lanes paired before)) (plain_pairs paired packets) ≡ plain_pairs paired before = ap (λ l. take (length (carried_lanes paired before)) (plain_pairs paired l)) (sym (take-append-drop count packets)) ∙ pairs_of_first before (drop count packets) in
+        subst (λ pairs. Agrees paired (mean1 paired (lane_bytes group pairs)) (mean2 paired before group)) (sym first) (recording_agrees paired reads before group (all_take count packets a));
+  }

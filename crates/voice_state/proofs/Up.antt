@@ -24,9 +24,9 @@ use Rattle.midi1_bytes.specs.Steps.{completed, completed_by, step_of}
 use Rattle.midi1_bytes.specs.Laws.{CompletedMessagesAreInRange}
 use Rattle.sysex_groups.specs.Laws.{CutPayloadIsJoined}
 use Rattle.voice_state.specs.Registers.{selected}
-use Rattle.voice_state.specs.Controllers.{Role, data_msb, data_lsb, reset_all, channel_mode, plain, role_of}
+use Rattle.voice_state.specs.Controllers.{Role, data_msb, data_lsb, reset_all, channel_mode, coarse, fine, plain, role_of, pairing}
 use Rattle.voice_state.specs.State.{Channel, GroupState, at_channel, with_common, with_real_time}
-use Rattle.voice_state.specs.Messages.{as_they_come, raised, channel_of, voice_at, step_at, step1, start, meaning1}
+use Rattle.voice_state.specs.Messages.{of_packets, of_bytes, as_they_come, channel_of, voice_at, step_at, step1, start, meaning1}
 use Rattle.voice_state.specs.Parts.{group_of, is_group, packet_parts, whole_of}
 use Rattle.voice_state.specs.Packets.{channel2, voice2_at, with_ended, step2, meaning2}
 use Rattle.voice_state.specs.Agreement.{Agrees}
@@ -35,15 +35,8 @@ use Rattle.voice_state.proofs.Packets.{at_channel-at_channel}
 use Rattle.voice_state.proofs.Induction.{start_denotes}
 use Rattle.voice_state.proofs.Raising.{Raises, raises-voice}
 
--- ---- one more packet of the group
-
-pub meaning2-own : (g : ℕ) (p : Packet) (past : List Packet) → group_of p ≡ Some g → meaning2 (p ∷ past) g ≡ step2 (meaning2 past g) p (whole_of past p)
-meaning2-own g p past e = ap (λ t. cond t (step2 (meaning2 past g) p (whole_of past p)) (meaning2 past g)) (ap (λ o. is_group o g) e ∙ eq-eqb g g refl)
-
 pub turned : (p : Packet) (ps past : List Packet) → reverse (p ∷ ps) ++ past ≡ reverse ps ++ (p ∷ past)
 turned p ps past = let one : List Packet = p ∷ [] in ap (λ l. l ++ past) (reverse-append one ps) ∙ append_assoc (reverse ps) one past
-
--- ---- the packets of an exclusive are joined again
 
 -- the first k packets, newest first, after others
 unfoldable pub behind : ℕ → List ℕ → List Packet → ℕ → List Packet
@@ -70,47 +63,11 @@ behind-parts g payload past (suc k) =
 pub behind-whole : CutPayloadIsJoined → (g : ℕ) (payload : List ℕ) (past : List Packet) (k : ℕ) → k < part_count payload → whole_of (behind g payload past k) (exclusive_packet g payload k) ≡ cond (k + 1 == part_count payload) (Some payload) None
 behind-whole joined g payload past k h = joined None payload refl g (λ n. 0) (of_group g (packet_parts past)) (packet_parts (behind g payload past k)) k h (behind-parts g payload past k)
 
-behind-mean : CutPayloadIsJoined → (g : ℕ) (payload : List ℕ) (past : List Packet) (k : ℕ) → k < part_count payload → meaning2 (behind g payload past (suc k)) g ≡ with_ended (cond (k + 1 == part_count payload) (Some payload) None) (meaning2 (behind g payload past k) g)
-unfolding behind
-behind-mean joined g payload past k h =
-    meaning2-own g (exclusive_packet g payload k) (behind g payload past k) refl
-    ∙ ap (λ o. with_ended o (meaning2 (behind g payload past k) g)) (behind-whole joined g payload past k h)
-
--- all but the last are held
-held-mean : CutPayloadIsJoined → (g : ℕ) (payload : List ℕ) (past : List Packet) (k : ℕ) → k < part_count payload → meaning2 (behind g payload past k) g ≡ meaning2 past g
-unfolding behind
-held-mean joined g payload past zero h = refl
-held-mean joined g payload past (suc k) h =
-    behind-mean joined g payload past k (omega arith)
-    ∙ ap (λ t. with_ended (cond t (Some payload) None) (meaning2 (behind g payload past k) g)) (ne_eqb (k + 1) (part_count payload) (λ e. omega arith))
-    ∙ held-mean joined g payload past k (omega arith)
-
-pub exclusive-mean : CutPayloadIsJoined → (g : ℕ) (payload : List ℕ) (past : List Packet) → meaning2 (reverse (exclusive_packets g payload) ++ past) g ≡ with_common (exclusive payload) (meaning2 past g)
-exclusive-mean joined g payload past = ap (λ l. meaning2 l g) (turned-first g payload past (part_count payload)) ∙ go (part_count payload) refl
-  where
-    go : (n : ℕ) → part_count payload ≡ n → meaning2 (behind g payload past n) g ≡ with_common (exclusive payload) (meaning2 past g)
-    go zero e = absurd (omega (arith, e))
-    go (suc n) e =
-        behind-mean joined g payload past n (omega (arith, e))
-        ∙ ap (λ t. with_ended (cond t (Some payload) None) (meaning2 (behind g payload past n) g)) (eq-eqb (n + 1) (part_count payload) (omega (arith, e)))
-        ∙ ap (with_common (exclusive payload)) (held-mean joined g payload past n (omega (arith, e)))
-
--- ---- the packets of a voice message
-
 abbrev pub IsOn : ℕ → Voice2 → Type 0
 IsOn ch m = channel2 m ≡ ch
 
 unchanged : (ch : ℕ) (g : GroupState) → at_channel ch (λ c. c) g ≡ g
 unchanged ch g = λ i. record g { channels = fun_ext {f = λ j. cond (eqb j ch) (g.channels j) (g.channels j)} {g = g.channels} (λ j. cond_both (eqb j ch) (g.channels j) (g.channels j) (λ c. c ≡ g.channels j) (λ e. refl) (λ e. refl)) i }
-
-voices-mean : (g ch : ℕ) (ms : List Voice2) (past : List Packet) → AllByRecursion (IsOn ch) ms → meaning2 (reverse (map (packet.Voice2 g) ms) ++ past) g ≡ at_channel ch (λ c. fold (λ c m. voice2_at m c) c ms) (meaning2 past g)
-voices-mean g ch [] past a = sym (unchanged ch (meaning2 past g))
-voices-mean g ch (m ∷ ms) past a =
-    ap (λ l. meaning2 l g) (turned (packet.Voice2 g m) (map (packet.Voice2 g) ms) past)
-    ∙ voices-mean g ch ms (packet.Voice2 g m ∷ past) a.1
-    ∙ ap (at_channel ch (λ c. fold (λ c m. voice2_at m c) c ms)) (meaning2-own g (packet.Voice2 g m) past refl)
-    ∙ ap (λ k. at_channel ch (λ c. fold (λ c m. voice2_at m c) c ms) (at_channel k (voice2_at m) (meaning2 past g))) a.0
-    ∙ at_channel-at_channel ch (voice2_at m) (λ c. fold (λ c m. voice2_at m c) c ms) (meaning2 past g)
 
 entry_on : (ch w : ℕ) (o : Option Param) → AllByRecursion (IsOn ch) (raised_entry ch o w)
 entry_on ch w None = tt
@@ -121,24 +78,10 @@ control_on c data_msb ch i v = entry_on ch _ (selected c.registers)
 control_on c data_lsb ch i v = entry_on ch _ (selected c.registers)
 control_on c reset_all ch i v = (refl, tt)
 control_on c channel_mode ch i v = (refl, tt)
+control_on c coarse ch i v = (refl, tt)
+control_on c fine ch i v = (refl, tt)
 control_on c plain ch i v = (refl, tt)
 control_on c _ ch i v = tt
-
-raised_on : (c : Channel) (m : Voice1) → AllByRecursion (IsOn (channel_of m)) (raised_voice c m)
-raised_on c (voice1.NoteOff ch n v) = (refl, tt)
-raised_on c (voice1.NoteOn ch n v) = (cond_both (eqb v 0) (voice2.NoteOff ch n 0x8000 0 0) (voice2.NoteOn ch n (up v 7 16) 0 0) (IsOn ch) (λ e. refl) (λ e. refl), tt)
-raised_on c (voice1.PolyPressure ch n v) = (refl, tt)
-raised_on c (voice1.Control ch i v) = control_on c (role_of i) ch i v
-raised_on c (voice1.Program ch p) = (refl, tt)
-raised_on c (voice1.Pressure ch v) = (refl, tt)
-raised_on c (voice1.Bend ch v) = (refl, tt)
-
--- ---- the packets of a message
-
-pub record GroupRaises (g1 g2 : GroupState) : Type 0 where
-  pub channels : (j : ℕ) → Raises (g1.channels j) (g2.channels j)
-  pub commons : g1.commons ≡ g2.commons
-  pub real_times : g1.real_times ≡ g2.real_times
 
 common-is : (m : System) → IsCommon m → message_of m ≡ common m
 common-is (system.Quarter n) b = refl
@@ -159,47 +102,107 @@ real_time-is system.Stop b = refl
 real_time-is system.Sensing b = refl
 real_time-is system.Reset b = refl
 
-raises_message : CutPayloadIsJoined → (g : ℕ) (m : Message) (g1 : GroupState) (past : List Packet) → IsMessage m → GroupRaises g1 (meaning2 past g) → GroupRaises (step1 g1 m) (meaning2 (reverse (raised_message g1 g m) ++ past) g)
-raises_message joined g (voice m) g1 past b h =
-    let ch = channel_of m in
-    let f2 : Channel → Channel = λ c. fold (λ c m. voice2_at m c) c (raised_voice (g1.channels ch) m) in
-    let at : (j : ℕ) → Raises (cond (eqb j ch) (voice_at as_they_come m (g1.channels j)) (g1.channels j)) (cond (eqb j ch) (f2 ((meaning2 past g).channels j)) ((meaning2 past g).channels j)) = λ j. voice_at_j j (eqb j ch) refl in
-    subst (GroupRaises (step1 g1 (voice m))) (sym (voices-mean g ch (raised_voice (g1.channels ch) m) past (raised_on (g1.channels ch) m))) (record { channels = at; commons = h.commons; real_times = h.real_times })
-  where
-    voice_at_j : (j : ℕ) (t : Bool) → eqb j (channel_of m) ≡ t → Raises (cond t (voice_at as_they_come m (g1.channels j)) (g1.channels j)) (cond t (fold (λ c m. voice2_at m c) ((meaning2 past g).channels j) (raised_voice (g1.channels (channel_of m)) m)) ((meaning2 past g).channels j))
-    voice_at_j j true e = subst (λ k. Raises (voice_at as_they_come m (g1.channels j)) (fold (λ c m. voice2_at m c) ((meaning2 past g).channels j) (raised_voice (g1.channels k) m))) (eqb-true j (channel_of m) e) (raises-voice m (g1.channels j) ((meaning2 past g).channels j) b (h.channels j))
-    voice_at_j j false e = h.channels j
-raises_message joined g (exclusive bytes) g1 past b h = subst (GroupRaises (step1 g1 (exclusive bytes))) (sym (exclusive-mean joined g bytes past)) (record { channels = h.channels; commons = ap (λ l. l ++ exclusive bytes ∷ []) h.commons; real_times = h.real_times })
-raises_message joined g (common m) g1 past b h = subst (GroupRaises (with_common (common m) g1)) (sym (meaning2-own g (packet.System g m) past refl ∙ ap (step_at raised (meaning2 past g)) (common-is m b))) (record { channels = h.channels; commons = ap (λ l. l ++ common m ∷ []) h.commons; real_times = h.real_times })
-raises_message joined g (real_time m) g1 past b h = subst (GroupRaises (with_real_time m g1)) (sym (meaning2-own g (packet.System g m) past refl ∙ ap (step_at raised (meaning2 past g)) (real_time-is m b))) (record { channels = h.channels; commons = h.commons; real_times = ap (λ l. l ++ m ∷ []) h.real_times })
+-- ---- one more packet of the group
 
-raises_completed : CutPayloadIsJoined → (g : ℕ) (o : Option Message) (g1 : GroupState) (past : List Packet) → IfSome o IsMessage → GroupRaises g1 (meaning2 past g) → GroupRaises (fold step1 g1 (option_to_list o)) (meaning2 (reverse (raised_completed g1 g o) ++ past) g)
-raises_completed joined g None g1 past b h = h
-raises_completed joined g (Some m) g1 past b h = raises_message joined g m g1 past b h
+module _ (paired : Bool) where
+  pub meaning2-own : (g : ℕ) (p : Packet) (past : List Packet) → group_of p ≡ Some g → meaning2 paired (p ∷ past) g ≡ step2 paired (meaning2 paired past g) p (whole_of past p)
+  meaning2-own g p past e = ap (λ t. cond t (step2 paired (meaning2 paired past g) p (whole_of past p)) (meaning2 paired past g)) (ap (λ o. is_group o g) e ∙ eq-eqb g g refl)
 
--- ---- after each byte
+  -- ---- the packets of an exclusive are joined again
 
-pub packets_up-turned : (room : Room) (g : ℕ) (past : List ℕ) (b : ℕ) → reverse (packets_up room g (b ∷ past)) ≡ reverse (packets_at room g past b) ++ reverse (packets_up room g past)
-packets_up-turned room g past b = reverse-append (packets_up room g past) (packets_at room g past b)
+  behind-mean : CutPayloadIsJoined → (g : ℕ) (payload : List ℕ) (past : List Packet) (k : ℕ) → k < part_count payload → meaning2 paired (behind g payload past (suc k)) g ≡ with_ended (cond (k + 1 == part_count payload) (Some payload) None) (meaning2 paired (behind g payload past k) g)
+  unfolding behind
+  behind-mean joined g payload past k h =
+      meaning2-own g (exclusive_packet g payload k) (behind g payload past k) refl
+      ∙ ap (λ o. with_ended o (meaning2 paired (behind g payload past k) g)) (behind-whole joined g payload past k h)
 
-pub meaning1-more : (past : List ℕ) (b : ℕ) → meaning1 (b ∷ past) ≡ fold step1 (meaning1 past) (option_to_list (completed_by (step_of None past b)))
-meaning1-more past b = fold-append step1 (start as_they_come) (completed past) (option_to_list (completed_by (step_of None past b)))
+  -- all but the last are held
+  held-mean : CutPayloadIsJoined → (g : ℕ) (payload : List ℕ) (past : List Packet) (k : ℕ) → k < part_count payload → meaning2 paired (behind g payload past k) g ≡ meaning2 paired past g
+  unfolding behind
+  held-mean joined g payload past zero h = refl
+  held-mean joined g payload past (suc k) h =
+      behind-mean joined g payload past k (omega arith)
+      ∙ ap (λ t. with_ended (cond t (Some payload) None) (meaning2 paired (behind g payload past k) g)) (ne_eqb (k + 1) (part_count payload) (λ e. omega arith))
+      ∙ held-mean joined g payload past k (omega arith)
 
-pub raises : CutPayloadIsJoined → CompletedMessagesAreInRange → (g : ℕ) (past : List ℕ) → GroupRaises (meaning1 past) (meaning2 (reverse (packets_up None g past)) g)
-raises joined sound g [] =
-    let d = start_denotes g in
-    record {
-      channels = λ j. record { follows = record { agrees = d.agrees.channels j; bounded = d.bounded j }; tight = λ p. refl; banks = λ e. refl };
-      commons = refl;
-      real_times = refl;
-    }
-raises joined sound g (b ∷ past) =
-    let o = completed_by (step_of None past b) in
-    let one : GroupRaises (fold step1 (meaning1 past) (option_to_list o)) (meaning2 (reverse (packets_at None g past b) ++ reverse (packets_up None g past)) g) = raises_completed joined g o (meaning1 past) (reverse (packets_up None g past)) (sound None past b) (raises joined sound g past) in
-    subst (λ s. GroupRaises s (meaning2 (reverse (packets_up None g (b ∷ past))) g)) (sym (meaning1-more past b))
-    (subst (λ l. GroupRaises (fold step1 (meaning1 past) (option_to_list o)) (meaning2 l g)) (sym (packets_up-turned None g past b)) one)
+  pub exclusive-mean : CutPayloadIsJoined → (g : ℕ) (payload : List ℕ) (past : List Packet) → meaning2 paired (reverse (exclusive_packets g payload) ++ past) g ≡ with_common (exclusive payload) (meaning2 paired past g)
+  exclusive-mean joined g payload past = ap (λ l. meaning2 paired l g) (turned-first g payload past (part_count payload)) ∙ go (part_count payload) refl
+    where
+      go : (n : ℕ) → part_count payload ≡ n → meaning2 paired (behind g payload past n) g ≡ with_common (exclusive payload) (meaning2 paired past g)
+      go zero e = absurd (omega (arith, e))
+      go (suc n) e =
+          behind-mean joined g payload past n (omega (arith, e))
+          ∙ ap (λ t. with_ended (cond t (Some payload) None) (meaning2 paired (behind g payload past n) g)) (eq-eqb (n + 1) (part_count payload) (omega (arith, e)))
+          ∙ ap (with_common (exclusive payload)) (held-mean joined g payload past n (omega (arith, e)))
 
-pub raised_agrees : CutPayloadIsJoined → CompletedMessagesAreInRange → (g : ℕ) (past : List ℕ) → Agrees (meaning1 past) (meaning2 (reverse (packets_up None g past)) g)
-raised_agrees joined sound g past =
-    let r = raises joined sound g past in
-    record { channels = λ j. (r.channels j).follows.agrees; commons = r.commons; real_times = r.real_times }
+  -- ---- the packets of a voice message
+
+  voices-mean : (g ch : ℕ) (ms : List Voice2) (past : List Packet) → AllByRecursion (IsOn ch) ms → meaning2 paired (reverse (map (packet.Voice2 g) ms) ++ past) g ≡ at_channel ch (λ c. fold (λ c m. voice2_at paired m c) c ms) (meaning2 paired past g)
+  voices-mean g ch [] past a = sym (unchanged ch (meaning2 paired past g))
+  voices-mean g ch (m ∷ ms) past a =
+      ap (λ l. meaning2 paired l g) (turned (packet.Voice2 g m) (map (packet.Voice2 g) ms) past)
+      ∙ voices-mean g ch ms (packet.Voice2 g m ∷ past) a.1
+      ∙ ap (at_channel ch (λ c. fold (λ c m. voice2_at paired m c) c ms)) (meaning2-own g (packet.Voice2 g m) past refl)
+      ∙ ap (λ k. at_channel ch (λ c. fold (λ c m. voice2_at paired m c) c ms) (at_channel k (voice2_at paired m) (meaning2 paired past g))) a.0
+      ∙ at_channel-at_channel ch (voice2_at paired m) (λ c. fold (λ c m. voice2_at paired m c) c ms) (meaning2 paired past g)
+
+  raised_on : (c : Channel) (m : Voice1) → AllByRecursion (IsOn (channel_of m)) (raised_voice paired c m)
+  raised_on c (voice1.NoteOff ch n v) = (refl, tt)
+  raised_on c (voice1.NoteOn ch n v) = (cond_both (eqb v 0) (voice2.NoteOff ch n 0x8000 0 0) (voice2.NoteOn ch n (up v 7 16) 0 0) (IsOn ch) (λ e. refl) (λ e. refl), tt)
+  raised_on c (voice1.PolyPressure ch n v) = (refl, tt)
+  raised_on c (voice1.Control ch i v) = control_on c (pairing paired (role_of i)) ch i v
+  raised_on c (voice1.Program ch p) = (refl, tt)
+  raised_on c (voice1.Pressure ch v) = (refl, tt)
+  raised_on c (voice1.Bend ch v) = (refl, tt)
+
+  -- ---- the packets of a message
+
+  pub record GroupRaises (g1 g2 : GroupState) : Type 0 where
+    pub channels : (j : ℕ) → Raises paired (g1.channels j) (g2.channels j)
+    pub commons : g1.commons ≡ g2.commons
+    pub real_times : g1.real_times ≡ g2.real_times
+
+  raises_message : CutPayloadIsJoined → (g : ℕ) (m : Message) (g1 : GroupState) (past : List Packet) → IsMessage m → GroupRaises g1 (meaning2 paired past g) → GroupRaises (step1 paired g1 m) (meaning2 paired (reverse (raised_message paired g1 g m) ++ past) g)
+  raises_message joined g (voice m) g1 past b h =
+      let ch = channel_of m in
+      let f2 : Channel → Channel = λ c. fold (λ c m. voice2_at paired m c) c (raised_voice paired (g1.channels ch) m) in
+      let at : (j : ℕ) → Raises paired (cond (eqb j ch) (voice_at (of_bytes paired) m (g1.channels j)) (g1.channels j)) (cond (eqb j ch) (f2 ((meaning2 paired past g).channels j)) ((meaning2 paired past g).channels j)) = λ j. voice_at_j j (eqb j ch) refl in
+      subst (GroupRaises (step1 paired g1 (voice m))) (sym (voices-mean g ch (raised_voice paired (g1.channels ch) m) past (raised_on (g1.channels ch) m))) (record { channels = at; commons = h.commons; real_times = h.real_times })
+    where
+      voice_at_j : (j : ℕ) (t : Bool) → eqb j (channel_of m) ≡ t → Raises paired (cond t (voice_at (of_bytes paired) m (g1.channels j)) (g1.channels j)) (cond t (fold (λ c m. voice2_at paired m c) ((meaning2 paired past g).channels j) (raised_voice paired (g1.channels (channel_of m)) m)) ((meaning2 paired past g).channels j))
+      voice_at_j j true e = subst (λ k. Raises paired (voice_at (of_bytes paired) m (g1.channels j)) (fold (λ c m. voice2_at paired m c) ((meaning2 paired past g).channels j) (raised_voice paired (g1.channels k) m))) (eqb-true j (channel_of m) e) (raises-voice paired m (g1.channels j) ((meaning2 paired past g).channels j) b (h.channels j))
+      voice_at_j j false e = h.channels j
+  raises_message joined g (exclusive bytes) g1 past b h = subst (GroupRaises (step1 paired g1 (exclusive bytes))) (sym (exclusive-mean joined g bytes past)) (record { channels = h.channels; commons = ap (λ l. l ++ exclusive bytes ∷ []) h.commons; real_times = h.real_times })
+  raises_message joined g (common m) g1 past b h = subst (GroupRaises (with_common (common m) g1)) (sym (meaning2-own g (packet.System g m) past refl ∙ ap (step_at (of_packets paired) (meaning2 paired past g)) (common-is m b))) (record { channels = h.channels; commons = ap (λ l. l ++ common m ∷ []) h.commons; real_times = h.real_times })
+  raises_message joined g (real_time m) g1 past b h = subst (GroupRaises (with_real_time m g1)) (sym (meaning2-own g (packet.System g m) past refl ∙ ap (step_at (of_packets paired) (meaning2 paired past g)) (real_time-is m b))) (record { channels = h.channels; commons = h.commons; real_times = ap (λ l. l ++ m ∷ []) h.real_times })
+
+  raises_completed : CutPayloadIsJoined → (g : ℕ) (o : Option Message) (g1 : GroupState) (past : List Packet) → IfSome o IsMessage → GroupRaises g1 (meaning2 paired past g) → GroupRaises (fold (step1 paired) g1 (option_to_list o)) (meaning2 paired (reverse (raised_completed paired g1 g o) ++ past) g)
+  raises_completed joined g None g1 past b h = h
+  raises_completed joined g (Some m) g1 past b h = raises_message joined g m g1 past b h
+
+  -- ---- after each byte
+
+  pub packets_up-turned : (room : Room) (g : ℕ) (past : List ℕ) (b : ℕ) → reverse (packets_up paired room g (b ∷ past)) ≡ reverse (packets_at paired room g past b) ++ reverse (packets_up paired room g past)
+  packets_up-turned room g past b = reverse-append (packets_up paired room g past) (packets_at paired room g past b)
+
+  pub meaning1-more : (past : List ℕ) (b : ℕ) → meaning1 paired (b ∷ past) ≡ fold (step1 paired) (meaning1 paired past) (option_to_list (completed_by (step_of None past b)))
+  meaning1-more past b = fold-append (step1 paired) (start as_they_come) (completed past) (option_to_list (completed_by (step_of None past b)))
+
+  pub raises : CutPayloadIsJoined → CompletedMessagesAreInRange → (g : ℕ) (past : List ℕ) → GroupRaises (meaning1 paired past) (meaning2 paired (reverse (packets_up paired None g past)) g)
+  raises joined sound g [] =
+      let d = start_denotes paired g in
+      record {
+        channels = λ j. record { follows = record { agrees = d.agrees.channels j; bounded = d.bounded j; controllers_bounded = d.controllers_bounded j }; tight = λ p. refl; banks = λ e. refl };
+        commons = refl;
+        real_times = refl;
+      }
+  raises joined sound g (b ∷ past) =
+      let o = completed_by (step_of None past b) in
+      let one : GroupRaises (fold (step1 paired) (meaning1 paired past) (option_to_list o)) (meaning2 paired (reverse (packets_at paired None g past b) ++ reverse (packets_up paired None g past)) g) = raises_completed joined g o (meaning1 paired past) (reverse (packets_up paired None g past)) (sound None past b) (raises joined sound g past) in
+      subst (λ s. GroupRaises s (meaning2 paired (reverse (packets_up paired None g (b ∷ past))) g)) (sym (meaning1-more past b))
+      (subst (λ l. GroupRaises (fold (step1 paired) (meaning1 paired past) (option_to_list o)) (meaning2 paired l g)) (sym (packets_up-turned None g past b)) one)
+
+  pub raised_agrees : CutPayloadIsJoined → CompletedMessagesAreInRange → (g : ℕ) (past : List ℕ) → Agrees paired (meaning1 paired past) (meaning2 paired (reverse (packets_up paired None g past)) g)
+  raised_agrees joined sound g past =
+      let r = raises joined sound g past in
+      record { channels = λ j. (r.channels j).follows.agrees; commons = r.commons; real_times = r.real_times }

@@ -12,24 +12,6 @@ use Rattle.voice_state.specs.Plain.{plain_piece}
 use Rattle.voice_state.specs.Refusal.{bad_step}
 use Rattle.voice_state.specs.Raising.{packets_at, packets_up}
 
--- the plain pieces of packets, in the order in which they come after others, which are newest first
-abbrev pub pieces_of : List Packet → List Packet → List ℕ
-pieces_of past [] = []
-pieces_of past (packet ∷ packets) = plain_piece (whole_of past packet) packet ++ pieces_of (packet ∷ past) packets
-
--- The pieces of the packets of one more byte, after the bytes so far, newest first.
-abbrev pub back_at : Room → ℕ → List ℕ → ℕ → List ℕ
-back_at room group past byte = pieces_of (reverse (packets_up room group past)) (packets_at room group past byte)
-
--- those of all bytes so far, in the order in which they come
-abbrev pub back : Room → ℕ → List ℕ → List ℕ
-back room group [] = []
-back room group (byte ∷ past) = back room group past ++ back_at room group past byte
-
--- the same of bytes in the order in which they come
-abbrev pub back_of_bytes : Room → ℕ → List ℕ → List ℕ
-back_of_bytes room group bytes = back room group (reverse bytes)
-
 -- ---- equal states, registers aside
 
 pub record SameChannel (one two : Channel) : Type 0 where
@@ -47,23 +29,44 @@ pub record SameState (one two : GroupState) : Type 0 where
   pub commons : one.commons ≡ two.commons
   pub real_times : one.real_times ≡ two.real_times
 
--- ---- what the way down says of the raised packets
-
 -- whether a packet isn't a part of an exclusive that others follow
 abbrev pub is_last_part : Packet → Bool
 is_last_part (packet.Exclusive group form.Start bytes) = false
 is_last_part (packet.Exclusive group form.Continue bytes) = false
 is_last_part _ = true
 
--- After others, newest first, a packet is accepted within the limit and isn't listed, it is carried unless it is a part that is
--- held, and its piece is the one without a limit.
-pub record ComesBack (room : ℕ) (past : List Placed) (placed : Placed) : Type 0 where
-  pub accepted : bad_step (Some room) (parts_of past) placed.packet ≡ None
-  pub unlisted : line_of (Some room) (parts_of past) placed ≡ None
-  pub carried : is_carried (whole_by (Some room) (parts_of past) placed.packet) placed.packet ≡ is_last_part placed.packet
-  pub whole : whole_by (Some room) (parts_of past) placed.packet ≡ whole_of (map (λ placed. placed.packet) past) placed.packet
+-- ---- with paired controllers or without
 
--- each of these packets, newest first, after those before it
-abbrev pub AllComeBack : ℕ → List Placed → Type 0
-AllComeBack room [] = Unit {0}
-AllComeBack room (placed ∷ past) = ComesBack room past placed × AllComeBack room past
+module _ (paired : Bool) where
+  -- the plain pieces of packets, in the order in which they come after others, which are newest first
+  abbrev pub pieces_of : List Packet → List Packet → List ℕ
+  pieces_of past [] = []
+  pieces_of past (packet ∷ packets) = plain_piece paired (whole_of past packet) packet ++ pieces_of (packet ∷ past) packets
+
+  -- The pieces of the packets of one more byte, after the bytes so far, newest first.
+  abbrev pub back_at : Room → ℕ → List ℕ → ℕ → List ℕ
+  back_at room group past byte = pieces_of (reverse (packets_up paired room group past)) (packets_at paired room group past byte)
+
+  -- those of all bytes so far, in the order in which they come
+  abbrev pub back : Room → ℕ → List ℕ → List ℕ
+  back room group [] = []
+  back room group (byte ∷ past) = back room group past ++ back_at room group past byte
+
+  -- the same of bytes in the order in which they come
+  abbrev pub back_of_bytes : Room → ℕ → List ℕ → List ℕ
+  back_of_bytes room group bytes = back room group (reverse bytes)
+
+  -- ---- what the way down says of the raised packets
+
+  -- After others, newest first, a packet is accepted within the limit and isn't listed, it is carried unless it is a part that is
+  -- held, and its piece is the one without a limit.
+  pub record ComesBack (room : ℕ) (past : List Placed) (placed : Placed) : Type 0 where
+    pub accepted : bad_step (Some room) (parts_of past) placed.packet ≡ None
+    pub unlisted : line_of paired (Some room) (parts_of past) placed ≡ None
+    pub carried : is_carried paired (whole_by (Some room) (parts_of past) placed.packet) placed.packet ≡ is_last_part placed.packet
+    pub whole : whole_by (Some room) (parts_of past) placed.packet ≡ whole_of (map (λ placed. placed.packet) past) placed.packet
+
+  -- each of these packets, newest first, after those before it
+  abbrev pub AllComeBack : ℕ → List Placed → Type 0
+  AllComeBack room [] = Unit {0}
+  AllComeBack room (placed ∷ past) = ComesBack room past placed × AllComeBack room past

@@ -24,10 +24,6 @@ abbrev pub after_reset : List ℕ → List ℕ
 after_reset [] = []
 after_reset (byte ∷ past) = if byte == 0xff then [] else byte ∷ after_reset past
 
--- the registers of a channel that the bytes of a lane leave
-abbrev pub registers_in : List ℕ → ℕ → Registers
-registers_in past channel = ((meaning1 past).channels channel).registers
-
 abbrev pub is_param : Option Param → Param → Bool
 is_param None param = false
 is_param (Some other) param = same_param other param
@@ -59,21 +55,28 @@ needed_program registers channel program (Some bank) =
     if has_bank registers bank then drop 2 (program_messages channel program (Some bank))
     else program_messages channel program (Some bank)
 
-abbrev pub needed_voice : (ℕ → Registers) → Voice2 → List Message
-needed_voice registers (voice2.Set channel param value) =
-    if is_null param then [] else needed_set (registers channel) channel param (down14 value)
-needed_voice registers (voice2.Program channel program bank) =
-    needed_program (registers channel) channel program bank
-needed_voice registers message = voice_messages message
+-- ---- with paired controllers or without
 
--- the plain messages of a packet without what selects a parameter or a bank that the channel's registers have
-abbrev pub needed_messages : (ℕ → Registers) → Option (List ℕ) → Packet → List Message
-needed_messages registers whole (packet.Voice2 group message) = needed_voice registers message
-needed_messages registers whole packet = plain_messages whole packet
+module _ (paired : Bool) where
+  -- the registers of a channel that the bytes of a lane leave
+  abbrev pub registers_in : List ℕ → ℕ → Registers
+  registers_in past channel = ((meaning1 paired past).channels channel).registers
 
--- ---- the piece
+  abbrev pub needed_voice : (ℕ → Registers) → Voice2 → List Message
+  needed_voice registers (voice2.Set channel param value) =
+      if is_null param then [] else needed_set (registers channel) channel param (down14 value)
+  needed_voice registers (voice2.Program channel program bank) =
+      needed_program (registers channel) channel program bank
+  needed_voice registers message = voice_messages paired message
 
--- after these bytes of the lane, newest first, with the bytes of the exclusive that the packet ends, if it ends one
-abbrev pub compact_piece : List ℕ → Option (List ℕ) → Packet → List ℕ
-compact_piece past whole packet =
-    written_after (after_reset past) (needed_messages (registers_in (after_reset past)) whole packet)
+  -- the plain messages of a packet without what selects a parameter or a bank that the channel's registers have
+  abbrev pub needed_messages : (ℕ → Registers) → Option (List ℕ) → Packet → List Message
+  needed_messages registers whole (packet.Voice2 group message) = needed_voice registers message
+  needed_messages registers whole packet = plain_messages paired whole packet
+
+  -- ---- the piece
+
+  -- after these bytes of the lane, newest first, with the bytes of the exclusive that the packet ends, if it ends one
+  abbrev pub compact_piece : List ℕ → Option (List ℕ) → Packet → List ℕ
+  compact_piece past whole packet =
+      written_after (after_reset past) (needed_messages (registers_in (after_reset past)) whole packet)

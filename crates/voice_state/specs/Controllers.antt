@@ -1,5 +1,5 @@
 -- What a control change is by its index (MIDI 1.0 Detailed Specification, the table of controller numbers).
-use Rattle.std.specs.Prelude.{ℕ, nat_le, ◌==◌, if◌then◌else◌}
+use Rattle.std.specs.Prelude.{ℕ, nat_le, ◌==◌, Bool, if◌then◌else◌}
 use Rattle.voice_messages.specs.declared.voice2.ParamKind.{ParamKind}
 use Rattle.voice_messages.specs.declared.voice2.ParamKind.TheVariants.{Registered, Assignable}
 
@@ -14,9 +14,12 @@ pub data Role : Type 0 where
   number_lsb : ParamKind → Role
   reset_all : Role
   channel_mode : Role
+  coarse : Role
+  fine : Role
   plain : Role
 
--- 120 to 127 are channel mode messages; 121 among them resets all controllers
+-- 120 to 127 are channel mode messages; 121 among them resets all controllers. Of the other controllers 1 to 31 are MSBs, and
+-- 33 to 63 their LSBs.
 unfoldable pub role_of : ℕ → Role
 role_of index =
     if index == 0 then bank_msb
@@ -31,7 +34,15 @@ role_of index =
     else if index == 101 then number_msb Registered
     else if index == 121 then reset_all
     else if nat_le 120 index then channel_mode
+    else if nat_le index 31 then coarse
+    else if nat_le index 63 then fine
     else plain
+
+-- Own rule: MSBs and LSBs of controllers are told from other controllers only where controllers are paired.
+abbrev pub pairing : Bool → Role → Role
+pairing paired coarse = if paired then coarse else plain
+pairing paired fine = if paired then fine else plain
+pairing paired role = role
 
 -- the indexes of a parameter's number
 abbrev pub number_msb_index : ParamKind → ℕ

@@ -1,6 +1,6 @@
 -- What a translator keeps of a lane for the compact style, in place of the lane's bytes: what a receiver has of those after the
 -- last System Reset.
-use Rattle.std.specs.Prelude.{ℕ, if◌then◌else◌, List, [], ◌∷◌, replicate, slice_index_or, slice_set, Option, Some, None}
+use Rattle.std.specs.Prelude.{ℕ, if◌then◌else◌, List, [], ◌∷◌, replicate, slice_index_or, slice_set, Option, Some, None, Bool}
 use Rattle.voice_messages.specs.declared.voice1.Voice1.{Voice1}
 use Rattle.voice_messages.specs.declared.voice1.Voice1.TheVariants as voice1
 use Rattle.voice_messages.specs.declared.voice1.System.TheVariants as system
@@ -28,11 +28,6 @@ new_lane = record { running = None; channels = replicate 16 unset_registers }
 
 abbrev pub registers_at : List Registers → ℕ → Registers
 registers_at channels channel = slice_index_or channels channel unset_registers
-
--- the compact piece of a packet, with the bytes of the exclusive that it ends, if it ends one
-abbrev pub compact_by : LaneState → Option (List ℕ) → Packet → List ℕ
-compact_by lane whole packet =
-    written_under lane.running (needed_messages (registers_at lane.channels) whole packet)
 
 -- ---- after a packet
 
@@ -67,22 +62,30 @@ channels_after (packet.Voice1 group message) channels = channels_after1 message 
 channels_after (packet.Voice2 group message) channels = channels_after2 message channels
 channels_after _ channels = channels
 
--- a packet that leaves something of what was before
-abbrev pub kept_after : LaneState → Option (List ℕ) → Packet → LaneState
-kept_after lane whole packet = record {
-  running = running_after_all (plain_messages whole packet) lane.running;
-  channels = channels_after packet lane.channels;
-}
+-- ---- with paired controllers or without
 
--- what is kept of a lane after a packet of its group that isn't refused
-abbrev pub lane_state_after : LaneState → Option (List ℕ) → Packet → LaneState
-lane_state_after lane whole (packet.System group system.Reset) = new_lane
-lane_state_after lane whole packet = kept_after lane whole packet
+module _ (paired : Bool) where
+  -- the compact piece of a packet, with the bytes of the exclusive that it ends, if it ends one
+  abbrev pub compact_by : LaneState → Option (List ℕ) → Packet → List ℕ
+  compact_by lane whole packet =
+      written_under lane.running (needed_messages paired (registers_at lane.channels) whole packet)
 
--- what is kept of the lane of a group after these packets of all groups, newest first
-abbrev pub lane_state_behind : List Packet → ℕ → LaneState
-lane_state_behind [] group = new_lane
-lane_state_behind (packet ∷ past) group =
-    if is_group (group_of packet) group then
-    lane_state_after (lane_state_behind past group) (whole_of past packet) packet
-    else lane_state_behind past group
+  -- a packet that leaves something of what was before
+  abbrev pub kept_after : LaneState → Option (List ℕ) → Packet → LaneState
+  kept_after lane whole packet = record {
+    running = running_after_all (plain_messages paired whole packet) lane.running;
+    channels = channels_after packet lane.channels;
+  }
+
+  -- what is kept of a lane after a packet of its group that isn't refused
+  abbrev pub lane_state_after : LaneState → Option (List ℕ) → Packet → LaneState
+  lane_state_after lane whole (packet.System group system.Reset) = new_lane
+  lane_state_after lane whole packet = kept_after lane whole packet
+
+  -- what is kept of the lane of a group after these packets of all groups, newest first
+  abbrev pub lane_state_behind : List Packet → ℕ → LaneState
+  lane_state_behind [] group = new_lane
+  lane_state_behind (packet ∷ past) group =
+      if is_group (group_of packet) group then
+      lane_state_after (lane_state_behind past group) (whole_of past packet) packet
+      else lane_state_behind past group

@@ -18,20 +18,6 @@ abbrev pub pair_by : Option ℕ → Bool → List ℕ → List (ℕ × List ℕ)
 pair_by (Some lane) true piece = (lane, piece) ∷ []
 pair_by _ _ piece = []
 
--- one pair for a packet that is carried
-abbrev pub pair_of : List Packet → Packet → List (ℕ × List ℕ)
-pair_of past packet =
-    let whole = whole_of past packet in
-    pair_by (group_of packet) (is_carried whole packet) (plain_piece whole packet)
-
-abbrev pub pairs_behind : List Packet → List (ℕ × List ℕ)
-pairs_behind [] = []
-pairs_behind (packet ∷ past) = pairs_behind past ++ pair_of past packet
-
--- the pairs of packets, both in the order in which they came
-abbrev pub plain_pairs : List Packet → List (ℕ × List ℕ)
-plain_pairs packets = pairs_behind (reverse packets)
-
 -- the bytes of a lane
 abbrev pub bytes_for : ℕ → ℕ × List ℕ → List ℕ
 bytes_for lane pair = if pair.0 == lane then pair.1 else []
@@ -39,18 +25,34 @@ bytes_for lane pair = if pair.0 == lane then pair.1 else []
 abbrev pub lane_bytes : ℕ → List (ℕ × List ℕ) → List ℕ
 lane_bytes lane pairs = flat_map (bytes_for lane) pairs
 
--- ---- packet by packet
+module _ (paired : Bool) where
+  -- one pair for a packet that is carried
+  abbrev pub pair_of : List Packet → Packet → List (ℕ × List ℕ)
+  pair_of past packet =
+      let whole = whole_of past packet in
+      pair_by (group_of packet) (is_carried paired whole packet) (plain_piece paired whole packet)
 
--- The bytes of a lane and the packets of all groups, both newest first: the bytes mean what the group's packets mean, they leave
--- the same registers, and nothing is open in them. Values of parameters have fourteen bits.
-pub record Denotes (bytes : List ℕ) (past : List Packet) (group : ℕ) : Type 0 where
-  pub agrees : Agrees (meaning1 bytes) (meaning2 past group)
-  pub registers : SameRegisters (meaning1 bytes) (meaning2 past group)
-  pub closed : open_in None bytes ≡ None
-  pub bounded : (channel : ℕ) (param : Param) → unwrap_or (((meaning1 bytes).channels channel).params param) 0 < 2 ^ 14
+  abbrev pub pairs_behind : List Packet → List (ℕ × List ℕ)
+  pairs_behind [] = []
+  pairs_behind (packet ∷ past) = pairs_behind past ++ pair_of past packet
 
--- the bytes of a group's lane after one more packet
-abbrev pub lane_after : List ℕ → List Packet → Packet → ℕ → List ℕ
-lane_after bytes past packet group =
-    if is_group (group_of packet) group then reverse (plain_piece (whole_of past packet) packet) ++ bytes
-    else bytes
+  -- the pairs of packets, both in the order in which they came
+  abbrev pub plain_pairs : List Packet → List (ℕ × List ℕ)
+  plain_pairs packets = pairs_behind (reverse packets)
+
+  -- ---- packet by packet
+
+  -- The bytes of a lane and the packets of all groups, both newest first: the bytes mean what the group's packets mean, they leave
+  -- the same registers, and nothing is open in them. Values of parameters and of controllers have at most fourteen bits.
+  pub record Denotes (bytes : List ℕ) (past : List Packet) (group : ℕ) : Type 0 where
+    pub agrees : Agrees paired (meaning1 paired bytes) (meaning2 paired past group)
+    pub registers : SameRegisters (meaning1 paired bytes) (meaning2 paired past group)
+    pub closed : open_in None bytes ≡ None
+    pub bounded : (channel : ℕ) (param : Param) → unwrap_or (((meaning1 paired bytes).channels channel).params param) 0 < 2 ^ 14
+    pub controllers_bounded : (channel index : ℕ) → unwrap_or (((meaning1 paired bytes).channels channel).controllers index) 0 < 2 ^ 14
+
+  -- the bytes of a group's lane after one more packet
+  abbrev pub lane_after : List ℕ → List Packet → Packet → ℕ → List ℕ
+  lane_after bytes past packet group =
+      if is_group (group_of packet) group then reverse (plain_piece paired (whole_of past packet) packet) ++ bytes
+      else bytes

@@ -1,5 +1,5 @@
 -- What holds of all recordings.
-use Rattle.std.specs.Prelude.{◌≡◌, ◌↔◌, ◌<◌, ℕ, List, map, length, Option, Some, None, IsTrue, false}
+use Rattle.std.specs.Prelude.{◌≡◌, ◌↔◌, ◌<◌, ℕ, List, map, length, Option, Some, None, IsTrue, false, Bool}
 use Rattle.std.specs.List.{AllByRecursion}
 use Rattle.ump_grammar.specs.declared.packet.Packet.{Packet}
 use Rattle.sysex_groups.specs.Exclusives.{Part, joined, opened, ended, passes_room}
@@ -11,14 +11,15 @@ use Rattle.voice_state.specs.Plain.{plain_piece}
 use Rattle.voice_state.specs.Rooms.{AreWithinRoom}
 use Rattle.voice_state.specs.Translation.{IsTranslation}
 
-abbrev pub PlainPairsAreATranslation : Type 0
-PlainPairsAreATranslation =
-    (packets : List Packet) → AllByRecursion IsInRange packets → IsTranslation packets (plain_pairs packets)
+module _ (paired : Bool) where
+  abbrev pub PlainPairsAreATranslation : Type 0
+  PlainPairsAreATranslation =
+      (packets : List Packet) → AllByRecursion IsInRange packets → IsTranslation paired packets (plain_pairs paired packets)
 
-abbrev pub CarriedPacketsHaveAPiece : Type 0
-CarriedPacketsHaveAPiece =
-    (whole : Option (List ℕ)) (packet : Packet) →
-    IsTrue (is_carried whole packet) ↔ (0 < length (plain_piece whole packet))
+  abbrev pub CarriedPacketsHaveAPiece : Type 0
+  CarriedPacketsHaveAPiece =
+      (whole : Option (List ℕ)) (packet : Packet) →
+      IsTrue (is_carried paired whole packet) ↔ (0 < length (plain_piece paired whole packet))
 
 abbrev pub JoinedBytesKnowNoOffsets : Type 0
 JoinedBytesKnowNoOffsets =

@@ -15,6 +15,7 @@ pub mod Listing
 pub mod MeaningRows
 pub mod Messages
 pub mod Packets
+pub mod PairedRows
 pub mod Params
 pub mod Parts
 pub mod Plain

@@ -1,5 +1,5 @@
 -- Worked rows of the meaning: bytes and packets, and what they leave, as the standards' tables have it.
-use Rattle.std.specs.Prelude.{ℕ, List, [], ◌∷◌, ◌++◌, map, Option, Some, None}
+use Rattle.std.specs.Prelude.{ℕ, List, [], ◌∷◌, ◌++◌, map, Option, Some, None, false}
 use Rattle.voice_messages.specs.declared.voice1.System.TheVariants as system
 use Rattle.voice_messages.specs.declared.voice1.Voice1.TheVariants as voice1
 use Rattle.voice_messages.specs.declared.voice2.Bank.{Bank}
@@ -18,11 +18,11 @@ use Rattle.voice_state.specs.State.{Channel}
 
 -- what bytes leave in channel 0
 abbrev pub after_bytes : List ℕ → Channel
-after_bytes bytes = (mean1 bytes).channels 0
+after_bytes bytes = (mean1 false bytes).channels 0
 
 -- what packets leave in channel 0 of group 0
 abbrev pub after_packets : List Packet → Channel
-after_packets packets = (mean2 packets 0).channels 0
+after_packets packets = (mean2 false packets 0).channels 0
 
 -- the values of some controllers
 abbrev pub controllers_at : List ℕ → Channel → List (Option ℕ)

@@ -1,6 +1,6 @@
 -- What a MIDI 1.0 message does to a receiver (MIDI 1.0 Detailed Specification; RP-015), at the values of MIDI 1.0 or raised
 -- to those of MIDI 2.0 (M2-115-U).
-use Rattle.std.specs.Prelude.{ℕ, ◌+◌, ◌*◌, ◌/◌, ◌==◌, nat_le, ◌&&◌, List, [], reverse, Option, Some, None, false, if◌then◌else◌}
+use Rattle.std.specs.Prelude.{ℕ, ◌+◌, ◌-◌, ◌*◌, ◌/◌, ◌==◌, nat_le, ◌&&◌, List, [], reverse, Option, Some, None, Bool, false, if◌then◌else◌}
 use Rattle.std.specs.List.{fold}
 use Rattle.std.specs.Option.{unwrap_or}
 use Rattle.voice_messages.specs.declared.voice1.Voice1.{Voice1}
@@ -10,12 +10,14 @@ use Rattle.bit_scaling.specs.Scaling.{up, down14}
 use Rattle.midi1_bytes.specs.Messages.{Message, voice, common, exclusive, real_time}
 use Rattle.midi1_bytes.specs.Steps.{completed}
 use Rattle.voice_state.specs.Registers.{unset_registers, with_bank_msb, with_bank_lsb, with_number_msb, with_number_lsb, selected, without_selection}
-use Rattle.voice_state.specs.Controllers.{Role, bank_msb, bank_lsb, data_msb, data_lsb, data_increment, data_decrement, number_msb, number_lsb, reset_all, channel_mode, plain, role_of}
+use Rattle.voice_state.specs.Controllers.{Role, bank_msb, bank_lsb, data_msb, data_lsb, data_increment, data_decrement, number_msb, number_lsb, reset_all, channel_mode, coarse, fine, plain, role_of, pairing}
 use Rattle.voice_state.specs.State.{Act, on, off, mode, Channel, GroupState, empty, with_act, with_poly, with_controller, with_pressure, with_bend, with_program, at_registers, with_value, with_param, at_channel, with_common, with_real_time}
 
 -- How values are kept, from those of MIDI 1.0: velocities; controllers by their index; pressures and mode values; values of
--- fourteen bits, and these back again.
+-- fourteen bits, and these back again. Own rule: where controllers are paired, the MSB and the LSB of a controller are one value
+-- of fourteen bits; where they aren't, each controller is kept by itself.
 pub record Scale : Type 0 where
+  pub paired : Bool
   pub velocity : ℕ → ℕ
   pub controller : ℕ → ℕ → ℕ
   pub value : ℕ → ℕ
@@ -24,6 +26,7 @@ pub record Scale : Type 0 where
 
 abbrev pub as_they_come : Scale
 as_they_come = record {
+  paired = false;
   velocity = λ v. v;
   controller = λ index v. v;
   value = λ v. v;
@@ -33,6 +36,7 @@ as_they_come = record {
 
 abbrev pub raised : Scale
 raised = record {
+  paired = false;
   velocity = λ v. up v 7 16;
   controller = λ index v. up v 7 32;
   value = λ v. up v 7 32;
@@ -40,12 +44,26 @@ raised = record {
   narrow = down14;
 }
 
+-- the values of bytes and of packets, with paired controllers or without
+abbrev pub with_pairs : Bool → Scale → Scale
+with_pairs paired scale = record scale { paired = paired }
+
+abbrev pub of_bytes : Bool → Scale
+of_bytes paired = with_pairs paired as_they_come
+
+abbrev pub of_packets : Bool → Scale
+of_packets paired = with_pairs paired raised
+
 -- ---- control changes
+
+-- the greatest value of a controller that is reset to it
+abbrev pub greatest : Scale → ℕ → ℕ
+greatest scale index = if scale.paired then scale.wide 16383 else scale.controller index 127
 
 -- reset all controllers (RP-015): expression at its greatest; modulation, hold, portamento, sostenuto and soft pedal at 0
 abbrev pub reset_controllers : Scale → (ℕ → Option ℕ) → ℕ → Option ℕ
 reset_controllers scale map index =
-    if index == 11 then Some (scale.controller index 127)
+    if index == 11 then Some (greatest scale index)
     else if index == 1 then Some (scale.controller index 0)
     else if nat_le 64 index && nat_le index 67 then Some (scale.controller index 0)
     else map index
@@ -74,6 +92,14 @@ abbrev pub enter_lsb : Scale → Option Param → ℕ → Channel → Channel
 enter_lsb scale None value channel = channel
 enter_lsb scale (Some param) value channel = with_value param (with_new_lsb scale (channel.params param) value) channel
 
+-- Own rule, where controllers are paired: an MSB clears the LSB of its controller, and an LSB, whose index is higher by 32, keeps
+-- the MSB.
+abbrev pub with_coarse : Scale → ℕ → ℕ → Channel → Channel
+with_coarse scale index value channel = with_controller index (scale.wide (value * 128)) channel
+
+abbrev pub with_fine : Scale → ℕ → ℕ → Channel → Channel
+with_fine scale index value channel = with_controller index (with_new_lsb scale (channel.controllers index) value) channel
+
 -- Own rule: data increment and decrement do nothing; they are refused before.
 abbrev pub control : Scale → Role → ℕ → ℕ → Channel → Channel
 control scale bank_msb index value channel = at_registers (with_bank_msb value) channel
@@ -86,6 +112,8 @@ control scale (number_msb kind) index value channel = at_registers (with_number_
 control scale (number_lsb kind) index value channel = at_registers (with_number_lsb kind value) channel
 control scale reset_all index value channel = reset scale (with_act (mode index (scale.value value)) channel)
 control scale channel_mode index value channel = with_act (mode index (scale.value value)) channel
+control scale coarse index value channel = with_coarse scale index value channel
+control scale fine index value channel = with_fine scale (index - 32) value channel
 control scale plain index value channel = with_controller index (scale.controller index value) channel
 
 -- ---- voice messages
@@ -109,7 +137,7 @@ abbrev pub voice_at : Scale → Voice1 → Channel → Channel
 voice_at scale (voice1.NoteOff ch note velocity) channel = with_act (off note (scale.velocity velocity)) channel
 voice_at scale (voice1.NoteOn ch note velocity) channel = with_act (note_on scale note velocity) channel
 voice_at scale (voice1.PolyPressure ch note value) channel = with_poly note (scale.value value) channel
-voice_at scale (voice1.Control ch index value) channel = control scale (role_of index) index value channel
+voice_at scale (voice1.Control ch index value) channel = control scale (pairing scale.paired (role_of index)) index value channel
 voice_at scale (voice1.Program ch program) channel = with_program program channel
 voice_at scale (voice1.Pressure ch value) channel = with_pressure (scale.value value) channel
 voice_at scale (voice1.Bend ch value) channel = with_bend (scale.wide value) channel
@@ -122,9 +150,6 @@ step_at scale group (voice message) = at_channel (channel_of message) (voice_at 
 step_at scale group (common message) = with_common (common message) group
 step_at scale group (exclusive bytes) = with_common (exclusive bytes) group
 step_at scale group (real_time message) = with_real_time message group
-
-abbrev pub step1 : GroupState → Message → GroupState
-step1 group message = step_at as_they_come group message
 
 -- ---- what the bytes of a stream mean
 
@@ -144,10 +169,14 @@ start_channel scale = record {
 abbrev pub start : Scale → GroupState
 start scale = record { channels = λ index. start_channel scale; commons = []; real_times = [] }
 
--- after these bytes, newest first
-abbrev pub meaning1 : List ℕ → GroupState
-meaning1 past = fold step1 (start as_they_come) (completed past)
+module _ (paired : Bool) where
+  abbrev pub step1 : GroupState → Message → GroupState
+  step1 group message = step_at (of_bytes paired) group message
 
--- of these bytes, in the order in which they came
-abbrev pub mean1 : List ℕ → GroupState
-mean1 bytes = meaning1 (reverse bytes)
+  -- after these bytes, newest first
+  abbrev pub meaning1 : List ℕ → GroupState
+  meaning1 past = fold step1 (start as_they_come) (completed past)
+
+  -- of these bytes, in the order in which they came
+  abbrev pub mean1 : List ℕ → GroupState
+  mean1 bytes = meaning1 (reverse bytes)

@@ -1,6 +1,6 @@
 -- What the compact style relies on: what the bytes of a lane after the last System Reset leave is what all its bytes leave,
 -- wherever it is set.
-use Rattle.std.specs.Prelude.{ℕ, ◌≡◌, List, length, Option, Some, None}
+use Rattle.std.specs.Prelude.{ℕ, ◌≡◌, List, length, Option, Some, None, Bool}
 use Rattle.midi1_bytes.specs.Stream.{open_in, running}
 use Rattle.midi1_bytes.specs.RunningStatus.{IsKnownIn}
 use Rattle.voice_state.specs.Registers.{Pair, Registers}
@@ -21,14 +21,15 @@ pub record AreSameIn (some all : Registers) : Type 0 where
   pub assignable : PairIsSameIn some.assignable all.assignable
   pub touched : IsSameIn some.touched all.touched
 
--- The bytes of a lane, newest first. Nothing is open after the last System Reset.
-pub record IsRelied (past : List ℕ) : Type 0 where
-  pub running : IsKnownIn (running (after_reset past)) past
-  pub registers : (channel : ℕ) → AreSameIn (registers_in (after_reset past) channel) (registers_in past channel)
-  pub closed : open_in None (after_reset past) ≡ None
+module _ (paired : Bool) where
+  -- The bytes of a lane, newest first. Nothing is open after the last System Reset.
+  pub record IsRelied (past : List ℕ) : Type 0 where
+    pub running : IsKnownIn (running (after_reset past)) past
+    pub registers : (channel : ℕ) → AreSameIn (registers_in paired (after_reset past) channel) (registers_in paired past channel)
+    pub closed : open_in None (after_reset past) ≡ None
 
--- What is kept of a lane is what its bytes after the last System Reset leave.
-pub record IsLaneOf (lane : LaneState) (past : List ℕ) : Type 0 where
-  pub running : lane.running ≡ running (after_reset past)
-  pub registers : (channel : ℕ) → registers_at lane.channels channel ≡ registers_in (after_reset past) channel
-  pub sixteen : length lane.channels ≡ 16
+  -- What is kept of a lane is what its bytes after the last System Reset leave.
+  pub record IsLaneOf (lane : LaneState) (past : List ℕ) : Type 0 where
+    pub running : lane.running ≡ running (after_reset past)
+    pub registers : (channel : ℕ) → registers_at lane.channels channel ≡ registers_in paired (after_reset past) channel
+    pub sixteen : length lane.channels ≡ 16

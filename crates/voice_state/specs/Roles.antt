@@ -3,7 +3,7 @@ use Rattle.std.specs.Prelude.{ℕ}
 use Rattle.voice_state.specs.Registers.{Registers, with_bank_msb, with_bank_lsb, with_number_msb, with_number_lsb, without_selection}
 use Rattle.voice_state.specs.declared.role.ControlRole.{ControlRole}
 use Rattle.voice_state.specs.declared.role.ControlRole.TheVariants as control_role
-use Rattle.voice_state.specs.Controllers.{Role, bank_msb, bank_lsb, data_msb, data_lsb, data_increment, data_decrement, number_msb, number_lsb, reset_all, channel_mode, plain}
+use Rattle.voice_state.specs.Controllers.{Role, bank_msb, bank_lsb, data_msb, data_lsb, data_increment, data_decrement, number_msb, number_lsb, reset_all, channel_mode, coarse, fine, plain}
 
 abbrev pub role_in : ControlRole → Role
 role_in control_role.BankMsb = bank_msb
@@ -16,6 +16,8 @@ role_in (control_role.NumberMsb kind) = number_msb kind
 role_in (control_role.NumberLsb kind) = number_lsb kind
 role_in control_role.ResetAll = reset_all
 role_in control_role.ChannelMode = channel_mode
+role_in control_role.Coarse = coarse
+role_in control_role.Fine = fine
 role_in control_role.Plain = plain
 
 -- what a control change leaves of the registers
@@ -30,4 +32,6 @@ registers_behind (number_msb kind) value registers = with_number_msb kind value 
 registers_behind (number_lsb kind) value registers = with_number_lsb kind value registers
 registers_behind reset_all value registers = without_selection registers
 registers_behind channel_mode value registers = registers
+registers_behind coarse value registers = registers
+registers_behind fine value registers = registers
 registers_behind plain value registers = registers

@@ -1,4 +1,5 @@
--- The states of the groups of a stream, and what is left of them behind one more message or packet.
+-- The states of the groups of a stream, and what is left of them behind one more message or packet. Own rule: controllers aren't
+-- paired.
 use Rattle.std.specs.Prelude.{ℕ, ◌==◌, if◌then◌else◌, Bool, true, false, List, Option}
 use Rattle.voice_messages.specs.declared.voice1.Voice1.{Voice1}
 use Rattle.voice_messages.specs.declared.voice2.Voice2.{Voice2}
@@ -24,15 +25,15 @@ abbrev pub after_voice1 : Scale → Voice1 → GroupState → GroupState
 after_voice1 scale message state = at_channel (channel_of message) (voice_at scale message) state
 
 abbrev pub after_voice2 : Voice2 → GroupState → GroupState
-after_voice2 message state = at_channel (channel2 message) (voice2_at message) state
+after_voice2 message state = at_channel (channel2 message) (voice2_at false message) state
 
 -- behind a message of MIDI 1.0 in a group
 abbrev pub after_message : ℕ → Message → States → States
-after_message group message states = at_group group (λ state. step1 state message) states
+after_message group message states = at_group group (λ state. step1 false state message) states
 
 -- behind a packet, with the bytes of the exclusive that it ends, if it ends one
 abbrev pub after_packet : Packet → Option (List ℕ) → States → States
-after_packet packet whole states = λ group. if is_group (group_of packet) group then step2 (states group) packet whole else states group
+after_packet packet whole states = λ group. if is_group (group_of packet) group then step2 false (states group) packet whole else states group
 
 -- whether a message is counted with the Real Time messages
 abbrev pub is_real_time : Message → Bool

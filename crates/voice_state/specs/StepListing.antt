@@ -79,26 +79,29 @@ kinds_up state step offset = kinds_of_step step offset ++ kinds_of_message state
 abbrev pub line_up : ℕ → Kind × ℕ → Listed
 line_up group told = record { offset = told.1; group = Some group; kind = told.0 }
 
--- the lines of one more byte
-abbrev pub lines_at : Room → ℕ → List ℕ → ℕ → List Listed
-lines_at room group past byte = map (line_up group) (kinds_up (meaning1 past) (step_of room past byte) (length past))
-
--- the lines of all bytes, in the order in which they come
-abbrev pub lines_up : Room → ℕ → List ℕ → List Listed
-lines_up room group [] = []
-lines_up room group (byte ∷ past) = lines_up room group past ++ lines_at room group past byte
-
 -- what is open at the end, and where it starts
 abbrev pub open_pair : Room → List ℕ → Option (ℕ × CutKind)
 open_pair room past = option_map (λ begun. (begun.start, begun.kind)) (open_at_end room past)
 
--- the same with the line of what is open at the end of input
-abbrev pub lines_up_to_end : Room → ℕ → List ℕ → List Listed
-lines_up_to_end room group past = lines_up room group past ++ map (line_up group) (kinds_at_end (open_pair room past))
+-- ---- with paired controllers or without
 
--- the lines of bytes in the order in which they come, with the line of what is open at the end
-abbrev pub lines_of_bytes : Room → ℕ → List ℕ → List Listed
-lines_of_bytes room group bytes = lines_up room group (reverse bytes)
+module _ (paired : Bool) where
+  -- the lines of one more byte
+  abbrev pub lines_at : Room → ℕ → List ℕ → ℕ → List Listed
+  lines_at room group past byte = map (line_up group) (kinds_up (meaning1 paired past) (step_of room past byte) (length past))
 
-abbrev pub listing_of_bytes : Room → ℕ → List ℕ → List Listed
-listing_of_bytes room group bytes = lines_up_to_end room group (reverse bytes)
+  -- the lines of all bytes, in the order in which they come
+  abbrev pub lines_up : Room → ℕ → List ℕ → List Listed
+  lines_up room group [] = []
+  lines_up room group (byte ∷ past) = lines_up room group past ++ lines_at room group past byte
+
+  -- the same with the line of what is open at the end of input
+  abbrev pub lines_up_to_end : Room → ℕ → List ℕ → List Listed
+  lines_up_to_end room group past = lines_up room group past ++ map (line_up group) (kinds_at_end (open_pair room past))
+
+  -- the lines of bytes in the order in which they come, with the line of what is open at the end
+  abbrev pub lines_of_bytes : Room → ℕ → List ℕ → List Listed
+  lines_of_bytes room group bytes = lines_up room group (reverse bytes)
+
+  abbrev pub listing_of_bytes : Room → ℕ → List ℕ → List Listed
+  listing_of_bytes room group bytes = lines_up_to_end room group (reverse bytes)

@@ -1,5 +1,5 @@
 -- What holds of all recordings in either style.
-use Rattle.std.specs.Prelude.{◌≡◌, ◌↔◌, ◌<◌, ℕ, List, [], ◌∷◌, ◌++◌, length, reverse, Option, None, IsTrue, IfSome}
+use Rattle.std.specs.Prelude.{◌≡◌, ◌↔◌, ◌<◌, ℕ, List, [], ◌∷◌, ◌++◌, length, reverse, Option, None, IsTrue, IfSome, Bool}
 use Rattle.std.specs.List.{AllByRecursion}
 use Rattle.voice_messages.specs.declared.voice1.System.{System}
 use Rattle.voice_messages.specs.declared.voice2.Form.{Form}
@@ -20,55 +20,56 @@ use Rattle.voice_state.specs.Relied.{IsLaneOf, IsRelied}
 use Rattle.voice_state.specs.Styles.{Style, plain_style, compact_style, piece_in, styled_behind, styled_pair, styled_pairs}
 use Rattle.voice_state.specs.Translation.{IsTranslation}
 
-abbrev pub StyledPairsAreATranslation : Type 0
-StyledPairsAreATranslation =
-    (style : Style) (packets : List Packet) → AllByRecursion IsInRange packets →
-    IsTranslation packets (styled_pairs style packets)
+module _ (paired : Bool) where
+  abbrev pub StyledPairsAreATranslation : Type 0
+  StyledPairsAreATranslation =
+      (style : Style) (packets : List Packet) → AllByRecursion IsInRange packets →
+      IsTranslation paired packets (styled_pairs paired style packets)
 
-pub record StyledPairsComePacketByPacket : Type 0 where
-  pub more : (style : Style) (packets : List Packet) (packet : Packet) →
-      styled_pairs style (packets ++ packet ∷ []) ≡
-      styled_pairs style packets ++ styled_pair style (styled_pairs style packets) (reverse packets) packet
-  pub plain : (past : List Packet) → styled_behind plain_style past ≡ pairs_behind past
+  pub record StyledPairsComePacketByPacket : Type 0 where
+    pub more : (style : Style) (packets : List Packet) (packet : Packet) →
+        styled_pairs paired style (packets ++ packet ∷ []) ≡
+        styled_pairs paired style packets ++ styled_pair paired style (styled_pairs paired style packets) (reverse packets) packet
+    pub plain : (past : List Packet) → styled_behind paired plain_style past ≡ pairs_behind paired past
 
-abbrev pub StyledPiecesAreThoseOfCarriedPackets : Type 0
-StyledPiecesAreThoseOfCarriedPackets =
-    (style : Style) (past : List ℕ) (whole : Option (List ℕ)) (packet : Packet) →
-    IsTrue (is_carried whole packet) ↔ (0 < length (piece_in style past whole packet))
+  abbrev pub StyledPiecesAreThoseOfCarriedPackets : Type 0
+  StyledPiecesAreThoseOfCarriedPackets =
+      (style : Style) (past : List ℕ) (whole : Option (List ℕ)) (packet : Packet) →
+      IsTrue (is_carried paired whole packet) ↔ (0 < length (piece_in paired style past whole packet))
 
--- only voice messages are written otherwise
-pub record SystemPiecesArePlain : Type 0 where
-  pub system : (past : List ℕ) (whole : Option (List ℕ)) (group : ℕ) (message : System) →
-      compact_piece past whole (packet.System group message) ≡ plain_piece whole (packet.System group message)
-  pub exclusive : (past : List ℕ) (whole : Option (List ℕ)) (group : ℕ) (form : Form) (bytes : List ℕ) →
-      compact_piece past whole (packet.Exclusive group form bytes) ≡
-      plain_piece whole (packet.Exclusive group form bytes)
+  -- only voice messages are written otherwise
+  pub record SystemPiecesArePlain : Type 0 where
+    pub system : (past : List ℕ) (whole : Option (List ℕ)) (group : ℕ) (message : System) →
+        compact_piece paired past whole (packet.System group message) ≡ plain_piece paired whole (packet.System group message)
+    pub exclusive : (past : List ℕ) (whole : Option (List ℕ)) (group : ℕ) (form : Form) (bytes : List ℕ) →
+        compact_piece paired past whole (packet.Exclusive group form bytes) ≡
+        plain_piece paired whole (packet.Exclusive group form bytes)
 
--- what the bytes of a lane leave in a receiver
-pub record StyledLanesLeaveTheRegisters : Type 0 where
-  pub registers : (style : Style) (packets : List Packet) (group : ℕ) → AllByRecursion IsInRange packets →
-      SameRegisters (mean1 (lane_bytes group (styled_pairs style packets))) (mean2 packets group)
-  pub closed : (style : Style) (packets : List Packet) (group : ℕ) → AllByRecursion IsInRange packets →
-      open_in None (reverse (lane_bytes group (styled_pairs style packets))) ≡ None
-  pub relied : (packets : List Packet) (group : ℕ) → AllByRecursion IsInRange packets →
-      IsRelied (reverse (lane_bytes group (styled_pairs compact_style packets)))
+  -- what the bytes of a lane leave in a receiver
+  pub record StyledLanesLeaveTheRegisters : Type 0 where
+    pub registers : (style : Style) (packets : List Packet) (group : ℕ) → AllByRecursion IsInRange packets →
+        SameRegisters (mean1 paired (lane_bytes group (styled_pairs paired style packets))) (mean2 paired packets group)
+    pub closed : (style : Style) (packets : List Packet) (group : ℕ) → AllByRecursion IsInRange packets →
+        open_in None (reverse (lane_bytes group (styled_pairs paired style packets))) ≡ None
+    pub relied : (packets : List Packet) (group : ℕ) → AllByRecursion IsInRange packets →
+        IsRelied paired (reverse (lane_bytes group (styled_pairs paired compact_style packets)))
 
--- Any bytes of a lane, newest first, in which nothing is open, and the bytes of the exclusive that the packet ends.
-pub record KeptLanesAreThoseOfTheBytes : Type 0 where
-  pub new : IsLaneOf new_lane []
-  pub piece : (lane : LaneState) (past : List ℕ) (whole : Option (List ℕ)) (packet : Packet) →
-      IsInRange packet → IfSome whole AreData → IsLaneOf lane past →
-      compact_by lane whole packet ≡ compact_piece past whole packet
-  pub after : (lane : LaneState) (past : List ℕ) (whole : Option (List ℕ)) (packet : Packet) →
-      IsInRange packet → IfSome whole AreData → IsRelied past → IsLaneOf lane past →
-      IsLaneOf (lane_state_after lane whole packet) (reverse (compact_piece past whole packet) ++ past)
+  -- Any bytes of a lane, newest first, in which nothing is open, and the bytes of the exclusive that the packet ends.
+  pub record KeptLanesAreThoseOfTheBytes : Type 0 where
+    pub new : IsLaneOf paired new_lane []
+    pub piece : (lane : LaneState) (past : List ℕ) (whole : Option (List ℕ)) (packet : Packet) →
+        IsInRange packet → IfSome whole AreData → IsLaneOf paired lane past →
+        compact_by paired lane whole packet ≡ compact_piece paired past whole packet
+    pub after : (lane : LaneState) (past : List ℕ) (whole : Option (List ℕ)) (packet : Packet) →
+        IsInRange packet → IfSome whole AreData → IsRelied paired past → IsLaneOf paired lane past →
+        IsLaneOf paired (lane_state_after paired lane whole packet) (reverse (compact_piece paired past whole packet) ++ past)
 
--- The same of a recording, whose packets are newest first.
-pub record KeptLanesAreThoseOfTheRecording : Type 0 where
-  pub lane : (past : List Packet) (group : ℕ) → AllByRecursion IsInRange past →
-      IsLaneOf (lane_state_behind past group) (reverse (lane_bytes group (styled_behind compact_style past)))
-  pub piece : (past : List Packet) (packet : Packet) (group : ℕ) →
-      AllByRecursion IsInRange past → IsInRange packet →
-      compact_by (lane_state_behind past group) (whole_of past packet) packet ≡
-      piece_in compact_style (reverse (lane_bytes group (styled_behind compact_style past)))
-      (whole_of past packet) packet
+  -- The same of a recording, whose packets are newest first.
+  pub record KeptLanesAreThoseOfTheRecording : Type 0 where
+    pub lane : (past : List Packet) (group : ℕ) → AllByRecursion IsInRange past →
+        IsLaneOf paired (lane_state_behind paired past group) (reverse (lane_bytes group (styled_behind paired compact_style past)))
+    pub piece : (past : List Packet) (packet : Packet) (group : ℕ) →
+        AllByRecursion IsInRange past → IsInRange packet →
+        compact_by paired (lane_state_behind paired past group) (whole_of past packet) packet ≡
+        piece_in paired compact_style (reverse (lane_bytes group (styled_behind paired compact_style past)))
+        (whole_of past packet) packet

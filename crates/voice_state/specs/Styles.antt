@@ -1,5 +1,5 @@
 -- A recording in either style: the pairs of lane and piece, where a piece may depend on the bytes of its lane so far.
-use Rattle.std.specs.Prelude.{ℕ, List, [], ◌∷◌, ◌++◌, reverse, Option, Some, None}
+use Rattle.std.specs.Prelude.{ℕ, List, [], ◌∷◌, ◌++◌, reverse, Option, Some, None, Bool}
 use Rattle.ump_grammar.specs.declared.packet.Packet.{Packet}
 use Rattle.voice_state.specs.Parts.{group_of, whole_of}
 use Rattle.voice_state.specs.Listing.{is_carried}
@@ -12,27 +12,30 @@ pub data Style : Type 0 where
   plain_style : Style
   compact_style : Style
 
--- the piece of a packet after these bytes of its lane, newest first
-abbrev pub piece_in : Style → List ℕ → Option (List ℕ) → Packet → List ℕ
-piece_in plain_style past whole packet = plain_piece whole packet
-piece_in compact_style past whole packet = compact_piece past whole packet
-
 -- the bytes so far of the lane of a group, newest first
 abbrev pub lane_so_far : Option ℕ → List (ℕ × List ℕ) → List ℕ
 lane_so_far None pairs = []
 lane_so_far (Some lane) pairs = reverse (lane_bytes lane pairs)
 
--- one pair for a packet that is carried, after these pairs and packets; the packets are newest first
-abbrev pub styled_pair : Style → List (ℕ × List ℕ) → List Packet → Packet → List (ℕ × List ℕ)
-styled_pair style pairs past packet =
-    pair_by (group_of packet) (is_carried (whole_of past packet) packet)
-    (piece_in style (lane_so_far (group_of packet) pairs) (whole_of past packet) packet)
+-- ---- with paired controllers or without
 
-abbrev pub styled_behind : Style → List Packet → List (ℕ × List ℕ)
-styled_behind style [] = []
-styled_behind style (packet ∷ past) =
-    styled_behind style past ++ styled_pair style (styled_behind style past) past packet
+module _ (paired : Bool) where
+  -- the piece of a packet after these bytes of its lane, newest first
+  abbrev pub piece_in : Style → List ℕ → Option (List ℕ) → Packet → List ℕ
+  piece_in plain_style past whole packet = plain_piece paired whole packet
+  piece_in compact_style past whole packet = compact_piece paired past whole packet
 
--- the pairs of packets, both in the order in which they came
-abbrev pub styled_pairs : Style → List Packet → List (ℕ × List ℕ)
-styled_pairs style packets = styled_behind style (reverse packets)
+  -- one pair for a packet that is carried, after these pairs and packets; the packets are newest first
+  abbrev pub styled_pair : Style → List (ℕ × List ℕ) → List Packet → Packet → List (ℕ × List ℕ)
+  styled_pair style pairs past packet =
+      pair_by (group_of packet) (is_carried paired (whole_of past packet) packet)
+      (piece_in style (lane_so_far (group_of packet) pairs) (whole_of past packet) packet)
+
+  abbrev pub styled_behind : Style → List Packet → List (ℕ × List ℕ)
+  styled_behind style [] = []
+  styled_behind style (packet ∷ past) =
+      styled_behind style past ++ styled_pair style (styled_behind style past) past packet
+
+  -- the pairs of packets, both in the order in which they came
+  abbrev pub styled_pairs : Style → List Packet → List (ℕ × List ℕ)
+  styled_pairs style packets = styled_behind style (reverse packets)

@@ -12,20 +12,21 @@ abbrev pub lane_by : Option ℕ → Bool → List ℕ
 lane_by (Some lane) true = lane ∷ []
 lane_by _ _ = []
 
-abbrev pub lanes_behind : List Packet → List ℕ
-lanes_behind [] = []
-lanes_behind (packet ∷ past) = lanes_behind past ++ lane_by (group_of packet) (is_carried (whole_of past packet) packet)
+module _ (paired : Bool) where
+  abbrev pub lanes_behind : List Packet → List ℕ
+  lanes_behind [] = []
+  lanes_behind (packet ∷ past) = lanes_behind past ++ lane_by (group_of packet) (is_carried paired (whole_of past packet) packet)
 
--- the lanes of the packets that are carried, in the order in which they came
-abbrev pub carried_lanes : List Packet → List ℕ
-carried_lanes packets = lanes_behind (reverse packets)
+  -- the lanes of the packets that are carried, in the order in which they came
+  abbrev pub carried_lanes : List Packet → List ℕ
+  carried_lanes packets = lanes_behind (reverse packets)
 
--- the pairs for the packets that are carried among the first ones
-abbrev pub first_pairs : ℕ → List Packet → List (ℕ × List ℕ) → List (ℕ × List ℕ)
-first_pairs count packets pairs = take (length (carried_lanes (take count packets))) pairs
+  -- the pairs for the packets that are carried among the first ones
+  abbrev pub first_pairs : ℕ → List Packet → List (ℕ × List ℕ) → List (ℕ × List ℕ)
+  first_pairs count packets pairs = take (length (carried_lanes (take count packets))) pairs
 
--- One pair for each packet that is carried, in the lane of its group. After each packet the bytes so far of each lane mean what
--- the packets so far of its group mean.
-pub record IsTranslation (packets : List Packet) (pairs : List (ℕ × List ℕ)) : Type 0 where
-  pub lanes : map (λ pair. pair.0) pairs ≡ carried_lanes packets
-  pub agrees : (count group : ℕ) → Agrees (mean1 (lane_bytes group (first_pairs count packets pairs))) (mean2 (take count packets) group)
+  -- One pair for each packet that is carried, in the lane of its group. After each packet the bytes so far of each lane mean what
+  -- the packets so far of its group mean.
+  pub record IsTranslation (packets : List Packet) (pairs : List (ℕ × List ℕ)) : Type 0 where
+    pub lanes : map (λ pair. pair.0) pairs ≡ carried_lanes packets
+    pub agrees : (count group : ℕ) → Agrees paired (mean1 paired (lane_bytes group (first_pairs count packets pairs))) (mean2 paired (take count packets) group)

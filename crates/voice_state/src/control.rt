@@ -1,6 +1,6 @@
 // What a control change does to a channel.
-ghost use Rattle.std.specs.Prelude.{◌≡◌, OnOk, OnErr};
-ghost use Rattle.voice_state.specs.Controllers.{role_of};
+ghost use Rattle.std.specs.Prelude.{◌≡◌, false, OnOk, OnErr};
+ghost use Rattle.voice_state.specs.Controllers.{pairing, role_of};
 ghost use Rattle.voice_state.specs.Kept.{KeepsChannel, with_controllers_reset};
 ghost use Rattle.voice_state.specs.Messages as messages;
 ghost use Rattle.voice_state.specs.Messages.{raised};
@@ -24,7 +24,7 @@ impl Channel {
         ensures step { OnOk result
             ((state : definition.Channel) → KeepsChannel (scale_of width) self.old state
             → KeepsChannel (scale_of width) self.new
-            (messages.control (scale_of width) (role_of index) index value state)) }
+            (messages.control (scale_of width) (pairing false (role_of index)) index value state)) }
         ensures unchanged { OnErr result (self.new ≡ self.old) }
     {
         self.control_as(width, ControlRole::of(index), index, value)
@@ -40,7 +40,7 @@ impl Channel {
         ensures step { OnOk result
             ((state : definition.Channel) → KeepsChannel (scale_of width) self.old state
             → KeepsChannel (scale_of width) self.new
-            (messages.control (scale_of width) (role_in role) index value state)) }
+            (messages.control (scale_of width) (pairing false (role_in role)) index value state)) }
         ensures unchanged { OnErr result (self.new ≡ self.old) }
     {
         match role {
@@ -59,7 +59,7 @@ impl Channel {
                 let value = width.value(value);
                 self.act(NoteAct::Mode { index, value })
             }
-            ControlRole::Plain => {
+            ControlRole::Coarse | ControlRole::Fine | ControlRole::Plain => {
                 self.controllers.set(index, width.controller(value));
                 Ok(())
             }
@@ -70,7 +70,7 @@ impl Channel {
     /// parameter numbers do nothing. After `NoMemory` nothing has changed.
     pub(crate) fn control2(&mut self, index: U7, value: u32) -> Result<(), NoMemory>
         ensures step { OnOk result ((state : definition.Channel) → KeepsChannel raised self.old state
-            → KeepsChannel raised self.new (control2 (role_of index) index value state)) }
+            → KeepsChannel raised self.new (control2 (pairing false (role_of index)) index value state)) }
         ensures unchanged { OnErr result (self.new ≡ self.old) }
     {
         self.control2_as(ControlRole::of(index), index, value)
@@ -78,13 +78,13 @@ impl Channel {
 
     fn control2_as(&mut self, role: ControlRole, index: U7, value: u32) -> Result<(), NoMemory>
         ensures step { OnOk result ((state : definition.Channel) → KeepsChannel raised self.old state
-            → KeepsChannel raised self.new (control2 (role_in role) index value state)) }
+            → KeepsChannel raised self.new (control2 (pairing false (role_in role)) index value state)) }
         ensures unchanged { OnErr result (self.new ≡ self.old) }
     {
         match role {
             ControlRole::ResetAll => self.reset_all(Width::Midi2, index, value),
             ControlRole::ChannelMode => self.act(NoteAct::Mode { index, value }),
-            ControlRole::Plain => {
+            ControlRole::Coarse | ControlRole::Fine | ControlRole::Plain => {
                 self.controllers.set(index, value);
                 Ok(())
             }

@@ -1,5 +1,5 @@
-// What holds of all recordings.
-ghost use Rattle.std.specs.Prelude.{◌≡◌, ℕ, List, [], ◌∷◌, ◌++◌, reverse, map, Some, None};
+// What holds of all recordings, with paired controllers or without.
+ghost use Rattle.std.specs.Prelude.{◌≡◌, ℕ, Bool, false, List, [], ◌∷◌, ◌++◌, reverse, map, Some, None};
 ghost use Rattle.std.specs.List.{AllByRecursion};
 ghost use Rattle.ump_grammar.specs.declared.packet.Packet.{Packet};
 ghost use Rattle.sysex_groups.specs.Exclusives.{joined};
@@ -26,15 +26,15 @@ use midi1_bytes::laws::written_messages_are_read_again;
 
 /// Before the first packet each lane has no byte, and denotes its group.
 pub fn nothing_denotes_nothing()
-    ensures { (group : ℕ) → Denotes [] [] group }
+    ensures { (paired : Bool) (group : ℕ) → Denotes paired [] [] group }
 {}
 
 /// One more packet, with its plain piece in its group's lane, keeps what each lane denotes: the two meanings agree, the registers
 /// are equal, and nothing is open in the lane's bytes. Bytes and packets are listed newest first.
 pub fn one_more_packet_keeps_each_lane()
-    ensures { (bytes : List ℕ) (past : List Packet) (packet : Packet) (group : ℕ) →
-        AllByRecursion IsInRange past → IsInRange packet → Denotes bytes past group →
-        Denotes (lane_after bytes past packet group) (packet ∷ past) group }
+    ensures { (paired : Bool) (bytes : List ℕ) (past : List Packet) (packet : Packet) (group : ℕ) →
+        AllByRecursion IsInRange past → IsInRange packet → Denotes paired bytes past group →
+        Denotes paired (lane_after paired bytes past packet group) (packet ∷ past) group }
 {
     written_messages_are_read_again();
 }
@@ -42,8 +42,10 @@ pub fn one_more_packet_keeps_each_lane()
 /// The bytes of each lane mean what the packets of its group mean, for a recording of all groups and its plain pairs, both
 /// in the order in which they come.
 pub fn plain_pairs_mean_the_packets()
-    ensures { (packets : List Packet) (group : ℕ) → AllByRecursion IsInRange packets →
-        Agrees (mean1 (lane_bytes group (plain_pairs packets))) (mean2 packets group) }
+    ensures { (paired : Bool) (packets : List Packet) (group : ℕ) →
+        AllByRecursion IsInRange packets →
+        Agrees paired (mean1 paired (lane_bytes group (plain_pairs paired packets)))
+        (mean2 paired packets group) }
 {
     written_messages_are_read_again();
 }
@@ -51,21 +53,21 @@ pub fn plain_pairs_mean_the_packets()
 /// The plain pairs of a recording are its translation: one for each packet that is carried, in its group's lane, and after each
 /// packet the bytes so far of each lane mean what the packets so far of its group mean.
 pub fn plain_pairs_are_a_translation()
-    ensures { PlainPairsAreATranslation }
+    ensures { (paired : Bool) → PlainPairsAreATranslation paired }
 {
     written_messages_are_read_again();
 }
 
 /// A packet adds its pair after those of the packets before it.
 pub fn pairs_come_packet_by_packet()
-    ensures { (packets : List Packet) (packet : Packet) →
-        plain_pairs (packets ++ packet ∷ []) ≡
-        plain_pairs packets ++ pair_of (reverse packets) packet }
+    ensures { (paired : Bool) (packets : List Packet) (packet : Packet) →
+        plain_pairs paired (packets ++ packet ∷ []) ≡
+        plain_pairs paired packets ++ pair_of paired (reverse packets) packet }
 {}
 
 /// A packet has a piece exactly when it is carried.
 pub fn carried_packets_have_a_piece()
-    ensures { CarriedPacketsHaveAPiece }
+    ensures { (paired : Bool) → CarriedPacketsHaveAPiece paired }
 {}
 
 /// The bytes of an open exclusive don't depend on the offsets of its packets.
@@ -80,7 +82,7 @@ pub fn rooms_that_are_not_passed_do_not_matter()
 
 /// An exclusive of one group is joined across a whole one of another group.
 pub fn exclusives_are_joined_by_group()
-    ensures { plain_pairs exclusives_of_two_groups ≡
+    ensures { plain_pairs false exclusives_of_two_groups ≡
         (1, 0xf0 ∷ 0x11 ∷ 0x12 ∷ 0xf7 ∷ [])
         ∷ (0, 0xf0 ∷ 1 ∷ 2 ∷ 3 ∷ 4 ∷ 5 ∷ 6 ∷ 7 ∷ 0xf7 ∷ [])
         ∷ [] }
@@ -88,9 +90,9 @@ pub fn exclusives_are_joined_by_group()
 
 /// An exclusive that is cut, a stray part and an exclusive that stays open are listed, and the whole one is carried.
 pub fn cut_stray_and_open_are_listed()
-    ensures pairs { plain_pairs (map (λ placed. placed.packet) cut_stray_and_open) ≡
+    ensures pairs { plain_pairs false (map (λ placed. placed.packet) cut_stray_and_open) ≡
         (0, 0xf0 ∷ 7 ∷ 8 ∷ 0xf7 ∷ []) ∷ [] }
-    ensures listing { listing_of None cut_stray_and_open ≡
+    ensures listing { listing_of false None cut_stray_and_open ≡
         record { offset = 0; group = Some 0; kind = kinds.CutExclusive }
         ∷ record { offset = 16; group = Some 0; kind = kinds.StrayExclusive }
         ∷ record { offset = 24; group = Some 0; kind = kinds.OpenExclusive }
@@ -99,14 +101,14 @@ pub fn cut_stray_and_open_are_listed()
 
 /// A data entry in a MIDI 1.0 packet sets the parameter that a MIDI 2.0 packet has selected, and no other.
 pub fn data_entry_follows_the_last_selection()
-    ensures pairs { plain_pairs mixed_protocols ≡
+    ensures pairs { plain_pairs false mixed_protocols ≡
         (0, 0xb0 ∷ 0x65 ∷ 0 ∷ [])
         ∷ (0, 0xb0 ∷ 0x64 ∷ 1 ∷ [])
         ∷ (0, 0xb0 ∷ 0x65 ∷ 0 ∷ 0xb0 ∷ 0x64 ∷ 0 ∷ 0xb0 ∷ 6 ∷ 2 ∷ 0xb0 ∷ 0x26 ∷ 0 ∷ [])
         ∷ (0, 0xb0 ∷ 6 ∷ 3 ∷ [])
         ∷ [] }
-    ensures entered { ((mean1 (lane_bytes 0 (plain_pairs mixed_protocols))).channels 0).params
+    ensures entered { ((mean1 false (lane_bytes 0 (plain_pairs false mixed_protocols))).channels 0).params
         (registered 0 0) ≡ Some 384 }
-    ensures never_set { ((mean1 (lane_bytes 0 (plain_pairs mixed_protocols))).channels 0).params
+    ensures never_set { ((mean1 false (lane_bytes 0 (plain_pairs false mixed_protocols))).channels 0).params
         (registered 0 1) ≡ None }
 {}

@@ -12,6 +12,7 @@ pub mod laws;
 pub mod listed;
 pub mod meaning_rows;
 mod note_act;
+pub mod paired_rows;
 mod param_map;
 mod params;
 pub mod registers;

@@ -29,6 +29,8 @@ pub enum Kind {
     RelativeParameter,
     /// A MIDI 2.0 control change of a bank, data entry or parameter number.
     MisplacedController,
+    /// A MIDI 2.0 control change of the LSB of a controller, where controllers are paired (own rule).
+    FineController,
     /// A packet that continues or ends an exclusive where none is open.
     StrayExclusive,
     /// An exclusive that another one, or a status byte, cut off.

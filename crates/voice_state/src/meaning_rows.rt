@@ -93,7 +93,7 @@ pub fn each_voice_message_of_bytes_is_kept()
     ensures controller { controllers_at (7 ∷ 8 ∷ []) (after_bytes bytes_of_each_kind) ≡ Some 64 ∷ None ∷ [] }
     ensures program { (after_bytes bytes_of_each_kind).program ≡ Some (record { program = 5; bank = None }) }
     ensures bend { (after_bytes bytes_of_each_kind).bend ≡ 10000 }
-    ensures other_channel { ((mean1 bytes_of_each_kind).channels 1).bend ≡ 8192 }
+    ensures other_channel { ((mean1 false bytes_of_each_kind).channels 1).bend ≡ 8192 }
 {}
 
 /// The same in packets of the MIDI 1.0 protocol, whose values are raised (M2-115-U).
@@ -107,7 +107,7 @@ pub fn each_voice_message_of_midi1_packets_is_kept()
     ensures program { (after_packets midi1_packets_of_each_kind).program
         ≡ Some (record { program = 5; bank = None }) }
     ensures bend { (after_packets midi1_packets_of_each_kind).bend ≡ 0x9c40_e207 }
-    ensures other_group { ((mean2 midi1_packets_of_each_kind 1).channels 0).bend ≡ 0x8000_0000 }
+    ensures other_group { ((mean2 false midi1_packets_of_each_kind 1).channels 0).bend ≡ 0x8000_0000 }
 {}
 
 /// Packets of the MIDI 2.0 protocol are kept with their own values, a note on of velocity 0 as a note on.
@@ -160,14 +160,14 @@ pub fn programs_take_the_bank()
 /// System common messages and exclusives are kept in one list, Real Time messages in another, each group's alone, and reset does
 /// nothing else.
 pub fn system_messages_are_kept_in_two_lists()
-    ensures commons { (mean1 bytes_of_the_system).commons
+    ensures commons { (mean1 false bytes_of_the_system).commons
         ≡ common (system.Quarter 0x21) ∷ exclusive (1 ∷ 2 ∷ []) ∷ common system.Tune ∷ [] }
-    ensures real_times { (mean1 bytes_of_the_system).real_times ≡ system.Clock ∷ system.Reset ∷ [] }
-    ensures packet_commons { (mean2 packets_of_the_system 0).commons
+    ensures real_times { (mean1 false bytes_of_the_system).real_times ≡ system.Clock ∷ system.Reset ∷ [] }
+    ensures packet_commons { (mean2 false packets_of_the_system 0).commons
         ≡ common (system.Quarter 0x21) ∷ exclusive (1 ∷ 2 ∷ []) ∷ common system.Tune ∷ [] }
-    ensures packet_real_times { (mean2 packets_of_the_system 0).real_times
+    ensures packet_real_times { (mean2 false packets_of_the_system 0).real_times
         ≡ system.Clock ∷ system.Reset ∷ [] }
-    ensures other_group { (mean2 packets_of_the_system 1).real_times ≡ system.Start ∷ [] }
+    ensures other_group { (mean2 false packets_of_the_system 1).real_times ≡ system.Start ∷ [] }
 {}
 
 /// Control changes from 120 on are channel mode messages, which set no controller.
@@ -185,7 +185,7 @@ pub fn mode_messages_are_kept_with_the_notes()
 /// Each kind of packet that MIDI 1.0 has no message for is listed, with its offset and its group, if it has one; carried packets
 /// are not.
 pub fn each_kind_of_packet_is_listed()
-    ensures each { listing_of None packets_of_each_listed_kind
+    ensures each { listing_of false None packets_of_each_listed_kind
         ≡ record { offset = 0; group = None; kind = kinds.Utility }
         ∷ record { offset = 4; group = None; kind = kinds.Stream }
         ∷ record { offset = 20; group = None; kind = kinds.Reserved }
@@ -200,7 +200,7 @@ pub fn each_kind_of_packet_is_listed()
         ∷ record { offset = 104; group = Some 2; kind = kinds.NullParameter }
         ∷ record { offset = 112; group = Some 2; kind = kinds.RelativeParameter }
         ∷ [] }
-    ensures misplaced { listing_of None misplaced_packets
+    ensures misplaced { listing_of false None misplaced_packets
         ≡ record { offset = 0; group = Some 3; kind = kinds.MisplacedController }
         ∷ record { offset = 8; group = Some 3; kind = kinds.MisplacedController }
         ∷ record { offset = 16; group = Some 3; kind = kinds.MisplacedController }
@@ -210,5 +210,5 @@ pub fn each_kind_of_packet_is_listed()
         ∷ record { offset = 48; group = Some 3; kind = kinds.MisplacedController }
         ∷ record { offset = 56; group = Some 3; kind = kinds.MisplacedController }
         ∷ [] }
-    ensures none { listing_of None packets_without_lines ≡ [] }
+    ensures none { listing_of false None packets_without_lines ≡ [] }
 {}

@@ -165,6 +165,8 @@ impl Registers {
             | ControlRole::DataIncrement
             | ControlRole::DataDecrement
             | ControlRole::ChannelMode
+            | ControlRole::Coarse
+            | ControlRole::Fine
             | ControlRole::Plain => {}
         }
     }

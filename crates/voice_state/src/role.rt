@@ -1,7 +1,7 @@
 // What a control change is by its index.
-ghost use Rattle.std.specs.Prelude.{◌≡◌};
-ghost use Rattle.voice_state.specs.Controllers.{role_of};
-ghost use Rattle.voice_state.specs.Indexes.{HasIndex};
+ghost use Rattle.std.specs.Prelude.{◌≡◌, ℕ};
+ghost use Rattle.voice_state.specs.Controllers.{pairing, role_of};
+ghost use Rattle.voice_state.specs.Indexes.{HasIndex, HasIndexIn};
 ghost use Rattle.voice_state.specs.Roles.{role_in};
 
 use voice_messages::{ParamKind, U7};
@@ -30,6 +30,10 @@ pub enum ControlRole {
     ResetAll,
     /// 120, and 122 to 127: the other channel mode messages.
     ChannelMode,
+    /// 1 to 31, except for 6: the MSB of a controller.
+    Coarse,
+    /// 33 to 63, except for 38: the LSB of the controller whose index is lower by 32.
+    Fine,
     /// All other indexes: a controller that has a value.
     Plain,
 }
@@ -55,7 +59,22 @@ impl ControlRole {
             101 => ControlRole::NumberMsb(ParamKind::Registered),
             121 => ControlRole::ResetAll,
             120..=127 => ControlRole::ChannelMode,
+            1..=31 => ControlRole::Coarse,
+            33..=63 => ControlRole::Fine,
             _ => ControlRole::Plain,
+        }
+    }
+
+    /// The role where controllers are paired or aren't: without pairs an MSB or LSB is a controller like all others (own rule).
+    #[inline(always)]
+    pub fn pairing(self, paired: bool) -> ControlRole
+        ensures role { role_in result ≡ pairing paired (role_in self) }
+        ensures index { (index : ℕ) → HasIndex (role_in self) index →
+            HasIndexIn paired (role_in result) index }
+    {
+        match self {
+            ControlRole::Coarse | ControlRole::Fine if !paired => ControlRole::Plain,
+            role => role,
         }
     }
 }

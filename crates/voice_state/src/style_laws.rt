@@ -1,4 +1,5 @@
-// What holds of all recordings in either style.
+// What holds of all recordings in either style, with paired controllers or without.
+ghost use Rattle.std.specs.Prelude.{Bool};
 ghost use Rattle.voice_state.specs.StyleLaws.{
   KeptLanesAreThoseOfTheBytes,
   KeptLanesAreThoseOfTheRecording,
@@ -17,7 +18,7 @@ use midi1_bytes::laws::{
 /// The pairs of a recording in either style are its translation: one for each packet that is carried, in its group's lane, and
 /// after each packet the bytes so far of each lane mean what the packets so far of its group mean.
 pub fn styled_pairs_are_a_translation()
-    ensures { StyledPairsAreATranslation }
+    ensures { (paired : Bool) → StyledPairsAreATranslation paired }
 {
     statuses_that_run_can_be_left_out();
     written_messages_are_read_again();
@@ -25,19 +26,19 @@ pub fn styled_pairs_are_a_translation()
 
 /// A packet adds its pair after those of the packets before it. The pairs in plain style are the plain pairs.
 pub fn styled_pairs_come_packet_by_packet()
-    ensures { StyledPairsComePacketByPacket }
+    ensures { (paired : Bool) → StyledPairsComePacketByPacket paired }
 {}
 
 /// A packet has a piece, in either style, exactly when it is carried.
 pub fn styled_pieces_are_those_of_carried_packets()
-    ensures { StyledPiecesAreThoseOfCarriedPackets }
+    ensures { (paired : Bool) → StyledPiecesAreThoseOfCarriedPackets paired }
 {
     statuses_that_run_can_be_left_out();
 }
 
 /// A system message or an exclusive has its plain piece in compact style.
 pub fn system_pieces_are_plain()
-    ensures { SystemPiecesArePlain }
+    ensures { (paired : Bool) → SystemPiecesArePlain paired }
 {
     statuses_that_run_can_be_left_out();
 }
@@ -46,7 +47,7 @@ pub fn system_pieces_are_plain()
 /// compact style the running status and each half of a register that the bytes after the last System Reset leave is what all
 /// the lane's bytes leave, where it is set.
 pub fn styled_lanes_leave_the_registers()
-    ensures { StyledLanesLeaveTheRegisters }
+    ensures { (paired : Bool) → StyledLanesLeaveTheRegisters paired }
 {
     statuses_that_run_can_be_left_out();
     written_messages_are_read_again();
@@ -55,7 +56,7 @@ pub fn styled_lanes_leave_the_registers()
 /// What is kept of a lane for the compact style tells the compact piece of a packet, which looks back over the lane's bytes, and
 /// after the packet it is what the bytes after the last System Reset leave.
 pub fn kept_lanes_are_those_of_the_bytes()
-    ensures { KeptLanesAreThoseOfTheBytes }
+    ensures { (paired : Bool) → KeptLanesAreThoseOfTheBytes paired }
 {
     running_status_is_that_of_the_messages();
     statuses_that_run_can_be_left_out();
@@ -64,7 +65,7 @@ pub fn kept_lanes_are_those_of_the_bytes()
 /// For each packet of a recording, what is kept of its lane tells its compact piece: it is the running status and the registers
 /// of the lane's bytes after the last System Reset.
 pub fn kept_lanes_are_those_of_the_recording()
-    ensures { KeptLanesAreThoseOfTheRecording }
+    ensures { (paired : Bool) → KeptLanesAreThoseOfTheRecording paired }
 {
     running_status_is_that_of_the_messages();
     statuses_that_run_can_be_left_out();

@@ -691,11 +691,17 @@ fn groups_and_channels_in_order(rt: HostRuntime) {
 fn roles_of_controllers(rt: HostRuntime) {
     let rows = [
         (0, ControlRole::BankMsb),
-        (1, ControlRole::Plain),
+        (1, ControlRole::Coarse),
+        (5, ControlRole::Coarse),
         (6, ControlRole::DataMsb),
-        (7, ControlRole::Plain),
+        (7, ControlRole::Coarse),
+        (31, ControlRole::Coarse),
         (32, ControlRole::BankLsb),
+        (33, ControlRole::Fine),
         (38, ControlRole::DataLsb),
+        (39, ControlRole::Fine),
+        (63, ControlRole::Fine),
+        (64, ControlRole::Plain),
         (95, ControlRole::Plain),
         (96, ControlRole::DataIncrement),
         (97, ControlRole::DataDecrement),
@@ -713,6 +719,15 @@ fn roles_of_controllers(rt: HostRuntime) {
     for (index, role) in rows {
         assert_eq!(rt; ControlRole::of(u7(index)), role, "control {index}");
     }
+}
+
+#[test]
+fn halves_of_controllers_where_they_are_paired(rt: HostRuntime) {
+    assert_eq!(rt; ControlRole::Coarse.pairing(true), ControlRole::Coarse);
+    assert_eq!(rt; ControlRole::Coarse.pairing(false), ControlRole::Plain);
+    assert_eq!(rt; ControlRole::Fine.pairing(true), ControlRole::Fine);
+    assert_eq!(rt; ControlRole::Fine.pairing(false), ControlRole::Plain);
+    assert_eq!(rt; ControlRole::DataMsb.pairing(false), ControlRole::DataMsb);
 }
 
 #[test]

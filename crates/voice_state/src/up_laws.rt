@@ -1,10 +1,12 @@
-// What holds of all streams of bytes that are raised to packets. Bytes that are called `past` are listed newest first.
+// What holds of all streams of bytes that are raised to packets, with paired controllers or without. Bytes that are called `past`
+// are listed newest first.
 ghost use Rattle.std.specs.Prelude.{
   ◌≡◌,
   ◌<◌,
   ◌≤◌,
   ◌^◌,
   ℕ,
+  Bool,
   List,
   [],
   ◌∷◌,
@@ -45,7 +47,7 @@ use sysex_groups::laws::cut_payload_is_joined;
 /// After each byte the packets of the bytes so far, raised into any group, mean there what the bytes mean. A data increment or
 /// decrement, which is refused, changes neither meaning.
 pub fn raised_packets_mean_the_bytes()
-    ensures { RaisedPacketsMeanTheBytes }
+    ensures { (paired : Bool) → RaisedPacketsMeanTheBytes paired }
 {
     cut_payload_is_joined();
     completed_messages_are_in_range();
@@ -54,7 +56,7 @@ pub fn raised_packets_mean_the_bytes()
 /// The packets of each byte in one of the sixteen groups are ones that words spell, with their fields in range; so is each
 /// packet of an exclusive.
 pub fn raised_packets_are_in_range()
-    ensures { RaisedPacketsAreInRange }
+    ensures { (paired : Bool) → RaisedPacketsAreInRange paired }
 {
     cut_payload_is_joined();
     completed_messages_are_in_range();
@@ -63,13 +65,13 @@ pub fn raised_packets_are_in_range()
 /// Where no exclusive in the bytes exceeds the limit, each of their steps, what is open after them, their packets, what comes
 /// back of them, and their lines are those without a limit. Bytes that are accepted are of this kind.
 pub fn rooms_that_are_not_reached_do_not_matter_in_bytes()
-    ensures { RoomsThatAreNotReachedDoNotMatterInBytes }
+    ensures { (paired : Bool) → RoomsThatAreNotReachedDoNotMatterInBytes paired }
 {}
 
 /// There and back: after each byte, the plain pieces of the packets to which the bytes so far are raised leave a receiver in the
 /// state in which the bytes themselves leave it, except for registers. The pieces are the bytes of the group's lane.
 pub fn bytes_that_come_back_mean_the_same()
-    ensures { BytesThatComeBackMeanTheSame }
+    ensures { (paired : Bool) → BytesThatComeBackMeanTheSame paired }
 {
     cut_payload_is_joined();
     completed_messages_are_in_range();
@@ -80,37 +82,38 @@ pub fn bytes_that_come_back_mean_the_same()
 /// accepted on the way down with that limit and isn't listed, and it is carried unless it is a part of an exclusive that others
 /// follow. After all packets of some bytes no group has an exclusive open, and the way down has listed nothing.
 pub fn raised_packets_come_back_in_silence()
-    ensures { RaisedPacketsComeBackInSilence }
+    ensures { (paired : Bool) → RaisedPacketsComeBackInSilence paired }
 {}
 
 /// One more byte, after bytes in the order in which they come: its packets, lines and pieces come after those before it, and the
 /// meaning takes the message that it completes, which is the same within a limit that isn't exceeded.
 pub fn one_more_byte_is_raised()
-    ensures packets { (room : Room) (group : ℕ) (bytes : List ℕ) (byte : ℕ) →
-        packets_of_bytes room group (bytes ++ byte ∷ []) ≡
-        packets_of_bytes room group bytes ++ packets_at room group (reverse bytes) byte }
-    ensures lines { (room : Room) (group : ℕ) (bytes : List ℕ) (byte : ℕ) →
-        lines_of_bytes room group (bytes ++ byte ∷ []) ≡
-        lines_of_bytes room group bytes ++ lines_at room group (reverse bytes) byte }
-    ensures pieces { (room : Room) (group : ℕ) (bytes : List ℕ) (byte : ℕ) →
-        back_of_bytes room group (bytes ++ byte ∷ []) ≡
-        back_of_bytes room group bytes ++ back_at room group (reverse bytes) byte }
-    ensures meaning { (past : List ℕ) (byte : ℕ) → meaning1 (byte ∷ past) ≡
-        fold step1 (meaning1 past) (option_to_list (completed_by (step_of None past byte))) }
-    ensures meaning_in_room { (room : ℕ) (past : List ℕ) (byte : ℕ) →
-        AreStepsWithinRoom room (byte ∷ past) → meaning1 (byte ∷ past) ≡
-        fold step1 (meaning1 past) (option_to_list (completed_by (step_of (Some room) past byte))) }
+    ensures packets { (paired : Bool) (room : Room) (group : ℕ) (bytes : List ℕ) (byte : ℕ) →
+        packets_of_bytes paired room group (bytes ++ byte ∷ []) ≡
+        packets_of_bytes paired room group bytes ++ packets_at paired room group (reverse bytes) byte }
+    ensures lines { (paired : Bool) (room : Room) (group : ℕ) (bytes : List ℕ) (byte : ℕ) →
+        lines_of_bytes paired room group (bytes ++ byte ∷ []) ≡
+        lines_of_bytes paired room group bytes ++ lines_at paired room group (reverse bytes) byte }
+    ensures pieces { (paired : Bool) (room : Room) (group : ℕ) (bytes : List ℕ) (byte : ℕ) →
+        back_of_bytes paired room group (bytes ++ byte ∷ []) ≡
+        back_of_bytes paired room group bytes ++ back_at paired room group (reverse bytes) byte }
+    ensures meaning { (paired : Bool) (past : List ℕ) (byte : ℕ) → meaning1 paired (byte ∷ past) ≡
+        fold (step1 paired) (meaning1 paired past) (option_to_list (completed_by (step_of None past byte))) }
+    ensures meaning_in_room { (paired : Bool) (room : ℕ) (past : List ℕ) (byte : ℕ) →
+        AreStepsWithinRoom room (byte ∷ past) → meaning1 paired (byte ∷ past) ≡
+        fold (step1 paired) (meaning1 paired past)
+        (option_to_list (completed_by (step_of (Some room) past byte))) }
 {}
 
 /// What bytes leave in a receiver is in range: values of parameters have fourteen bits, the bank and the selected parameter seven
 /// bits in each half. An exclusive that is completed fits its limit.
 pub fn what_bytes_leave_is_in_range()
-    ensures values { (past : List ℕ) (channel : ℕ) (param : Param) →
-        unwrap_or (((meaning1 past).channels channel).params param) 0 < 2 ^ 14 }
-    ensures bank { (past : List ℕ) (channel : ℕ) →
-        IsBank (bank_of ((meaning1 past).channels channel).registers) }
-    ensures number { (past : List ℕ) (channel : ℕ) →
-        IfSome (selected ((meaning1 past).channels channel).registers) IsParam }
+    ensures values { (paired : Bool) (past : List ℕ) (channel : ℕ) (param : Param) →
+        unwrap_or (((meaning1 paired past).channels channel).params param) 0 < 2 ^ 14 }
+    ensures bank { (paired : Bool) (past : List ℕ) (channel : ℕ) →
+        IsBank (bank_of ((meaning1 paired past).channels channel).registers) }
+    ensures number { (paired : Bool) (past : List ℕ) (channel : ℕ) →
+        IfSome (selected ((meaning1 paired past).channels channel).registers) IsParam }
     ensures payload { (room : ℕ) (past : List ℕ) (byte : ℕ) (bytes : List ℕ) →
         completed_by (step_of (Some room) past byte) ≡ Some (exclusive bytes) → length bytes ≤ room }
 {
@@ -120,7 +123,8 @@ pub fn what_bytes_leave_is_in_range()
 
 /// A packet adds its piece after those of the packets before it.
 pub fn pieces_come_packet_by_packet()
-    ensures { (past packets : List Packet) (packet : Packet) →
-        pieces_of past (packets ++ packet ∷ []) ≡
-        pieces_of past packets ++ plain_piece (whole_of (reverse packets ++ past) packet) packet }
+    ensures { (paired : Bool) (past packets : List Packet) (packet : Packet) →
+        pieces_of paired past (packets ++ packet ∷ []) ≡
+        pieces_of paired past packets ++
+        plain_piece paired (whole_of (reverse packets ++ past) packet) packet }
 {}

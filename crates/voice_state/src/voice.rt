@@ -1,5 +1,5 @@
 // What a channel voice message does to a channel.
-ghost use Rattle.std.specs.Prelude.{◌≡◌, true, if◌then◌else◌, OnOk, OnErr};
+ghost use Rattle.std.specs.Prelude.{◌≡◌, true, false, if◌then◌else◌, OnOk, OnErr};
 ghost use Rattle.voice_state.specs.Acts.{act_of};
 ghost use Rattle.voice_state.specs.Kept.{KeepsChannel};
 ghost use Rattle.voice_state.specs.Messages.{note_on, raised, voice_at};
@@ -66,7 +66,7 @@ impl Channel {
     /// changed.
     pub(crate) fn voice2(&mut self, message: &Voice2) -> Result<(), NoMemory>
         ensures step { OnOk result ((state : definition.Channel) → KeepsChannel raised self.old state
-            → KeepsChannel raised self.new (voice2_at message.now state)) }
+            → KeepsChannel raised self.new (voice2_at false message.now state)) }
         ensures unchanged { OnErr result (self.new ≡ self.old) }
     {
         match *message {

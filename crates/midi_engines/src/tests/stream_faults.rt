@@ -117,11 +117,11 @@ fn leaves<S: Source>(
     let mut notes = MemSink::new(alloc, 256, faults.notes)?;
     let ended = match pass {
         Pass::Up => {
-            let engine = UpRun::new(alloc, U4::low_bits(0), Order::Big, 8)?;
+            let engine = UpRun::new(alloc, U4::low_bits(0), Order::Big, 8, false)?;
             run_up(engine, input, &mut lanes, &mut output, &mut notes)
         }
         Pass::Back => {
-            let engine = BackRun::new(alloc, U4::low_bits(0), 8)?;
+            let engine = BackRun::new(alloc, U4::low_bits(0), 8, false)?;
             run_back(engine, input, &mut lanes, &mut output, &mut notes)
         }
     };

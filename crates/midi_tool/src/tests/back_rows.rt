@@ -38,7 +38,7 @@ struct Left<'a> {
 
 // What it leaves in group 0, where exclusives have room for 64 bytes.
 fn leaves(rt: &impl Abort, alloc: Global, stream: Stream, left: Left<'_>) -> Result<(), Fail> {
-    let engine = BackRun::new(alloc, U4::low_bits(0), 64)?;
+    let engine = BackRun::new(alloc, U4::low_bits(0), 64, false)?;
     leaves_by(rt, alloc, engine, stream, left)
 }
 
@@ -164,7 +164,7 @@ fn what_is_listed_on_the_way_up(rt: HostRuntime) -> Result<(), Fail> {
         "0 0 stray\n1 0 cut-message\n3 0 cut-exclusive\n6 0 stray\n",
     )?;
     comes_back(&rt, alloc, &[0x90, 0x3C], &[], "0 0 open-message\n")?;
-    let engine = BackRun::new(alloc, U4::low_bits(15), 64)?;
+    let engine = BackRun::new(alloc, U4::low_bits(15), 64, false)?;
     let stream = stream_of(alloc, &[0xF4, 0xFA, 0xF0, 0x01])?;
     let left = Left {
         end: RunEnd::Done,
@@ -195,7 +195,7 @@ fn refused_bytes(rt: HostRuntime) -> Result<(), Fail> {
         ),
     ];
     for (bytes, end, output) in rows {
-        let engine = BackRun::new(alloc, U4::low_bits(0), 6)?;
+        let engine = BackRun::new(alloc, U4::low_bits(0), 6, false)?;
         let stream = stream_of(alloc, bytes)?;
         let left = Left {
             end,

@@ -45,7 +45,13 @@ fn leaves(
         output_puts,
         note_puts,
     } = given;
-    let engine = UpRun::new(alloc, U4::low_bits(group), order, room.clamp(6, 1_048_576))?;
+    let engine = UpRun::new(
+        alloc,
+        U4::low_bits(group),
+        order,
+        room.clamp(6, 1_048_576),
+        false,
+    )?;
     let mut input = MemSource::new(bytes, Vec::new(alloc), Vec::new(alloc));
     let mut lanes = MemLanes::new(alloc, 0, 0, Vec::new(alloc))?;
     let mut held = MemSink::new(alloc, 256, output_puts)?;

@@ -1,5 +1,5 @@
-use Rattle.ump_words.proofs.SoFar.{step, stands_behind, finishes, nothing_left}
+use Rattle.ump_words.specs.Cut.{framed_at}
 use Rattle.ump_words.proofs.packets_are_read_in_order.Goals as goal
 
 pub returns : goal.returns
-returns c = record { step = step; stands_behind = stands_behind; finishes = finishes; nothing_left = nothing_left }
+returns c = c.items_are_read_in_order.ensures framed_at

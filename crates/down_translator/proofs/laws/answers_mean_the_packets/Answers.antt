@@ -10,6 +10,6 @@ returns c =
     let kept = c.kept_lanes_are_those_of_the_recording.ensures in
     let statuses = c.statuses_that_run_can_be_left_out.ensures in
     record {
-      pairs = steps-styled fed rooms offsets pieces kept statuses;
-      translation = steps-translation c.styled_pairs_are_a_translation.ensures fed rooms offsets pieces kept statuses;
+      pairs = λ paired. steps-styled paired fed rooms offsets (pieces paired) (kept paired) statuses;
+      translation = λ paired. steps-translation paired (c.styled_pairs_are_a_translation.ensures paired) fed rooms offsets (pieces paired) (kept paired) statuses;
     }

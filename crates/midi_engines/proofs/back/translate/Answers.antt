@@ -1,4 +1,4 @@
-use Rattle.std.proofs.Common.{[], refl}
+use Rattle.std.proofs.Common.{Bool, [], refl}
 use Rattle.midi_pass.specs.Bytes.{byte_cutting}
 use Rattle.midi_pass.specs.DoneLaws.{is_done_unless}
 use Rattle.midi_engines.specs.Back.{options_of, returning}
@@ -7,10 +7,11 @@ use Rattle.midi_engines.proofs.back.translate.Goals as goal
 
 pub drive-requires-clause-ready : goal.drive-requires-clause-ready
 drive-requires-clause-ready g c =
+    let paired : Bool = c.args.up.holding.paired in
     record {
       few = c.requires.few;
       least = c.requires.least;
-      law = returned_bytes_mean c.args.up.parsing.room c.args.up.group c.requires.few c.bytes_that_come_back_mean_the_same.ensures c.rooms_that_are_not_reached_do_not_matter_in_bytes.ensures;
+      law = returned_bytes_mean paired c.args.up.parsing.room c.args.up.group c.requires.few (c.bytes_that_come_back_mean_the_same.ensures paired) (c.rooms_that_are_not_reached_do_not_matter_in_bytes.ensures paired);
       accepted = tt;
       holds_up = c.requires.new;
       holds_down = record { placed = []; are = refl; range = tt; down_is = c.requires.empty };

@@ -1,4 +1,4 @@
-use Rattle.std.proofs.Common.{[]}
+use Rattle.std.proofs.Common.{false, []}
 use Rattle.voice_state.specs.Messages.{as_they_come, meaning1}
 use Rattle.voice_state.specs.States.{first_states, states_of_stream}
 use Rattle.midi_pass.specs.Bytes.{byte_cutting}
@@ -9,7 +9,7 @@ use Rattle.midi_engines.proofs.show_bytes.show_bytes.Goals as goal
 
 pub drive-requires-clause-ready : goal.drive-requires-clause-ready
 drive-requires-clause-ready g c =
-    record { empty = c.requires.empty; stands = stands_too as_they_come c.args.state (first_states as_they_come) (states_of_stream (meaning1 [])) c.bytes_are_kept.ensures.first c.requires.new }
+    record { empty = c.requires.empty; stands = stands_too as_they_come c.args.state (first_states as_they_come) (states_of_stream (meaning1 false [])) c.bytes_are_kept.ensures.first c.requires.new }
 
 pub returns-clause-complete : goal.returns-clause-complete
 returns-clause-complete g c = is_done_unless byte_cutting (showing_bytes (options_of c.args.parser c.args.state)) c.bytes_are_cut_once.ensures _ _ c.drive.result c.drive.ensures

@@ -14,7 +14,7 @@ returns-clause-ends g c =
     λ order. Ends (packet_cutting order) (showing (record { state = is_some c.args.state; order = c.args.order; room = c.args.groups.room }))
     (seen g.S.Source g.L.Lanes g.W.Sink g.N.Sink c.args.input.now c.args.lanes.now c.args.output.now c.args.notes.now)
     (seen g.S.Source g.L.Lanes g.W.Sink g.N.Sink c.drive.new.input c.drive.new.lanes c.drive.new.output c.drive.new.notes) c.drive.result in
-    subst E (ap (λ words. words.order) c.new-reader.ensures) c.drive.ensures
+    subst E (ap (λ words. words.how) c.new-reader.ensures) c.drive.ensures
 
 pub returns-clause-complete : goal.returns-clause-complete
 returns-clause-complete g c =

@@ -1,5 +1,6 @@
-use Rattle.midi_pass.proofs.CutLaws.{bytes_once}
+use Rattle.item_reader.specs.ByteReader.{each_byte}
+use Rattle.midi_pass.specs.Bytes.{placed_at}
 use Rattle.midi_pass.proofs.laws.bytes_are_cut_once.Goals as goal
 
 pub returns : goal.returns
-returns c = bytes_once
+returns c = c.items_are_cut_once.ensures each_byte placed_at

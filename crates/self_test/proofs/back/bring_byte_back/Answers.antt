@@ -1,4 +1,4 @@
-use Rattle.std.proofs.Common.{◌≡◌, ◌≤◌, ℕ, List, length, Option, Some, None, ap, sym, ◌∙◌, subst}
+use Rattle.std.proofs.Common.{◌≡◌, ◌≤◌, ℕ, List, length, false, Option, Some, None, ap, sym, ◌∙◌, subst}
 use Rattle.std.specs.Prelude.{IfSome}
 use Rattle.std.specs.Option.{option_map}
 use Rattle.ump_grammar.specs.declared.packet.Packet.{Packet}
@@ -13,7 +13,7 @@ pub unreachable-requires : goal.unreachable-requires
 unreachable-requires c =
     let past = c.requires.ready.0 in
     let returned : HasReturned past c.args.up.now c.args.down.now = c.requires.ready.1 in
-    let answer = answered c.raised_bytes_are_the_definition.ensures c.parsed_bytes_are_the_definition.ensures past c.args.byte c.args.up.now returned.up_holds c.requires.ready.2 c.args.offset c.requires.ready.3 c.in-Ok.raised c.in-Ok.ensures.answer in
+    let answer = answered (c.raised_bytes_are_the_definition.ensures false) c.parsed_bytes_are_the_definition.ensures past c.args.byte c.args.up.now returned.up_holds c.requires.ready.2 c.args.offset c.requires.ready.3 c.in-Ok.raised c.in-Ok.ensures.answer in
     let is : packet_in c.in-Ok.raised ≡ Some c.in-Some.packet.now = ap (option_map (λ packet. packet.now)) c.in-Some.is in
     let I : Option Packet → Type 0 = λ one. IfSome one IsReturned in
     let h : IsReturned c.in-Some.packet.now = subst I is answer.returned in
@@ -25,7 +25,7 @@ pub returns-in-Ok-packet-clause-few : goal.returns-in-Ok-packet-clause-few
 returns-in-Ok-packet-clause-few c =
     let past = c.requires.ready.0 in
     let returned : HasReturned past c.args.up.now c.args.down.now = c.requires.ready.1 in
-    let answer = answered c.raised_bytes_are_the_definition.ensures c.parsed_bytes_are_the_definition.ensures past c.args.byte c.args.up.now returned.up_holds c.requires.ready.2 c.args.offset c.requires.ready.3 c.in-Ok.raised c.in-Ok.ensures.answer in
+    let answer = answered (c.raised_bytes_are_the_definition.ensures false) c.parsed_bytes_are_the_definition.ensures past c.args.byte c.args.up.now returned.up_holds c.requires.ready.2 c.args.offset c.requires.ready.3 c.in-Ok.raised c.in-Ok.ensures.answer in
     let is : packet_in c.in-Ok.raised ≡ Some c.in-Some.packet.now = ap (option_map (λ packet. packet.now)) c.in-Some.is in
     let I : Option Packet → Type 0 = λ one. IfSome one IsReturned in
     let h : IsReturned c.in-Some.packet.now = subst I is answer.returned in
@@ -34,7 +34,7 @@ returns-in-Ok-packet-clause-few c =
 
 pub returns-in-Ok-packet-clause-back : goal.returns-in-Ok-packet-clause-back
 returns-in-Ok-packet-clause-back c = λ past returned played place.
-    let law = c.raised_bytes_are_the_definition.ensures in
+    let law = (c.raised_bytes_are_the_definition.ensures false) in
     let parsed = c.parsed_bytes_are_the_definition.ensures in
     let answer = answered law parsed past c.args.byte c.args.up.now returned.up_holds played c.args.offset place c.in-Ok.raised c.in-Ok.ensures.answer in
     let is : packet_in c.in-Ok.raised ≡ Some c.in-Some.packet.now = ap (option_map (λ packet. packet.now)) c.in-Some.is in
@@ -43,7 +43,7 @@ returns-in-Ok-packet-clause-back c = λ past returned played place.
 
 pub returns-in-None-clause-back : goal.returns-in-None-clause-back
 returns-in-None-clause-back c = λ past returned played place.
-    let law = c.raised_bytes_are_the_definition.ensures in
+    let law = (c.raised_bytes_are_the_definition.ensures false) in
     let parsed = c.parsed_bytes_are_the_definition.ensures in
     let answer = answered law parsed past c.args.byte c.args.up.now returned.up_holds played c.args.offset place c.in-Ok.raised c.in-Ok.ensures.answer in
     let is : packet_in c.in-Ok.raised ≡ None = ap (option_map (λ packet. packet.now)) c.in-None.is in

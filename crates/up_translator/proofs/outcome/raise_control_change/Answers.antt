@@ -13,6 +13,6 @@ returns-clause-refused c =
 
 pub returns-clause-raised : goal.returns-clause-raised
 returns-clause-raised c = λ state keeps.
-    subst (IsRaisedVoice state (voice1.Control c.args.channel c.args.index c.args.value))
+    subst (IsRaisedVoice c.args.collector.now.paired state (voice1.Control c.args.channel c.args.index c.args.value))
     (sym (c.outcome_of.ensures.outcome ∙ ap (λ (answer : Collected). outcome_by answer c.args.channel c.args.index c.args.value) (c.control-collected.ensures.meant state keeps).1))
-    (raised_as_meant state c.args.channel c.args.index c.args.value)
+    (raised_as_meant c.args.collector.now.paired state c.args.channel c.args.index c.args.value)

@@ -2,4 +2,4 @@ use Rattle.voice_state.proofs.Induction.{start_denotes}
 use Rattle.voice_state.proofs.laws.nothing_denotes_nothing.Goals as goal
 
 pub returns : goal.returns
-returns c = start_denotes
+returns c = λ paired. start_denotes paired

@@ -2,4 +2,4 @@ use Rattle.voice_state.proofs.Recording.{recording_agrees}
 use Rattle.voice_state.proofs.laws.plain_pairs_mean_the_packets.Goals as goal
 
 pub returns : goal.returns
-returns c = recording_agrees c.written_messages_are_read_again.ensures
+returns c = λ paired. recording_agrees paired c.written_messages_are_read_again.ensures

@@ -13,9 +13,9 @@ use Rattle.voice_state.proofs.up_laws.one_more_byte_is_raised.Goals as goal
 
 pub returns : goal.returns
 returns c = record {
-  packets = λ room group bytes byte. ap (packets_up room group) (reverse-append bytes (byte ∷ []));
-  lines = λ room group bytes byte. ap (lines_up room group) (reverse-append bytes (byte ∷ []));
-  pieces = λ room group bytes byte. ap (back room group) (reverse-append bytes (byte ∷ []));
+  packets = λ paired room group bytes byte. ap (packets_up paired room group) (reverse-append bytes (byte ∷ []));
+  lines = λ paired room group bytes byte. ap (lines_up paired room group) (reverse-append bytes (byte ∷ []));
+  pieces = λ paired room group bytes byte. ap (back paired room group) (reverse-append bytes (byte ∷ []));
   meaning = meaning1-more;
-  meaning_in_room = λ room past byte a. meaning1-more past byte ∙ ap (λ step. fold step1 (meaning1 past) (option_to_list (completed_by step))) (sym (step_in_room room past byte a));
+  meaning_in_room = λ paired room past byte a. meaning1-more paired past byte ∙ ap (λ step. fold (step1 paired) (meaning1 paired past) (option_to_list (completed_by step))) (sym (step_in_room room past byte a));
 }

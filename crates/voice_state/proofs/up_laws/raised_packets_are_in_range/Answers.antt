@@ -3,13 +3,13 @@ use Rattle.voice_state.proofs.RaisedRanges.{packets_at_fit, packets_up_fit, excl
 use Rattle.voice_state.proofs.up_laws.raised_packets_are_in_range.Goals as goal
 
 pub returns : goal.returns
-returns c =
-    let at = packets_at_fit c.cut_payload_is_joined.ensures c.completed_messages_are_in_range.ensures in
-    let up = packets_up_fit c.cut_payload_is_joined.ensures c.completed_messages_are_in_range.ensures in
+returns c = λ paired.
+    let at = packets_at_fit paired c.cut_payload_is_joined.ensures c.completed_messages_are_in_range.ensures in
+    let up = packets_up_fit paired c.cut_payload_is_joined.ensures c.completed_messages_are_in_range.ensures in
     record {
-      packets = λ room group past byte l. all_packets (packets_at room group past byte) (at room group past byte l);
-      in_range = λ room group past byte l. all_in_range (packets_at room group past byte) (at room group past byte l);
-      all_packets = λ room group past l. all_packets (packets_up room group past) (up room group past l);
-      all_in_range = λ room group past l. all_in_range (packets_up room group past) (up room group past l);
+      packets = λ room group past byte l. all_packets (packets_at paired room group past byte) (at room group past byte l);
+      in_range = λ room group past byte l. all_in_range (packets_at paired room group past byte) (at room group past byte l);
+      all_packets = λ room group past l. all_packets (packets_up paired room group past) (up room group past l);
+      all_in_range = λ room group past l. all_in_range (packets_up paired room group past) (up room group past l);
       exclusive = exclusive_fits;
     }

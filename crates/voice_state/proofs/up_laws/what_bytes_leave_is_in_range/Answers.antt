@@ -5,8 +5,8 @@ use Rattle.voice_state.proofs.up_laws.what_bytes_leave_is_in_range.Goals as goal
 
 pub returns : goal.returns
 returns c = record {
-  values = values_in_range c.cut_payload_is_joined.ensures c.completed_messages_are_in_range.ensures;
-  bank = bank_in_range c.completed_messages_are_in_range.ensures;
-  number = number_in_range c.completed_messages_are_in_range.ensures;
+  values = λ paired. values_in_range paired c.cut_payload_is_joined.ensures c.completed_messages_are_in_range.ensures;
+  bank = λ paired. bank_in_range paired c.completed_messages_are_in_range.ensures;
+  number = λ paired. number_in_range paired c.completed_messages_are_in_range.ensures;
   payload = λ room past byte bytes e. subst (FitsMessage room) e (completed_fits_room room past byte);
 }

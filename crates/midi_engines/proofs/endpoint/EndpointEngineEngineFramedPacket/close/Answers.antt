@@ -1,4 +1,4 @@
-use Rattle.std.proofs.Common.{◌++◌, ◌∷◌, [], Some, List, ℕ, ap, ◌∙◌}
+use Rattle.std.proofs.Common.{false, ◌++◌, ◌∷◌, [], Some, List, ℕ, ap, ◌∙◌}
 use Rattle.sysex_groups.specs.Table.{Table}
 use Rattle.function_blocks.specs.Setups.{Facts}
 use Rattle.ci_responder.specs.Held.{Held, muid_in}
@@ -26,7 +26,7 @@ returns g c = λ first past holds.
     let setup : Facts = first.setup in
     let told : List Told = told_in_packets room before in
     let protocol : ℕ = in_force setup before in
-    let table : Table = (state_of plain_style room before).exclusives in
+    let table : Table = (state_of false plain_style room before).exclusives in
     let heard : Held = held_at setup room told in
     let listed : List Put = line_puts (end_lines (Some room) (parts_of before)) in
     let history = c.held_is_the_history.ensures in
@@ -39,7 +39,7 @@ returns g c = λ first past holds.
           ∙ ap (λ p. lines (open_puts now.listener.groups groups) p (blocks_of setup now.listener.responder) (profiles_of setup now.listener.responder)) holds.protocol_is
           ∙ ap (λ t. lines (open_puts t groups) protocol (blocks_of setup now.listener.responder) (profiles_of setup now.listener.responder)) holds.groups_are
           ∙ ap (λ h. lines (open_puts table groups) protocol (blocks_of setup h) (profiles_of setup h)) holds.responder_is
-          ∙ ap (λ ps. lines ps protocol (blocks_of setup heard) (profiles_of setup heard)) (open_is c.what_is_held_is_the_definition.ensures history setup room before holds.least holds.range)
+          ∙ ap (λ ps. lines ps protocol (blocks_of setup heard) (profiles_of setup heard)) (open_is (c.what_is_held_is_the_definition.ensures false) history setup room before holds.least holds.range)
           ∙ ap (λ ps. lines listed protocol ps (profiles_of setup heard)) (blocks_are (muid_in heard.blocks) (muid_at setup told) (history.muid setup room told) setup.blocks)
           ∙ ap (λ ps. lines listed protocol blocks_told ps) (profiles_are (state_in heard.states) (on_at setup told) (history.on setup room told) setup.profiles),
       c.put_closing.ensures,

@@ -1,4 +1,4 @@
-use Rattle.std.proofs.Common.{◌≡◌, ◌++◌, List, ℕ, ap, ◌∙◌, subst}
+use Rattle.std.proofs.Common.{◌≡◌, false, ◌++◌, List, ℕ, ap, ◌∙◌, subst}
 use Rattle.ump_words.specs.declared.words.Framed.{Framed}
 use Rattle.ump_words.specs.declared.words.Order.{Order}
 use Rattle.ump_grammar.specs.declared.packet.Packet.{Packet}
@@ -35,8 +35,8 @@ returns g c = λ first past holds asks.
     let placed : Placed = placed_of item in
     let room : ℕ = first.listener.groups.room in
     let setup : Facts = first.setup in
-    let table : Table = (state_of plain_style room before).exclusives in
-    let laws = c.what_is_held_is_the_definition.ensures in
+    let table : Table = (state_of false plain_style room before).exclusives in
+    let laws = c.what_is_held_is_the_definition.ensures false in
     let history = c.held_is_the_history.ensures in
     let follows = c.protocol_follows_the_requests.ensures in
     let takes = c.take_packet.ensures in

@@ -1,4 +1,4 @@
-use Rattle.std.proofs.Common.{ℕ, List, ◌∷◌, ◌++◌, ap, sym, ◌∙◌, subst}
+use Rattle.std.proofs.Common.{ℕ, Bool, List, ◌∷◌, ◌++◌, ap, sym, ◌∙◌, subst}
 use Rattle.std.specs.Prelude.{Some}
 use Rattle.ump_words.specs.declared.words.Order.{Order}
 use Rattle.ump_grammar.specs.declared.packet.Packet.{Packet}
@@ -19,11 +19,12 @@ use Rattle.midi_engines.proofs.up.UpEngineEngineU64U8.step.Goals as goal
 pub put_byte-requires-clause-taken : goal.put_byte-requires-clause-taken
 put_byte-requires-clause-taken g c = λ raised raises.
     let first = c.requires.holds.0 in
+    let paired : Bool = first.up.holding.paired in
     let past : List (ℕ × ℕ) = c.requires.holds.1 in
     let held = c.requires.holds.2.1 in
     let T : List Packet → Type 0 = λ ps. AreTaken AcceptsWords WritesWords c.args.self.now.words ps in
-    let answer = answered c.raised_bytes_are_the_definition.ensures first.up.parsing.room first.up.group past c.args.self.now.up held.holds c.args.at.now c.args.item.now c.requires.holds.3 raised raises in
-    subst T (sym answer.packets) (all_taken _ (c.raised_packets_are_in_range.ensures.packets (Some first.up.parsing.room) first.up.group (bytes_of past) c.args.item.now held.few) c.args.self.now.words)
+    let answer = answered paired (c.raised_bytes_are_the_definition.ensures paired) first.up.parsing.room first.up.group past c.args.self.now.up held.holds c.args.at.now c.args.item.now c.requires.holds.3 raised raises in
+    subst T (sym answer.packets) (all_taken _ ((c.raised_packets_are_in_range.ensures paired).packets (Some first.up.parsing.room) first.up.group (bytes_of past) c.args.item.now held.few) c.args.self.now.words)
 
 pub put_byte-requires-clause-done : goal.put_byte-requires-clause-done
 put_byte-requires-clause-done g c = exclusive_is_written c.exclusives_have_words.ensures
@@ -32,6 +33,7 @@ pub returns : goal.returns
 returns g c = λ first past holds place.
     let old = places g.L.Lanes g.W.Sink g.N.Sink c.args.lanes.now c.args.output.now c.args.notes.now in
     let new = places g.L.Lanes g.W.Sink g.N.Sink c.put_byte.new.lanes c.put_byte.new.output c.put_byte.new.notes in
+    let paired : Bool = first.up.holding.paired in
     let room : ℕ = first.up.parsing.room in
     let group : ℕ = first.up.group in
     let order : Order = first.words.order in
@@ -39,13 +41,13 @@ returns g c = λ first past holds place.
     let byte : ℕ = c.args.item.now in
     let offset : ℕ = c.args.at.now in
     let up : UpState = c.args.self.now.up in
-    let law = c.raised_bytes_are_the_definition.ensures in
+    let law = c.raised_bytes_are_the_definition.ensures paired in
     let does = RaisedIsDone WritesWords up (offset, byte) c.args.self.now.words in
     let A : Tail → Type 0 = λ tail. Answers tail does c.put_byte.new.work old new c.put_byte.result in
     answered_steps (raising (options_of first.up order)) past (offset, byte) does c.put_byte.new.work old new _ c.put_byte.result
-    (subst A (refused_as law room group past up held.holds offset byte place c.parsed_bytes_are_the_definition.ensures) c.put_byte.ensures.answer)
+    (subst A (refused_as paired law room group past up held.holds offset byte place c.parsed_bytes_are_the_definition.ensures) c.put_byte.ensures.answer)
     (λ to puts done.
-    let raised = answered law room group past up held.holds offset byte place done.0 done.1 in
+    let raised = answered paired law room group past up held.holds offset byte place done.0 done.1 in
     let written = done.2 in
     let O : Order → Type 0 = λ o. AreWritten o (packets_in done.0) written.0 in
     let P : List Packet → Type 0 = λ ps. AreWritten order ps written.0 in (
@@ -55,14 +57,14 @@ returns g c = λ first past holds place.
     )
     )
     (λ puts done.
-    let raised = answered law room group past up held.holds offset byte place done.0 done.1 in
+    let raised = answered paired law room group past up held.holds offset byte place done.0 done.1 in
     let accepted : AreAcceptedUp (Some room) (byte ∷ bytes_of past) = (raised.accepted, held.accepted) in (
       same_words (packets_in done.0) c.args.self.now.words c.put_byte.new.work done.2.0 done.2.1 ∙ holds.0,
       record {
         few = held.few;
         law = held.law;
         accepted = accepted;
-        holds = holds_more law room group past up held.holds offset byte place c.rooms_that_are_not_reached_do_not_matter_in_bytes.ensures c.put_byte.new.up accepted c.put_byte.ensures.kept c.put_byte.ensures.after;
+        holds = holds_more paired law room group past up held.holds offset byte place (c.rooms_that_are_not_reached_do_not_matter_in_bytes.ensures paired) c.put_byte.new.up accepted c.put_byte.ensures.kept c.put_byte.ensures.after;
       },
     )
     )

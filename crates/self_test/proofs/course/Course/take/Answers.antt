@@ -1,4 +1,4 @@
-use Rattle.std.proofs.Common.{◌≡◌, ℕ, List, length, ap}
+use Rattle.std.proofs.Common.{◌≡◌, ℕ, List, length, false, ap}
 use Rattle.voice_state.specs.Parts.{Placed}
 use Rattle.down_translator.specs.Recording.{packets_of}
 use Rattle.self_test.specs.declared.counts.Counts.{Counts}
@@ -24,5 +24,5 @@ returns c = λ past taken.
     let bytes : List ℕ = bytes_behind (packets_of past) in
     let read = piece_is_read past old c.args.offset c.args.packet.now c.in-Ok.carried c.requires.played taken c.in-Ok.ensures.answer in
     let place : old.counts.bytes ≡ length bytes = ap (λ (counts : Counts). counts.bytes) taken.counts_are in
-    one_more c.carried_packets_have_a_piece.ensures c.rooms_that_are_not_reached_do_not_matter_in_bytes.ensures past old new c.args.offset c.args.packet.now c.in-Ok.carried c.bring_back-again.result c.requires.played taken c.in-Ok.ensures.answer
+    one_more (c.carried_packets_have_a_piece.ensures false) (c.rooms_that_are_not_reached_do_not_matter_in_bytes.ensures false) past old new c.args.offset c.args.packet.now c.in-Ok.carried c.bring_back-again.result c.requires.played taken c.in-Ok.ensures.answer
     c.packet.follows.holds-at-none (c.bring_back-again.ensures.back bytes taken.returned read.played place) c.bring_back-again.ensures.few c.with_more-self.ensures

@@ -1,4 +1,4 @@
-use Rattle.std.proofs.Common.{◌≡◌, ◌∙◌, ◌<◌, sym, subst, arith, length, slice_set}
+use Rattle.std.proofs.Common.{◌≡◌, ◌∙◌, ◌<◌, sym, subst, false, arith, length, slice_set}
 use Rattle.std.proofs.lemmas.Result.{on_ok_weaker}
 use Rattle.voice_state.specs.Kept.{KeepsChannel, KeepsGroup, KeptGroup}
 use Rattle.voice_state.specs.Messages.{raised}
@@ -21,6 +21,6 @@ returns-clause-step c =
     (λ step state keeps.
     let kept : KeepsGroup scale old state = subst (λ group. KeepsGroup scale group state) (sym c.self.view_is) keeps in
     let found = subst (λ at. KeepsChannel scale at (state.channels channel)) (sym c.index_mut-channel.ensures.value) (kept.channels channel c.index_mut-channel.result.now below) in
-    subst (λ at. KeepsGroup scale new (at_channel at (voice2_at message) state)) is
-    (channel_kept scale old state channel c.voice2.new.self (voice2_at message) within kept (step (state.channels channel) found)))
+    subst (λ at. KeepsGroup scale new (at_channel at (voice2_at false message) state)) is
+    (channel_kept scale old state channel c.voice2.new.self (voice2_at false message) within kept (step (state.channels channel) found)))
     c.voice2.ensures.step

@@ -1,0 +1,8 @@
+pub mod CountLaws
+pub mod HistoryLaws
+pub mod KeyLaws
+pub mod OpenedLaws
+pub mod ReadLaws
+pub mod SlotLaws
+pub mod TableLaws
+pub mod ViewLaws

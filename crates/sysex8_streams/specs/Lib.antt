@@ -1,0 +1,8 @@
+pub mod Fed8
+pub mod History
+pub mod Laws
+pub mod Lend
+pub mod Reading
+pub mod Rows
+pub mod Slots
+pub mod Table

@@ -1,0 +1,13 @@
+use Rattle.midi_pass.specs.Bytes.{byte_cutting}
+use Rattle.midi_pass.specs.FirstRefusal.{one_refusal}
+use Rattle.usb_engines.specs.Events.{event_cutting}
+use Rattle.usb_engines.specs.Pack.{packing}
+use Rattle.usb_engines.specs.Split.{splitting}
+use Rattle.usb_engines.proofs.laws.events_and_bytes_have_one_first_refusal.Goals as goal
+
+pub returns : goal.returns
+returns c =
+    record {
+      split = one_refusal event_cutting splitting c.events_are_cut_once.ensures;
+      packed = λ options. one_refusal byte_cutting (packing options) c.bytes_are_cut_once.ensures;
+    }

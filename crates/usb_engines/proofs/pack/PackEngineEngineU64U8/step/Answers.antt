@@ -1,0 +1,40 @@
+use Rattle.std.proofs.Common.{◌≡◌, ℕ, List, length, refl, ap, sym, ◌∙◌, subst}
+use Rattle.std.specs.Prelude.{Some}
+use Rattle.std.proofs.lemmas.List.{length-map}
+use Rattle.midi1_bytes.specs.Parsing.{held_behind, parse}
+use Rattle.midi1_bytes.specs.Steps.{Step, step_of}
+use Rattle.midi_pass.specs.Bytes.{bytes_of}
+use Rattle.midi_pass.specs.Pass.{Takes}
+use Rattle.midi_pass.specs.Places.{places}
+use Rattle.midi_pass.specs.StepLaws.{takes_steps}
+use Rattle.usb_midi1.specs.Held.{PackerState, packer_after, packer_behind, step_in}
+use Rattle.usb_engines.specs.Pack.{options_of, packed_puts, packing, refusal_of}
+use Rattle.usb_engines.proofs.PackLaws.{step_within}
+use Rattle.usb_engines.proofs.pack.PackEngineEngineU64U8.step.Goals as goal
+
+pub returns : goal.returns
+returns g c = λ first past holds place.
+    let old = places g.L.Lanes g.W.Sink g.N.Sink c.args.lanes.now c.args.output.now c.args.notes.now in
+    let new = places g.L.Lanes g.W.Sink g.N.Sink c.pack_byte.new.lanes c.pack_byte.new.output c.pack_byte.new.notes in
+    let packer : PackerState = c.args.self.now.packer in
+    let room : ℕ = first.packer.parsing.room in
+    let cable : ℕ = first.packer.cable in
+    let bytes : List ℕ = bytes_of past in
+    let byte : ℕ = c.args.item.now in
+    let offset : ℕ = c.args.at.now in
+    let at : offset ≡ length bytes = place ∙ sym (length-map past (λ (item : ℕ × ℕ). item.1)) in
+    let step : step_in packer offset byte ≡ step_of (Some room) bytes byte =
+    ap (λ (p : PackerState). step_in p offset byte) holds.packer_is ∙ ap (λ n. (parse (held_behind room bytes) n byte).step) at ∙ c.parsed_bytes_are_the_definition.ensures.step room bytes byte in
+    let C : ℕ → Type 0 = λ n. Takes (refusal_of (step_in packer offset byte) offset) (packed_puts n (step_in packer offset byte) offset) old new c.pack_byte.result in
+    let T : Step → Type 0 = λ s. Takes (refusal_of s offset) (packed_puts cable s offset) old new c.pack_byte.result in
+    takes_steps (packing (options_of first.packer)) past (offset, byte) old new _ c.pack_byte.result (packed_puts cable (step_of (Some room) bytes byte) offset)
+    (subst T step (subst C (ap (λ (p : PackerState). p.cable) holds.packer_is) c.pack_byte.ensures.takes))
+    (λ fine. (
+      refl,
+      record {
+        few = holds.few;
+        law = holds.law;
+        within = (step_within (step_of (Some room) bytes byte) offset fine, holds.within);
+        packer_is = c.pack_byte.ensures.after ∙ ap (λ (p : PackerState). packer_behind p offset byte) holds.packer_is ∙ ap (λ n. packer_behind (packer_after room cable bytes) n byte) at ∙ c.packed_bytes_are_the_definition.ensures.after room cable bytes byte;
+      },
+    ))

@@ -1,0 +1,20 @@
+use Rattle.midi_pass.specs.Places.{places}
+use Rattle.midi1_bytes.specs.Steps.{Step}
+use Rattle.usb_midi1.specs.Held.{step_in}
+use Rattle.usb_engines.proofs.PackLaws.{accepts, has_both_ends, refuses}
+use Rattle.usb_engines.proofs.pack.pack_byte.Goals as goal
+
+pub put_packed-requires-clause-whole : goal.put_packed-requires-clause-whole
+put_packed-requires-clause-whole g c = has_both_ends c.in-Ok.packed _ _ _ c.in-Ok.ensures.answer
+
+pub returns-in-Ok-clause-takes : goal.returns-in-Ok-clause-takes
+returns-in-Ok-clause-takes g c =
+    let old = places g.L.Lanes g.W.Sink g.N.Sink c.args.lanes.now c.args.output.now c.args.notes.now in
+    let new = places g.L.Lanes g.W.Sink g.N.Sink c.put_packed.new.lanes c.put_packed.new.output c.put_packed.new.notes in
+    let step : Step = step_in c.args.packer.now c.args.offset c.args.byte in
+    accepts c.in-Ok.packed c.args.packer.now.cable c.args.offset step old new c.put_packed.result c.in-Ok.ensures.answer c.put_packed.ensures
+
+pub returns-in-Err-clause-takes : goal.returns-in-Err-clause-takes
+returns-in-Err-clause-takes g c =
+    let old = places g.L.Lanes g.W.Sink g.N.Sink c.args.lanes.now c.args.output.now c.args.notes.now in
+    refuses c.args.packer.now.cable c.args.offset (step_in c.args.packer.now c.args.offset c.args.byte) old c.in-Err.ensures.answer

@@ -1,0 +1,25 @@
+use Rattle.std.proofs.Common.{arith}
+use Rattle.midi_pass.specs.Places.{places}
+use Rattle.usb_engines.proofs.PackLaws.{all_put, below_end, none_yet, one_fails, one_more}
+use Rattle.usb_engines.proofs.pack.put_exclusive.Goals as goal
+
+pub loop-event-init : goal.loop-event-init
+loop-event-init g c = none_yet c.args.cable c.args.whole.now (places g.L.Lanes g.W.Sink g.N.Sink c.args.lanes.now c.args.output.now c.args.notes.now)
+
+pub loop-event-smaller : goal.loop-event-smaller
+loop-event-smaller g c = omega (arith, below_end c.args.cable c.args.whole.now c.loop-event.k c.in-Some.event c.in-Some.ensures)
+
+pub loop-event-preserved : goal.loop-event-preserved
+loop-event-preserved g c =
+    one_more c.exclusive_events_come_in_order.ensures c.args.cable c.args.whole.now c.loop-event.k (places g.L.Lanes g.W.Sink g.N.Sink c.args.lanes.now c.args.output.now c.args.notes.now) _
+    c.loop-event.invariant c.in-Some.event c.in-Some.ensures _ c.in-Ok.ensures
+
+pub returns-in-Err : goal.returns-in-Err
+returns-in-Err g c =
+    one_fails c.exclusive_events_come_in_order.ensures c.args.cable c.args.whole.now c.loop-event.k (places g.L.Lanes g.W.Sink g.N.Sink c.args.lanes.now c.args.output.now c.args.notes.now) _
+    c.loop-event.invariant c.in-Some.event c.in-Some.ensures _ c.in-Err.end c.in-Err.ensures
+
+pub returns : goal.returns
+returns g c =
+    all_put c.exclusive_events_come_in_order.ensures c.args.cable c.args.whole.now c.loop-event.k (places g.L.Lanes g.W.Sink g.N.Sink c.args.lanes.now c.args.output.now c.args.notes.now) _
+    c.loop-event.invariant c.in_default.ensures

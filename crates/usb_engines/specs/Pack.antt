@@ -1,0 +1,74 @@
+-- A stream of MIDI 1.0 bytes that is packed: the events of each byte, and its lines; at the end the line of what is open.
+use Rattle.std.specs.Prelude.{◌≡◌, ℕ, false, true, ◌<◌, List, ◌++◌, map, reverse, None, Some}
+use Rattle.std.specs.List.{AllByRecursion, concat}
+use Rattle.midi1_bytes.specs.Steps.{Step, completed, completed_by, step_of, too_long}
+use Rattle.voice_state.specs.StepListing.{kinds_at_end, kinds_of_step, line_up, open_pair}
+use Rattle.voice_state.specs.UpRefusal.{AreStepsWithinRoom}
+use Rattle.voice_state.specs.declared.listed.Kind.{Kind}
+use Rattle.voice_state.specs.declared.listed.Listed.{Listed}
+use Rattle.midi_lines.specs.ListingLines.{listing_text}
+use Rattle.midi_pass.specs.Bytes.{bytes_of}
+use Rattle.midi_pass.specs.Pass.{Tail, Work}
+use Rattle.midi_pass.specs.Put.{Put, in_notes, in_output, output_in}
+use Rattle.midi_pass.specs.declared.ends.Reason.TheVariants.{ExclusiveTooLong}
+use Rattle.usb_midi1.specs.Held.{PackerState, packer_after}
+use Rattle.usb_midi1.specs.Laws.{SplitEventsMeanTheBytes}
+use Rattle.usb_midi1.specs.Packing.{events_by, stream_events}
+use Rattle.usb_midi1.specs.Split.{on_cable, split}
+use Rattle.usb_engines.specs.Options.{PackOptions}
+
+-- a byte is refused only where its exclusive passes the room
+abbrev pub refusal_of : Step → ℕ → Tail
+refusal_of too_long offset = Some (ExclusiveTooLong, offset)
+refusal_of _ offset = None
+
+-- the puts of events, each by itself, and of lines of the listing
+abbrev pub event_puts : List (List ℕ) → List Put
+event_puts events = map in_output events
+
+abbrev pub line_puts : List Listed → List Put
+line_puts lines = map (λ line. in_notes (listing_text line)) lines
+
+-- the events of the message that a step completes, and then the lines of the step at this offset
+abbrev pub packed_puts : ℕ → Step → ℕ → List Put
+packed_puts cable step offset =
+    event_puts (events_by cable (completed_by step))
+    ++ line_puts (map (line_up cable) (kinds_of_step step offset))
+
+-- the line of what is open, by its start and kind
+abbrev pub open_lines : ℕ → List (Kind × ℕ) → List Put
+open_lines cable kinds = line_puts (map (line_up cable) kinds)
+
+-- What the events of this output carry is all on the cable, and completes the messages that these bytes, the newest first, complete.
+abbrev pub CarryTheMessages : ℕ → List ℕ → List ℕ → Type 0
+CarryTheMessages cable past output =
+    AllByRecursion (λ piece. piece.0 ≡ cable) (split output)
+    × (completed (reverse (on_cable cable (split output))) ≡ completed past)
+
+-- What is done with a stream that is packed. What is put in the output is the events of all bytes, in their order; they carry the
+-- messages of the stream.
+abbrev pub packing : PackOptions → Work (ℕ × ℕ)
+packing options =
+    record {
+      names = record { lanes = false; output = true; notes = true };
+      grows = false;
+      refusal = λ past item. refusal_of (step_of (Some options.room) (bytes_of past) item.1) item.0;
+      IsPut = λ past item puts.
+          puts ≡ packed_puts options.cable (step_of (Some options.room) (bytes_of past) item.1) item.0;
+      IsPutAtEnd = λ past puts.
+          puts ≡ open_lines options.cable (kinds_at_end (open_pair (Some options.room) (bytes_of past)));
+      Means = λ past puts.
+          (output_in puts ≡ concat (stream_events (Some options.room) options.cable (bytes_of past)))
+          × CarryTheMessages options.cable (bytes_of past) (output_in puts);
+    }
+
+-- the options of an engine
+abbrev pub options_of : PackerState → PackOptions
+options_of packer = record { cable = packer.cable; room = packer.parsing.room }
+
+-- the packer holds what these bytes leave, of which none passed the room
+pub record HoldsPacked (options : PackOptions) (packer : PackerState) (past : List (ℕ × ℕ)) : Type 0 where
+  pub few : options.cable < 16
+  pub law : SplitEventsMeanTheBytes
+  pub within : AreStepsWithinRoom options.room (bytes_of past)
+  pub packer_is : packer ≡ packer_after options.room options.cable (bytes_of past)

@@ -1,0 +1,334 @@
+// From a stream of MIDI 1.0 bytes to events.
+ghost use Rattle.std.specs.Prelude.{◌≡◌, ◌≤◌, ◌<◌, ◌∷◌, ◌++◌, [], IfOk, IfSome, length};
+ghost use Rattle.std.specs.Option.{option_map, option_to_list};
+ghost use Rattle.midi1_bytes.specs.Parsing.{idle, open_of};
+ghost use Rattle.voice_state.specs.StepListing.{kinds_at_end};
+ghost use Rattle.midi_pass.specs.Bytes.{byte_cutting};
+ghost use Rattle.midi_pass.specs.Pass.{Ends, IsDoneUnless, Takes, seen};
+ghost use Rattle.midi_pass.specs.Places.{Puts, places};
+ghost use Rattle.usb_midi1.specs.Held.{packer_behind, step_in};
+ghost use Rattle.usb_midi1.specs.Packed.{IsApart, events_in, lines_in, whole_in};
+ghost use Rattle.usb_midi1.specs.Packing.{exclusive_events};
+ghost use Rattle.usb_engines.specs.Pack.{
+  HoldsPacked,
+  event_puts,
+  line_puts,
+  open_lines,
+  options_of,
+  packed_puts,
+  packing,
+  refusal_of,
+};
+ghost use Rattle.usb_engines.specs.PackMeans.{last_named, packs_mean, packs_named};
+
+use item_reader::ByteReader;
+use midi_edge::{Lanes, NoMemory, Sink, Source, U4};
+use midi_lines::{Line, fill_listing_line};
+use midi_pass::laws::bytes_are_cut_once;
+use midi_pass::places::{put_notes, put_output};
+use midi_pass::{Engine, LIMIT, Reason, RunEnd, drive};
+use midi1_bytes::laws::parsed_bytes_are_the_definition;
+use std::alloc::Global;
+use std::marker::Model;
+use usb_midi1::laws::{
+    exclusive_events_come_in_order, packed_bytes_are_the_definition, split_events_mean_the_bytes,
+};
+use usb_midi1::{Packed, Packer, TooLong, exclusive_event};
+use voice_state::Listed;
+
+/// A packing that is ready to begin, with all its memory. A contract sees its options.
+#[derive(Drop)]
+pub struct PackRun {
+    packer: Packer,
+}
+
+impl Model for PackRun {
+    ghost use Rattle.std.specs.Prelude.{◌≡◌, ◌<◌};
+    ghost use Rattle.midi1_bytes.specs.Parsing.{idle};
+    ghost use Rattle.usb_engines.specs.Options.{PackOptions};
+
+    ghost Value = { PackOptions };
+
+    ghost view = { λ r. record { cable = r.packer.cable; room = r.packer.parsing.room } };
+
+    ghost invariant = { λ r. (r.packer.parsing ≡ idle r.packer.parsing.room) × (r.packer.cable < 16) };
+}
+
+impl PackRun {
+    /// A packing into the events of this cable. `room` is the most bytes of an exclusive between F0 and F7, 6 to 1,048,576, for which
+    /// memory is reserved (own rule); `NoMemory` where there isn't so much. No other call takes any.
+    pub fn new(alloc: Global, cable: U4, room: u32) -> Result<PackRun, NoMemory>
+        requires least { 6 ≤ room }
+        requires most { room ≤ 1048576 }
+        ensures { IfOk result (λ run. run ≡ record { cable = cable; room = room }) }
+    {
+        match Packer::new(alloc, cable, room) {
+            Ok(packer) => Ok(PackRun { packer }),
+            Err(no_memory) => Err(no_memory),
+        }
+    }
+}
+
+// Puts the events of each byte in the output and its lines in the notes, at the end the line of what is still open.
+#[derive(Drop)]
+struct PackEngine {
+    packer: Packer,
+}
+
+impl Engine<u64, u8> for PackEngine {
+    ghost work = { λ first. packing (options_of first.packer) };
+
+    ghost IsReady = { λ first. HoldsPacked (options_of first.packer) first.packer [] };
+
+    ghost UsesLanes = { ⊥ };
+
+    ghost Holds = { λ first now past. HoldsPacked (options_of first.packer) now.packer past };
+
+    ghost Asks = { λ item. Unit {0} };
+
+    ghost AsksAfter = { λ past item. item.0 ≡ length past };
+
+    #[inline(always)]
+    fn step<L: Lanes, W: Sink, N: Sink>(
+        &mut self,
+        at: &u64,
+        item: &u8,
+        lanes: &mut L,
+        output: &mut W,
+        notes: &mut N,
+    ) -> Result<(), RunEnd> {
+        parsed_bytes_are_the_definition();
+        packed_bytes_are_the_definition();
+        pack_byte(&mut self.packer, *item, *at, lanes, output, notes)
+    }
+
+    fn close<L: Lanes, W: Sink, N: Sink>(
+        &self,
+        lanes: &mut L,
+        output: &mut W,
+        notes: &mut N,
+    ) -> Result<(), RunEnd> {
+        packed_bytes_are_the_definition();
+        put_open(&self.packer, lanes, output, notes)
+    }
+
+    ghost puts_are_named = { λ first past item puts put.
+        packs_named (options_of first.packer) past item puts put };
+
+    ghost last_puts_are_named = { λ first past puts put. last_named (options_of first.packer) past puts put };
+
+    ghost starts = { λ first ready. ready };
+
+    ghost means = { λ first now past puts holds accepted put.
+        packs_mean (options_of first.packer) now.packer past puts holds put };
+}
+
+/// Packs a stream into the events of a cable, to its end or to the first byte that is refused (USB Device Class Definition for MIDI
+/// Devices 1.0, event packets; what comes to nothing is listed by own rule): puts the events of each message in the output, each
+/// event by one put, when the byte that completes the message is read, and after those of a byte its lines in the notes, at the end
+/// the line of what is still open. Takes no memory.
+///
+/// `Refused` comes for `InputTooLong` and `ExclusiveTooLong`, with the number of bytes before what is refused. `ReadFault`,
+/// `OutputFault` and `NoteFault` come only where the count of that object rose. The lanes stay as they are.
+pub fn run_pack<S: Source, L: Lanes, W: Sink, N: Sink>(
+    engine: PackRun,
+    input: &mut S,
+    lanes: &mut L,
+    output: &mut W,
+    notes: &mut N,
+) -> RunEnd
+    ensures ends { Ends byte_cutting (packing engine)
+        (seen S.Source L.Lanes W.Sink N.Sink input.old lanes.old output.old notes.old)
+        (seen S.Source L.Lanes W.Sink N.Sink input.new lanes.new output.new notes.new) result }
+    ensures complete { IsDoneUnless byte_cutting (packing engine)
+        (seen S.Source L.Lanes W.Sink N.Sink input.old lanes.old output.old notes.old)
+        (seen S.Source L.Lanes W.Sink N.Sink input.new lanes.new output.new notes.new) result }
+{
+    let PackRun { packer } = engine;
+    pack(packer, input, lanes, output, notes)
+}
+
+// Packs a stream by a packer that has had no byte.
+#[inline(never)]
+fn pack<S: Source, L: Lanes, W: Sink, N: Sink>(
+    packer: Packer,
+    input: &mut S,
+    lanes: &mut L,
+    output: &mut W,
+    notes: &mut N,
+) -> RunEnd
+    requires empty { packer.parsing ≡ idle packer.parsing.room }
+    requires few { packer.cable < 16 }
+    ensures ends { Ends byte_cutting (packing (options_of packer))
+        (seen S.Source L.Lanes W.Sink N.Sink input.old lanes.old output.old notes.old)
+        (seen S.Source L.Lanes W.Sink N.Sink input.new lanes.new output.new notes.new) result }
+    ensures complete { IsDoneUnless byte_cutting (packing (options_of packer))
+        (seen S.Source L.Lanes W.Sink N.Sink input.old lanes.old output.old notes.old)
+        (seen S.Source L.Lanes W.Sink N.Sink input.new lanes.new output.new notes.new) result }
+{
+    bytes_are_cut_once();
+    packed_bytes_are_the_definition();
+    split_events_mean_the_bytes();
+    let engine = PackEngine { packer };
+    drive(ByteReader::new(LIMIT), engine, input, lanes, output, notes)
+}
+
+// Packs one more byte: puts its events in the output, and then its lines in the notes.
+#[inline(always)]
+fn pack_byte<L: Lanes, W: Sink, N: Sink>(
+    packer: &mut Packer,
+    byte: u8,
+    offset: u64,
+    lanes: &mut L,
+    output: &mut W,
+    notes: &mut N,
+) -> Result<(), RunEnd>
+    ensures takes { Takes (refusal_of (step_in packer.old offset byte) offset)
+        (packed_puts packer.old.cable (step_in packer.old offset byte) offset)
+        (places L.Lanes W.Sink N.Sink lanes.old output.old notes.old)
+        (places L.Lanes W.Sink N.Sink lanes.new output.new notes.new) result }
+    ensures after { packer.new ≡ packer_behind packer.old offset byte }
+{
+    match packer.byte(byte, offset) {
+        Ok(packed) => put_packed(&packed, lanes, output, notes),
+        Err(TooLong) => Err(RunEnd::Refused {
+            reason: Reason::ExclusiveTooLong,
+            offset,
+        }),
+    }
+}
+
+// Puts the events of a byte, and then its lines.
+#[inline(always)]
+fn put_packed<L: Lanes, W: Sink, N: Sink>(
+    packed: &Packed<'_>,
+    lanes: &mut L,
+    output: &mut W,
+    notes: &mut N,
+) -> Result<(), RunEnd>
+    requires apart { IsApart packed.now }
+    requires whole { IfSome (whole_in packed.now) (λ whole. 2 ≤ length whole) }
+    ensures { Puts (event_puts (events_in packed.now) ++ line_puts (lines_in packed.now))
+        (places L.Lanes W.Sink N.Sink lanes.old output.old notes.old)
+        (places L.Lanes W.Sink N.Sink lanes.new output.new notes.new) result }
+{
+    match put_events(*packed, lanes, output, notes) {
+        Ok(()) => put_lines(packed, lanes, output, notes),
+        Err(end) => Err(end),
+    }
+}
+
+// Puts the events of a byte.
+#[inline(always)]
+fn put_events<L: Lanes, W: Sink, N: Sink>(
+    packed: Packed<'_>,
+    lanes: &mut L,
+    output: &mut W,
+    notes: &mut N,
+) -> Result<(), RunEnd>
+    requires apart { IsApart packed }
+    requires whole { IfSome (whole_in packed) (λ whole. 2 ≤ length whole) }
+    ensures { Puts (event_puts (events_in packed.entry))
+        (places L.Lanes W.Sink N.Sink lanes.old output.old notes.old)
+        (places L.Lanes W.Sink N.Sink lanes.new output.new notes.new) result }
+{
+    match packed.event {
+        Some(event) => put_output(&event, lanes, output, notes),
+        None => match packed.whole {
+            Some(whole) => put_exclusive(packed.cable(), whole, lanes, output, notes),
+            None => Ok(()),
+        },
+    }
+}
+
+// Puts the events of an exclusive that is given from its F0 to its F7.
+fn put_exclusive<L: Lanes, W: Sink, N: Sink>(
+    cable: U4,
+    whole: &[u8],
+    lanes: &mut L,
+    output: &mut W,
+    notes: &mut N,
+) -> Result<(), RunEnd>
+    requires { 2 ≤ length whole.now }
+    ensures { Puts (event_puts (exclusive_events cable whole.now))
+        (places L.Lanes W.Sink N.Sink lanes.old output.old notes.old)
+        (places L.Lanes W.Sink N.Sink lanes.new output.new notes.new) result }
+{
+    exclusive_events_come_in_order();
+    let mut k = 0;
+    while let Some(event) = exclusive_event(cable, whole, k) {
+        match put_output(&event, lanes, output, notes) {
+            Ok(()) => k += 1,
+            Err(end) => return Err(end),
+        }
+    }
+    Ok(())
+}
+
+// Puts the lines of a byte. Most bytes have none.
+#[inline(always)]
+fn put_lines<L: Lanes, W: Sink, N: Sink>(
+    packed: &Packed<'_>,
+    lanes: &mut L,
+    output: &mut W,
+    notes: &mut N,
+) -> Result<(), RunEnd>
+    ensures { Puts (line_puts (lines_in packed.now))
+        (places L.Lanes W.Sink N.Sink lanes.old output.old notes.old)
+        (places L.Lanes W.Sink N.Sink lanes.new output.new notes.new) result }
+{
+    match put_listed(packed.first(), lanes, output, notes) {
+        Ok(()) => put_listed(packed.second(), lanes, output, notes),
+        Err(end) => Err(end),
+    }
+}
+
+// Puts a line of the listing, if there is one.
+#[inline(always)]
+fn put_listed<L: Lanes, W: Sink, N: Sink>(
+    listed: Option<Listed>,
+    lanes: &mut L,
+    output: &mut W,
+    notes: &mut N,
+) -> Result<(), RunEnd>
+    ensures { Puts (line_puts (option_to_list listed))
+        (places L.Lanes W.Sink N.Sink lanes.old output.old notes.old)
+        (places L.Lanes W.Sink N.Sink lanes.new output.new notes.new) result }
+{
+    match listed {
+        Some(listed) => put_line(&listed, lanes, output, notes),
+        None => Ok(()),
+    }
+}
+
+// Puts a line of the listing.
+#[inline(never)]
+fn put_line<L: Lanes, W: Sink, N: Sink>(
+    listed: &Listed,
+    lanes: &mut L,
+    output: &mut W,
+    notes: &mut N,
+) -> Result<(), RunEnd>
+    ensures { Puts (line_puts (listed.now ∷ []))
+        (places L.Lanes W.Sink N.Sink lanes.old output.old notes.old)
+        (places L.Lanes W.Sink N.Sink lanes.new output.new notes.new) result }
+{
+    let mut line = Line::new();
+    fill_listing_line(&mut line, listed);
+    put_notes(line.as_slice(), lanes, output, notes)
+}
+
+// Puts the line of what is still open at the end, if anything is.
+fn put_open<L: Lanes, W: Sink, N: Sink>(
+    packer: &Packer,
+    lanes: &mut L,
+    output: &mut W,
+    notes: &mut N,
+) -> Result<(), RunEnd>
+    ensures { Puts (open_lines packer.now.cable (kinds_at_end
+        (option_map (λ begun. (begun.start, begun.kind)) (open_of packer.now.parsing))))
+        (places L.Lanes W.Sink N.Sink lanes.old output.old notes.old)
+        (places L.Lanes W.Sink N.Sink lanes.new output.new notes.new) result }
+{
+    put_listed(packer.end(), lanes, output, notes)
+}
