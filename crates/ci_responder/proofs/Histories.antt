@@ -14,9 +14,9 @@ use Rattle.ci_responder.specs.Keys.{first_states, key_of, same_key, state_in}
 use Rattle.ci_responder.specs.SameKeys.{key-is}
 use Rattle.ci_responder.specs.Messages.{Said, Told, discovery, endpoint, invalidate, profiles, switch, other, key_at}
 use Rattle.ci_responder.specs.Rows.{heard_by, loses_muid, names}
-use Rattle.ci_responder.specs.Replies.{replies_by}
-use Rattle.ci_responder.specs.Held.{Held, after, after_for, block_in, change_at, has_group, heard_for, heard_in, muid_in, muid_of, next, replies_in, sender_in, states_by}
-use Rattle.ci_responder.specs.History.{accepted_at, accepted_by, block_of, covers, heard_at, heard_with, held_at, kept, kept_from, last_switch, muid_at, muid_behind, on_at, or_else, replies_at, sender_at, sender_of_block, spent_at, spent_more, switched}
+use Rattle.ci_responder.specs.Replies.{replies_by, reply_by}
+use Rattle.ci_responder.specs.Held.{Held, after, after_for, block_in, change_at, has_group, heard_for, heard_in, muid_in, muid_of, next, replies_in, reply_in, sender_in, states_by}
+use Rattle.ci_responder.specs.History.{accepted_at, accepted_by, block_of, covers, heard_at, heard_with, held_at, kept, kept_from, last_switch, muid_at, muid_behind, on_at, or_else, replies_at, reply_at, sender_at, sender_of_block, spent_at, spent_more, switched}
 use Rattle.ci_responder.proofs.KeyLaws.{others-differ, rest-distinct}
 
 -- blocks
@@ -194,6 +194,11 @@ module _ (setup : Facts) (room : ℕ) (past : List Told) where
   sender-follows : (own : Option ℕ) → sender_in (held_at setup room past) own ≡ sender_of_block setup room past own
   sender-follows None = refl
   sender-follows (Some block) = ap (option_map (sender_at setup room past block)) (muid_follows block)
+
+  pub reply_follows : (told : Told) → reply_in (held_at setup room past) told ≡ reply_at setup room past told
+  reply_follows told =
+      let sender = ap (sender_in (held_at setup room past)) (own-block told.group) ∙ sender-follows (block_of setup told.group) in
+      (λ j. reply_by (sender j) (heard_follows told j) told)
 
   pub replies_follow : (told : Told) → replies_in (held_at setup room past) told ≡ replies_at setup room past told
   replies_follow told =

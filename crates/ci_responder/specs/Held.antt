@@ -13,7 +13,7 @@ use Rattle.ci_responder.specs.declared.keys.Key.{Key}
 use Rattle.ci_responder.specs.Keys.{same_key}
 use Rattle.ci_responder.specs.Messages.{Said, Told, switch, key_at}
 use Rattle.ci_responder.specs.Rows.{heard_by, loses_muid, names}
-use Rattle.ci_responder.specs.Replies.{Sender, replies_by}
+use Rattle.ci_responder.specs.Replies.{Sender, replies_by, reply_by}
 
 -- the blocks by number, the profiles in the setup's order, and what replies tell of the device
 pub record Held : Type 0 where
@@ -25,7 +25,7 @@ pub record Held : Type 0 where
 
 pub record IsCiBlock (block : CiBlock) : Type 0 where
   pub groups : block.first + block.count ≤ 16
-  pub muids : All (λ muid. muid < 2 ^ 28) block.muids
+  pub muids : All (λ muid. muid < 0x0FFFFF00) block.muids
   pub few : length block.muids ≤ 16
 
 -- what the rules of a setup leave of what is held
@@ -108,6 +108,10 @@ sender_of held block muid = record {
 abbrev pub sender_in : Held → Option ℕ → Option Sender
 sender_in held block = option_and_then (λ n. option_map (sender_of held n) (muid_in held.blocks n)) block
 
--- the reply to a message
+-- the payload of the reply to a message
+abbrev pub reply_in : Held → Told → Option (List ℕ)
+reply_in held told = reply_by (sender_in held (block_in held.blocks told.group)) (heard_in held told) told
+
+-- the packets of the reply
 abbrev pub replies_in : Held → Told → List Packet
 replies_in held told = replies_by (sender_in held (block_in held.blocks told.group)) (heard_in held told) told

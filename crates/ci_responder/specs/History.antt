@@ -12,7 +12,7 @@ use Rattle.ci_responder.specs.declared.keys.Key.{Key}
 use Rattle.ci_responder.specs.Keys.{same_key, key_of, first_states, state_in}
 use Rattle.ci_responder.specs.Messages.{Said, Told, switch, key_at}
 use Rattle.ci_responder.specs.Rows.{heard_by, loses_muid, names}
-use Rattle.ci_responder.specs.Replies.{Sender, replies_by}
+use Rattle.ci_responder.specs.Replies.{Sender, replies_by, reply_by}
 use Rattle.ci_responder.specs.Held.{Held}
 
 -- a block of the setup has MIDI-CI, and this group
@@ -110,7 +110,11 @@ module _ (setup : Facts) where
     abbrev pub sender_of_block : List Told → Option ℕ → Option Sender
     sender_of_block past block = option_and_then (λ n. option_map (sender_at past n) (muid_at past n)) block
 
-    -- the reply to a message that comes after these
+    -- the payload of the reply to a message that comes after these
+    abbrev pub reply_at : List Told → Told → Option (List ℕ)
+    reply_at past told = reply_by (sender_of_block past (block_of told.group)) (heard_at past told) told
+
+    -- the packets of the reply
     abbrev pub replies_at : List Told → Told → List Packet
     replies_at past told = replies_by (sender_of_block past (block_of told.group)) (heard_at past told) told
 

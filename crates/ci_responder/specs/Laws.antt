@@ -8,14 +8,16 @@ use Rattle.ci_messages.specs.Reading.{CiSpells}
 use Rattle.ci_responder.specs.Keys.{same_key, state_in}
 use Rattle.ci_responder.specs.Messages.{Told, told_of}
 use Rattle.ci_responder.specs.Read.{told_in}
-use Rattle.ci_responder.specs.Held.{after, heard_in, muid_in, replies_in}
-use Rattle.ci_responder.specs.History.{accepted_at, heard_at, held_at, muid_at, on_at, replies_at}
+use Rattle.ci_responder.specs.Held.{after, heard_in, muid_in, replies_in, reply_in}
+use Rattle.ci_responder.specs.History.{accepted_at, heard_at, held_at, muid_at, on_at, replies_at, reply_at}
 
 -- What is held after a history is what the history says: `heard`, `replies`, `muid` and `on` of it are those of the history, and
 -- one more message leaves what the longer history says.
 pub record HeldIsTheHistory : Type 0 where
   pub heard : (setup : Facts) (room : ℕ) (past : List Told) (told : Told) →
       heard_in (held_at setup room past) told ≡ heard_at setup past told
+  pub reply : (setup : Facts) (room : ℕ) (past : List Told) (told : Told) →
+      reply_in (held_at setup room past) told ≡ reply_at setup room past told
   pub replies : (setup : Facts) (room : ℕ) (past : List Told) (told : Told) →
       replies_in (held_at setup room past) told ≡ replies_at setup room past told
   pub after : (setup : Facts) (room : ℕ) (past : List Told) (told : Told) →

@@ -1,5 +1,5 @@
 -- The replies (M2-101-UM), a row for each, and how they are sent.
-use Rattle.std.specs.Prelude.{ℕ, Bool, true, false, ◌==◌, ◌&&◌, not, if◌then◌else◌, List, [], ◌∷◌, ◌++◌, replicate, Option, Some, None}
+use Rattle.std.specs.Prelude.{◌≡◌, ◌⊎◌, ◌≤◌, ℕ, Bool, length, true, false, ◌==◌, ◌&&◌, not, if◌then◌else◌, List, [], ◌∷◌, ◌++◌, replicate, Option, Some, None}
 use Rattle.std.proofs.Common.{zero, suc}
 use Rattle.std.specs.List.{flat_map}
 use Rattle.std.specs.Fork.{slice_chunk}
@@ -14,6 +14,7 @@ use Rattle.ci_messages.specs.declared.view.CiView.{CiView}
 use Rattle.ci_messages.specs.Places.{bytes4}
 use Rattle.ci_messages.specs.Fields.{Value, number, list, bytes_of_fields}
 use Rattle.ci_messages.specs.Messages.{fields_of, format_of}
+use Rattle.ci_messages.specs.Reading.{IsExclusive, ci_fault}
 use Rattle.ci_messages.specs.Writing.{address_number, body_bytes}
 use Rattle.function_blocks.specs.declared.setup.Identity.{Identity}
 use Rattle.function_blocks.specs.declared.setup.Place.{Place}
@@ -122,6 +123,28 @@ reply_to sender heard.Collision told = Some (invalidation sender told.message)
 reply_to sender heard.Answered told = answer_to sender told told.message.said
 reply_to sender heard.Nak told = Some (refusal sender told.message)
 reply_to sender _ told = None
+
+-- a message from F0 to F7 for each payload
+abbrev pub message_of_payload : List ℕ → List ℕ
+message_of_payload bytes = 0xF0 ∷ bytes ++ 0xF7 ∷ []
+
+-- the message that a reply is; no bytes where there is none
+abbrev pub message_of_reply : Option (List ℕ) → List ℕ
+message_of_reply None = []
+message_of_reply (Some bytes) = message_of_payload bytes
+
+-- a message that is read without a fault, and has at most 57 packets
+abbrev pub IsMessage : List ℕ → Type 0
+IsMessage message = IsExclusive message × (ci_fault message ≡ None) × (length message ≤ 344)
+
+-- such a message, or no bytes
+abbrev pub IsReply : List ℕ → Type 0
+IsReply message = (message ≡ []) ⊎ IsMessage message
+
+-- the payload of the reply, by who replies; there is none without a MUID in force
+abbrev pub reply_by : Option Sender → Heard → Told → Option (List ℕ)
+reply_by None heard told = None
+reply_by (Some sender) heard told = reply_to sender heard told
 
 -- The reply goes out on the message's group. There is none without a MUID in force.
 abbrev pub replies_by : Option Sender → Heard → Told → List Packet

@@ -1,5 +1,5 @@
 // The function blocks as the responder keeps them.
-ghost use Rattle.std.specs.Prelude.{◌≡◌, ◌<◌, ◌≤◌, ◌+◌, ◌^◌, length, true, is_some, IfSome};
+ghost use Rattle.std.specs.Prelude.{◌≡◌, ◌<◌, ◌≤◌, ◌+◌, length, true, is_some, IfSome};
 ghost use Rattle.std.specs.List.{All};
 ghost use Rattle.function_blocks.specs.Blocks.{IsBlock};
 ghost use Rattle.ci_responder.specs.Held.{
@@ -55,7 +55,7 @@ pub(crate) fn block_of(blocks: &[CiBlock], group: U4) -> Option<usize>
 fn muid_in_force(block: &CiBlock) -> Option<u32>
     requires { IsCiBlock block.now }
     ensures value { result ≡ muid_of_block block.now }
-    ensures fits { IfSome result (λ muid. muid < 2 ^ 28) }
+    ensures fits { IfSome result (λ muid. muid < 0x0FFFFF00) }
 {
     if !block.has_ci {
         return None;
@@ -67,7 +67,7 @@ fn muid_in_force(block: &CiBlock) -> Option<u32>
 pub(crate) fn muid_of(blocks: &[CiBlock], number: usize) -> Option<u32>
     requires { All IsCiBlock blocks.now }
     ensures value { result ≡ muid_in blocks.now number }
-    ensures fits { IfSome result (λ muid. muid < 2 ^ 28) }
+    ensures fits { IfSome result (λ muid. muid < 0x0FFFFF00) }
 {
     match blocks.get(number) {
         Some(block) => muid_in_force(block),

@@ -16,6 +16,7 @@ mod rows;
 pub use crate::heard::Heard;
 pub use crate::keys::Key;
 pub use crate::laws::{held_is_the_history, switches_stand_alone, views_tell_their_bytes};
+pub use crate::packets::put_message;
 pub use crate::responder::Responder;
 pub use ci_messages::ProfileId;
 pub use function_blocks::Place;

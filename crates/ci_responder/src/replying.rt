@@ -1,6 +1,5 @@
 // The replies, by the row of the message.
-ghost use Rattle.std.specs.Prelude.{◌≡◌, ◌<◌, ◌≤◌, ◌^◌, ◌==◌, ℕ, Some, true, false, [], length};
-ghost use Rattle.ump_grammar.specs.Replies.{AddsPackets};
+ghost use Rattle.std.specs.Prelude.{◌≡◌, ◌<◌, ◌≤◌, ◌==◌, ℕ, Some, true, false, [], length};
 ghost use Rattle.ci_messages.specs.Fields.{FitsField, IsData, byte, bytes_of_field, number};
 ghost use Rattle.ci_messages.specs.Messages.{channels_in, format_of, full_only};
 ghost use Rattle.ci_messages.specs.Writing.{IsView};
@@ -17,22 +16,23 @@ ghost use Rattle.ci_responder.specs.Messages.{
 ghost use Rattle.ci_responder.specs.Replies.{
   answer_to,
   channels_of as channels_of_address,
+  IsReply,
   invalidation,
+  message_of_payload,
+  message_of_reply,
   refusal,
   reply_to,
   reply_version as reply_version_of,
-  sent,
 };
 
 use crate::heard::Heard;
-use crate::packets::push_message;
+use crate::packets::put_message;
 use crate::profiles::{ids_at, place_of};
 use crate::responder::Responder;
 use crate::rows::BROADCAST;
 use ci_messages::{Address, Body, CiView, ProfileId};
 use function_blocks::Identity;
-use midi_edge::U4;
-use ump_grammar::Replies;
+use midi_edge::{ShortList, U4};
 
 /// The number that stands for no function block.
 const NO_BLOCK: u8 = 0x7F;
@@ -85,38 +85,37 @@ fn channels_of(version: u8, address: Address) -> u16
 }
 
 impl Responder {
-    /// Adds the reply of a block to a message that is heard so.
+    /// Writes the reply of a block to a message that is heard so into an empty list; there are no bytes where there is none.
     pub(crate) fn reply(
         &self,
         owner: &Owner,
         heard: Heard,
         view: &CiView<'_>,
-        replies: &mut Replies,
+        reply: &mut ShortList<u8, 512>,
     )
         requires view { IsView view.now }
-        requires muid { owner.now.muid < 2 ^ 28 }
+        requires muid { owner.now.muid < 0x0FFFFF00 }
         requires block { owner.now.block < 128 }
-        requires empty { replies.old ≡ [] }
-        ensures packets { AddsPackets (sent owner.now.group
+        requires empty { reply.old ≡ [] }
+        ensures message { reply.new ≡ message_of_reply
             (reply_to (sender_of self.now owner.now.block owner.now.muid) heard
-            (told_of owner.now.group view.now))) [] replies.new }
-        ensures few { length replies.new ≤ 114 }
+            (told_of owner.now.group view.now)) }
+        ensures reply { IsReply reply.new }
     {
         match heard {
-            Heard::Collision => self.invalidate(owner, view, replies),
-            Heard::Answered => self.answer(owner, view, replies),
-            Heard::Nak => self.refuse(owner, view, replies),
+            Heard::Collision => self.invalidate(owner, view, reply),
+            Heard::Answered => self.answer(owner, view, reply),
+            Heard::Nak => self.refuse(owner, view, reply),
             _ => {}
         }
     }
 
-    fn invalidate(&self, owner: &Owner, view: &CiView<'_>, replies: &mut Replies)
-        requires muid { owner.now.muid < 2 ^ 28 }
-        requires empty { replies.old ≡ [] }
-        ensures packets { AddsPackets (sent owner.now.group
-            (Some (invalidation (sender_of self.now owner.now.block owner.now.muid) (message_of view.now))))
-            [] replies.new }
-        ensures few { length replies.new ≤ 114 }
+    fn invalidate(&self, owner: &Owner, view: &CiView<'_>, reply: &mut ShortList<u8, 512>)
+        requires muid { owner.now.muid < 0x0FFFFF00 }
+        requires empty { reply.old ≡ [] }
+        ensures message { reply.new ≡ message_of_payload
+            (invalidation (sender_of self.now owner.now.block owner.now.muid) (message_of view.now)) }
+        ensures reply { IsReply reply.new }
     {
         let version = reply_version(view);
         let message = CiView {
@@ -127,17 +126,16 @@ impl Responder {
             destination: BROADCAST,
             body: Body::Invalidate { target: owner.muid },
         };
-        push_message(replies, owner.group, &message);
+        put_message(&message, reply);
     }
 
-    fn refuse(&self, owner: &Owner, view: &CiView<'_>, replies: &mut Replies)
+    fn refuse(&self, owner: &Owner, view: &CiView<'_>, reply: &mut ShortList<u8, 512>)
         requires view { IsView view.now }
-        requires muid { owner.now.muid < 2 ^ 28 }
-        requires empty { replies.old ≡ [] }
-        ensures packets { AddsPackets (sent owner.now.group
-            (Some (refusal (sender_of self.now owner.now.block owner.now.muid) (message_of view.now))))
-            [] replies.new }
-        ensures few { length replies.new ≤ 114 }
+        requires muid { owner.now.muid < 0x0FFFFF00 }
+        requires empty { reply.old ≡ [] }
+        ensures message { reply.new ≡ message_of_payload
+            (refusal (sender_of self.now owner.now.block owner.now.muid) (message_of view.now)) }
+        ensures reply { IsReply reply.new }
     {
         let version = reply_version(view);
         let original = placed(version, view.sub, 0);
@@ -155,39 +153,45 @@ impl Responder {
                 text: &[],
             },
         };
-        push_message(replies, owner.group, &message);
+        put_message(&message, reply);
     }
 
-    fn answer(&self, owner: &Owner, view: &CiView<'_>, replies: &mut Replies)
+    fn answer(&self, owner: &Owner, view: &CiView<'_>, reply: &mut ShortList<u8, 512>)
         requires view { IsView view.now }
-        requires muid { owner.now.muid < 2 ^ 28 }
+        requires muid { owner.now.muid < 0x0FFFFF00 }
         requires block { owner.now.block < 128 }
-        requires empty { replies.old ≡ [] }
-        ensures packets { AddsPackets (sent owner.now.group
+        requires empty { reply.old ≡ [] }
+        ensures message { reply.new ≡ message_of_reply
             (answer_to (sender_of self.now owner.now.block owner.now.muid)
-            (told_of owner.now.group view.now) (said_in view.now.body))) [] replies.new }
-        ensures few { length replies.new ≤ 114 }
+            (told_of owner.now.group view.now) (said_in view.now.body)) }
+        ensures reply { IsReply reply.new }
     {
         match &view.body {
-            Body::Discovery { path, .. } => self.tell_device(owner, view, *path, replies),
-            Body::EndpointInquiry { .. } => self.tell_product_id(owner, view, replies),
-            Body::ProfileInquiry => self.tell_profiles(owner, view, replies),
-            Body::SetOn { id, .. } => self.report_on(owner, view, *id, replies),
-            Body::SetOff { id } => self.report_off(owner, view, *id, replies),
+            Body::Discovery { path, .. } => self.tell_device(owner, view, *path, reply),
+            Body::EndpointInquiry { .. } => self.tell_product_id(owner, view, reply),
+            Body::ProfileInquiry => self.tell_profiles(owner, view, reply),
+            Body::SetOn { id, .. } => self.report_on(owner, view, *id, reply),
+            Body::SetOff { id } => self.report_off(owner, view, *id, reply),
             _ => {}
         }
     }
 
-    fn tell_device(&self, owner: &Owner, view: &CiView<'_>, path: u8, replies: &mut Replies)
+    fn tell_device(
+        &self,
+        owner: &Owner,
+        view: &CiView<'_>,
+        path: u8,
+        reply: &mut ShortList<u8, 512>,
+    )
         requires view { IsView view.now }
         requires path { path < 128 }
-        requires muid { owner.now.muid < 2 ^ 28 }
+        requires muid { owner.now.muid < 0x0FFFFF00 }
         requires block { owner.now.block < 128 }
-        requires empty { replies.old ≡ [] }
-        ensures packets { AddsPackets (sent owner.now.group
+        requires empty { reply.old ≡ [] }
+        ensures message { reply.new ≡ message_of_reply
             (answer_to (sender_of self.now owner.now.block owner.now.muid)
-            (told_of owner.now.group view.now) (discovery path))) [] replies.new }
-        ensures few { length replies.new ≤ 114 }
+            (told_of owner.now.group view.now) (discovery path)) }
+        ensures reply { IsReply reply.new }
     {
         let Identity {
             manufacturer,
@@ -215,19 +219,19 @@ impl Responder {
                 block,
             },
         };
-        push_message(replies, owner.group, &message);
+        put_message(&message, reply);
     }
 
     // Version 01 has no such reply.
-    fn tell_product_id(&self, owner: &Owner, view: &CiView<'_>, replies: &mut Replies)
+    fn tell_product_id(&self, owner: &Owner, view: &CiView<'_>, reply: &mut ShortList<u8, 512>)
         requires view { IsView view.now }
         requires version { (view.now.version == 1) ≡ false }
-        requires muid { owner.now.muid < 2 ^ 28 }
-        requires empty { replies.old ≡ [] }
-        ensures packets { (status : ℕ) → AddsPackets (sent owner.now.group
+        requires muid { owner.now.muid < 0x0FFFFF00 }
+        requires empty { reply.old ≡ [] }
+        ensures message { (status : ℕ) → reply.new ≡ message_of_reply
             (answer_to (sender_of self.now owner.now.block owner.now.muid)
-            (told_of owner.now.group view.now) (endpoint status))) [] replies.new }
-        ensures few { length replies.new ≤ 114 }
+            (told_of owner.now.group view.now) (endpoint status)) }
+        ensures reply { IsReply reply.new }
     {
         let version = reply_version(view);
         let message = CiView {
@@ -241,17 +245,17 @@ impl Responder {
                 text: self.product_id.as_slice(),
             },
         };
-        push_message(replies, owner.group, &message);
+        put_message(&message, reply);
     }
 
-    fn tell_profiles(&self, owner: &Owner, view: &CiView<'_>, replies: &mut Replies)
+    fn tell_profiles(&self, owner: &Owner, view: &CiView<'_>, reply: &mut ShortList<u8, 512>)
         requires view { IsView view.now }
-        requires muid { owner.now.muid < 2 ^ 28 }
-        requires empty { replies.old ≡ [] }
-        ensures packets { AddsPackets (sent owner.now.group
+        requires muid { owner.now.muid < 0x0FFFFF00 }
+        requires empty { reply.old ≡ [] }
+        ensures message { reply.new ≡ message_of_reply
             (answer_to (sender_of self.now owner.now.block owner.now.muid)
-            (told_of owner.now.group view.now) profiles)) [] replies.new }
-        ensures few { length replies.new ≤ 114 }
+            (told_of owner.now.group view.now) profiles) }
+        ensures reply { IsReply reply.new }
     {
         let place = place_of(view.address, owner.group);
         let ids = ids_at(&self.states, owner.block, &place);
@@ -267,19 +271,25 @@ impl Responder {
                 off: ids.off.as_slice(),
             },
         };
-        push_message(replies, owner.group, &message);
+        put_message(&message, reply);
     }
 
     // Reports for all that a profile is on.
-    fn report_on(&self, owner: &Owner, view: &CiView<'_>, id: ProfileId, replies: &mut Replies)
+    fn report_on(
+        &self,
+        owner: &Owner,
+        view: &CiView<'_>,
+        id: ProfileId,
+        reply: &mut ShortList<u8, 512>,
+    )
         requires view { IsView view.now }
-        requires muid { owner.now.muid < 2 ^ 28 }
+        requires muid { owner.now.muid < 0x0FFFFF00 }
         requires id { (length id.bytes ≡ 5) × IsData id.bytes }
-        requires empty { replies.old ≡ [] }
-        ensures packets { AddsPackets (sent owner.now.group
+        requires empty { reply.old ≡ [] }
+        ensures message { reply.new ≡ message_of_reply
             (answer_to (sender_of self.now owner.now.block owner.now.muid)
-            (told_of owner.now.group view.now) (switch id true))) [] replies.new }
-        ensures few { length replies.new ≤ 114 }
+            (told_of owner.now.group view.now) (switch id true)) }
+        ensures reply { IsReply reply.new }
     {
         let version = reply_version(view);
         let channels = channels_of(version, view.address);
@@ -291,19 +301,25 @@ impl Responder {
             destination: BROADCAST,
             body: Body::EnabledReport { id, channels },
         };
-        push_message(replies, owner.group, &message);
+        put_message(&message, reply);
     }
 
     // Reports for all that a profile is off.
-    fn report_off(&self, owner: &Owner, view: &CiView<'_>, id: ProfileId, replies: &mut Replies)
+    fn report_off(
+        &self,
+        owner: &Owner,
+        view: &CiView<'_>,
+        id: ProfileId,
+        reply: &mut ShortList<u8, 512>,
+    )
         requires view { IsView view.now }
-        requires muid { owner.now.muid < 2 ^ 28 }
+        requires muid { owner.now.muid < 0x0FFFFF00 }
         requires id { (length id.bytes ≡ 5) × IsData id.bytes }
-        requires empty { replies.old ≡ [] }
-        ensures packets { AddsPackets (sent owner.now.group
+        requires empty { reply.old ≡ [] }
+        ensures message { reply.new ≡ message_of_reply
             (answer_to (sender_of self.now owner.now.block owner.now.muid)
-            (told_of owner.now.group view.now) (switch id false))) [] replies.new }
-        ensures few { length replies.new ≤ 114 }
+            (told_of owner.now.group view.now) (switch id false)) }
+        ensures reply { IsReply reply.new }
     {
         let version = reply_version(view);
         let channels = channels_of(version, view.address);
@@ -315,6 +331,6 @@ impl Responder {
             destination: BROADCAST,
             body: Body::DisabledReport { id, channels },
         };
-        push_message(replies, owner.group, &message);
+        put_message(&message, reply);
     }
 }

@@ -3,10 +3,11 @@ ghost use Rattle.std.specs.Prelude.{◌≡◌, ◌≤◌, [], true, length, is_s
 ghost use Rattle.ump_grammar.specs.Replies.{AddsPackets};
 ghost use Rattle.ci_messages.specs.Writing.{IsView};
 ghost use Rattle.ci_responder.specs.declared.heard.Heard.TheVariants as heard;
-ghost use Rattle.ci_responder.specs.Held.{after, blocks_by, heard_in, muid_in, replies_in, states_by};
+ghost use Rattle.ci_responder.specs.Held.{after, blocks_by, heard_in, muid_in, replies_in, reply_in, states_by};
 ghost use Rattle.ci_responder.specs.History.{held_at};
 ghost use Rattle.ci_responder.specs.Keys.{state_in};
 ghost use Rattle.ci_responder.specs.Messages.{key_at as key_at_place, said_in, told_of};
+ghost use Rattle.ci_responder.specs.Replies.{IsReply, message_of_reply};
 ghost use Rattle.ci_responder.specs.Rows.{loses_muid, names};
 
 use crate::blocks::{block_of, muid_of, spend};
@@ -14,6 +15,7 @@ use crate::heard::Heard;
 use crate::kept::CiBlock;
 use crate::keys::Key;
 use crate::opening::{first_states, kept_blocks};
+use crate::packets::push_reply;
 use crate::profiles::{place_of, state, switch};
 use crate::replying::Owner;
 use crate::rows::row_of;
@@ -106,8 +108,8 @@ impl Responder {
         state(&self.states, key)
     }
 
-    /// Hears a message that `ci_messages::read` gives, on its group, and adds the reply to `replies`, which is empty. Takes no
-    /// memory. The reply goes out on the same group, and has at most 114 words.
+    /// Hears a message that `ci_messages::read` gives, on its group, and adds the packets of the reply to `replies`, which is
+    /// empty. Takes no memory. The reply goes out on the same group, and has at most 114 words.
     pub fn hear(&mut self, group: U4, view: &CiView<'_>, replies: &mut Replies) -> Heard
         requires view { IsView view.now }
         requires empty { replies.old ≡ [] }
@@ -115,6 +117,27 @@ impl Responder {
         ensures after { self.new ≡ after self.old (told_of group view.now) }
         ensures replies { AddsPackets (replies_in self.old (told_of group view.now)) [] replies.new }
         ensures few { length replies.new ≤ 114 }
+    {
+        let mut reply = ShortList::new();
+        let heard = self.hear_message(group, view, &mut reply);
+        push_reply(replies, group, reply.as_slice());
+        heard
+    }
+
+    /// The same, but writes the reply as a message from F0 to F7 into an empty list. It has no bytes where there is no reply,
+    /// and otherwise at most 344; `ci_messages::read` takes it. It goes out on the same group.
+    pub fn hear_message(
+        &mut self,
+        group: U4,
+        view: &CiView<'_>,
+        reply: &mut ShortList<u8, 512>,
+    ) -> Heard
+        requires view { IsView view.now }
+        requires empty { reply.old ≡ [] }
+        ensures heard { result ≡ heard_in self.old (told_of group view.now) }
+        ensures after { self.new ≡ after self.old (told_of group view.now) }
+        ensures message { reply.new ≡ message_of_reply (reply_in self.old (told_of group view.now)) }
+        ensures reply { IsReply reply.new }
     {
         let Some(number) = block_of(self.blocks.as_slice(), group) else {
             return Heard::NoBlock;
@@ -128,7 +151,7 @@ impl Responder {
             muid,
         };
         let heard = row_of(muid, self.is_named(&owner, view), view);
-        self.reply(&owner, heard, view, replies);
+        self.reply(&owner, heard, view, reply);
         self.change(&owner, heard, view);
         heard
     }

@@ -1,7 +1,7 @@
 -- What a command line asks for.
 use Rattle.std.specs.Prelude.{◌≤◌, ◌<◌, ◌^◌, ℕ, Bool, List}
 use Rattle.command_line.specs.declared.command.Command.{Command}
-use Rattle.command_line.specs.declared.command.Command.TheVariants.{Down, Up, Back, Show, ShowBytes, Endpoint, UsbSplit, UsbPack, SelfTest}
+use Rattle.command_line.specs.declared.command.Command.TheVariants.{Down, Up, Back, Show, ShowBytes, Endpoint, UsbSplit, UsbPack, Sysex8, Rehearse, Clip, SelfTest}
 
 -- `translate down`: the folder, in compact style or not, with paired controllers or without, little endian or not, and the most bytes of
 -- an exclusive
@@ -51,6 +51,17 @@ pub record UsbPackWords : Type 0 where
   pub cable : ℕ
   pub room : ℕ
 
+-- `sysex8`: the folder, the most streams at once, little endian or not, and the most bytes of an exclusive
+pub record Sysex8Words : Type 0 where
+  pub folder : List ℕ
+  pub streams : ℕ
+  pub little : Bool
+  pub room : ℕ
+
+-- `rehearse`: the name of the setup
+pub record RehearseWords : Type 0 where
+  pub setup : List ℕ
+
 -- `selftest`: the seed, and the number of packets
 pub record SelfTestWords : Type 0 where
   pub seed : ℕ
@@ -65,6 +76,9 @@ pub data Asked : Type 0 where
   endpoint : EndpointWords → Asked
   usb_split : UsbSplitWords → Asked
   usb_pack : UsbPackWords → Asked
+  sysex8 : Sysex8Words → Asked
+  rehearse : RehearseWords → Asked
+  clip : Asked
   self_test : SelfTestWords → Asked
 
 -- what a command asks for
@@ -78,7 +92,18 @@ asked_of (ShowBytes state room) = show_bytes (record { state = state; room = roo
 asked_of (Endpoint setup little room) = endpoint (record { setup = setup.now; little = little; room = room })
 asked_of (UsbSplit folder) = usb_split (record { folder = folder.now })
 asked_of (UsbPack cable room) = usb_pack (record { cable = cable; room = room })
+asked_of (Sysex8 folder streams little room) = sysex8 (record { folder = folder.now; streams = streams; little = little; room = room })
+asked_of (Rehearse setup) = rehearse (record { setup = setup.now })
+asked_of Clip = clip
 asked_of (SelfTest seed packets) = self_test (record { seed = seed; packets = packets })
+
+-- the most streams at once, 1 to 64
+abbrev pub IsStreamCount : ℕ → Type 0
+IsStreamCount streams = (1 ≤ streams) × (streams ≤ 64)
+
+-- the room for an 8-bit exclusive, 13 to 1,048,576 bytes
+abbrev pub IsRoom8 : ℕ → Type 0
+IsRoom8 room = (13 ≤ room) × (room ≤ 1048576)
 
 -- the room for an exclusive, 6 to 1,048,576 bytes
 abbrev pub IsRoom : ℕ → Type 0
@@ -98,4 +123,7 @@ IsInRange (show_bytes words) = IsRoom words.room
 IsInRange (endpoint words) = IsRoom words.room
 IsInRange (usb_split words) = Unit {0}
 IsInRange (usb_pack words) = (words.cable < 16) × IsRoom words.room
+IsInRange (sysex8 words) = IsStreamCount words.streams × IsRoom8 words.room
+IsInRange (rehearse words) = Unit {0}
+IsInRange clip = Unit {0}
 IsInRange (self_test words) = (words.seed < 2 ^ 32) × IsPacketCount words.packets

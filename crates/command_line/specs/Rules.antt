@@ -6,7 +6,7 @@ use Rattle.std.specs.Str.Parse.{digits_value}
 use Rattle.std.specs.Char.{is_ascii_digit}
 use Rattle.clap.specs.Walk.{Text, Row, first_of}
 use Rattle.clap.specs.Simple.{subcommand_of}
-use Rattle.command_line.specs.Asked.{Asked, down, up, back, show, show_bytes, endpoint, usb_split, usb_pack, self_test}
+use Rattle.command_line.specs.Asked.{Asked, down, up, back, show, show_bytes, endpoint, usb_split, usb_pack, sysex8, rehearse, clip, self_test}
 use Rattle.command_line.specs.Words.{cli, is_taken, is_set}
 
 -- one to ten decimal digits
@@ -36,6 +36,14 @@ group_in = number_or 0 15 0
 -- a cable: 0 to 15, at first 0
 abbrev pub cable_in : Option Text → Option ℕ
 cable_in = number_or 0 15 0
+
+-- the most streams at once: 1 to 64, at first 16
+abbrev pub streams_in : Option Text → Option ℕ
+streams_in = number_or 1 64 16
+
+-- the room for an 8-bit exclusive: 13 to 1,048,576, at first the greatest
+abbrev pub room8_in : Option Text → Option ℕ
+room8_in = number_or 13 1048576 1048576
 
 -- a seed: a number of 32 bits
 abbrev pub seed_in : Text → Option ℕ
@@ -96,9 +104,26 @@ usb_of direction folder cable room =
     if bytes_eq direction (codes "split") then split_of folder cable room
     else (if bytes_eq direction (codes "pack") then pack_of folder cable room else None)
 
+-- folder, streams, little, room: with a folder
+abbrev pub sysex8_of : Option Text → Option Text → Bool → Option Text → Option Asked
+sysex8_of (Some folder) streams little room =
+    option_and_then (λ n. option_map (λ r. sysex8 (record { folder = folder; streams = n; little = little; room = r })) (room8_in room)) (streams_in streams)
+sysex8_of None streams little room = None
+
 -- seed, packets
 abbrev pub self_test_of : Text → Option Text → Option Asked
 self_test_of seed packets = option_and_then (λ s. option_map (λ n. self_test (record { seed = s; packets = n })) (packets_in packets)) (seed_in seed)
+
+-- what a subcommand with its rows asks for that is none of `translate`, `show`, `endpoint` and `usb`
+abbrev pub asked_in_rest : Text → List Row → Option Asked
+asked_in_rest name rows =
+    let at : Text → Option Text = λ id. first_of id rows in
+    if bytes_eq name (codes "sysex8") then sysex8_of (at (codes "folder")) (at (codes "streams")) (is_set (codes "little") rows)
+    (at (codes "room"))
+    else (if bytes_eq name (codes "rehearse") then option_map (λ s. rehearse (record { setup = s })) (at (codes "setup"))
+    else (if bytes_eq name (codes "clip") then Some clip
+    else (if bytes_eq name (codes "selftest") then option_and_then (λ s. self_test_of s (at (codes "packets"))) (at (codes "seed"))
+    else None)))
 
 -- what a subcommand with its rows asks for
 abbrev pub asked_in : Text → List Row → Option Asked
@@ -112,8 +137,7 @@ asked_in name rows =
     (at (codes "setup"))
     else (if bytes_eq name (codes "usb") then option_and_then (λ d. usb_of d (at (codes "folder")) (at (codes "cable")) (at (codes "room")))
     (at (codes "direction"))
-    else (if bytes_eq name (codes "selftest") then option_and_then (λ s. self_test_of s (at (codes "packets"))) (at (codes "seed"))
-    else None))))
+    else asked_in_rest name rows)))
 
 -- what the matches of the words ask for
 abbrev pub asked_by : List Text → Option Asked

@@ -41,6 +41,19 @@ abbrev pub usb_app : App
 usb_app = with_rules (new_app (codes "usb")) (positional (codes "direction") ∷ option (codes "folder") ∷ option (codes "cable")
     ∷ option (codes "room") ∷ [])
 
+-- sysex8 --folder F [--streams N] [--little] [--room R]
+abbrev pub sysex8_app : App
+sysex8_app = with_rules (new_app (codes "sysex8")) (option (codes "folder") ∷ option (codes "streams") ∷ flag (codes "little")
+    ∷ option (codes "room") ∷ [])
+
+-- rehearse SETUP
+abbrev pub rehearse_app : App
+rehearse_app = with_rules (new_app (codes "rehearse")) (positional (codes "setup") ∷ [])
+
+-- clip
+abbrev pub clip_app : App
+clip_app = new_app (codes "clip")
+
 -- selftest SEED [--packets P]
 abbrev pub self_test_app : App
 self_test_app = with_rules (new_app (codes "selftest")) (positional (codes "seed") ∷ option (codes "packets") ∷ [])
@@ -51,8 +64,8 @@ bare_app = let a = new_app (codes "larboardyuzu") in record a { top = record a.t
 
 unfoldable pub cli : App
 cli =
-    with_subcommand (with_subcommand (with_subcommand (with_subcommand (with_subcommand bare_app translate_app.top) show_app.top)
-    endpoint_app.top) usb_app.top) self_test_app.top
+    with_subcommand (with_subcommand (with_subcommand (with_subcommand (with_subcommand (with_subcommand (with_subcommand (with_subcommand
+    bare_app translate_app.top) show_app.top) endpoint_app.top) usb_app.top) sysex8_app.top) rehearse_app.top) clip_app.top) self_test_app.top
 
 -- `clap`, by what it states of this command, takes the words
 abbrev pub is_taken : List Text → Bool

@@ -55,6 +55,21 @@ pub enum Command<'a> {
         cable: U4,
         room: u32,
     },
+    /// `sysex8`: the 8-bit exclusives in words are joined, those of at most so many streams at once, 1 to 64, and their bytes go to the
+    /// lane of each group, in this folder; `room` is the greatest number of bytes of one, 13 to 1,048,576.
+    Sysex8 {
+        folder: &'a str,
+        streams: u8,
+        little: bool,
+        room: u32,
+    },
+    /// `rehearse`: events of a rehearsal between a MIDI-CI initiator and the responder of this setup become lines. The name of the
+    /// setup may be any text, also the empty one.
+    Rehearse {
+        setup: &'a str,
+    },
+    /// `clip`: the packets of a clip file become lines.
+    Clip,
     /// `selftest`: so many packets of this seed, 1 to 1,000,000, are taken down, up and down again, and are counted.
     SelfTest {
         seed: u32,

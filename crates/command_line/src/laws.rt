@@ -1,6 +1,6 @@
 // Laws of the command line: words of each command, and a request for help.
 ghost use Rattle.std.specs.Prelude.{◌≡◌, Some, None, true, false, codes, [], ◌∷◌};
-ghost use Rattle.command_line.specs.Asked.{down, up, back, show, show_bytes, endpoint, usb_split, usb_pack, self_test};
+ghost use Rattle.command_line.specs.Asked.{down, up, back, show, show_bytes, endpoint, usb_split, usb_pack, sysex8, rehearse, clip, self_test};
 ghost use Rattle.command_line.specs.Rules.{command_of};
 
 /// `translate down` with its folder, alone and with all that may be left out.
@@ -78,6 +78,26 @@ pub fn usb_pack_is_taken()
     ensures most { command_of
         (codes "usb" ∷ codes "pack" ∷ codes "--cable" ∷ codes "15" ∷ codes "--room" ∷ codes "6" ∷ [])
         ≡ Some (usb_pack (record { cable = 15; room = 6 })) }
+{}
+
+/// `sysex8` with its folder, alone and with all that may be left out.
+pub fn sysex8_is_taken()
+    ensures least { command_of (codes "sysex8" ∷ codes "--folder" ∷ codes "F" ∷ [])
+        ≡ Some (sysex8 (record { folder = codes "F"; streams = 16; little = false; room = 1048576 })) }
+    ensures most { command_of
+        (codes "sysex8" ∷ codes "--folder" ∷ codes "F" ∷ codes "--streams" ∷ codes "64" ∷ codes "--little"
+        ∷ codes "--room" ∷ codes "13" ∷ [])
+        ≡ Some (sysex8 (record { folder = codes "F"; streams = 64; little = true; room = 13 })) }
+{}
+
+/// `rehearse` with its setup.
+pub fn rehearse_is_taken()
+    ensures { command_of (codes "rehearse" ∷ codes "S" ∷ []) ≡ Some (rehearse (record { setup = codes "S" })) }
+{}
+
+/// `clip`, which has no other words.
+pub fn clip_is_taken()
+    ensures { command_of (codes "clip" ∷ []) ≡ Some clip }
 {}
 
 /// `selftest` with its seed, alone and with all that may be left out.

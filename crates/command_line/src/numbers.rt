@@ -3,8 +3,8 @@ ghost use Rattle.std.specs.Prelude.{◌≡◌, ◌≤◌, ◌<◌, ◌^◌, IfSo
 ghost use Rattle.std.specs.Option.{option_copied};
 ghost use Rattle.std.specs.List.{list_all};
 ghost use Rattle.std.specs.Char.{is_ascii_digit};
-ghost use Rattle.command_line.specs.Asked.{IsPacketCount, IsRoom};
-ghost use Rattle.command_line.specs.Rules.{number_of, room_in, group_in, cable_in, seed_in, packets_in};
+ghost use Rattle.command_line.specs.Asked.{IsPacketCount, IsRoom, IsRoom8, IsStreamCount};
+ghost use Rattle.command_line.specs.Rules.{number_of, room_in, group_in, cable_in, room8_in, streams_in, seed_in, packets_in};
 
 use midi_edge::U4;
 
@@ -12,6 +12,15 @@ use midi_edge::U4;
 const LEAST_ROOM: u32 = 6;
 
 const MOST_ROOM: u32 = 1_048_576;
+
+const LEAST_ROOM8: u32 = 13;
+
+// The most streams at once, from the least to the most, and how many there are at first.
+const LEAST_STREAMS: u32 = 1;
+
+const MOST_STREAMS: u32 = 64;
+
+const STREAMS: u8 = 16;
 
 // The packets of a self test, from the least to the most, and how many there are at first.
 const LEAST_PACKETS: u32 = 1;
@@ -52,6 +61,31 @@ pub fn room(text: Option<&str>) -> Option<u32>
     match text {
         Some(text) => number(text, LEAST_ROOM, MOST_ROOM),
         None => Some(MOST_ROOM),
+    }
+}
+
+// The room for an 8-bit exclusive, by the text of its option.
+pub fn room8(text: Option<&str>) -> Option<u32>
+    ensures number { result ≡ room8_in (option_copied text.entry) }
+    ensures range { IfSome result (λ n. IsRoom8 n) }
+{
+    match text {
+        Some(text) => number(text, LEAST_ROOM8, MOST_ROOM),
+        None => Some(MOST_ROOM),
+    }
+}
+
+// The most streams at once, by the text of its option.
+pub fn streams(text: Option<&str>) -> Option<u8>
+    ensures number { result ≡ streams_in (option_copied text.entry) }
+    ensures range { IfSome result (λ n. IsStreamCount n) }
+{
+    match text {
+        Some(text) => {
+            let value = number(text, LEAST_STREAMS, MOST_STREAMS)?;
+            Some(value as u8)
+        }
+        None => Some(STREAMS),
     }
 }
 

@@ -2,7 +2,7 @@
 ghost use Rattle.std.specs.Prelude.{◌≡◌, false, IfOk};
 ghost use Rattle.clap.specs.Words.{app_of, rule_of, with_rule, with_subcommand, shape_of};
 ghost use Rattle.clap.specs.declared.builder.command.Command.TheViews.{out-Command};
-ghost use Rattle.command_line.specs.Words.{positional, option, flag, bare_app, translate_app, show_app, endpoint_app, usb_app, self_test_app, cli};
+ghost use Rattle.command_line.specs.Words.{positional, option, flag, bare_app, translate_app, show_app, endpoint_app, usb_app, sysex8_app, rehearse_app, clip_app, self_test_app, cli};
 
 use clap::{Arg, ArgAction, Command};
 use std::alloc::{AllocError, Global};
@@ -102,6 +102,34 @@ fn usb_command<'a>(alloc: Global) -> Result<Command<'a>, AllocError>
     Ok(command)
 }
 
+fn sysex8_command<'a>(alloc: Global) -> Result<Command<'a>, AllocError>
+    ensures app { IfOk result (λ c. app_of c ≡ sysex8_app) }
+    ensures local { IfOk result (λ c. (out-Command c).has_globals ≡ false) }
+{
+    let command = Command::new(alloc, "sysex8");
+    let command = with_arg(command, option(alloc, "folder"))?;
+    let command = with_arg(command, option(alloc, "streams"))?;
+    let command = with_arg(command, flag(alloc, "little"))?;
+    let command = with_arg(command, option(alloc, "room"))?;
+    Ok(command)
+}
+
+fn rehearse_command<'a>(alloc: Global) -> Result<Command<'a>, AllocError>
+    ensures app { IfOk result (λ c. app_of c ≡ rehearse_app) }
+    ensures local { IfOk result (λ c. (out-Command c).has_globals ≡ false) }
+{
+    let command = Command::new(alloc, "rehearse");
+    let command = with_arg(command, positional(alloc, "setup"))?;
+    Ok(command)
+}
+
+fn clip_command<'a>(alloc: Global) -> Command<'a>
+    ensures app { app_of result ≡ clip_app }
+    ensures local { (out-Command result).has_globals ≡ false }
+{
+    Command::new(alloc, "clip")
+}
+
 fn self_test_command<'a>(alloc: Global) -> Result<Command<'a>, AllocError>
     ensures app { IfOk result (λ c. app_of c ≡ self_test_app) }
     ensures local { IfOk result (λ c. (out-Command c).has_globals ≡ false) }
@@ -132,6 +160,9 @@ pub fn parser<'a>(alloc: Global) -> Result<Command<'a>, AllocError>
     let command = with_command(command, show_command(alloc)?)?;
     let command = with_command(command, endpoint_command(alloc)?)?;
     let command = with_command(command, usb_command(alloc)?)?;
+    let command = with_command(command, sysex8_command(alloc)?)?;
+    let command = with_command(command, rehearse_command(alloc)?)?;
+    let command = with_command(command, clip_command(alloc))?;
     let command = with_command(command, self_test_command(alloc)?)?;
     Ok(command)
 }

@@ -4,11 +4,11 @@ ghost use Rattle.std.specs.Option.{option_copied};
 ghost use Rattle.clap.specs.Words.{found_of, rows_of};
 ghost use Rattle.clap.specs.Simple.{subcommand_rows_of};
 ghost use Rattle.command_line.specs.Asked.{asked_of, IsInRange};
-ghost use Rattle.command_line.specs.Rules.{down_of, up_of, back_of, translate_of, show_of, endpoint_of, split_of, pack_of, usb_of, self_test_of, asked_in, command_of};
+ghost use Rattle.command_line.specs.Rules.{down_of, up_of, back_of, translate_of, show_of, endpoint_of, split_of, pack_of, usb_of, sysex8_of, self_test_of, asked_in, asked_in_rest, command_of};
 
 use crate::command::{Command, WordsFault};
 use crate::matches::{is_flag_set, matches_of, text};
-use crate::numbers::{cable, group, packets, room, seed};
+use crate::numbers::{cable, group, packets, room, room8, seed, streams};
 use clap::ArgMatches;
 use std::alloc::Global;
 
@@ -201,6 +201,28 @@ fn usb<'a>(
     }
 }
 
+fn sysex8<'a>(
+    folder_text: Option<&'a str>,
+    streams_text: Option<&str>,
+    little: bool,
+    room_text: Option<&str>,
+) -> Option<Command<'a>>
+    ensures command { option_map asked_of result
+        ≡ sysex8_of (option_copied folder_text.entry) (option_copied streams_text.entry) little
+        (option_copied room_text.entry) }
+    ensures range { IfSome result (λ c. IsInRange (asked_of c)) }
+{
+    let folder = folder_text?;
+    let streams = streams(streams_text)?;
+    let room = room8(room_text)?;
+    Some(Command::Sysex8 {
+        folder,
+        streams,
+        little,
+        room,
+    })
+}
+
 fn self_test<'a>(seed_text: &str, packets_text: Option<&str>) -> Option<Command<'a>>
     ensures command { option_map asked_of result
         ≡ self_test_of seed_text.now (option_copied packets_text.entry) }
@@ -245,6 +267,29 @@ fn command_in<'a>(name: &str, matches: &ArgMatches<'a>) -> Option<Command<'a>>
             text(matches, "cable"),
             text(matches, "room"),
         )
+    } else {
+        command_in_rest(name, matches)
+    }
+}
+
+// The same, of a subcommand that is none of these.
+fn command_in_rest<'a>(name: &str, matches: &ArgMatches<'a>) -> Option<Command<'a>>
+    ensures command { option_map asked_of result
+        ≡ asked_in_rest name.now (rows_of (found_of matches.now)) }
+    ensures range { IfSome result (λ c. IsInRange (asked_of c)) }
+{
+    if name == "sysex8" {
+        sysex8(
+            text(matches, "folder"),
+            text(matches, "streams"),
+            is_flag_set(matches, "little"),
+            text(matches, "room"),
+        )
+    } else if name == "rehearse" {
+        let setup = text(matches, "setup")?;
+        Some(Command::Rehearse { setup })
+    } else if name == "clip" {
+        Some(Command::Clip)
     } else if name == "selftest" {
         let seed = text(matches, "seed")?;
         self_test(seed, text(matches, "packets"))
@@ -270,11 +315,12 @@ fn command_below<'a>(matches: &ArgMatches<'a>) -> Option<Command<'a>>
 ///
 /// `Usage` only where `clap` doesn't take the words, as with a request for help, or a rule of ours is broken, and such words never
 /// give a command: the direction of a translation is `down`, `up` or `back`, and that of USB-MIDI events `split` or `pack`; `--folder`,
-/// which may be empty, is given with `down` and `split` and with no other direction; `--compact` is given with no other direction than
-/// `down`, `--paired` with any; `--group` isn't given with `down`, nor `--cable` and `--room` with `split`; `--little` isn't given with
-/// `back`, nor with `--bytes`; a number has 1 to 10 digits and lies in its range, a group or a cable 0 to 15 (at first 0), a room 6 to
-/// 1,048,576 (at first the greatest), a seed 0 to 4,294,967,295, and a number of packets 1 to 1,000,000 (at first 10,000). The name of
-/// a setup may be any text. `NoMemory` where `clap` finds no memory.
+/// which may be empty, is given with `down` and `split` and with no other direction, and with `sysex8`; `--compact` is given with no
+/// other direction than `down`, `--paired` with any; `--group` isn't given with `down`, nor `--cable` and `--room` with `split`;
+/// `--little` isn't given with `back`, nor with `--bytes`; a number has 1 to 10 digits and lies in its range, a group or a cable 0 to 15
+/// (at first 0), a room 6 to 1,048,576 (at first the greatest), that of an 8-bit exclusive 13 to 1,048,576, a number of streams 1 to 64
+/// (at first 16), a seed 0 to 4,294,967,295, and a number of packets 1 to 1,000,000 (at first 10,000). The name of a setup may be any
+/// text. `NoMemory` where `clap` finds no memory.
 #[tactic(auto, unfolding(crate::specs::Rules::command_of))]
 pub fn command_line<'a>(alloc: Global, words: &'a [String]) -> Result<Command<'a>, WordsFault>
     ensures ok { IfOk result (λ c. command_of (map string_bytes words.entry.now) ≡ Some (asked_of c)) }

@@ -318,6 +318,59 @@ fn words_of_usb(rt: HostRuntime) -> Result<(), Fail> {
 }
 
 #[test]
+fn words_of_rehearse(rt: HostRuntime) -> Result<(), Fail> {
+    let alloc = rt.alloc();
+    for (line, setup) in [
+        ("rehearse a.toml", "a.toml"),
+        ("rehearse -- --little", "--little"),
+    ] {
+        let words = words_of(alloc, line)?;
+        assert_eq!(rt;
+            command_line(alloc, &words),
+            Ok(Command::Rehearse { setup })
+        );
+    }
+    Ok(())
+}
+
+#[test]
+fn words_of_clip(rt: HostRuntime) -> Result<(), Fail> {
+    let alloc = rt.alloc();
+    let words = words_of(alloc, "clip")?;
+    assert_eq!(rt; command_line(alloc, &words), Ok(Command::Clip));
+    Ok(())
+}
+
+#[test]
+fn words_of_sysex8(rt: HostRuntime) -> Result<(), Fail> {
+    let alloc = rt.alloc();
+    for (line, folder, streams, little, room) in [
+        ("sysex8 --folder F", "F", 16, false, MOST),
+        ("sysex8 --folder=", "", 16, false, MOST),
+        ("sysex8 --streams 1 --folder F", "F", 1, false, MOST),
+        (
+            "sysex8 --folder F --streams 64 --little --room 13",
+            "F",
+            64,
+            true,
+            13,
+        ),
+    ] {
+        let words = words_of(alloc, line)?;
+        assert_eq!(rt;
+            command_line(alloc, &words),
+            Ok(Command::Sysex8 {
+                folder,
+                streams,
+                little,
+                room
+            })
+        );
+    }
+    Ok(())
+}
+
+#[test]
 fn words_of_selftest(rt: HostRuntime) -> Result<(), Fail> {
     let alloc = rt.alloc();
     for (line, seed, packets) in [
@@ -361,7 +414,7 @@ fn other_words(rt: HostRuntime) -> Result<(), Fail> {
     asks_back(&rt, alloc, "translate -- back", 0, MOST)
 }
 
-const NO_COMMAND: [&str; 115] = [
+const NO_COMMAND: [&str; 139] = [
     "",
     "--help",
     "-h",
@@ -413,6 +466,30 @@ const NO_COMMAND: [&str; 115] = [
     "usb pack --group 1",
     "usb pack pack",
     "usb --help",
+    "sysex8",
+    "sysex8 --folder",
+    "sysex8 --folder F --streams 0",
+    "sysex8 --folder F --streams 65",
+    "sysex8 --folder F --streams x",
+    "sysex8 --folder F --room 12",
+    "sysex8 --folder F --room 1048577",
+    "sysex8 --folder F --little --little",
+    "sysex8 --folder F F",
+    "sysex8 --help",
+    "rehearse",
+    "rehearse --little",
+    "rehearse S --little",
+    "rehearse S --room 6",
+    "rehearse S T",
+    "rehearse -x",
+    "rehearse --help",
+    "-- rehearse S",
+    "clip x",
+    "clip --little",
+    "clip --room 6",
+    "clip --folder F",
+    "clip clip",
+    "clip --help",
     "selftest",
     "selftest x",
     "selftest -1",

@@ -209,8 +209,8 @@ fn state_name(on: bool) -> &'static str
     if on { "on" } else { "off" }
 }
 
-// The word of a name.
-fn word_of(name: Name) -> &'static str
+/// The word of a name in a line (own rule).
+pub fn word_of(name: Name) -> &'static str
     ensures word { result.now ≡ name_word name }
     ensures size { length result.now ≤ 13 }
 {

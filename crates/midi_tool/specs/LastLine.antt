@@ -3,7 +3,7 @@ use Rattle.std.specs.Prelude.{ℕ, List, ◌++◌, Option, None, Some, codes, de
 use Rattle.std.specs.Option.{option_map, option_to_list}
 use Rattle.midi_pass.specs.Put.{Put, in_notes}
 use Rattle.midi_pass.specs.declared.ends.Reason.{Reason}
-use Rattle.midi_pass.specs.declared.ends.Reason.TheVariants.{Truncated, InputTooLong, BadCount, HighBit, DataIncrement, DataDecrement, ExclusiveTooLong}
+use Rattle.midi_pass.specs.declared.ends.Reason.TheVariants.{Truncated, InputTooLong, BadCount, HighBit, DataIncrement, DataDecrement, ExclusiveTooLong, BadEvent, TooManyMessages, NotClip, NoResolution, AfterEnd, NoEnd}
 use Rattle.midi_tool.specs.declared.status.Status.{Status}
 use Rattle.midi_tool.specs.declared.status.Status.TheVariants.{Done, Refused, ReadFault, LaneFault, OutputFault, NoteFault, ShelfFault, Usage, SetupSyntax, SetupField, NoMemory}
 
@@ -15,6 +15,12 @@ reason_text HighBit = codes "HighBit"
 reason_text DataIncrement = codes "DataIncrement"
 reason_text DataDecrement = codes "DataDecrement"
 reason_text ExclusiveTooLong = codes "ExclusiveTooLong"
+reason_text BadEvent = codes "BadEvent"
+reason_text TooManyMessages = codes "TooManyMessages"
+reason_text NotClip = codes "NotClip"
+reason_text NoResolution = codes "NoResolution"
+reason_text AfterEnd = codes "AfterEnd"
+reason_text NoEnd = codes "NoEnd"
 
 -- the text for a status, without its line feed, or none where there is no last line
 abbrev pub last_text : Status → Option (List ℕ)

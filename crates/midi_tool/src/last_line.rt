@@ -25,6 +25,12 @@ fn reason_text(reason: Reason) -> &'static str
         Reason::DataIncrement => "DataIncrement",
         Reason::DataDecrement => "DataDecrement",
         Reason::ExclusiveTooLong => "ExclusiveTooLong",
+        Reason::BadEvent => "BadEvent",
+        Reason::TooManyMessages => "TooManyMessages",
+        Reason::NotClip => "NotClip",
+        Reason::NoResolution => "NoResolution",
+        Reason::AfterEnd => "AfterEnd",
+        Reason::NoEnd => "NoEnd",
     }
 }
 

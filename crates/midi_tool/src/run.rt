@@ -1,6 +1,6 @@
 // The program over the objects that it is handed.
 ghost use Rattle.std.specs.Prelude.{◌≡◌, ◌≤◌, ◌<◌, None, Some, false, map, string_bytes};
-ghost use Rattle.command_line.specs.Asked.{IsInRange, IsRoom, asked_of};
+ghost use Rattle.command_line.specs.Asked.{IsInRange, IsRoom, IsRoom8, IsStreamCount, asked_of};
 ghost use Rattle.command_line.specs.Rules.{command_of};
 ghost use Rattle.down_translator.specs.Lanes.{style_in};
 ghost use Rattle.midi_engines.specs.Back.{returning};
@@ -9,6 +9,7 @@ ghost use Rattle.midi_engines.specs.Endpoint.{answering};
 ghost use Rattle.midi_engines.specs.ShowBytes.{showing_bytes};
 ghost use Rattle.midi_engines.specs.ShowPackets.{showing};
 ghost use Rattle.midi_engines.specs.Up.{raising};
+ghost use Rattle.sysex8_engine.specs.Joining.{joining};
 ghost use Rattle.usb_engines.specs.Pack.{packing};
 ghost use Rattle.usb_engines.specs.Split.{splitting};
 ghost use Rattle.midi_pass.specs.Pass.{seen};
@@ -19,6 +20,7 @@ ghost use Rattle.midi_tool.specs.Command.{
   order_of as order_in,
   packet_pass,
   plan_of,
+  rehearsal_pass,
   style_of as style_asked,
 };
 ghost use Rattle.midi_tool.specs.SelfTest.{self_test_text};
@@ -26,6 +28,7 @@ ghost use Rattle.midi_tool.specs.Run.{
   Does,
   FindsSetup,
   HasLastLine,
+  IsDoneClip,
   IsDoneOrNoMemory,
   IsDoneLine,
   IsDonePass,
@@ -35,6 +38,7 @@ ghost use Rattle.midi_tool.specs.Run.{
   RunSays,
   Runs,
   RunsInto,
+  ShowsClip,
   objects,
   shelf_seen,
   status_after,
@@ -43,6 +47,7 @@ ghost use Rattle.midi_tool.specs.Run.{
 use crate::last_line::put_last;
 use crate::self_test_line::self_test_line;
 use crate::status::Status;
+use clip_engine::run_clip;
 use command_line::{Command, WordsFault, command_line};
 use down_translator::Style;
 use function_blocks::{Setup, SetupFault};
@@ -53,8 +58,10 @@ use midi_engines::{
 };
 use midi_pass::RunEnd;
 use midi_pass::places::put_output;
+use rehearsal_engine::{RehearseRun, run_rehearse};
 use self_test::count;
 use std::alloc::Global;
+use sysex8_engine::{Sysex8Run, run_sysex8};
 use ump_words::Order;
 use usb_engines::{PackRun, run_pack, run_split};
 
@@ -71,14 +78,19 @@ use usb_engines::{PackRun, run_pack, run_split};
 /// `input`: the words of the replies come in `output`, and a line for each message in `notes`. `usb split --folder F` turns the
 /// USB-MIDI 1.0 events in `input` into a MIDI 1.0 stream for each cable, in `lanes`, and lists in `notes` those whose code is
 /// reserved; `usb pack` turns the MIDI 1.0 stream in `input` into the events of one cable, in `output`, and lists in `notes` what
-/// gave no event. `selftest SEED` takes packets that a generator draws, `--packets` of them (1 to 1,000,000, at first 10,000),
-/// down, up and down again, and puts one line of counts in `output`; the input is left unread. `--group` and `--cable` are 0 to 15,
-/// at first 0; `--room`, the most bytes of an exclusive between F0 and F7, is 6 to 1,048,576, at first 1,048,576; with `--little`
-/// each word has its least significant byte first.
+/// gave no event. `sysex8 --folder F` joins the 8-bit exclusives of the recording in `input`, of at most `--streams` streams at once (1
+/// to 64, at first 16), and puts their bytes in `lanes`, and in `notes` a line for each and for what gives none; its `--room` is 13 to
+/// 1,048,576. `rehearse SETUP` reads the setup of that name as `endpoint` does, plays the events in `input` between a MIDI-CI initiator
+/// and the responder of the setup, and puts a line for each in `output`, at the end what the initiator holds of each profile that it
+/// watches, and the profiles of the responder. `clip` puts a line in `output` for each event of the clip file in `input`, with the
+/// ticks at which it stands, and lines for its start and its end. `selftest SEED` takes packets that a generator draws, `--packets` of
+/// them (1 to 1,000,000, at first 10,000), down, up and down again, and puts one line of counts in `output`; the input is left unread.
+/// `--group` and `--cable` are 0 to 15, at first 0; `--room`, the most bytes of an exclusive between F0 and F7, is 6 to 1,048,576, at
+/// first 1,048,576; with `--little` each word has its least significant byte first.
 ///
-/// `Done` says that the input was read to its end, or that the line of a self test was put. `Refused` comes at the first packet
-/// or byte that is refused, with its reason and its offset, the number of input bytes before it. `ReadFault`, `LaneFault`,
-/// `OutputFault`, `NoteFault` and `ShelfFault` come only for an object that the command names and whose count of faults rose in
+/// `Done` says that the input was read to its end, or that the line of a self test was put. `Refused` comes at the first packet, byte
+/// or event that is refused, with its reason and its offset, the number of input bytes before it; a clip that doesn't end is refused at
+/// the end of the input. `ReadFault`, `LaneFault`, `OutputFault`, `NoteFault` and `ShelfFault` come only for an object that the command names and whose count of faults rose in
 /// this call. `Usage` comes where the words are no command, `SetupSyntax` where the text of the setup isn't UTF-8 or no TOML,
 /// `SetupField` with the number of the first rule that it breaks (`function_blocks::Rule`). `NoMemory` is free in its cause,
 /// and comes before the first read, but for `--state`. What stands in the lanes, the output and the notes after each of these
@@ -216,6 +228,19 @@ fn perform<S: Source, L: Lanes, W: Sink, N: Sink, K: Shelf>(
         Command::UsbPack { cable, room } => {
             pack_bytes(alloc, *cable, *room, input, lanes, output, notes)
         }
+        Command::Sysex8 {
+            folder,
+            streams,
+            little,
+            room,
+        } => join_exclusives(
+            alloc, folder, *streams, *little, *room, input, lanes, output, notes,
+        ),
+        Command::Rehearse { setup } => match setup_named(alloc, setup, shelf) {
+            Ok(setup) => rehearse(alloc, setup, input, lanes, output, notes),
+            Err(status) => status,
+        },
+        Command::Clip => show_clip(input, lanes, output, notes),
         Command::SelfTest { seed, packets } => {
             test_self(alloc, *seed, *packets, lanes, output, notes)
         }
@@ -500,6 +525,44 @@ fn split_events<S: Source, L: Lanes, W: Sink, N: Sink>(
     status_of(run_split(input, lanes, output, notes))
 }
 
+// Joins the 8-bit exclusives of a recording into a folder. The lanes are opened once all memory is there.
+fn join_exclusives<S: Source, L: Lanes, W: Sink, N: Sink>(
+    alloc: Global,
+    folder: &str,
+    streams: u8,
+    little: bool,
+    room: u32,
+    input: &mut S,
+    lanes: &mut L,
+    output: &mut W,
+    notes: &mut N,
+) -> Status
+    requires streams { IsStreamCount streams }
+    requires room { IsRoom8 room }
+    requires folder { L.folder lanes.old ≡ None }
+    ensures says { RunsInto folder.now
+        (packet_pass (order_in little)
+        (joining (record { slots = streams; order = order_in little; room = room })))
+        (seen S.Source L.Lanes W.Sink N.Sink input.old lanes.old output.old notes.old)
+        (seen S.Source L.Lanes W.Sink N.Sink input.new lanes.new output.new notes.new) result }
+    ensures complete { IsDonePass
+        (packet_pass (order_in little)
+        (joining (record { slots = streams; order = order_in little; room = room })))
+        (seen S.Source L.Lanes W.Sink N.Sink input.old lanes.old output.old notes.old)
+        (seen S.Source L.Lanes W.Sink N.Sink input.new lanes.new output.new notes.new) result }
+{
+    let Ok(engine) = Sysex8Run::new(alloc, streams, order_of(little), room) else {
+        return Status::NoMemory;
+    };
+    if let Err(fault) = lanes.begin(folder) {
+        return match fault {
+            OpenFault::Failed => Status::LaneFault,
+            OpenFault::NoMemory => Status::NoMemory,
+        };
+    }
+    status_of(run_sysex8(engine, input, lanes, output, notes))
+}
+
 // Packs a stream of bytes into the events of a cable.
 fn pack_bytes<S: Source, L: Lanes, W: Sink, N: Sink>(
     alloc: Global,
@@ -522,6 +585,45 @@ fn pack_bytes<S: Source, L: Lanes, W: Sink, N: Sink>(
         Ok(engine) => status_of(run_pack(engine, input, lanes, output, notes)),
         Err(_) => Status::NoMemory,
     }
+}
+
+// Rehearses with the responder of a setup.
+fn rehearse<S: Source, L: Lanes, W: Sink, N: Sink>(
+    alloc: Global,
+    setup: Setup,
+    input: &mut S,
+    lanes: &mut L,
+    output: &mut W,
+    notes: &mut N,
+) -> Status
+    ensures says { Runs (rehearsal_pass setup)
+        (seen S.Source L.Lanes W.Sink N.Sink input.old lanes.old output.old notes.old)
+        (seen S.Source L.Lanes W.Sink N.Sink input.new lanes.new output.new notes.new) result }
+    ensures complete { IsDonePass (rehearsal_pass setup)
+        (seen S.Source L.Lanes W.Sink N.Sink input.old lanes.old output.old notes.old)
+        (seen S.Source L.Lanes W.Sink N.Sink input.new lanes.new output.new notes.new) result }
+{
+    match RehearseRun::new(alloc, setup) {
+        Ok(engine) => status_of(run_rehearse(engine, input, lanes, output, notes)),
+        Err(_) => Status::NoMemory,
+    }
+}
+
+// Shows the events of a clip file.
+fn show_clip<S: Source, L: Lanes, W: Sink, N: Sink>(
+    input: &mut S,
+    lanes: &mut L,
+    output: &mut W,
+    notes: &mut N,
+) -> Status
+    ensures says { ShowsClip
+        (seen S.Source L.Lanes W.Sink N.Sink input.old lanes.old output.old notes.old)
+        (seen S.Source L.Lanes W.Sink N.Sink input.new lanes.new output.new notes.new) result }
+    ensures complete { IsDoneClip
+        (seen S.Source L.Lanes W.Sink N.Sink input.old lanes.old output.old notes.old)
+        (seen S.Source L.Lanes W.Sink N.Sink input.new lanes.new output.new notes.new) result }
+{
+    status_of(run_clip(input, lanes, output, notes))
 }
 
 // Counts the packets of a seed, and puts the line of the counts.

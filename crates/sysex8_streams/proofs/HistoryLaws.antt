@@ -1,13 +1,12 @@
 -- What one more part does to the streams that are begun, and which parts are taken.
 use Rattle.std.proofs.Common.{ℕ, ◌≡◌, ◌≤◌, ◌+◌, ◌∙◌, ap, sym, refl, List, [], ◌∷◌, length, Option, Some, None, is_some, Bool, true, false, cond, arith, ◌==◌, inl, inr, nat_lt, ◌++◌}
 use Rattle.std.specs.Option.{option_map, option_and_then}
-use Rattle.std.proofs.lemmas.Bool.{cases_Bool, cond_both, cond-true, eqb-true, eqb-false, ne_eqb, true≢false, le-leb, lt-ltb, true_from_ne_false}
+use Rattle.std.proofs.lemmas.Bool.{cases_Bool, cond_both, cond-true, eqb-true, eqb-false, true≢false, le-leb, lt-ltb, true_from_ne_false}
 use Rattle.voice_messages.specs.declared.voice2.Form.{Form}
 use Rattle.voice_messages.specs.declared.voice2.Form.TheVariants as form
 use Rattle.sysex_groups.specs.Exclusives.{Part, of_group, opened, fits, goes_on, passes_by, ended_by, bytes_of, start_of, since_start, within}
 use Rattle.sysex_groups.specs.Table.{begun_after, begun_behind, begun_of}
-use Rattle.sysex_groups.proofs.ExclusiveLaws.{begun_behind-own, opened-other}
-use Rattle.sysex_groups.proofs.TableLaws.{of_group-of_group}
+use Rattle.sysex_groups.specs.Laws.{PartsOfOneGroup}
 use Rattle.sysex8_streams.specs.History.{Answer8, held8, whole8, too_long8, full8, is_begun, begun_count, is_taken_by, is_taken, with_taken, taken, opened8, answer8_from, answer_behind, answer8}
 use Rattle.sysex8_streams.specs.Table.{answer8_of}
 use Rattle.sysex8_streams.specs.Laws.{IsNeverFull}
@@ -15,12 +14,12 @@ use Rattle.sysex8_streams.proofs.CountLaws.{one, begun-count, none-begun}
 
 -- ---- one more part
 
-pub begun-own : (room : ℕ) (part : Part) (past : List Part) → 13 ≤ room → length part.bytes ≤ 13 → (key : ℕ) → (part.group == key) ≡ true →
+pub begun-own : (groups : PartsOfOneGroup) (room : ℕ) (part : Part) (past : List Part) → 13 ≤ room → length part.bytes ≤ 13 → (key : ℕ) → (part.group == key) ≡ true →
     begun_behind (Some room) key (part ∷ past) ≡ begun_after (Some room) (begun_behind (Some room) key past) part.form part.bytes part.offset
-begun-own room part past least few key same = begun_behind-own (Some room) part key past same (le-leb (length part.bytes) room (omega arith))
+begun-own groups room part past least few key same = groups.begun (Some room) key part past (eqb-true part.group key same) (le-leb (length part.bytes) room (omega arith))
 
-pub begun-other : (room : ℕ) (part : Part) (past : List Part) (key : ℕ) → (part.group == key) ≡ false → begun_behind (Some room) key (part ∷ past) ≡ begun_behind (Some room) key past
-begun-other room part past key other = ap (option_map begun_of) (opened-other (Some room) key part past other)
+pub begun-other : (groups : PartsOfOneGroup) (room : ℕ) (part : Part) (past : List Part) (key : ℕ) → (part.group == key) ≡ false → begun_behind (Some room) key (part ∷ past) ≡ begun_behind (Some room) key past
+begun-other groups room part past key other = ap (option_map begun_of) (groups.open_stays (Some room) key part past (eqb-false part.group key other))
 
 pub begun-is : (room : ℕ) (past : List Part) (key : ℕ) → is_begun room past key ≡ is_some (begun_behind (Some room) key past)
 begun-is room past key = go (opened (Some room) key past)
@@ -29,15 +28,12 @@ begun-is room past key = go (opened (Some room) key past)
     go None = refl
     go (Some parts) = refl
 
-eqb-swap : (a b : ℕ) → (a == b) ≡ false → (b == a) ≡ false
-eqb-swap a b differ = ne_eqb b a (λ same. eqb-false a b differ (sym same))
-
 -- how many streams are begun after one more part
-pub count-more : (room : ℕ) (part : Part) (past : List Part) →
+pub count-more : (groups : PartsOfOneGroup) (room : ℕ) (part : Part) (past : List Part) →
     begun_count room (part ∷ past) + one (is_some (begun_behind (Some room) part.group past)) ≡ begun_count room past + one (is_some (begun_behind (Some room) part.group (part ∷ past)))
-count-more room part past =
+count-more groups room part past =
     let others : (key : ℕ) → (key == part.group) ≡ false → is_begun room (part ∷ past) key ≡ is_begun room past key =
-    λ key differ. ap is_some (opened-other (Some room) key part past (eqb-swap key part.group differ)) in
+    λ key differ. ap is_some (groups.open_stays (Some room) key part past (λ same. eqb-false key part.group differ (sym same))) in
     omega (arith, begun-count room part past others, ap one (begun-is room past part.group), ap one (begun-is room (part ∷ past) part.group))
 
 -- ---- which parts are taken
@@ -127,8 +123,8 @@ alone-taken slots room key (part ∷ past) some =
     (λ other. rest)
 
 -- where none is answered by Full, the answer is that of the stream's own parts
-pub answers-alone : (slots room : ℕ) (past : List Part) (part : Part) → 1 ≤ slots → IsNeverFull slots room (part ∷ past) → answer8 slots room past part ≡ answer8 slots room (of_group part.group past) part
-answers-alone slots room past part some never =
+pub answers-alone : (groups : PartsOfOneGroup) (slots room : ℕ) (past : List Part) (part : Part) → 1 ≤ slots → IsNeverFull slots room (part ∷ past) → answer8 slots room past part ≡ answer8 slots room (of_group part.group past) part
+answers-alone groups slots room past part some never =
     let own : List Part = of_group part.group past in
     let all : taken slots room past ≡ past = all-taken slots room past never.1 in
     let is_accepted : is_taken slots room past part ≡ true = ap (λ parts. is_taken slots room parts part) (sym all) ∙ accepted slots room (taken slots room past) part never.0 in
@@ -136,12 +132,12 @@ answers-alone slots room past part some never =
     let on : List Part → Bool → Answer8 = λ parts. answer-on room part.form part.bytes (option_and_then (within (Some room)) (since_start parts)) in
     ap (λ parts. answer_behind slots room parts part) all
     ∙ ap (on own) (is_accepted ∙ sym own_accepted)
-    ∙ ap (λ parts. on parts (is_taken slots room own part)) (sym (of_group-of_group part.group past))
+    ∙ ap (λ parts. on parts (is_taken slots room own part)) (sym (groups.of_itself part.group past))
     ∙ ap (λ parts. answer_behind slots room parts part) (sym (alone-taken slots room part.group past some))
 
-pub begun-alone : (slots room : ℕ) (past : List Part) (key : ℕ) → 1 ≤ slots → IsNeverFull slots room past → opened8 slots room past key ≡ opened8 slots room (of_group key past) key
-begun-alone slots room past key some never =
+pub begun-alone : (groups : PartsOfOneGroup) (slots room : ℕ) (past : List Part) (key : ℕ) → 1 ≤ slots → IsNeverFull slots room past → opened8 slots room past key ≡ opened8 slots room (of_group key past) key
+begun-alone groups slots room past key some never =
     let on : List Part → Option (List Part) = λ parts. option_and_then (within (Some room)) (since_start parts) in
     ap (opened (Some room) key) (all-taken slots room past never)
-    ∙ ap on (sym (of_group-of_group key past))
+    ∙ ap on (sym (groups.of_itself key past))
     ∙ ap (opened (Some room) key) (sym (alone-taken slots room key past some))

@@ -9,6 +9,7 @@ use Rattle.std.proofs.lemmas.List.Quantifiers.{position-Some}
 use Rattle.voice_messages.specs.declared.voice2.Form.{Form}
 use Rattle.voice_messages.specs.declared.voice2.Form.TheVariants as form
 use Rattle.sysex_groups.specs.Exclusives.{Part, opened, fits}
+use Rattle.sysex_groups.specs.Laws.{PartsOfOneGroup}
 use Rattle.sysex_groups.specs.Table.{Begun, begun_after, begun_behind}
 use Rattle.sysex8_streams.specs.History.{full8, held8, whole8, too_long8, is_begun, begun_count, is_taken_by, is_taken, with_taken, taken, answer8}
 use Rattle.sysex8_streams.specs.Table.{Slot8, Table8, AreParts8, is_of, begun_among, begun8_in, idle_slot, slot_with, slots_with, slots_after, with_part8, table8_after, answer8_of, answer_begun, answer8_to}
@@ -45,7 +46,7 @@ some-slot key (Some begun) = refl
 
 -- ---- a slot is filled or cleared
 
-module _ (slots room : ℕ) (part : Part) (past : List Part) (table : List Slot8) (least : 13 ≤ room) (few : length part.bytes ≤ 13) (agrees : Agrees slots room past table) where
+module _ (groups : PartsOfOneGroup) (slots room : ℕ) (part : Part) (past : List Part) (table : List Slot8) (least : 13 ≤ room) (few : length part.bytes ≤ 13) (agrees : Agrees slots room past table) where
   abbrev own : ℕ
   own = part.group
 
@@ -54,10 +55,10 @@ module _ (slots room : ℕ) (part : Part) (past : List Part) (table : List Slot8
 
   -- what the part's stream has begun after it, by the definition
   new-is : begun_behind (Some room) own (part ∷ past) ≡ new
-  new-is = begun-own room part past least few own (eq-eqb own own refl) ∙ ap (λ b. begun_after (Some room) b part.form part.bytes part.offset) (sym (agrees.begun own))
+  new-is = begun-own groups room part past least few own (eq-eqb own own refl) ∙ ap (λ b. begun_after (Some room) b part.form part.bytes part.offset) (sym (agrees.begun own))
 
   counted : begun_count room (part ∷ past) + one (is_some (begun_among own table)) ≡ begun_count room past + one (is_some new)
-  counted = omega (arith, count-more room part past, ap (λ b. one (is_some b)) (agrees.begun own), ap (λ b. one (is_some b)) new-is)
+  counted = omega (arith, count-more groups room part past, ap (λ b. one (is_some b)) (agrees.begun own), ap (λ b. one (is_some b)) new-is)
 
   -- the part isn't kept, and its stream has no slot
   unkept : begun_among own table ≡ None → new ≡ None → Agrees slots room (part ∷ past) table
@@ -66,7 +67,7 @@ module _ (slots room : ℕ) (part : Part) (past : List Part) (table : List Slot8
       | inl same ↦
           let P : ℕ → Type 0 = λ k. begun_among k table ≡ begun_behind (Some room) k (part ∷ past) in
           subst P (eqb-true own key same) (nothing ∙ sym dropped ∙ sym new-is)
-      | inr other ↦ agrees.begun key ∙ sym (begun-other room part past key other)
+      | inr other ↦ agrees.begun key ∙ sym (begun-other groups room part past key other)
     ];
     count = omega (arith, agrees.count, counted, ap (λ b. one (is_some b)) nothing, ap (λ b. one (is_some b)) dropped);
     once = agrees.once;
@@ -99,7 +100,7 @@ module _ (slots room : ℕ) (part : Part) (past : List Part) (table : List Slot8
             | inr other ↦
                 begun-set_other key table i slot within (is_of-other own key new other) (free.others key other)
                 ∙ agrees.begun key
-                ∙ sym (begun-other room part past key other)
+                ∙ sym (begun-other groups room part past key other)
           ];
           count = omega (arith, agrees.count, counted, slots-set is_some table i slot within, ap one free.some, ap one (some-slot own new));
           once = λ key. elim (cases_Bool (own == key)) [
@@ -159,25 +160,25 @@ module _ (slots room : ℕ) (part : Part) (past : List Part) (table : List Slot8
 -- ---- one more part
 
 -- a part of a stream that has no slot, by its form and by whether a slot is idle
-without-slot : (slots room key : ℕ) (bytes : List ℕ) (offset : ℕ) (past : List Part) (table : List Slot8) → 13 ≤ room → length bytes ≤ 13 → Agrees slots room past table → position (is_of key) table ≡ None →
+without-slot : (groups : PartsOfOneGroup) (slots room key : ℕ) (bytes : List ℕ) (offset : ℕ) (past : List Part) (table : List Slot8) → 13 ≤ room → length bytes ≤ 13 → Agrees slots room past table → position (is_of key) table ≡ None →
     (f : Form) (e : Option ℕ) → idle_slot table ≡ e →
     Agrees slots room (with_taken slots room past (record { group = key; form = f; bytes = bytes; offset = offset })) (slots_with key (begun_after (Some room) (begun_among key table) f bytes offset) None e table)
-without-slot slots room key bytes offset past table least few agrees none f e idle = go f e idle
+without-slot groups slots room key bytes offset past table least few agrees none f e idle = go f e idle
   where
     nothing : begun_among key table ≡ None
     nothing = begun-none key table (none-found (is_of key) table none)
 
     go : (f : Form) (e : Option ℕ) → idle_slot table ≡ e → Agrees slots room (with_taken slots room past (record { group = key; form = f; bytes = bytes; offset = offset })) (slots_with key (begun_after (Some room) (begun_among key table) f bytes offset) None e table)
-    go form.Complete e idle = unkept slots room (record { group = key; form = form.Complete; bytes = bytes; offset = offset }) past table least few agrees nothing refl
-    go form.End e idle = unkept slots room (record { group = key; form = form.End; bytes = bytes; offset = offset }) past table least few agrees nothing refl
+    go form.Complete e idle = unkept groups slots room (record { group = key; form = form.Complete; bytes = bytes; offset = offset }) past table least few agrees nothing refl
+    go form.End e idle = unkept groups slots room (record { group = key; form = form.End; bytes = bytes; offset = offset }) past table least few agrees nothing refl
     go form.Continue e idle =
         let P : Option Begun → Type 0 = λ b. Agrees slots room (record { group = key; form = form.Continue; bytes = bytes; offset = offset } ∷ past) (slots_with key (begun_after (Some room) b form.Continue bytes offset) None e table) in
-        subst P (sym nothing) (unkept slots room (record { group = key; form = form.Continue; bytes = bytes; offset = offset }) past table least few agrees nothing (ap (λ b. begun_after (Some room) b form.Continue bytes offset) nothing))
+        subst P (sym nothing) (unkept groups slots room (record { group = key; form = form.Continue; bytes = bytes; offset = offset }) past table least few agrees nothing (ap (λ b. begun_after (Some room) b form.Continue bytes offset) nothing))
     go form.Start (Some i) idle =
         let fewer : nat_lt (begun_count room past) slots ≡ true = ap (λ n. nat_lt n slots) (sym agrees.count) ∙ ap (λ n. nat_lt (count_by is_some table) n) (sym agrees.size) ∙ sym (idle-fewer table) ∙ ap is_some idle in
         let accepted : is_taken_by form.Start (is_begun room past key) (nat_lt (begun_count room past) slots) ≡ true = ap (is_taken_by form.Start (is_begun room past key)) fewer ∙ taken-fewer form.Start (is_begun room past key) in
         let P : Bool → Type 0 = λ b. Agrees slots room (cond b (record { group = key; form = form.Start; bytes = bytes; offset = offset } ∷ past) past) (slice_set table i (Some (record { key = key; begun = record { start = offset; bytes = bytes } }))) in
-        subst P (sym accepted) (idle-put slots room (record { group = key; form = form.Start; bytes = bytes; offset = offset }) past table least few agrees i none idle)
+        subst P (sym accepted) (idle-put groups slots room (record { group = key; form = form.Start; bytes = bytes; offset = offset }) past table least few agrees i none idle)
     go form.Start None idle =
         let full : nat_lt (begun_count room past) slots ≡ false = ap (λ n. nat_lt n slots) (sym agrees.count) ∙ ap (λ n. nat_lt (count_by is_some table) n) (sym agrees.size) ∙ sym (idle-fewer table) ∙ ap is_some idle in
         let unbegun : is_begun room past key ≡ false = begun-is room past key ∙ ap is_some (sym (agrees.begun key)) ∙ ap is_some nothing in
@@ -185,35 +186,35 @@ without-slot slots room key bytes offset past table least few agrees none f e id
         let P : Bool → Type 0 = λ b. Agrees slots room (cond b (record { group = key; form = form.Start; bytes = bytes; offset = offset } ∷ past) past) table in
         subst P (sym refused) agrees
 
-agrees-more : (slots room : ℕ) (part : Part) (past : List Part) (table : List Slot8) → 13 ≤ room → length part.bytes ≤ 13 → Agrees slots room past table →
+agrees-more : (groups : PartsOfOneGroup) (slots room : ℕ) (part : Part) (past : List Part) (table : List Slot8) → 13 ≤ room → length part.bytes ≤ 13 → Agrees slots room past table →
     Agrees slots room (with_taken slots room past part) (slots_after room part table)
-agrees-more slots room part past table least few agrees = go (position (is_of part.group) table) refl
+agrees-more groups slots room part past table least few agrees = go (position (is_of part.group) table) refl
   where
     go : (o : Option ℕ) → position (is_of part.group) table ≡ o →
         Agrees slots room (with_taken slots room past part) (slots_with part.group (begun_after (Some room) (begun_among part.group table) part.form part.bytes part.offset) o (idle_slot table) table)
-    go (Some i) found = own-put slots room part past table least few agrees i found
-    go None none = without-slot slots room part.group part.bytes part.offset past table least few agrees none part.form (idle_slot table) refl
+    go (Some i) found = own-put groups slots room part past table least few agrees i found
+    go None none = without-slot groups slots room part.group part.bytes part.offset past table least few agrees none part.form (idle_slot table) refl
 
 table-room : (slots room : ℕ) (past : List Part) → (table8_after slots room past).room ≡ room
 table-room slots room [] = refl
 table-room slots room (part ∷ past) = table-room slots room past
 
-agrees-after : (slots room : ℕ) (past : List Part) → 13 ≤ room → AreParts8 past → Agrees slots room (taken slots room past) (table8_after slots room past).slots
-agrees-after slots room [] least parts = agrees-empty slots room
-agrees-after slots room (part ∷ past) least parts =
+agrees-after : (groups : PartsOfOneGroup) (slots room : ℕ) (past : List Part) → 13 ≤ room → AreParts8 past → Agrees slots room (taken slots room past) (table8_after slots room past).slots
+agrees-after groups slots room [] least parts = agrees-empty slots room
+agrees-after groups slots room (part ∷ past) least parts =
     let P : ℕ → Type 0 = λ r. Agrees slots room (taken slots room (part ∷ past)) (slots_after r part (table8_after slots room past).slots) in
-    subst P (sym (table-room slots room past)) (agrees-more slots room part (taken slots room past) (table8_after slots room past).slots least parts.0 (agrees-after slots room past least parts.1))
+    subst P (sym (table-room slots room past)) (agrees-more groups slots room part (taken slots room past) (table8_after slots room past).slots least parts.0 (agrees-after groups slots room past least parts.1))
 
 -- what each stream has begun
-pub table-begun : (slots room : ℕ) (past : List Part) → 13 ≤ room → AreParts8 past → (key : ℕ) → begun8_in (table8_after slots room past) key ≡ begun_behind (Some room) key (taken slots room past)
-table-begun slots room past least parts key = (agrees-after slots room past least parts).begun key
+pub table-begun : (groups : PartsOfOneGroup) (slots room : ℕ) (past : List Part) → 13 ≤ room → AreParts8 past → (key : ℕ) → begun8_in (table8_after slots room past) key ≡ begun_behind (Some room) key (taken slots room past)
+table-begun groups slots room past least parts key = (agrees-after groups slots room past least parts).begun key
 
 -- the answer to one more part
-pub table-answers : (slots room : ℕ) (past : List Part) → 13 ≤ room → AreParts8 past → (part : Part) → answer8_to (table8_after slots room past) part ≡ answer8 slots room past part
-table-answers slots room past least parts part =
+pub table-answers : (groups : PartsOfOneGroup) (slots room : ℕ) (past : List Part) → 13 ≤ room → AreParts8 past → (part : Part) → answer8_to (table8_after slots room past) part ≡ answer8 slots room past part
+table-answers groups slots room past least parts part =
     let older : List Part = taken slots room past in
     let table : Table8 = table8_after slots room past in
-    let agrees : Agrees slots room older table.slots = agrees-after slots room past least parts in
+    let agrees : Agrees slots room older table.slots = agrees-after groups slots room past least parts in
     let idle : is_some (idle_slot table.slots) ≡ nat_lt (begun_count room older) slots = idle-fewer table.slots ∙ ap (λ n. nat_lt n (length table.slots)) agrees.count ∙ ap (λ n. nat_lt (begun_count room older) n) agrees.size in
     ap (λ r. answer8_of r (begun8_in table part.group) (is_some (idle_slot table.slots)) part.form part.bytes) (table-room slots room past)
     ∙ ap (λ begun. answer8_of room begun (is_some (idle_slot table.slots)) part.form part.bytes) (agrees.begun part.group)

@@ -1,8 +1,21 @@
 -- What holds of all exclusives.
-use Rattle.std.specs.Prelude.{◌≡◌, ◌≢◌, ◌<◌, ◌≤◌, ◌+◌, ◌==◌, if◌then◌else◌, ℕ, List, Some, None, IsTrue, length}
+use Rattle.std.specs.Prelude.{◌≡◌, ◌≢◌, ◌<◌, ◌≤◌, ◌+◌, ◌==◌, ◌∷◌, ◌++◌, if◌then◌else◌, ℕ, List, Some, None, IsTrue, length}
 use Rattle.sysex_groups.specs.Cut.{part_count, sent_part, sent}
-use Rattle.sysex_groups.specs.Exclusives.{Part, Room, of_group, fits, ended, answer_at}
-use Rattle.sysex_groups.specs.Table.{Table, AreParts, begun_in, begun_behind, answer_to, with_part, table_after}
+use Rattle.sysex_groups.specs.Exclusives.{Part, Room, of_group, bytes_of, fits, opened, ended, answer_at}
+use Rattle.sysex_groups.specs.Table.{Table, AreParts, begun_in, begun_after, begun_behind, answer_to, with_part, table_after}
+
+-- What one more part does, whatever the limit. A part of another group is none of a group's parts, and leaves open what the group
+-- has open. One of its own is the newest of its parts, its bytes come last, and what is then open is what the table's step says.
+-- A group's parts among its own parts are all of them.
+pub record PartsOfOneGroup : Type 0 where
+  pub of_another : (group : ℕ) (part : Part) (past : List Part) → part.group ≢ group → of_group group (part ∷ past) ≡ of_group group past
+  pub of_its_own : (group : ℕ) (part : Part) (past : List Part) → part.group ≡ group → of_group group (part ∷ past) ≡ part ∷ of_group group past
+  pub of_itself : (group : ℕ) (past : List Part) → of_group group (of_group group past) ≡ of_group group past
+  pub bytes : (part : Part) (parts : List Part) → bytes_of (part ∷ parts) ≡ bytes_of parts ++ part.bytes
+  pub open_stays : (room : Room) (group : ℕ) (part : Part) (past : List Part) → part.group ≢ group →
+      opened room group (part ∷ past) ≡ opened room group past
+  pub begun : (room : Room) (group : ℕ) (part : Part) (past : List Part) → part.group ≡ group → IsTrue (fits room (length part.bytes)) →
+      begun_behind room group (part ∷ past) ≡ begun_after room (begun_behind room group past) part.form part.bytes part.offset
 
 pub record FedPartsAreTheDefinition : Type 0 where
   pub begun : (room : ℕ) (past : List Part) → 6 ≤ room → AreParts past → (group : ℕ) →

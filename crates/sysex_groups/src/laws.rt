@@ -1,5 +1,11 @@
 // Laws over the definitions alone.
-ghost use Rattle.sysex_groups.specs.Laws.{CutPayloadIsJoined, FedPartsAreTheDefinition};
+ghost use Rattle.sysex_groups.specs.Laws.{CutPayloadIsJoined, FedPartsAreTheDefinition, PartsOfOneGroup};
+
+/// What one more part does to the parts of a group, to their bytes and to what the group has open, with any limit or none: a part of
+/// another group changes nothing, and one of the group's own comes last.
+pub fn parts_of_one_group()
+    ensures { PartsOfOneGroup }
+{}
 
 /// Feeding any parts of all groups to a new table agrees with the definition that looks back over them: on what each group has
 /// open, and on the answer to one more part. Both depend on the parts of that group alone, and all other groups stay as they are.

@@ -10,7 +10,7 @@ pub mod laws;
 pub use crate::cutting::part;
 pub use crate::fed::Fed;
 pub use crate::groups::Groups;
-pub use crate::laws::{cut_payload_is_joined, fed_parts_are_the_definition};
+pub use crate::laws::{cut_payload_is_joined, fed_parts_are_the_definition, parts_of_one_group};
 
 #[cfg(test)]
 mod tests;

@@ -22,14 +22,14 @@ const DISCOVERY_REPLIES: [u32; 24] = [
 
 // What the program is given, and where its objects cut or fail.
 #[derive(Drop)]
-struct Given<'a> {
+pub(super) struct Given<'a> {
     words: &'a [&'a str],
     setup: Vec<u8>,
-    fetches: Vec<u64>,
-    input: Vec<u8>,
+    pub(super) fetches: Vec<u64>,
+    pub(super) input: Vec<u8>,
     cuts: Vec<usize>,
     reads: Vec<u64>,
-    output_puts: Vec<(u64, usize)>,
+    pub(super) output_puts: Vec<(u64, usize)>,
     note_puts: Vec<(u64, usize)>,
 }
 
@@ -37,7 +37,7 @@ fn given_of<'a>(alloc: Global, packets: &[u32]) -> Result<Given<'a>, AllocError>
     given_with(alloc, &["endpoint", "a.toml"], packets)
 }
 
-fn given_with<'a>(
+pub(super) fn given_with<'a>(
     alloc: Global,
     words: &'a [&'a str],
     packets: &[u32],
@@ -57,7 +57,7 @@ fn given_with<'a>(
 }
 
 // What a run leaves: its status, the output and the notes; no lane is opened.
-fn leaves(
+pub(super) fn leaves(
     rt: &impl Abort,
     alloc: Global,
     given: Given<'_>,

@@ -5,12 +5,12 @@ use Rattle.sysex8_streams.proofs.laws.fed_streams_are_the_definition.Goals as go
 
 pub returns : goal.returns
 returns c = record {
-  opens = opens;
-  opened = opened-by;
-  begun = table-begun;
-  answers = table-answers;
-  begun_alone = begun-alone;
-  answers_alone = answers-alone;
+  opens = opens c.parts_of_one_group.ensures;
+  opened = opened-by c.parts_of_one_group.ensures;
+  begun = table-begun c.parts_of_one_group.ensures;
+  answers = table-answers c.parts_of_one_group.ensures;
+  begun_alone = begun-alone c.parts_of_one_group.ensures;
+  answers_alone = answers-alone c.parts_of_one_group.ensures;
   full = table-full;
   others = table-others;
 }

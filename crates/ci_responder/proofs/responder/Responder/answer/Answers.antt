@@ -1,11 +1,10 @@
-use Rattle.std.proofs.Common.{[], ◌∙◌, ap, sym, subst}
-use Rattle.ump_grammar.specs.Replies.{AddsPackets}
+use Rattle.std.proofs.Common.{◌≡◌, ◌∙◌, ap, sym, subst}
 use Rattle.ci_messages.specs.declared.view.Body.{Body}
 use Rattle.ci_messages.specs.Messages.{body_kind, format_of}
 use Rattle.ci_messages.specs.Writing.{FitsBody}
 use Rattle.ci_responder.specs.Held.{sender_of}
 use Rattle.ci_responder.specs.Messages.{said_in, told_of}
-use Rattle.ci_responder.specs.Replies.{answer_to, sent}
+use Rattle.ci_responder.specs.Replies.{answer_to, message_of_reply}
 use Rattle.ci_responder.proofs.ReplyLaws.{endpoint_is_full, path_is_data}
 use Rattle.ci_responder.proofs.responder.Responder.answer.Goals as goal
 
@@ -20,14 +19,14 @@ tell_product_id-requires-clause-version c =
     endpoint_is_full c.args.view.now.sub c.args.view.now.version
     (ap body_kind (sym c.in-EndpointInquiry.is) ∙ c.requires.view.kind)
 
-pub returns-in-Discovery-clause-packets : goal.returns-in-Discovery-clause-packets
-returns-in-Discovery-clause-packets c =
+pub returns-in-Discovery-clause-message : goal.returns-in-Discovery-clause-message
+returns-in-Discovery-clause-message c =
     let told = told_of c.args.owner.now.group c.args.view.now in
-    let P : Body → Type 0 = λ body. AddsPackets (sent c.args.owner.now.group (answer_to (sender_of c.args.self.now c.args.owner.now.block c.args.owner.now.muid) told (said_in body))) [] c.tell_device.new.replies in
-    subst P (sym c.in-Discovery.is) c.tell_device.ensures.packets
+    let P : Body → Type 0 = λ body. c.tell_device.new.reply ≡ message_of_reply (answer_to (sender_of c.args.self.now c.args.owner.now.block c.args.owner.now.muid) told (said_in body)) in
+    subst P (sym c.in-Discovery.is) c.tell_device.ensures.message
 
-pub returns-in-EndpointInquiry-clause-packets : goal.returns-in-EndpointInquiry-clause-packets
-returns-in-EndpointInquiry-clause-packets c =
+pub returns-in-EndpointInquiry-clause-message : goal.returns-in-EndpointInquiry-clause-message
+returns-in-EndpointInquiry-clause-message c =
     let told = told_of c.args.owner.now.group c.args.view.now in
-    let P : Body → Type 0 = λ body. AddsPackets (sent c.args.owner.now.group (answer_to (sender_of c.args.self.now c.args.owner.now.block c.args.owner.now.muid) told (said_in body))) [] c.tell_product_id.new.replies in
-    subst P (sym c.in-EndpointInquiry.is) (c.tell_product_id.ensures.packets c.in-EndpointInquiry.status)
+    let P : Body → Type 0 = λ body. c.tell_product_id.new.reply ≡ message_of_reply (answer_to (sender_of c.args.self.now c.args.owner.now.block c.args.owner.now.muid) told (said_in body)) in
+    subst P (sym c.in-EndpointInquiry.is) (c.tell_product_id.ensures.message c.in-EndpointInquiry.status)

@@ -5,21 +5,21 @@ use Rattle.ci_messages.specs.Messages.{block_in, format_of, path_in}
 use Rattle.ci_responder.proofs.ReplyLaws.{Is, few_path_and_block, kind_71}
 use Rattle.ci_responder.proofs.responder.Responder.tell_device.Goals as goal
 
-pub push_message-requires-clause-view : goal.push_message-requires-clause-view
-push_message-requires-clause-view c =
+pub put_message-requires-clause-view : goal.put_message-requires-clause-view
+put_message-requires-clause-view c =
     let held = c.self.invariant in
     record {
       address = tt;
       sub = omega arith;
       version = omega (arith, c.reply_version-version.ensures.most);
-      source = c.requires.muid;
+      source = omega (arith, c.requires.muid);
       destination = c.requires.view.source;
       kind = subst (Is kind.DiscoveryReply 0x71) (sym c.reply_version-version.ensures.value) (kind_71 (c.args.view.now.version == 1));
       body = (held.manufacturer, (held.family, (held.model, (held.revision, (omega arith, (held.room, (c.placed-path.ensures.fits, (c.placed-block.ensures.fits, tt))))))));
     }
 
-pub push_message-requires-clause-fits : goal.push_message-requires-clause-fits
-push_message-requires-clause-fits c =
+pub put_message-requires-clause-fits : goal.put_message-requires-clause-fits
+put_message-requires-clause-fits c =
     let held = c.self.invariant in
     let identity = c.self.inside.identity in
     let version : ℕ = c.reply_version-version.result in

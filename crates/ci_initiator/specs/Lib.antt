@@ -1,0 +1,9 @@
+pub mod Incoming
+pub mod Rows
+pub mod Asks
+pub mod History
+pub mod Known
+pub mod Watching
+pub mod Stage
+pub mod Course
+pub mod Laws

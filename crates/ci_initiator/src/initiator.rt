@@ -1,0 +1,187 @@
+// The initiator.
+ghost use Rattle.std.specs.Prelude.{◌≡◌, ◌<◌, ◌≤◌, ◌^◌, ℕ, List, [], true, length, slice_get, is_some, IfOk, IfSome, Some};
+ghost use Rattle.std.specs.Option.{option_map};
+ghost use Rattle.ci_messages.specs.Writing.{IsView};
+ghost use Rattle.ci_responder.specs.Replies.{IsMessage};
+ghost use Rattle.ci_initiator.specs.declared.watch.Watch.{Watch};
+ghost use Rattle.ci_initiator.specs.Asks.{asked_with, group_asked, group_of_watch};
+ghost use Rattle.ci_initiator.specs.Incoming.{incoming_of};
+ghost use Rattle.ci_initiator.specs.Known.{after, after_by, are_different, asked_by, known_at, noted_in, watches_of};
+
+use crate::ask::Ask;
+use crate::asking::{put_discovery, put_inquiry, put_set_off, put_set_on};
+use crate::noted::Noted;
+use crate::rows::{hold, row_of};
+use crate::watch::{Watch, Watched};
+use ci_messages::CiView;
+use midi_edge::{NoMemory, ShortList};
+use std::alloc::Global;
+use std::marker::Model;
+use voice_messages::U4;
+
+/// Asks a peer for its profiles, and holds what the peer tells of those that are watched (M2-101-UM, profile configuration). To a
+/// contract it is what it knows: its own MUID, the peer's, and what it holds of each watch.
+#[derive(Drop)]
+pub struct Initiator {
+    pub(crate) muid: u32,
+    pub(crate) peer: Option<u32>,
+    pub(crate) watched: Vec<Watched>,
+}
+
+impl Model for Initiator {
+    ghost use Rattle.ci_initiator.specs.Known.{IsKnown, Known};
+
+    ghost Value = { Known };
+
+    ghost view = { λ i. record { muid = i.muid; peer = i.peer; watched = i.watched.items } };
+
+    ghost invariant = { λ i. IsKnown (record { muid = i.muid; peer = i.peer; watched = i.watched.items }) };
+}
+
+impl Initiator {
+    /// An initiator with a MUID of its own, below 0FFFFF00, and at most 64 watches that are all different. At first no peer is
+    /// known, and nothing is held. Takes all memory that it ever takes; `NoMemory` where there isn't so much.
+    pub fn new(alloc: Global, muid: u32, watches: &[Watch]) -> Result<Initiator, NoMemory>
+        requires muid { muid < 0x0FFFFF00 }
+        requires few { length watches.now ≤ 64 }
+        requires different { are_different watches.now ≡ true }
+        ensures { IfOk result (λ initiator. initiator ≡ known_at muid watches.now []) }
+    {
+        let Ok(mut watched) = Vec::with_capacity(alloc, watches.len()) else {
+            return Err(NoMemory);
+        };
+        for k in 0..watches.len() {
+            let watch = watches[k];
+            let Ok(()) = watched.push(Watched { watch, held: None }) else {
+                return Err(NoMemory);
+            };
+        }
+        Ok(Initiator {
+            muid,
+            peer: None,
+            watched,
+        })
+    }
+
+    /// Whether `ask` writes a message: the watch is there, and for all but Discovery a peer is known.
+    pub fn can_ask(&self, what: Ask) -> bool
+        ensures { result ≡ is_some (asked_by self.now what) }
+    {
+        match what {
+            Ask::Discover => true,
+            Ask::Inquire(k) => self.peer_and_watch(k).is_some(),
+            Ask::On(k) => self.peer_and_watch(k).is_some(),
+            Ask::Off(k) => self.peer_and_watch(k).is_some(),
+        }
+    }
+
+    // The peer that is asked about a watch, and the watch.
+    fn peer_and_watch(&self, k: usize) -> Option<(u32, Watch)>
+        ensures value { (write : ℕ → ℕ → Watch → List ℕ) →
+            asked_with write self.now.muid self.now.peer (slice_get (watches_of self.now) k)
+            ≡ option_map (λ found. write self.now.muid found.0 found.1) result }
+        ensures peer { IfSome result (λ found. found.0 < 2 ^ 28) }
+    {
+        let peer = self.peer?;
+        let watched = self.watched.get(k)?;
+        Some((peer, watched.watch))
+    }
+
+    /// Writes what is asked as a message from F0 to F7 into an empty list (M2-101-UM): Discovery to all at the function block, with
+    /// an identity of zeros, the category of profiles and 512 as the most bytes; the others to the peer at the watch's address,
+    /// with the count 1 for a channel and 0 otherwise. All are of version 02, and `ci_messages::read` takes them.
+    pub fn ask(&self, what: Ask, into: &mut ShortList<u8, 512>)
+        requires asks { is_some (asked_by self.now what) ≡ true }
+        requires empty { into.old ≡ [] }
+        ensures bytes { asked_by self.now what ≡ Some into.new }
+        ensures message { IsMessage into.new }
+    {
+        match what {
+            Ask::Discover => put_discovery(self.muid, into),
+            Ask::Inquire(k) => match self.peer_and_watch(k) {
+                Some((peer, watch)) => put_inquiry(self.muid, peer, &watch, into),
+                None => unreachable!(),
+            },
+            Ask::On(k) => match self.peer_and_watch(k) {
+                Some((peer, watch)) => put_set_on(self.muid, peer, &watch, into),
+                None => unreachable!(),
+            },
+            Ask::Off(k) => match self.peer_and_watch(k) {
+                Some((peer, watch)) => put_set_off(self.muid, peer, &watch, into),
+                None => unreachable!(),
+            },
+        }
+    }
+
+    /// Hears a message that `ci_messages::read` gives, on its group. Takes no memory.
+    pub fn hear(&mut self, group: U4, view: &CiView<'_>) -> Noted
+        requires { IsView view.now }
+        ensures noted { result ≡ noted_in self.old (incoming_of group view.now) }
+        ensures after { self.new ≡ after self.old (incoming_of group view.now) }
+    {
+        let noted = row_of(self.muid, self.peer, self.watched.as_slice(), group, view);
+        self.note(noted, group, view);
+        noted
+    }
+
+    // What a message does that is noted so.
+    fn note(&mut self, noted: Noted, group: U4, view: &CiView<'_>)
+        requires { IsView view.now }
+        ensures { self.new ≡ after_by noted self.old (incoming_of group view.now) }
+    {
+        match noted {
+            Noted::Other => {}
+            Noted::Peer => self.peer = Some(view.source),
+            Noted::Gone => {
+                self.peer = None;
+                hold(self.watched.as_mut_slice(), noted, group, view);
+            }
+            Noted::Told(_) => hold(self.watched.as_mut_slice(), noted, group, view),
+            Noted::Inventory => hold(self.watched.as_mut_slice(), noted, group, view),
+        }
+    }
+
+    /// The number of watches, at most 64.
+    pub fn watches(&self) -> usize
+        ensures { result ≡ length self.now.watched }
+    {
+        self.watched.len()
+    }
+
+    /// The group on which is asked: that of the watch, and for Discovery that of watch 0; 0 where there is no such watch.
+    pub fn group_asked(&self, what: Ask) -> U4
+        ensures { result ≡ group_asked (watches_of self.now) what }
+    {
+        match what {
+            Ask::Discover => self.group_of(0),
+            Ask::Inquire(k) => self.group_of(k),
+            Ask::On(k) => self.group_of(k),
+            Ask::Off(k) => self.group_of(k),
+        }
+    }
+
+    fn group_of(&self, k: usize) -> U4
+        ensures { result ≡ group_of_watch (slice_get (watches_of self.now) k) }
+    {
+        match self.watched.get(k) {
+            Some(watched) => watched.watch.group,
+            None => U4::low_bits(0),
+        }
+    }
+
+    /// What is held of watch `k`, counted from 0: whether the peer has last told that the profile is on. `None` exactly where
+    /// nothing is held.
+    pub fn holds(&self, k: usize) -> Option<bool>
+        requires { k < length self.now.watched }
+        ensures { option_map (λ watched. watched.held) (slice_get self.now.watched k) ≡ Some result }
+    {
+        self.watched[k].held
+    }
+
+    /// The peer's MUID. `None` exactly where no peer is known.
+    pub fn peer(&self) -> Option<u32>
+        ensures { result ≡ self.now.peer }
+    {
+        self.peer
+    }
+}

@@ -1,0 +1,253 @@
+// A rehearsal.
+ghost use Rattle.std.specs.Prelude.{◌≡◌, ◌<◌, ◌++◌, ℕ, List, Option, [], length, slice_get, true, IfOk, Some};
+ghost use Rattle.std.specs.Option.{option_map};
+ghost use Rattle.function_blocks.specs.Profiles.{profiles_are_distinct};
+ghost use Rattle.ci_responder.specs.Held.{after as responder_after, heard_in, reply_in};
+ghost use Rattle.ci_responder.specs.Keys.{state_in};
+ghost use Rattle.ci_responder.specs.Read.{told_in};
+ghost use Rattle.ci_responder.specs.Replies.{IsMessage, IsReply, message_of_reply};
+ghost use Rattle.ci_initiator.specs.Asks.{group_asked};
+ghost use Rattle.ci_initiator.specs.Incoming.{incoming_in};
+ghost use Rattle.ci_initiator.specs.Known.{after, asked_by, noted_in, watches_of};
+ghost use Rattle.ci_initiator.specs.Stage.{
+  Steps,
+  ask_of as ask_of_number,
+  ask_with,
+  event_of as event_of_kind,
+  first_stage,
+  next_by,
+  next_stage,
+  note_with,
+  reply_sent,
+  reply_with,
+};
+ghost use Rattle.ci_initiator.specs.Watching.{HasIds};
+
+use crate::ask::Ask;
+use crate::event::{Event, EventFault, Told};
+use crate::initiator::Initiator;
+use crate::message::{Messages, Sent};
+use crate::noted::Noted;
+use crate::watching::{own_muid, watches};
+use ci_messages::laws::views_that_are_read_fit;
+use ci_messages::read;
+use ci_responder::{Heard, Key, Responder};
+use function_blocks::Setup;
+use midi_edge::{NoMemory, ShortList};
+use std::alloc::Global;
+use std::marker::Model;
+use voice_messages::U4;
+
+/// The most bytes of a System Exclusive message that the responder tells to take.
+const ROOM: u32 = 512;
+
+/// An initiator and the responder of a setup, and the messages that each has sent, which are delivered as events say. To a
+/// contract it is both sides and the two lists of messages.
+#[derive(Drop)]
+pub struct Rehearsal {
+    pub(crate) initiator: Initiator,
+    pub(crate) responder: Responder,
+    pub(crate) asks: Messages,
+    pub(crate) replies: Messages,
+}
+
+impl Model for Rehearsal {
+    ghost use Rattle.ci_initiator.specs.Stage.{Stage};
+
+    ghost Value = { Stage };
+
+    ghost view = { λ r. record {
+      initiator = r.initiator;
+      responder = r.responder;
+      asks = r.asks;
+      replies = r.replies;
+    } };
+}
+
+// What is asked by a number.
+fn ask_of(number: u16) -> Ask
+    ensures { result ≡ ask_of_number number }
+{
+    if number == 0 {
+        return Ask::Discover;
+    }
+    let rest = (number - 1) % 3;
+    let watch = ((number - 1) / 3) as usize;
+    if rest == 0 {
+        Ask::Inquire(watch)
+    } else if rest == 1 {
+        Ask::On(watch)
+    } else {
+        Ask::Off(watch)
+    }
+}
+
+// The event of a kind and a number.
+fn event_of(kind: u8, number: u16) -> Option<Event>
+    ensures { result ≡ event_of_kind kind number }
+{
+    match kind {
+        0 => Some(Event::Ask(ask_of(number))),
+        1 => Some(Event::ToResponder(number as usize)),
+        2 => Some(Event::ToInitiator(number as usize)),
+        _ => None,
+    }
+}
+
+// The responder hears a message, and its reply is written into an empty list.
+fn respond(responder: &mut Responder, sent: &Sent, reply: &mut ShortList<u8, 512>) -> Heard
+    requires message { IsMessage sent.now.bytes }
+    requires empty { reply.old ≡ [] }
+    ensures heard { result ≡ heard_in responder.old (told_in sent.now.group sent.now.bytes) }
+    ensures after { responder.new ≡ responder_after responder.old (told_in sent.now.group sent.now.bytes) }
+    ensures message { reply.new ≡
+        message_of_reply (reply_in responder.old (told_in sent.now.group sent.now.bytes)) }
+    ensures reply { IsReply reply.new }
+{
+    views_that_are_read_fit();
+    ci_responder::views_tell_their_bytes();
+    match read(sent.bytes.as_slice()) {
+        Ok(view) => responder.hear_message(sent.group, &view, reply),
+        Err(_) => unreachable!(),
+    }
+}
+
+// The initiator hears a message.
+fn note(initiator: &mut Initiator, sent: &Sent) -> Noted
+    requires { IsMessage sent.now.bytes }
+    ensures noted { result ≡ noted_in initiator.old (incoming_in sent.now.group sent.now.bytes) }
+    ensures after { initiator.new ≡ after initiator.old (incoming_in sent.now.group sent.now.bytes) }
+{
+    views_that_are_read_fit();
+    crate::laws::views_tell_their_bytes();
+    match read(sent.bytes.as_slice()) {
+        Ok(view) => initiator.hear(sent.group, &view),
+        Err(_) => unreachable!(),
+    }
+}
+
+impl Rehearsal {
+    /// The rehearsal of a setup. The responder is the setup's. The initiator has the least MUID from 1 on that the setup doesn't
+    /// name, and watches the profiles of one function block, in the setup's order: of the first profile's whose block has MIDI-CI.
+    /// Where no profile's block has it, nothing is watched. A profile of the function block is watched on its first group. Takes
+    /// all memory that it ever takes; `NoMemory` where there isn't so much.
+    pub fn new(alloc: Global, setup: &Setup) -> Result<Rehearsal, NoMemory>
+        ensures first { IfOk result (λ rehearsal. rehearsal ≡ first_stage setup.now) }
+        ensures distinct { IfOk result (λ rehearsal. profiles_are_distinct setup.now.profiles ≡ true) }
+        ensures ids { IfOk result (λ rehearsal. HasIds setup.now.profiles) }
+    {
+        let _distinct = setup.profile_count();
+        let watches = watches(alloc, setup)?;
+        Ok(Rehearsal {
+            initiator: Initiator::new(alloc, own_muid(setup), watches.as_slice())?,
+            responder: Responder::new(alloc, setup, ROOM)?,
+            asks: Messages::new(alloc)?,
+            replies: Messages::new(alloc)?,
+        })
+    }
+
+    /// The number of watches, at most 64.
+    pub fn watches(&self) -> usize
+        ensures { result ≡ length self.now.initiator.watched }
+    {
+        self.initiator.watches()
+    }
+
+    /// What the initiator holds of watch `k`, counted from 0. `None` exactly where nothing is held.
+    pub fn holds(&self, k: usize) -> Option<bool>
+        requires { k < length self.now.initiator.watched }
+        ensures { option_map (λ watched. watched.held) (slice_get self.now.initiator.watched k) ≡ Some result }
+    {
+        self.initiator.holds(k)
+    }
+
+    /// Whether a profile of the responder is on; `None` exactly where the setup doesn't name it.
+    pub fn profile_is_on(&self, key: &Key) -> Option<bool>
+        ensures { result ≡ state_in self.now.responder.states key.now }
+    {
+        self.responder.profile_is_on(key)
+    }
+
+    /// Takes the event of a kind and a number. Takes no memory, and after an error nothing has changed.
+    ///
+    /// Kind 0 asks: number 0 for Discovery, and 1 + 3k, 2 + 3k and 3 + 3k for an inquiry, a switch on and a switch off of watch k,
+    /// on the group of the watch; Discovery is sent on that of watch 0, or on 0. Kind 1 delivers the initiator's message of this
+    /// number to the responder, and kind 2 the reply of this number to the initiator; both count from 0.
+    ///
+    /// `BadEvent` is returned exactly when the kind is above 2, the message or the watch isn't there, or the initiator asks for
+    /// more than Discovery and knows no peer. Otherwise `TooMany` is returned exactly when kind 0 finds 1,024 messages of the
+    /// initiator, or kind 1 finds 1,024 replies.
+    pub fn event(&mut self, kind: u8, number: u16) -> Result<Told, EventFault>
+        ensures { Steps (next_by self.old (event_of_kind kind number)) self.old self.new result }
+    {
+        match event_of(kind, number) {
+            Some(event) => self.take(event),
+            None => Err(EventFault::BadEvent),
+        }
+    }
+
+    fn take(&mut self, event: Event) -> Result<Told, EventFault>
+        ensures { Steps (next_stage self.old event) self.old self.new result }
+    {
+        match event {
+            Event::Ask(what) => self.ask(what),
+            Event::ToResponder(number) => self.to_responder(number),
+            Event::ToInitiator(number) => self.to_initiator(number),
+        }
+    }
+
+    fn ask(&mut self, what: Ask) -> Result<Told, EventFault>
+        ensures { Steps (ask_with self.old (group_asked (watches_of self.old.initiator) what)
+            (asked_by self.old.initiator what)) self.old self.new result }
+    {
+        if !self.initiator.can_ask(what) {
+            return Err(EventFault::BadEvent);
+        }
+        if self.asks.is_full() {
+            return Err(EventFault::TooMany);
+        }
+        let group = self.initiator.group_asked(what);
+        let mut bytes = ShortList::new();
+        self.initiator.ask(what, &mut bytes);
+        self.asks.push(Sent { group, bytes });
+        Ok(Told::Asked)
+    }
+
+    fn to_responder(&mut self, number: usize) -> Result<Told, EventFault>
+        ensures { Steps (reply_with self.old (slice_get self.old.asks number)) self.old self.new result }
+    {
+        let Some(sent) = self.asks.get(number) else {
+            return Err(EventFault::BadEvent);
+        };
+        if self.replies.is_full() {
+            return Err(EventFault::TooMany);
+        }
+        let mut bytes = ShortList::new();
+        let heard = respond(&mut self.responder, sent, &mut bytes);
+        let group = sent.group;
+        keep_reply(&mut self.replies, group, bytes);
+        Ok(Told::Heard(heard))
+    }
+
+    fn to_initiator(&mut self, number: usize) -> Result<Told, EventFault>
+        ensures { Steps (note_with self.old (slice_get self.old.replies number)) self.old self.new result }
+    {
+        let Some(sent) = self.replies.get(number) else {
+            return Err(EventFault::BadEvent);
+        };
+        let noted = note(&mut self.initiator, sent);
+        Ok(Told::Noted(noted))
+    }
+}
+
+// Keeps a reply, if there is one.
+fn keep_reply(replies: &mut Messages, group: U4, bytes: ShortList<u8, 512>)
+    requires few { length replies.old < 1024 }
+    requires reply { IsReply bytes }
+    ensures { (reply : Option (List ℕ)) → bytes ≡ message_of_reply reply →
+        replies.new ≡ replies.old ++ reply_sent group reply }
+{
+    if !bytes.is_empty() {
+        replies.push(Sent { group, bytes });
+    }
+}

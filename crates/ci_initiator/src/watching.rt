@@ -1,0 +1,214 @@
+// What an initiator takes from a setup.
+ghost use Rattle.std.specs.Prelude.{◌≡◌, ◌≤◌, ◌∷◌, ◌++◌, [], length, slice_get, true, IfOk, OnOk};
+ghost use Rattle.ci_initiator.specs.Known.{are_different};
+ghost use Rattle.ci_initiator.specs.Watching.{
+  HasIds,
+  first_group as first_group_watched,
+  first_group_of as first_group_of_block,
+  first_unnamed as first_unnamed_of,
+  has_ci_at as has_ci_at_number,
+  is_named as is_named_by,
+  names_muid,
+  own_muid as own_muid_of,
+  watch_at as watch_at_place,
+  watch_where,
+  watched_block as watched_block_of,
+  watches_of_setup,
+};
+
+use crate::watch::Watch;
+use ci_messages::{Address, ProfileId};
+use function_blocks::{Block, Place, Profile, Setup};
+use midi_edge::NoMemory;
+use std::alloc::Global;
+use voice_messages::{U4, U7};
+
+/// The most MUIDs that a setup names: 16 of each of 32 blocks.
+const MOST_MUIDS: u32 = 512;
+
+// Whether a block names a MUID.
+fn names(block: &Block, muid: u32) -> bool
+    ensures { result ≡ names_muid muid block.now }
+{
+    block.muids.as_slice().iter().any(|named| *named == muid)
+}
+
+// Whether a block of the setup names a MUID.
+fn is_named(setup: &Setup, muid: u32) -> bool
+    ensures { result ≡ is_named_by setup.now.blocks muid }
+{
+    for number in 0..setup.block_count() {
+        match setup.block(number) {
+            Some(block) => {
+                if names(block, muid) {
+                    return true;
+                }
+            }
+            None => unreachable!(),
+        }
+    }
+    false
+}
+
+// The first number from 1 on that the setup doesn't name, within so many.
+fn first_unnamed(setup: &Setup, tries: u32) -> u32
+    requires { tries ≤ 512 }
+    ensures value { result ≡ first_unnamed_of setup.now.blocks tries 1 }
+    ensures few { result ≤ 513 }
+{
+    for k in 0..tries {
+        if !is_named(setup, k + 1) {
+            return k + 1;
+        }
+    }
+    tries + 1
+}
+
+/// The least number from 1 on that the setup doesn't name as a MUID.
+pub(crate) fn own_muid(setup: &Setup) -> u32
+    ensures value { result ≡ own_muid_of setup.now.blocks }
+    ensures few { result ≤ 513 }
+{
+    first_unnamed(setup, MOST_MUIDS)
+}
+
+// Whether the block of a number has MIDI-CI.
+fn has_ci_at(setup: &Setup, number: u8) -> bool
+    ensures { result ≡ has_ci_at_number setup.now.blocks number }
+{
+    match setup.block(number) {
+        Some(block) => block.has_ci(),
+        None => false,
+    }
+}
+
+// The block of the first profile whose block has MIDI-CI.
+fn watched_block(setup: &Setup) -> Option<u8>
+    ensures { result ≡ watched_block_of setup.now.blocks setup.now.profiles }
+{
+    for k in 0..setup.profile_count() {
+        match setup.profile(k) {
+            Some(profile) => {
+                let block = profile.block;
+                if has_ci_at(setup, block) {
+                    return Some(block);
+                }
+            }
+            None => unreachable!(),
+        }
+    }
+    None
+}
+
+// The first group of the block of a number; 0 where there is none.
+fn first_group_of(setup: &Setup, number: u8) -> U4
+    ensures { result ≡ first_group_of_block (slice_get setup.now.blocks number) }
+{
+    match setup.block(number) {
+        Some(block) => U4::low_bits(u32::from(block.first)),
+        None => U4::low_bits(0),
+    }
+}
+
+// The first group of the watched block; 0 where there is none.
+fn first_group(setup: &Setup, watched: Option<u8>) -> U4
+    ensures { result ≡ first_group_watched setup.now.blocks watched }
+{
+    match watched {
+        Some(number) => first_group_of(setup, number),
+        None => U4::low_bits(0),
+    }
+}
+
+// The id of a profile.
+fn id_of(profile: &Profile) -> ProfileId
+    ensures value { result.bytes ≡ profile.now.id }
+    ensures five { length profile.now.id ≡ 5 }
+{
+    let bytes = profile.id;
+    let id = ProfileId { bytes };
+    id.data_bytes();
+    id
+}
+
+// The watch of a place and an id, in a block with this first group.
+fn watch_at(first: U4, place: Place, id: ProfileId) -> Watch
+    ensures { result ≡ watch_at_place first place id.bytes }
+{
+    match place {
+        Place::Function => Watch {
+            group: first,
+            address: Address::Block,
+            id,
+        },
+        Place::Group(group) => Watch {
+            group,
+            address: Address::Group,
+            id,
+        },
+        Place::Channel(group, channel) => Watch {
+            group,
+            address: Address::Channel(channel),
+            id,
+        },
+    }
+}
+
+// Adds the watch of an address on a group and of an id. It takes the parts, since the toolchain proves no push of a whole watch here.
+fn push_watch(
+    watches: &mut Vec<Watch>,
+    group: U4,
+    address: Address,
+    bytes: [U7; 5],
+) -> Result<(), NoMemory>
+    ensures { OnOk result (watches.new.items ≡ watches.old.items ++
+        record { group = group; address = address; id = record { bytes = bytes } } ∷ []) }
+{
+    let id = ProfileId { bytes };
+    let watch = Watch { group, address, id };
+    match watches.push(watch) {
+        Ok(()) => Ok(()),
+        Err(_) => Err(NoMemory),
+    }
+}
+
+// Adds the watch of a profile, where it is of the watched block.
+fn add_watch(
+    watches: &mut Vec<Watch>,
+    watched: Option<u8>,
+    first: U4,
+    profile: &Profile,
+) -> Result<(), NoMemory>
+    ensures added { OnOk result (watches.new.items ≡ watches.old.items ++
+        watch_where watched first profile.now) }
+    ensures id { length profile.now.id ≡ 5 }
+{
+    let id = id_of(profile);
+    if watched != Some(profile.block) {
+        return Ok(());
+    }
+    let watch = watch_at(first, profile.place, id);
+    push_watch(watches, watch.group, watch.address, watch.id.bytes)
+}
+
+/// The watches of the profiles of the watched block, in the setup's order.
+pub(crate) fn watches(alloc: Global, setup: &Setup) -> Result<Vec<Watch>, NoMemory>
+    ensures value { IfOk result (λ watches. watches.items ≡ watches_of_setup setup.now) }
+    ensures few { IfOk result (λ watches. length watches.items ≤ 64) }
+    ensures different { IfOk result (λ watches. are_different watches.items ≡ true) }
+    ensures ids { IfOk result (λ watches. HasIds setup.now.profiles) }
+{
+    let watched = watched_block(setup);
+    let first = first_group(setup, watched);
+    let count = setup.profile_count();
+    let Ok(mut watches) = Vec::with_capacity(alloc, count) else {
+        return Err(NoMemory);
+    };
+    for k in 0..count {
+        match setup.profile(k) {
+            Some(profile) => add_watch(&mut watches, watched, first, profile)?,
+            None => unreachable!(),
+        }
+    }
+    Ok(watches)
+}

@@ -1,0 +1,70 @@
+-- What stands at each end of a clip file.
+use Rattle.std.specs.Prelude.{◌≡◌, ◌≢◌, ◌⊎◌, ℕ, ◌<◌, true, false, List, [], ◌++◌, length, reverse, Option, None, Some, IfSome}
+use Rattle.ump_words.specs.declared.words.Framed.{Framed}
+use Rattle.ump_grammar.specs.declared.packet.Packet.{Packet}
+use Rattle.midi_clip.specs.Header.{HasTaken, header_bytes}
+use Rattle.midi_clip.specs.History.{is_ended}
+use Rattle.midi_edge.specs.Outside.{Loses, Rose, ahead}
+use Rattle.midi_pass.specs.Named.{SparesOthers}
+use Rattle.midi_pass.specs.Pass.{AreAccepted, IsWork, NothingFails, ReadFails, Seen, Stands}
+use Rattle.midi_pass.specs.Places.{after_puts}
+use Rattle.midi_pass.specs.Put.{Put}
+use Rattle.midi_pass.specs.declared.ends.Reason.{Reason}
+use Rattle.midi_pass.specs.declared.ends.Reason.TheVariants.{NotClip, NoEnd}
+use Rattle.midi_pass.specs.declared.ends.RunEnd.{RunEnd}
+use Rattle.midi_pass.specs.declared.ends.RunEnd.TheVariants.{Done, Refused, ReadFault}
+use Rattle.clip_engine.specs.Clipping.{clipping}
+use Rattle.clip_engine.specs.Cutting.{clip_cutting, packets_of}
+
+-- what is seen before the header is taken, by what is seen after it
+abbrev pub with_header : Seen → Seen
+with_header old = record old { left = ahead header_bytes old.left }
+
+-- The input doesn't begin with the header: its first eight bytes are others, or it has fewer. No more was taken, and nothing is put.
+pub record IsNoClip (offset : ℕ) (old new : Seen) : Type 0 where
+  pub first : offset ≡ 0
+  pub taken : HasTaken old.left new.left false
+  pub places : new.places ≡ old.places
+  pub reads : new.reads ≡ old.reads
+
+-- The input is a header and packets, none of which is refused, and was read to its end, but the clip did not end: all lines of the
+-- packets are put.
+pub record IsUnended (offset : ℕ) (old new : Seen) : Type 0 where
+  pub items : List (Framed × Packet)
+  pub puts : List Put
+  pub cut : IfSome old.left (λ bytes. clip_cutting bytes items None × (new.left ≡ Some []) × (offset ≡ length bytes))
+  pub done : IsWork clipping items puts
+  pub goes_on : is_ended (packets_of (reverse items)) ≡ false
+  pub places : new.places ≡ after_puts puts old.places
+  pub reads : new.reads ≡ old.reads
+
+-- A read failed before eight bytes were taken: nothing is put.
+pub record FailsInHeader (old new : Seen) : Type 0 where
+  pub taken : List ℕ
+  pub few : length taken < 8
+  pub lost : Loses old.left new.left taken
+  pub places : new.places ≡ old.places
+  pub reads : Rose old.reads new.reads
+
+-- What stands at each end: what any pass says, of a clip file with its header; or what is said above.
+abbrev pub ClipStands : Seen → Seen → RunEnd → Type 0
+ClipStands old new (Refused NotClip offset) = IsNoClip offset old new
+ClipStands old new (Refused NoEnd offset) = IsUnended offset old new
+ClipStands old new (Refused reason offset) = Stands clip_cutting clipping old new (Refused reason offset)
+ClipStands old new ReadFault = FailsInHeader old new ⊎ ReadFails clip_cutting clipping old new
+ClipStands old new end = Stands clip_cutting clipping old new end
+
+-- what each end says: what stands, and that the lanes and the notes stay as they are
+abbrev pub ClipEnds : Seen → Seen → RunEnd → Type 0
+ClipEnds old new end = ClipStands old new end × SparesOthers clipping.names end old.places new.places
+
+-- a whole clip file: the header and packets, none of which is refused, and the clip has ended
+pub record IsWholeClip (bytes : List ℕ) : Type 0 where
+  pub items : List (Framed × Packet)
+  pub cut : clip_cutting bytes items None
+  pub accepted : AreAccepted clipping (reverse items)
+  pub ended : is_ended (packets_of (reverse items)) ≡ true
+
+-- of a whole clip file the pass is done, unless something fails
+abbrev pub IsDoneUnless : Seen → Seen → RunEnd → Type 0
+IsDoneUnless old new end = IfSome old.left (λ bytes. IsWholeClip bytes → NothingFails old new → end ≡ Done)

@@ -1,0 +1,5 @@
+pub mod Clipping
+pub mod Cutting
+pub mod Ends
+pub mod Laws
+pub mod Lines

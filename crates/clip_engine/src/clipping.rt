@@ -1,0 +1,163 @@
+// From a clip file to the lines of its events.
+ghost use Rattle.std.specs.Prelude.{◌≡◌, ◌≤◌, ◌^◌, [], ◌∷◌};
+ghost use Rattle.midi_clip.specs.Roles.{role_of};
+ghost use Rattle.midi_clip.specs.Stages.{new_stage, stage_after, step_of, ticks_of};
+ghost use Rattle.midi_pass.specs.Pass.{Takes, seen};
+ghost use Rattle.midi_pass.specs.Places.{Puts, places};
+ghost use Rattle.clip_engine.specs.Clipping.{puts_by, reason_of, refusal_by, step_puts};
+ghost use Rattle.clip_engine.specs.Cutting.{new_words};
+ghost use Rattle.clip_engine.specs.Ends.{ClipEnds, IsDoneUnless, with_header};
+
+use crate::laws::clip_files_are_cut_once;
+use crate::lines::{end_line, event_line, resolution_line};
+use crate::packets::ClipPackets;
+use midi_clip::{Clip, ClipFault, ClipStep, clips_are_the_definition, header};
+use midi_edge::{Lanes, Sink, Source};
+use midi_pass::places::put_output;
+use midi_pass::{Next, Reason, RunEnd};
+use ump_grammar::Packet;
+use ump_words::Framed;
+
+/// Shows the events of a clip file, to its end or to the first refusal: puts in the output a line for the ticks for a quarter note where
+/// the clip starts, the ticks and the line of the packet for each event, and a line for the ticks at the end of the clip. A clip file is
+/// the eight bytes `SMF2CLIP` and packets whose words have their most significant byte first (own rule; M2-104-UM, Delta Clockstamps,
+/// Start of Clip and End of Clip). Takes no memory.
+///
+/// `Refused` comes for `NotClip`, at 0, where the input doesn't begin with the header; at the first packet that is refused, for
+/// `Truncated`, `InputTooLong`, `BadCount`, `HighBit`, `NoResolution` and `AfterEnd`, with the number of bytes before it; and at the
+/// input's length for `NoEnd`, where the input ends before the clip. `ReadFault` and `OutputFault` come only where the count of that
+/// object rose. The lanes and the notes stay as they are.
+pub fn run_clip<S: Source, L: Lanes, W: Sink, N: Sink>(
+    input: &mut S,
+    lanes: &mut L,
+    output: &mut W,
+    notes: &mut N,
+) -> RunEnd
+    ensures ends { ClipEnds
+        (seen S.Source L.Lanes W.Sink N.Sink input.old lanes.old output.old notes.old)
+        (seen S.Source L.Lanes W.Sink N.Sink input.new lanes.new output.new notes.new) result }
+    ensures complete { IsDoneUnless
+        (seen S.Source L.Lanes W.Sink N.Sink input.old lanes.old output.old notes.old)
+        (seen S.Source L.Lanes W.Sink N.Sink input.new lanes.new output.new notes.new) result }
+{
+    clip_files_are_cut_once();
+    match header(input) {
+        Ok(true) => {
+            let reader = ClipPackets::new();
+            let clip = Clip::new();
+            show_packets(reader, clip, input, lanes, output, notes)
+        }
+        Ok(false) => RunEnd::Refused {
+            reason: Reason::NotClip,
+            offset: 0,
+        },
+        Err(_) => RunEnd::ReadFault,
+    }
+}
+
+// Shows the events of a clip file of which the header is read.
+fn show_packets<S: Source, L: Lanes, W: Sink, N: Sink>(
+    mut reader: ClipPackets,
+    mut clip: Clip,
+    input: &mut S,
+    lanes: &mut L,
+    output: &mut W,
+    notes: &mut N,
+) -> RunEnd
+    requires words { reader.words ≡ new_words }
+    requires end { reader.end ≡ 8 }
+    requires clip { clip ≡ new_stage }
+    ensures { ClipEnds
+        (with_header (seen S.Source L.Lanes W.Sink N.Sink input.old lanes.old output.old notes.old))
+        (seen S.Source L.Lanes W.Sink N.Sink input.new lanes.new output.new notes.new) result }
+{
+    clips_are_the_definition();
+    loop {
+        match reader.next(input) {
+            Next::Item { at, item } => {
+                match take_packet(&mut clip, &at, &item, lanes, output, notes) {
+                    Ok(()) => {}
+                    Err(end) => return end,
+                }
+            }
+            Next::End => {
+                return match clip.end() {
+                    Ok(_) => RunEnd::Done,
+                    Err(_) => RunEnd::Refused {
+                        reason: Reason::NoEnd,
+                        offset: reader.end(),
+                    },
+                };
+            }
+            Next::Refused { reason, offset } => return RunEnd::Refused { reason, offset },
+            Next::Failed => return RunEnd::ReadFault,
+        }
+    }
+}
+
+// The reason for a packet that is no part of a clip.
+fn reason(fault: ClipFault) -> Reason
+    ensures { result ≡ reason_of fault }
+{
+    match fault {
+        ClipFault::NoResolution => Reason::NoResolution,
+        ClipFault::AfterEnd => Reason::AfterEnd,
+        ClipFault::NoEnd => Reason::NoEnd,
+    }
+}
+
+// Takes one more packet, and puts what comes of it.
+#[inline(always)]
+fn take_packet<L: Lanes, W: Sink, N: Sink>(
+    clip: &mut Clip,
+    framed: &Framed,
+    packet: &Packet,
+    lanes: &mut L,
+    output: &mut W,
+    notes: &mut N,
+) -> Result<(), RunEnd>
+    requires { ticks_of clip.old ≤ 2 ^ 63 }
+    ensures stage { clip.new ≡ stage_after clip.old (role_of packet.now) }
+    ensures takes { Takes (refusal_by (step_of clip.old (role_of packet.now)) framed.now.offset)
+        (puts_by (step_of clip.old (role_of packet.now)) (framed.now, packet.now))
+        (places L.Lanes W.Sink N.Sink lanes.old output.old notes.old)
+        (places L.Lanes W.Sink N.Sink lanes.new output.new notes.new) result }
+{
+    match clip.packet(packet) {
+        Ok(step) => put_step(step, framed, packet, lanes, output, notes),
+        Err(fault) => Err(RunEnd::Refused {
+            reason: reason(fault),
+            offset: framed.offset,
+        }),
+    }
+}
+
+// Puts what comes of a packet.
+fn put_step<L: Lanes, W: Sink, N: Sink>(
+    step: ClipStep,
+    framed: &Framed,
+    packet: &Packet,
+    lanes: &mut L,
+    output: &mut W,
+    notes: &mut N,
+) -> Result<(), RunEnd>
+    ensures { Puts (step_puts step (framed.now, packet.now))
+        (places L.Lanes W.Sink N.Sink lanes.old output.old notes.old)
+        (places L.Lanes W.Sink N.Sink lanes.new output.new notes.new) result }
+{
+    match step {
+        ClipStep::Before | ClipStep::Delta => Ok(()),
+        ClipStep::Began(resolution) => {
+            let line = resolution_line(resolution);
+            put_output(line.as_slice(), lanes, output, notes)
+        }
+        ClipStep::Event(ticks) => {
+            let line = event_line(ticks, framed, packet);
+            put_output(line.as_slice(), lanes, output, notes)
+        }
+        ClipStep::Ended(ticks) => {
+            let line = end_line(ticks);
+            put_output(line.as_slice(), lanes, output, notes)
+        }
+    }
+}

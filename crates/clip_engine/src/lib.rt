@@ -1,0 +1,12 @@
+//! The pass over a clip file: its events, each at its ticks.
+#![tactic(auto)]
+
+mod clipping;
+pub mod laws;
+mod lines;
+mod packets;
+
+pub use crate::clipping::run_clip;
+
+#[cfg(test)]
+mod tests;

@@ -1,0 +1,13 @@
+use Rattle.std.proofs.Common.{refl}
+use Rattle.clap.proofs.OnLiterals.{clap_on_literals}
+use Rattle.command_line.specs.Rules.{command_of}
+use Rattle.command_line.specs.Words.{cli}
+use Rattle.command_line.proofs.laws.sysex8_is_taken.Goals as goal
+
+pub returns-clause-least : goal.returns-clause-least
+unfolding cli command_of clap_on_literals
+returns-clause-least c = refl
+
+pub returns-clause-most : goal.returns-clause-most
+unfolding cli command_of clap_on_literals
+returns-clause-most c = refl

@@ -1,0 +1,2 @@
+pub mod ClipLaws
+pub mod HeaderLaws

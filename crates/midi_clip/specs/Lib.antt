@@ -1,0 +1,6 @@
+pub mod Header
+pub mod History
+pub mod Laws
+pub mod Roles
+pub mod Rows
+pub mod Stages

@@ -1,0 +1,25 @@
+// The header of a clip file.
+ghost use Rattle.midi_edge.specs.Outside.{HasCause};
+ghost use Rattle.midi_clip.specs.Header.{TakesHeader};
+
+use midi_edge::{Failed, Source};
+
+/// Takes the first eight bytes that a source has left, or all of them where there are fewer, and no more: whether they are those of
+/// `SMF2CLIP`, with which a clip file begins (own rule).
+///
+/// `Failed` comes only where the source's count rose. Then at most seven bytes were taken.
+pub fn header<S: Source>(source: &mut S) -> Result<bool, Failed>
+    ensures bytes { TakesHeader (S.left source.old) (S.left source.new) result }
+    ensures cause { HasCause (S.faults source.old) (S.faults source.new) result }
+{
+    let mut bytes = [0; 8];
+    let mut count = 0;
+    while count < 8 {
+        match source.take(&mut bytes[count..]) {
+            Ok(0) => return Ok(false),
+            Ok(more) => count += more,
+            Err(failed) => return Err(failed),
+        }
+    }
+    Ok(bytes == *b"SMF2CLIP")
+}

@@ -1,0 +1,17 @@
+//! The clip of a clip file: where its packets stand in ticks.
+#![tactic(auto)]
+
+pub mod clip;
+pub mod file_header;
+pub mod laws;
+pub mod role;
+pub mod step;
+
+pub use crate::clip::Clip;
+pub use crate::file_header::header;
+pub use crate::laws::{clips_are_the_definition, worked_rows};
+pub use crate::role::{Role, role_of};
+pub use crate::step::{ClipFault, ClipStep, Stage};
+
+#[cfg(test)]
+mod tests;

@@ -1,0 +1,39 @@
+// The packets that a clip is made of.
+ghost use Rattle.std.specs.Prelude.{◌≡◌};
+ghost use Rattle.midi_clip.specs.Roles.{role_of as role_in};
+
+use ump_grammar::Packet;
+
+/// What a packet says about a clip (M2-104-UM, utility messages, Start of Clip and End of Clip).
+#[derive(Clone, Copy, Debug, PartialEq, Eq)]
+pub enum Role {
+    /// Start of Clip.
+    StartOfClip,
+    /// End of Clip.
+    EndOfClip,
+    /// Delta Clockstamp Ticks Per Quarter Note, with so many.
+    Resolution(u16),
+    /// Delta Clockstamp, with so many ticks.
+    Delta(u32),
+    /// Anything else.
+    Other,
+}
+
+/// What a packet says about a clip.
+pub fn role_of(packet: &Packet) -> Role
+    ensures { result ≡ role_in packet.now }
+{
+    match packet {
+        Packet::Utility { status, value } => match *status {
+            3 => Role::Resolution((*value % 0x1_0000) as u16),
+            4 => Role::Delta(*value),
+            _ => Role::Other,
+        },
+        Packet::Stream { format, status, .. } => match (*format, *status) {
+            (0, 0x020) => Role::StartOfClip,
+            (0, 0x021) => Role::EndOfClip,
+            _ => Role::Other,
+        },
+        _ => Role::Other,
+    }
+}

@@ -1,0 +1,4 @@
+pub mod EventLaws
+pub mod InputLaws
+pub mod LineLaws
+pub mod StepLaws

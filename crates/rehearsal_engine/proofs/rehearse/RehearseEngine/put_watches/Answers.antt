@@ -1,0 +1,41 @@
+use Rattle.std.proofs.Common.{◌≡◌, ◌++◌, ◌+◌, ◌∷◌, [], ℕ, List, take, drop, suc, ap, sym, refl, ◌∙◌, subst, arith, Option, Some, None, Bool, slice_get, option_map}
+use Rattle.ci_initiator.specs.declared.watch.Watched.{Watched}
+use Rattle.midi_pass.specs.Places.{FailsAt, after_puts, places}
+use Rattle.midi_pass.specs.Put.{Put, in_output}
+use Rattle.midi_pass.specs.PutLaws.{stops_more, then_put, then_stops}
+use Rattle.rehearsal_engine.specs.Rehearse.{for_each, held_line, held_text}
+use Rattle.rehearsal_engine.proofs.LineLaws.{all_each, next_each}
+use Rattle.rehearsal_engine.proofs.rehearse.RehearseEngine.put_watches.Goals as goal
+
+-- the watch of which something is held
+watched-of : (o : Option Watched) (held : Option Bool) → option_map (λ watched. watched.held) o ≡ Some held → (w : Watched) × (o ≡ Some w) × (w.held ≡ held)
+watched-of None held is = let e : None ≡ Some held = is in cc
+watched-of (Some w) held is = (w, refl, let e : Some w.held ≡ Some held = is in cc)
+
+pub loop-k-preserved : goal.loop-k-preserved
+loop-k-preserved g c =
+    let old = places g.L.Lanes g.W.Sink g.N.Sink c.args.lanes.now c.args.output.now c.args.notes.now in
+    let mid = places g.L.Lanes g.W.Sink g.N.Sink c.loop-k.lanes c.loop-k.output c.loop-k.notes in
+    let new = places g.L.Lanes g.W.Sink g.N.Sink c.put_held.new.lanes c.put_held.new.output c.put_held.new.notes in
+    let n : ℕ = c.loop-k.k in
+    let all = c.args.self.now.rehearsal.initiator.watched in
+    let one = watched-of (slice_get all n) c.holds.result c.holds.ensures in
+    let D : List Put → Type 0 = λ puts. new ≡ after_puts puts old in
+    let H : Option Bool → Type 0 = λ held. new ≡ after_puts (in_output (held_text n held) ∷ []) mid in
+    subst D (sym (next_each held_line all n one.0 one.1))
+    (then_put (for_each held_line 0 (take n all)) (held_line n one.0) old mid new c.loop-k.invariant (subst H (sym one.2) c.in-Ok.ensures))
+
+pub returns-in-Err : goal.returns-in-Err
+returns-in-Err g c =
+    let old = places g.L.Lanes g.W.Sink g.N.Sink c.args.lanes.now c.args.output.now c.args.notes.now in
+    let mid = places g.L.Lanes g.W.Sink g.N.Sink c.loop-k.lanes c.loop-k.output c.loop-k.notes in
+    let new = places g.L.Lanes g.W.Sink g.N.Sink c.put_held.new.lanes c.put_held.new.output c.put_held.new.notes in
+    let n : ℕ = c.loop-k.k in
+    let all = c.args.self.now.rehearsal.initiator.watched in
+    let one = watched-of (slice_get all n) c.holds.result c.holds.ensures in
+    let F : List Put → Type 0 = λ puts. FailsAt puts c.in-Err.end old new in
+    let H : Option Bool → Type 0 = λ held. FailsAt (in_output (held_text n held) ∷ []) c.in-Err.end mid new in
+    let rest : List Put = for_each held_line (n + 1) (drop (suc n) all) in
+    subst F (sym (all_each held_line all n one.0 one.1))
+    (then_stops (for_each held_line 0 (take n all)) (held_line n one.0 ++ rest) c.in-Err.end old mid new c.loop-k.invariant
+    (stops_more (held_line n one.0) rest c.in-Err.end mid new (subst H (sym one.2) c.in-Err.ensures)))

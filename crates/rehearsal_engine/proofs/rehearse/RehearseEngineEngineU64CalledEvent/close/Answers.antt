@@ -1,0 +1,13 @@
+use Rattle.std.proofs.Common.{◌≡◌, ap, ◌∙◌}
+use Rattle.function_blocks.specs.Setups.{Facts}
+use Rattle.ci_initiator.specs.Stage.{Stage}
+use Rattle.rehearsal_engine.specs.Rehearse.{closing_lines, stage_at}
+use Rattle.rehearsal_engine.proofs.rehearse.RehearseEngineEngineU64CalledEvent.close.Goals as goal
+
+pub returns : goal.returns
+returns g c = λ first past holds.
+    let now = c.args.self.now in (
+      closing_lines now.setup now.rehearsal,
+      ap (λ (setup : Facts). closing_lines setup now.rehearsal) holds.setup ∙ ap (closing_lines first.setup) holds.stage,
+      c.put_closing.ensures,
+    )

@@ -1,0 +1,28 @@
+-- What a rehearsal that is done leaves, by the whole input.
+use Rattle.std.specs.Prelude.{◌≡◌, ℕ, Bool, List, [], ◌∷◌, ◌++◌, length, reverse, Option, Some, None, Result, Ok, Err}
+use Rattle.function_blocks.specs.Setups.{Facts}
+use Rattle.midi_pass.specs.Pass.{IsDone, Seen}
+use Rattle.midi_pass.specs.Places.{with_more}
+use Rattle.midi_pass.specs.Put.{output_in}
+use Rattle.rehearsal_engine.specs.declared.event.CalledEvent.{CalledEvent}
+use Rattle.rehearsal_engine.specs.Events.{event_cutting}
+use Rattle.rehearsal_engine.specs.Rehearse.{HeldWasTold, called, closing_lines, event_puts, next_at, rehearsing, stage_at}
+
+-- the lines of events, newest first, in the order in which they came
+abbrev pub lines_of : Facts → List (ℕ × CalledEvent) → List ℕ
+lines_of setup [] = []
+lines_of setup (item ∷ past) = lines_of setup past ++ output_in (event_puts (next_at setup past item) item.0)
+
+-- The input is cut into events. The output gained their lines and those of the end; and what is held at the end was told.
+pub record RehearsesTheInput (setup : Facts) (bytes : List ℕ) (old new : Seen) : Type 0 where
+  pub items : List (ℕ × CalledEvent)
+  pub cut : event_cutting bytes items None
+  pub output : new.places.output
+      ≡ with_more old.places.output (lines_of setup (reverse items) ++ output_in (closing_lines setup (stage_at setup (reverse items))))
+  pub held : HeldWasTold setup (reverse items)
+  pub left : new.left ≡ Some []
+
+abbrev pub DoneRehearsesTheInput : Type 0
+DoneRehearsesTheInput =
+    (setup : Facts) (bytes : List ℕ) (old new : Seen) → old.left ≡ Some bytes →
+    IsDone event_cutting (rehearsing setup) old new → RehearsesTheInput setup bytes old new

@@ -1,0 +1,6 @@
+pub mod EventBytes
+pub mod Events
+pub mod Starting
+pub mod Rehearse
+pub mod RehearseMeans
+pub mod Laws

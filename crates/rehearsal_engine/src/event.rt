@@ -1,0 +1,51 @@
+// Events as they stand in an input, and their reader.
+ghost use Rattle.std.specs.Prelude.{◌≡◌, ◌≤◌, ◌^◌, length};
+ghost use Rattle.rehearsal_engine.specs.EventBytes.{event_at, event_length, new_events, three_bytes};
+
+use item_reader::{Cut, ItemReader};
+
+/// An event of a rehearsal as its three bytes say it (own rule).
+#[derive(Clone, Copy, Debug, PartialEq, Eq)]
+pub struct CalledEvent {
+    /// The first byte.
+    pub kind: u8,
+    /// The other two, the high byte first.
+    pub number: u16,
+}
+
+/// Each three bytes are an event.
+#[derive(Clone, Copy, Debug, PartialEq, Eq)]
+pub struct EachEvent;
+
+impl Cut for EachEvent {
+    type Item = (CalledEvent, u64);
+
+    ghost asked = { λ _. three_bytes };
+
+    ghost item_of = { λ _. event_at };
+
+    #[inline(always)]
+    fn asked(&self, bytes: &[u8]) -> usize {
+        3
+    }
+
+    #[inline(always)]
+    fn item(&self, offset: u64, bytes: &[u8]) -> (CalledEvent, u64) {
+        let number = 256 * u16::from(bytes[1]) + u16::from(bytes[2]);
+        let event = CalledEvent {
+            kind: bytes[0],
+            number,
+        };
+        (event, offset)
+    }
+
+    ghost lengths = { λ _. event_length };
+}
+
+/// A reader of events that has taken nothing, and gives out at most `limit` bytes.
+pub(crate) fn new_reader(limit: u64) -> ItemReader<EachEvent>
+    requires { limit ≤ 2 ^ 62 }
+    ensures { result ≡ new_events limit }
+{
+    ItemReader::new(EachEvent, limit)
+}

@@ -1,0 +1,308 @@
+// A rehearsal, event by event.
+ghost use Rattle.std.specs.Prelude.{◌≡◌, ◌∷◌, [], unwrap_or, IfOk};
+ghost use Rattle.ci_responder.specs.Keys.{key_of, state_in};
+ghost use Rattle.midi_pass.specs.Pass.{Ends, IsDoneUnless, seen};
+ghost use Rattle.midi_pass.specs.Places.{Puts, places};
+ghost use Rattle.midi_pass.specs.Put.{in_output};
+ghost use Rattle.rehearsal_engine.specs.Events.{event_cutting};
+ghost use Rattle.rehearsal_engine.specs.Rehearse.{
+  closing_lines,
+  for_each,
+  held_line as held_line_of,
+  held_text,
+  profile_line_of,
+  reason_of as reason_of_fault,
+  rehearsing,
+  told_text,
+};
+ghost use Rattle.rehearsal_engine.specs.RehearseMeans.{
+  HoldsRehearsal,
+  IsFirstRehearsal,
+  IsReadyRehearsal,
+  closing_named,
+  rehearsal_means,
+  rehearses_named,
+  rehearses_nothing,
+};
+
+use crate::event::CalledEvent;
+use crate::events::Events;
+use crate::laws::events_are_cut_once;
+use crate::lines::{held_line, told_line};
+use ci_initiator::laws::{stage_is_the_course, what_is_held_was_told};
+use ci_initiator::{EventFault, Rehearsal, Told};
+use ci_responder::{Key, ProfileId};
+use function_blocks::{Profile, Setup};
+use midi_edge::{Lanes, NoMemory, Sink, Source};
+use midi_lines::profile_line;
+use midi_pass::places::put_output;
+use midi_pass::{Engine, Reason, RunEnd, drive};
+use std::alloc::Global;
+use std::marker::Model;
+
+/// A rehearsal that is ready to run, with all its memory. A contract sees what its setup says.
+#[derive(Drop)]
+pub struct RehearseRun {
+    engine: RehearseEngine,
+}
+
+impl Model for RehearseRun {
+    ghost use Rattle.function_blocks.specs.Setups.{Facts};
+    ghost use Rattle.rehearsal_engine.specs.RehearseMeans.{IsFirstRehearsal};
+
+    ghost Value = { Facts };
+
+    ghost view = { λ r. r.engine.setup };
+
+    ghost invariant = { λ r. IsFirstRehearsal r.engine };
+}
+
+impl RehearseRun {
+    /// The rehearsal of a setup: its responder, and an initiator that watches the profiles of one function block. `NoMemory` when
+    /// there isn't the memory for both and for 1,024 messages of each. No other call takes any.
+    pub fn new(alloc: Global, setup: Setup) -> Result<RehearseRun, NoMemory>
+        ensures { IfOk result (λ run. run ≡ setup) }
+    {
+        let rehearsal = Rehearsal::new(alloc, &setup)?;
+        Ok(RehearseRun {
+            engine: RehearseEngine { setup, rehearsal },
+        })
+    }
+}
+
+// Puts a line in the output for each event, and at the end the lines of what is held and of the profiles.
+#[derive(Drop)]
+struct RehearseEngine {
+    setup: Setup,
+    rehearsal: Rehearsal,
+}
+
+impl Engine<u64, CalledEvent> for RehearseEngine {
+    ghost work = { λ first. rehearsing first.setup };
+
+    ghost IsReady = { λ first. IsReadyRehearsal first };
+
+    ghost UsesLanes = { ⊥ };
+
+    ghost Holds = { λ first now past. HoldsRehearsal first now past };
+
+    ghost Asks = { λ item. Unit {0} };
+
+    ghost AsksAfter = { λ past item. Unit {0} };
+
+    fn step<L: Lanes, W: Sink, N: Sink>(
+        &mut self,
+        at: &u64,
+        item: &CalledEvent,
+        lanes: &mut L,
+        output: &mut W,
+        notes: &mut N,
+    ) -> Result<(), RunEnd> {
+        match self.rehearsal.event(item.kind, item.number) {
+            Ok(told) => put_told(*at, told, lanes, output, notes),
+            Err(fault) => Err(RunEnd::Refused {
+                reason: reason_of(fault),
+                offset: *at,
+            }),
+        }
+    }
+
+    fn close<L: Lanes, W: Sink, N: Sink>(
+        &self,
+        lanes: &mut L,
+        output: &mut W,
+        notes: &mut N,
+    ) -> Result<(), RunEnd> {
+        self.put_closing(lanes, output, notes)
+    }
+
+    ghost puts_are_named = { λ first past item puts put. rehearses_named first.setup past item puts put };
+
+    ghost last_puts_are_named = { λ first past puts put. closing_named first.setup past puts put };
+
+    ghost starts = { λ first ready. rehearses_nothing first ready };
+
+    ghost means = { λ first now past puts holds accepted put. rehearsal_means first now past holds };
+}
+
+// Why an event is refused.
+fn reason_of(fault: EventFault) -> Reason
+    ensures { result ≡ reason_of_fault fault }
+{
+    match fault {
+        EventFault::BadEvent => Reason::BadEvent,
+        EventFault::TooMany => Reason::TooManyMessages,
+    }
+}
+
+// Puts the line of an event.
+fn put_told<L: Lanes, W: Sink, N: Sink>(
+    offset: u64,
+    told: Told,
+    lanes: &mut L,
+    output: &mut W,
+    notes: &mut N,
+) -> Result<(), RunEnd>
+    ensures { Puts (in_output (told_text offset told) ∷ [])
+        (places L.Lanes W.Sink N.Sink lanes.old output.old notes.old)
+        (places L.Lanes W.Sink N.Sink lanes.new output.new notes.new) result }
+{
+    let line = told_line(offset, told);
+    put_output(line.as_slice(), lanes, output, notes)
+}
+
+// Puts the line of what is held of a watch.
+fn put_held<L: Lanes, W: Sink, N: Sink>(
+    number: usize,
+    held: Option<bool>,
+    lanes: &mut L,
+    output: &mut W,
+    notes: &mut N,
+) -> Result<(), RunEnd>
+    ensures { Puts (in_output (held_text number held) ∷ [])
+        (places L.Lanes W.Sink N.Sink lanes.old output.old notes.old)
+        (places L.Lanes W.Sink N.Sink lanes.new output.new notes.new) result }
+{
+    let line = held_line(number, held);
+    put_output(line.as_slice(), lanes, output, notes)
+}
+
+// Whether a profile is on. The responder knows each profile of the setup.
+fn is_on(rehearsal: &Rehearsal, profile: &Profile) -> bool
+    ensures { result ≡ unwrap_or (state_in rehearsal.now.responder.states (key_of profile.now)) profile.now.on }
+{
+    let id = profile.id;
+    let key = Key {
+        block: profile.block,
+        place: profile.place,
+        id: ProfileId { bytes: id },
+    };
+    rehearsal.profile_is_on(&key).unwrap_or(profile.on)
+}
+
+// Puts the line of a profile.
+fn put_profile<L: Lanes, W: Sink, N: Sink>(
+    rehearsal: &Rehearsal,
+    profile: &Profile,
+    lanes: &mut L,
+    output: &mut W,
+    notes: &mut N,
+) -> Result<(), RunEnd>
+    ensures { Puts (profile_line_of (state_in rehearsal.now.responder.states) 0 profile.now)
+        (places L.Lanes W.Sink N.Sink lanes.old output.old notes.old)
+        (places L.Lanes W.Sink N.Sink lanes.new output.new notes.new) result }
+{
+    let line = profile_line(profile, is_on(rehearsal, profile));
+    put_output(line.as_slice(), lanes, output, notes)
+}
+
+impl RehearseEngine {
+    // Puts the line of what is held of each watch.
+    fn put_watches<L: Lanes, W: Sink, N: Sink>(
+        &self,
+        lanes: &mut L,
+        output: &mut W,
+        notes: &mut N,
+    ) -> Result<(), RunEnd>
+        ensures { Puts (for_each held_line_of 0 self.now.rehearsal.initiator.watched)
+            (places L.Lanes W.Sink N.Sink lanes.old output.old notes.old)
+            (places L.Lanes W.Sink N.Sink lanes.new output.new notes.new) result }
+    {
+        for k in 0..self.rehearsal.watches() {
+            match put_held(k, self.rehearsal.holds(k), lanes, output, notes) {
+                Ok(()) => {}
+                Err(end) => return Err(end),
+            }
+        }
+        Ok(())
+    }
+
+    // Puts the line of each profile, on or off.
+    fn put_profiles<L: Lanes, W: Sink, N: Sink>(
+        &self,
+        lanes: &mut L,
+        output: &mut W,
+        notes: &mut N,
+    ) -> Result<(), RunEnd>
+        ensures { Puts (for_each (profile_line_of (state_in self.now.rehearsal.responder.states)) 0
+            self.now.setup.profiles)
+            (places L.Lanes W.Sink N.Sink lanes.old output.old notes.old)
+            (places L.Lanes W.Sink N.Sink lanes.new output.new notes.new) result }
+    {
+        for k in 0..self.setup.profile_count() {
+            match self.setup.profile(k) {
+                Some(profile) => {
+                    match put_profile(&self.rehearsal, profile, lanes, output, notes) {
+                        Ok(()) => {}
+                        Err(end) => return Err(end),
+                    }
+                }
+                None => unreachable!(),
+            }
+        }
+        Ok(())
+    }
+
+    // Puts the lines of what is held, and those of the profiles.
+    fn put_closing<L: Lanes, W: Sink, N: Sink>(
+        &self,
+        lanes: &mut L,
+        output: &mut W,
+        notes: &mut N,
+    ) -> Result<(), RunEnd>
+        ensures { Puts (closing_lines self.now.setup self.now.rehearsal)
+            (places L.Lanes W.Sink N.Sink lanes.old output.old notes.old)
+            (places L.Lanes W.Sink N.Sink lanes.new output.new notes.new) result }
+    {
+        match self.put_watches(lanes, output, notes) {
+            Ok(()) => self.put_profiles(lanes, output, notes),
+            Err(end) => Err(end),
+        }
+    }
+}
+
+/// Runs a rehearsal over a stream of events, to its end or to the first event that is refused (M2-101-UM; the events and the lines are
+/// own rule). An event has three bytes: its kind, and its number with the high byte first, as `Rehearsal::event` takes them. Puts a
+/// line in the output for each event; at the end a line of what is held of each watch, and one of each profile. Takes no memory.
+///
+/// `Refused` comes for `Truncated`, `InputTooLong`, `BadEvent` and `TooManyMessages`, with the number of bytes before what is refused.
+/// `ReadFault` and `OutputFault` come only where the count of that object rose. The lanes and the notes stay as they are.
+pub fn run_rehearse<S: Source, L: Lanes, W: Sink, N: Sink>(
+    run: RehearseRun,
+    input: &mut S,
+    lanes: &mut L,
+    output: &mut W,
+    notes: &mut N,
+) -> RunEnd
+    ensures ends { Ends event_cutting (rehearsing run)
+        (seen S.Source L.Lanes W.Sink N.Sink input.old lanes.old output.old notes.old)
+        (seen S.Source L.Lanes W.Sink N.Sink input.new lanes.new output.new notes.new) result }
+    ensures complete { IsDoneUnless event_cutting (rehearsing run)
+        (seen S.Source L.Lanes W.Sink N.Sink input.old lanes.old output.old notes.old)
+        (seen S.Source L.Lanes W.Sink N.Sink input.new lanes.new output.new notes.new) result }
+{
+    let RehearseRun { engine } = run;
+    rehearse(engine, input, lanes, output, notes)
+}
+
+// Runs a rehearsal that has taken no event.
+fn rehearse<S: Source, L: Lanes, W: Sink, N: Sink>(
+    engine: RehearseEngine,
+    input: &mut S,
+    lanes: &mut L,
+    output: &mut W,
+    notes: &mut N,
+) -> RunEnd
+    requires { IsFirstRehearsal engine }
+    ensures ends { Ends event_cutting (rehearsing engine.setup)
+        (seen S.Source L.Lanes W.Sink N.Sink input.old lanes.old output.old notes.old)
+        (seen S.Source L.Lanes W.Sink N.Sink input.new lanes.new output.new notes.new) result }
+    ensures complete { IsDoneUnless event_cutting (rehearsing engine.setup)
+        (seen S.Source L.Lanes W.Sink N.Sink input.old lanes.old output.old notes.old)
+        (seen S.Source L.Lanes W.Sink N.Sink input.new lanes.new output.new notes.new) result }
+{
+    events_are_cut_once();
+    stage_is_the_course();
+    what_is_held_was_told();
+    drive(Events::new(), engine, input, lanes, output, notes)
+}

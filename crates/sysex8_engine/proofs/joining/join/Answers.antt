@@ -1,0 +1,24 @@
+use Rattle.std.proofs.Common.{ap, length, subst}
+use Rattle.ump_words.specs.declared.words.Order.{Order}
+use Rattle.midi_pass.specs.Pass.{Ends, seen}
+use Rattle.midi_pass.specs.DoneLaws.{is_done_unless}
+use Rattle.midi_engines.specs.Packets.{packet_cutting}
+use Rattle.sysex8_engine.specs.Joining.{joining}
+use Rattle.sysex8_engine.proofs.joining.join.Goals as goal
+
+pub drive-requires-clause-ready : goal.drive-requires-clause-ready
+drive-requires-clause-ready g c =
+    record { law = c.fed_streams_are_the_definition.ensures; some = c.requires.some; empty = c.requires.empty; least = c.requires.least }
+
+pub returns-clause-ends : goal.returns-clause-ends
+returns-clause-ends g c =
+    let E : Order → Type 0 =
+    λ order. Ends (packet_cutting order) (joining (record { slots = length c.args.streams.slots; order = c.args.order; room = c.args.streams.room }))
+    (seen g.S.Source g.L.Lanes g.W.Sink g.N.Sink c.args.input.now c.args.lanes.now c.args.output.now c.args.notes.now)
+    (seen g.S.Source g.L.Lanes g.W.Sink g.N.Sink c.drive.new.input c.drive.new.lanes c.drive.new.output c.drive.new.notes) c.drive.result in
+    subst E (ap (λ words. words.how) c.new-reader.ensures) c.drive.ensures
+
+pub returns-clause-complete : goal.returns-clause-complete
+returns-clause-complete g c =
+    is_done_unless (packet_cutting c.args.order) (joining (record { slots = length c.args.streams.slots; order = c.args.order; room = c.args.streams.room })) (c.recordings_are_cut_once.ensures c.args.order) _ _ c.drive.result
+    (returns-clause-ends g c)

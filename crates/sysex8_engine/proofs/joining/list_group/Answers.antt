@@ -1,0 +1,22 @@
+use Rattle.std.proofs.Common.{ℕ, List, arith}
+use Rattle.midi_pass.specs.Places.{places}
+use Rattle.midi_pass.specs.Put.{Put}
+use Rattle.sysex8_streams.specs.History.{key_of}
+use Rattle.sysex8_engine.specs.Held.{starts_in}
+use Rattle.sysex8_engine.specs.Joining.{open_put}
+use Rattle.sysex8_engine.proofs.LoopLaws.{none-yet, one-fails, one-more}
+use Rattle.sysex8_engine.proofs.joining.list_group.Goals as goal
+
+pub loop-number-init : goal.loop-number-init
+loop-number-init g c =
+    none-yet (λ stream. open_put c.args.group (starts_in c.args.streams.now (key_of c.args.group stream))) (places g.L.Lanes g.W.Sink g.N.Sink c.args.lanes.now c.args.output.now c.args.notes.now)
+
+pub loop-number-preserved : goal.loop-number-preserved
+loop-number-preserved g c =
+    let puts : ℕ → List Put = λ stream. open_put c.args.group (starts_in c.args.streams.now (key_of c.args.group stream)) in
+    one-more puts c.loop-number.number (places g.L.Lanes g.W.Sink g.N.Sink c.args.lanes.now c.args.output.now c.args.notes.now) _ _ c.loop-number.invariant c.in-Ok.ensures
+
+pub returns-in-Err : goal.returns-in-Err
+returns-in-Err g c =
+    let puts : ℕ → List Put = λ stream. open_put c.args.group (starts_in c.args.streams.now (key_of c.args.group stream)) in
+    one-fails puts c.loop-number.number 256 (omega arith) c.in-Err.end (places g.L.Lanes g.W.Sink g.N.Sink c.args.lanes.now c.args.output.now c.args.notes.now) _ _ c.loop-number.invariant c.in-Err.ensures

@@ -1,0 +1,9 @@
+pub mod Completed
+pub mod Held
+pub mod Joining
+pub mod JoiningMeans
+pub mod Laws
+pub mod Lines
+pub mod Listing
+pub mod Options
+pub mod Parts
