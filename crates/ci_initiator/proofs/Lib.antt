@@ -6,3 +6,4 @@ pub mod ToldLaws
 pub mod Read
 pub mod Witness
 pub mod Courses
+pub mod WatchLaws

@@ -1,14 +1,16 @@
 -- What is taken from a setup.
-use Rattle.std.proofs.Common.{arith, ◌≡◌, ◌⊎◌, inl, inr, ◌<◌, ◌≤◌, ◌+◌, ◌-◌, ◌∙◌, ap, sym, refl, subst, ℕ, zero, suc, Bool, true, false, not, if◌then◌else◌, ◌==◌, ◌&&◌, ◌||◌, List, [], ◌∷◌, ◌++◌, length, take, drop, slice_get, Option, Some, None, unwrap_or, true≢false}
-use Rattle.std.proofs.lemmas.Bool.{eqb-true, eq-eqb}
+use Rattle.std.proofs.Common.{arith, ◌≡◌, ◌⊎◌, inl, inr, ◌<◌, ◌≤◌, ◌+◌, ◌-◌, ◌∙◌, ap, sym, refl, subst, ℕ, zero, suc, Bool, true, false, not, if◌then◌else◌, ◌==◌, ◌&&◌, ◌||◌, List, [], ◌∷◌, ◌++◌, length, length-append, nat_lt, ◌*◌, take, drop, slice_get, Option, Some, None, unwrap_or, true≢false}
+use Rattle.std.proofs.lemmas.Bool.{eqb-true, eq-eqb, ltb-true}
+use Rattle.std.proofs.lemmas.Bool.Decides.{nat_tests}
+use Rattle.std.proofs.lemmas.List.Elements.{All-head, All-tail}
 use Rattle.std.proofs.lemmas.List.{append_assoc, append-nil}
-use Rattle.std.specs.List.{flat_map, list_any}
+use Rattle.std.specs.List.{All, flat_map, list_any}
 use Rattle.std.specs.Str.{bytes_eq}
 use Rattle.function_blocks.specs.declared.setup.Block.{Block}
 use Rattle.function_blocks.specs.declared.setup.Place.{Place}
 use Rattle.function_blocks.specs.declared.setup.Place.TheVariants as place
 use Rattle.function_blocks.specs.declared.setup.Profile.{Profile}
-use Rattle.function_blocks.specs.Blocks.{muids_of}
+use Rattle.function_blocks.specs.Blocks.{IsBlock, muids_of}
 use Rattle.function_blocks.specs.Profiles.{is_same_profile, profiles_are_distinct, same_place}
 use Rattle.ci_responder.specs.SameKeys.{left, right}
 use Rattle.ci_initiator.specs.Known.{are_different, same_watch}
@@ -89,7 +91,7 @@ all-tried blocks tries k same =
     let none : tries - k ≡ 0 = omega (arith, same) in
     ap (λ t. first_unnamed blocks t (k + 1)) none ∙ ap (λ n. n + 1) same
 
-pub own-is : (blocks : List Block) → first_unnamed blocks 512 1 ≡ own_muid blocks
+own-is : (blocks : List Block) → first_unnamed blocks (length (muids_of blocks)) 1 ≡ own_muid blocks
 unfolding own_muid
 own-is blocks = refl
 
@@ -281,7 +283,34 @@ least-for blocks tries few =
     by true is (inr all) =
         absurd (omega (arith, few, all, among-few found-muid (muids_of blocks) (λ k some within. named-among blocks k (upto k (k == found-muid) refl is some within))))
 
-pub least_unnamed : (blocks : List Block) → length (muids_of blocks) ≤ 512 → IsLeastUnnamed blocks (own_muid blocks)
-least_unnamed blocks few =
+pub least_unnamed : (blocks : List Block) → IsLeastUnnamed blocks (own_muid blocks)
+least_unnamed blocks =
     let L : ℕ → Type 0 = λ muid. IsLeastUnnamed blocks muid in
-    subst L (own-is blocks) (least-for blocks 512 few)
+    subst L (own-is blocks) (least-for blocks (length (muids_of blocks)) (omega arith))
+
+-- there is only one
+least-below : (blocks : List Block) (one other : ℕ) → IsLeastUnnamed blocks one → IsLeastUnnamed blocks other → one < other → ⊥
+least-below blocks one other is least below = true≢false (sym (least.least one is.some below) ∙ is.unnamed)
+
+least-once : (blocks : List Block) (one other : ℕ) → IsLeastUnnamed blocks one → IsLeastUnnamed blocks other → one ≡ other
+least-once blocks one other is least = by (nat_lt one other) (nat_lt other one) refl refl
+  where
+    by : (b c : Bool) → nat_lt one other ≡ b → nat_lt other one ≡ c → one ≡ other
+    by true c below past = absurd (least-below blocks one other is least (ltb-true one other below))
+    by false true below past = absurd (least-below blocks other one least is (ltb-true other one past))
+    by false false below past = grind (arith, nat_tests, below, past)
+
+-- ---- how many MUIDs there are
+
+length-flat : (bs : List Block) → All IsBlock bs → length (muids_of bs) ≤ 16 * length bs
+length-flat [] fit = omega arith
+length-flat (b ∷ bs) fit =
+    let one : IsBlock b = All-head IsBlock b bs fit in
+    omega (arith, length-append b.muids (muids_of bs), one.few_muids, length-flat bs (All-tail IsBlock b bs fit))
+
+pub least-of-setup : (blocks : List Block) (tries : ℕ) → All IsBlock blocks → tries ≡ 16 * length blocks → IsLeastUnnamed blocks (first_unnamed blocks tries 1)
+least-of-setup blocks tries fit all = least-for blocks tries (omega (arith, all, length-flat blocks fit))
+
+pub found-is-own : (blocks : List Block) (tries : ℕ) → All IsBlock blocks → tries ≡ 16 * length blocks → first_unnamed blocks tries 1 ≡ own_muid blocks
+found-is-own blocks tries fit all =
+    least-once blocks (first_unnamed blocks tries 1) (own_muid blocks) (least-of-setup blocks tries fit all) (least_unnamed blocks)

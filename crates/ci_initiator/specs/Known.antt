@@ -1,5 +1,5 @@
 -- What an initiator keeps, and what one message does to it.
-use Rattle.std.specs.Prelude.{ℕ, ◌<◌, ◌^◌, ◌==◌, Bool, true, ◌&&◌, not, List, [], ◌∷◌, map, Option, Some, None, IfSome}
+use Rattle.std.specs.Prelude.{ℕ, ◌<◌, ◌≤◌, ◌^◌, ◌==◌, Bool, true, ◌&&◌, not, List, [], ◌∷◌, length, map, Option, Some, None, IfSome}
 use Rattle.std.specs.List.{list_any}
 use Rattle.std.specs.Str.{bytes_eq}
 use Rattle.ci_initiator.specs.declared.ask.Ask.{Ask}
@@ -18,10 +18,11 @@ pub record Known : Type 0 where
   pub peer : Option ℕ
   pub watched : List Watched
 
--- MUIDs aren't reserved
+-- MUIDs aren't reserved, and there are few watches
 pub record IsKnown (known : Known) : Type 0 where
   pub muid : known.muid < 0x0FFFFF00
   pub peer : IfSome known.peer (λ muid. muid < 2 ^ 28)
+  pub few : length known.watched ≤ 64
 
 abbrev pub watches_of : Known → List Watch
 watches_of known = map (λ watched. watched.watch) known.watched

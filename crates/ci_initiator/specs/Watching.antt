@@ -7,7 +7,7 @@ use Rattle.function_blocks.specs.declared.setup.Block.{Block}
 use Rattle.function_blocks.specs.declared.setup.Place.{Place}
 use Rattle.function_blocks.specs.declared.setup.Place.TheVariants as place
 use Rattle.function_blocks.specs.declared.setup.Profile.{Profile}
-use Rattle.function_blocks.specs.Blocks.{has_ci}
+use Rattle.function_blocks.specs.Blocks.{has_ci, muids_of}
 use Rattle.function_blocks.specs.Setups.{Facts}
 use Rattle.ci_initiator.specs.declared.watch.Watch.{Watch}
 
@@ -23,9 +23,9 @@ abbrev pub first_unnamed : List Block → ℕ → ℕ → ℕ
 first_unnamed blocks zero muid = muid
 first_unnamed blocks (suc tries) muid = if is_named blocks muid then first_unnamed blocks tries (muid + 1) else muid
 
--- The initiator's MUID: the first from 1 on. A setup has at most 32 blocks of at most 16 MUIDs, so at most 512 are named.
+-- The initiator's MUID: the first from 1 on. Among one number more than there are MUIDs, one isn't named.
 unfoldable pub own_muid : List Block → ℕ
-own_muid blocks = first_unnamed blocks 512 1
+own_muid blocks = first_unnamed blocks (length (muids_of blocks)) 1
 
 -- a number from 1 on that no block names, though all before it are named
 pub record IsLeastUnnamed (blocks : List Block) (muid : ℕ) : Type 0 where

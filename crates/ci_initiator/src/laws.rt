@@ -5,9 +5,10 @@ ghost use Rattle.ci_initiator.specs.Laws.{
   OwnMuidIsTheLeast,
   StageIsTheCourse,
   ViewsTellTheirBytes,
+  WatchesAreOfTheSetup,
 };
 
-use ci_responder::held_is_the_history;
+use ci_responder::{block_of_a_group_is_the_one, held_is_the_history};
 
 /// What an initiator knows after any messages is what their history says, searched from the newest message back: the peer is the
 /// source of the first message of a peer after the last one by which it was gone, and of each watch is held what the last message
@@ -36,7 +37,15 @@ pub fn what_is_held_was_told()
     ensures { HeldIsTold }
 {}
 
-/// The initiator of a rehearsal has the least MUID from 1 on that no block names. A setup has at most 32 blocks of 16 MUIDs.
+/// The initiator of a rehearsal has the least MUID from 1 on that no block names (own rule).
 pub fn own_muid_is_the_least()
     ensures { OwnMuidIsTheLeast }
 {}
+
+/// Each watch of a rehearsal is of a profile of the setup: the responder's profile by which `what_is_held_was_told` speaks of the
+/// watch, which is that of the block of the watch's group, has a key that the setup names.
+pub fn watches_are_of_the_setup()
+    ensures { WatchesAreOfTheSetup }
+{
+    block_of_a_group_is_the_one();
+}

@@ -1,5 +1,5 @@
 // A rehearsal.
-ghost use Rattle.std.specs.Prelude.{◌≡◌, ◌<◌, ◌++◌, ℕ, List, Option, [], length, slice_get, true, IfOk, Some};
+ghost use Rattle.std.specs.Prelude.{◌≡◌, ◌<◌, ◌≤◌, ◌++◌, ℕ, List, Option, [], length, slice_get, true, IfOk, Some};
 ghost use Rattle.std.specs.Option.{option_map};
 ghost use Rattle.function_blocks.specs.Profiles.{profiles_are_distinct};
 ghost use Rattle.ci_responder.specs.Held.{after as responder_after, heard_in, reply_in};
@@ -21,7 +21,7 @@ ghost use Rattle.ci_initiator.specs.Stage.{
   reply_sent,
   reply_with,
 };
-ghost use Rattle.ci_initiator.specs.Watching.{HasIds};
+ghost use Rattle.ci_initiator.specs.Watching.{HasIds, IsLeastUnnamed};
 
 use crate::ask::Ask;
 use crate::event::{Event, EventFault, Told};
@@ -41,8 +41,8 @@ use voice_messages::U4;
 /// The most bytes of a System Exclusive message that the responder tells to take.
 const ROOM: u32 = 512;
 
-/// An initiator and the responder of a setup, and the messages that each has sent, which are delivered as events say. To a
-/// contract it is both sides and the two lists of messages.
+/// An initiator and the responder of a setup (M2-101-UM), and the messages that each has sent, which are delivered as events say
+/// (own rule). To a contract it is both sides and the two lists of messages.
 #[derive(Drop)]
 pub struct Rehearsal {
     pub(crate) initiator: Initiator,
@@ -127,12 +127,14 @@ fn note(initiator: &mut Initiator, sent: &Sent) -> Noted
 }
 
 impl Rehearsal {
-    /// The rehearsal of a setup. The responder is the setup's. The initiator has the least MUID from 1 on that the setup doesn't
-    /// name, and watches the profiles of one function block, in the setup's order: of the first profile's whose block has MIDI-CI.
-    /// Where no profile's block has it, nothing is watched. A profile of the function block is watched on its first group. Takes
-    /// all memory that it ever takes; `NoMemory` where there isn't so much.
+    /// The rehearsal of a setup (own rule). The responder is the setup's. The initiator has the least MUID from 1 on that the setup
+    /// doesn't name, and watches the profiles of one function block, in the setup's order: of the first profile's whose block has
+    /// MIDI-CI. Where no profile's block has it, nothing is watched. A profile of the function block is watched on its first group.
+    /// Takes all memory that it ever takes; `NoMemory` where there isn't so much.
     pub fn new(alloc: Global, setup: &Setup) -> Result<Rehearsal, NoMemory>
         ensures first { IfOk result (λ rehearsal. rehearsal ≡ first_stage setup.now) }
+        ensures least { IfOk result (λ rehearsal.
+            IsLeastUnnamed setup.now.blocks rehearsal.initiator.muid) }
         ensures distinct { IfOk result (λ rehearsal. profiles_are_distinct setup.now.profiles ≡ true) }
         ensures ids { IfOk result (λ rehearsal. HasIds setup.now.profiles) }
     {
@@ -146,29 +148,33 @@ impl Rehearsal {
         })
     }
 
-    /// The number of watches, at most 64.
+    /// The number of watches, at most 64 (own rule).
     pub fn watches(&self) -> usize
-        ensures { result ≡ length self.now.initiator.watched }
+        ensures value { result ≡ length self.now.initiator.watched }
+        ensures few { result ≤ 64 }
     {
         self.initiator.watches()
     }
 
-    /// What the initiator holds of watch `k`, counted from 0. `None` exactly where nothing is held.
+    /// What the initiator holds of watch `k`, counted from 0: whether the responder has last told it that the profile is on
+    /// (M2-101-UM, profile configuration). `None` exactly where nothing is held.
     pub fn holds(&self, k: usize) -> Option<bool>
         requires { k < length self.now.initiator.watched }
-        ensures { option_map (λ watched. watched.held) (slice_get self.now.initiator.watched k) ≡ Some result }
+        ensures { option_map (λ watched. watched.held) (slice_get self.now.initiator.watched k)
+            ≡ Some result }
     {
         self.initiator.holds(k)
     }
 
-    /// Whether a profile of the responder is on; `None` exactly where the setup doesn't name it.
+    /// Whether a profile of the responder is on (M2-101-UM, profile configuration); `None` exactly where the setup doesn't name it.
     pub fn profile_is_on(&self, key: &Key) -> Option<bool>
         ensures { result ≡ state_in self.now.responder.states key.now }
     {
         self.responder.profile_is_on(key)
     }
 
-    /// Takes the event of a kind and a number. Takes no memory, and after an error nothing has changed.
+    /// Takes the event of a kind and a number (own rule; the messages are those of M2-101-UM). Takes no memory, and after an error
+    /// nothing has changed.
     ///
     /// Kind 0 asks: number 0 for Discovery, and 1 + 3k, 2 + 3k and 3 + 3k for an inquiry, a switch on and a switch off of watch k,
     /// on the group of the watch; Discovery is sent on that of watch 0, or on 0. Kind 1 delivers the initiator's message of this

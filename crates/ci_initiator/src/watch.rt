@@ -7,6 +7,7 @@ use voice_messages::U4;
 pub struct Watch {
     pub group: U4,
     pub address: Address,
+    /// Its id (M2-101-UM, profile id).
     pub id: ProfileId,
 }
 

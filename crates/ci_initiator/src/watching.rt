@@ -3,6 +3,7 @@ ghost use Rattle.std.specs.Prelude.{◌≡◌, ◌≤◌, ◌∷◌, ◌++◌, [
 ghost use Rattle.ci_initiator.specs.Known.{are_different};
 ghost use Rattle.ci_initiator.specs.Watching.{
   HasIds,
+  IsLeastUnnamed,
   first_group as first_group_watched,
   first_group_of as first_group_of_block,
   first_unnamed as first_unnamed_of,
@@ -23,8 +24,8 @@ use midi_edge::NoMemory;
 use std::alloc::Global;
 use voice_messages::{U4, U7};
 
-/// The most MUIDs that a setup names: 16 of each of 32 blocks.
-const MOST_MUIDS: u32 = 512;
+/// The most MUIDs that a block names.
+const MOST_MUIDS: u32 = 16;
 
 // Whether a block names a MUID.
 fn names(block: &Block, muid: u32) -> bool
@@ -67,9 +68,11 @@ fn first_unnamed(setup: &Setup, tries: u32) -> u32
 /// The least number from 1 on that the setup doesn't name as a MUID.
 pub(crate) fn own_muid(setup: &Setup) -> u32
     ensures value { result ≡ own_muid_of setup.now.blocks }
+    ensures least { IsLeastUnnamed setup.now.blocks result }
     ensures few { result ≤ 513 }
 {
-    first_unnamed(setup, MOST_MUIDS)
+    let count = u32::from(setup.block_count());
+    first_unnamed(setup, MOST_MUIDS * count)
 }
 
 // Whether the block of a number has MIDI-CI.

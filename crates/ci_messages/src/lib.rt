@@ -11,6 +11,3 @@ pub mod writing;
 pub use crate::reading::read;
 pub use crate::view::{Address, Body, CiFault, CiView, ProfileId};
 pub use crate::writing::write;
-
-#[cfg(test)]
-mod tests;

@@ -1,5 +1,7 @@
 -- What holds of all histories of messages, which are listed the newest first.
-use Rattle.std.specs.Prelude.{◌≡◌, ℕ, Bool, true, false, List, ◌∷◌, Some}
+use Rattle.std.specs.Prelude.{◌≡◌, ℕ, Bool, true, false, List, ◌∷◌, slice_get, Some}
+use Rattle.function_blocks.specs.declared.setup.Block.{Block}
+use Rattle.function_blocks.specs.Blocks.{are_apart}
 use Rattle.function_blocks.specs.Profiles.{profiles_are_distinct}
 use Rattle.function_blocks.specs.Setups.{Facts}
 use Rattle.ci_responder.specs.declared.keys.Key.{Key}
@@ -9,7 +11,7 @@ use Rattle.ci_responder.specs.Keys.{same_key, state_in}
 use Rattle.ci_responder.specs.Messages.{Told, told_of}
 use Rattle.ci_responder.specs.Read.{told_in}
 use Rattle.ci_responder.specs.Held.{after, heard_in, muid_in, replies_in, reply_in}
-use Rattle.ci_responder.specs.History.{accepted_at, heard_at, held_at, muid_at, on_at, replies_at, reply_at}
+use Rattle.ci_responder.specs.History.{accepted_at, block_of, covers, heard_at, held_at, muid_at, on_at, replies_at, reply_at}
 
 -- What is held after a history is what the history says: `heard`, `replies`, `muid` and `on` of it are those of the history, and
 -- one more message leaves what the longer history says.
@@ -34,6 +36,14 @@ SwitchesStandAlone =
     (setup : Facts) (past : List Told) (told : Told) (one other : Key) (on : Bool) →
     accepted_at setup past told one ≡ Some on → same_key one other ≡ false →
     on_at setup (told ∷ past) other ≡ on_at setup past other
+
+-- The block of a group is an active one with MIDI-CI that has the group, and it is the only one.
+pub record BlockOfIsTheOne : Type 0 where
+  pub has : (setup : Facts) (group number : ℕ) → block_of setup group ≡ Some number →
+      (block : Block) × (slice_get setup.blocks number ≡ Some block) × (covers group block ≡ true)
+  pub only : (setup : Facts) (group number : ℕ) (block : Block) → are_apart setup.blocks ≡ true →
+      slice_get setup.blocks number ≡ Some block → covers group block ≡ true →
+      block_of setup group ≡ Some number
 
 -- a view tells what the bytes tell that spell it
 abbrev pub ViewsTellTheirBytes : Type 0

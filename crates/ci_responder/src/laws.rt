@@ -1,5 +1,5 @@
 // Laws over the definitions alone.
-ghost use Rattle.ci_responder.specs.Laws.{HeldIsTheHistory, SwitchesStandAlone, ViewsTellTheirBytes};
+ghost use Rattle.ci_responder.specs.Laws.{BlockOfIsTheOne, HeldIsTheHistory, SwitchesStandAlone, ViewsTellTheirBytes};
 
 /// What a responder holds after any messages, of all groups, is what their history says, searched from the newest message back:
 /// the MUID in force of each block, what one more message is heard as, the reply to it, and whether each profile is on. Where
@@ -12,6 +12,12 @@ pub fn held_is_the_history()
 /// A switch that is accepted leaves each profile of another key as it was.
 pub fn switches_stand_alone()
     ensures { SwitchesStandAlone }
+{}
+
+/// The block of a group, by which the history tells which block hears a message, is an active block with MIDI-CI that has the
+/// group. Where no two of them share a group, as in each setup, it is the only one, and there is none only where no block has it.
+pub fn block_of_a_group_is_the_one()
+    ensures { BlockOfIsTheOne }
 {}
 
 /// What a view of a message tells is a function of the message's bytes and its group, by the places of M2-101-UM.

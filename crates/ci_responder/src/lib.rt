@@ -3,7 +3,7 @@
 
 mod blocks;
 pub mod heard;
-pub mod kept;
+mod kept;
 pub mod keys;
 pub mod laws;
 mod opening;
@@ -15,11 +15,10 @@ mod rows;
 
 pub use crate::heard::Heard;
 pub use crate::keys::Key;
-pub use crate::laws::{held_is_the_history, switches_stand_alone, views_tell_their_bytes};
+pub use crate::laws::{
+    block_of_a_group_is_the_one, held_is_the_history, switches_stand_alone, views_tell_their_bytes,
+};
 pub use crate::packets::put_message;
 pub use crate::responder::Responder;
 pub use ci_messages::ProfileId;
 pub use function_blocks::Place;
-
-#[cfg(test)]
-mod tests;

@@ -5,7 +5,7 @@ use Rattle.std.proofs.lemmas.List.{length-append, take_at}
 use Rattle.midi_clip.specs.Header.{HasTaken, header_bytes}
 use Rattle.midi_clip.specs.History.{is_ended}
 use Rattle.midi_edge.specs.Outside.{IsUsedUp, Loses, ahead}
-use Rattle.midi_pass.proofs.NamedLaws.{are_named, spares_put}
+use Rattle.midi_pass.specs.NamedLaws.{are_named, spares_put}
 use Rattle.midi_pass.specs.DoneLaws.{done_unless}
 use Rattle.midi_pass.specs.Named.{SparesOthers}
 use Rattle.midi_pass.specs.Pass.{CutsOnce, HasNoRefusal, NothingFails, Seen, Stands}
@@ -76,7 +76,7 @@ whole_file (Some bytes) items left end cut size = (cut.0, cut.1, size)
 -- ---- done unless something fails
 
 -- what was taken of a file with a header are the bytes of the header
-all-taken : (bytes after : List ℕ) (new : Option (List ℕ)) → bytes ≡ header_bytes ++ after → HasTaken (Some bytes) new false → ⊥
+pub all-taken : (bytes after : List ℕ) (new : Option (List ℕ)) → bytes ≡ header_bytes ++ after → HasTaken (Some bytes) new false → ⊥
 all-taken bytes after None parts is = is.lost
 all-taken bytes after (Some left) parts is =
     let size : length bytes ≡ 8 + length after = ap length parts ∙ length-append header_bytes after in

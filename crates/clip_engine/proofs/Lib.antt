@@ -1,5 +1,5 @@
-pub mod CuttingLaws
 pub mod DoneLaws
 pub mod EndLaws
-pub mod PacketLaws
+pub mod HeaderLaws
+pub mod RefusedLaws
 pub mod StepLaws

@@ -27,7 +27,8 @@ use Rattle.midi_pass.specs.declared.ends.Reason.TheVariants as reason
 use Rattle.midi_pass.specs.declared.ends.RunEnd.{RunEnd}
 use Rattle.midi_pass.specs.declared.ends.RunEnd.TheVariants.{Done, Refused, ReadFault, LaneFault, OutputFault, NoteFault, NoMemory}
 use Rattle.clip_engine.specs.Clipping.{clip_text, clipping, puts_at, puts_by, reason_of, refusal_by}
-use Rattle.clip_engine.specs.Cutting.{IsOfBytes, clip_cutting, packets_of}
+use Rattle.clip_engine.specs.Cutting.{clip_cutting, packets_of}
+use Rattle.packet_items.specs.Packets.{IsOfBytes}
 use Rattle.clip_engine.specs.Ends.{ClipStands}
 
 -- ---- ticks

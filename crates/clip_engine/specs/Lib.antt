@@ -3,3 +3,4 @@ pub mod Cutting
 pub mod Ends
 pub mod Laws
 pub mod Lines
+pub mod Refused

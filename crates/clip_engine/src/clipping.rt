@@ -1,22 +1,27 @@
 // From a clip file to the lines of its events.
 ghost use Rattle.std.specs.Prelude.{◌≡◌, ◌≤◌, ◌^◌, [], ◌∷◌};
+ghost use Rattle.ump_words.specs.declared.words.Order.TheVariants.{Big};
 ghost use Rattle.midi_clip.specs.Roles.{role_of};
 ghost use Rattle.midi_clip.specs.Stages.{new_stage, stage_after, step_of, ticks_of};
 ghost use Rattle.midi_pass.specs.Pass.{Takes, seen};
 ghost use Rattle.midi_pass.specs.Places.{Puts, places};
+ghost use Rattle.packet_items.specs.Packets.{words_after};
 ghost use Rattle.clip_engine.specs.Clipping.{puts_by, reason_of, refusal_by, step_puts};
-ghost use Rattle.clip_engine.specs.Cutting.{new_words};
 ghost use Rattle.clip_engine.specs.Ends.{ClipEnds, IsDoneUnless, with_header};
+ghost use Rattle.clip_engine.specs.Refused.{IsRefusedWhere};
 
 use crate::laws::clip_files_are_cut_once;
 use crate::lines::{end_line, event_line, resolution_line};
-use crate::packets::ClipPackets;
 use midi_clip::{Clip, ClipFault, ClipStep, clips_are_the_definition, header};
 use midi_edge::{Lanes, Sink, Source};
 use midi_pass::places::put_output;
-use midi_pass::{Next, Reason, RunEnd};
+use midi_pass::{LIMIT, Next, Reason, RunEnd};
+use packet_items::next_packet;
 use ump_grammar::Packet;
-use ump_words::Framed;
+use ump_words::{Framed, Order, WordReader};
+
+// How many bytes the header of a clip file has.
+const HEADER_SIZE: u64 = 8;
 
 /// Shows the events of a clip file, to its end or to the first refusal: puts in the output a line for the ticks for a quarter note where
 /// the clip starts, the ticks and the line of the packet for each event, and a line for the ticks at the end of the clip. A clip file is
@@ -39,13 +44,16 @@ pub fn run_clip<S: Source, L: Lanes, W: Sink, N: Sink>(
     ensures complete { IsDoneUnless
         (seen S.Source L.Lanes W.Sink N.Sink input.old lanes.old output.old notes.old)
         (seen S.Source L.Lanes W.Sink N.Sink input.new lanes.new output.new notes.new) result }
+    ensures refused { IsRefusedWhere
+        (seen S.Source L.Lanes W.Sink N.Sink input.old lanes.old output.old notes.old)
+        (seen S.Source L.Lanes W.Sink N.Sink input.new lanes.new output.new notes.new) result }
 {
     clip_files_are_cut_once();
     match header(input) {
         Ok(true) => {
-            let reader = ClipPackets::new();
+            let words = WordReader::new(Order::Big, LIMIT - HEADER_SIZE);
             let clip = Clip::new();
-            show_packets(reader, clip, input, lanes, output, notes)
+            show_packets(words, clip, input, lanes, output, notes)
         }
         Ok(false) => RunEnd::Refused {
             reason: Reason::NotClip,
@@ -57,24 +65,26 @@ pub fn run_clip<S: Source, L: Lanes, W: Sink, N: Sink>(
 
 // Shows the events of a clip file of which the header is read.
 fn show_packets<S: Source, L: Lanes, W: Sink, N: Sink>(
-    mut reader: ClipPackets,
+    mut words: WordReader,
     mut clip: Clip,
     input: &mut S,
     lanes: &mut L,
     output: &mut W,
     notes: &mut N,
 ) -> RunEnd
-    requires words { reader.words ≡ new_words }
-    requires end { reader.end ≡ 8 }
+    requires words { words ≡ words_after Big 8 }
     requires clip { clip ≡ new_stage }
     ensures { ClipEnds
         (with_header (seen S.Source L.Lanes W.Sink N.Sink input.old lanes.old output.old notes.old))
         (seen S.Source L.Lanes W.Sink N.Sink input.new lanes.new output.new notes.new) result }
 {
     clips_are_the_definition();
+    // How many bytes there are up to here.
+    let mut size = HEADER_SIZE;
     loop {
-        match reader.next(input) {
+        match next_packet(&mut words, HEADER_SIZE, input) {
             Next::Item { at, item } => {
+                size = at.offset + 4 * at.words.as_slice().len() as u64;
                 match take_packet(&mut clip, &at, &item, lanes, output, notes) {
                     Ok(()) => {}
                     Err(end) => return end,
@@ -85,7 +95,7 @@ fn show_packets<S: Source, L: Lanes, W: Sink, N: Sink>(
                     Ok(_) => RunEnd::Done,
                     Err(_) => RunEnd::Refused {
                         reason: Reason::NoEnd,
-                        offset: reader.end(),
+                        offset: size,
                     },
                 };
             }

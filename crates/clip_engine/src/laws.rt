@@ -6,16 +6,13 @@ ghost use Rattle.clip_engine.specs.Cutting.{clip_cutting};
 ghost use Rattle.clip_engine.specs.Laws.{DoneShowsTheClip};
 
 use midi_clip::clips_are_the_definition;
-use ump_grammar::laws::words_spell_one_packet;
-use ump_words::{fronts_are_cut_as_the_stream, one_cutting};
+use packet_items::packets_are_cut_once;
 
 /// A clip file is cut into its packets in one way, and a front of it begins as it does.
 pub fn clip_files_are_cut_once()
     ensures { CutsOnce clip_cutting }
 {
-    one_cutting();
-    fronts_are_cut_as_the_stream();
-    words_spell_one_packet();
+    packets_are_cut_once();
 }
 
 /// A clip file has one first refusal among its packets: after packets that are accepted it is refused at one offset and for one reason,

@@ -4,7 +4,6 @@
 mod clipping;
 pub mod laws;
 mod lines;
-mod packets;
 
 pub use crate::clipping::run_clip;
 

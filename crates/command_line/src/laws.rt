@@ -92,7 +92,8 @@ pub fn sysex8_is_taken()
 
 /// `rehearse` with its setup.
 pub fn rehearse_is_taken()
-    ensures { command_of (codes "rehearse" ∷ codes "S" ∷ []) ≡ Some (rehearse (record { setup = codes "S" })) }
+    ensures { command_of (codes "rehearse" ∷ codes "S" ∷ [])
+        ≡ Some (rehearse (record { setup = codes "S" })) }
 {}
 
 /// `clip`, which has no other words.

@@ -10,6 +10,3 @@ mod reading;
 
 pub use crate::command::{Command, WordsFault};
 pub use crate::reading::command_line;
-
-#[cfg(test)]
-mod tests;

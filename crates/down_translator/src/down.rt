@@ -201,7 +201,8 @@ impl Down {
     }
 
     /// The MIDI 1.0 bytes of one more packet, its lane, and its line of the listing (M2-104-UM, default translation; what that
-    /// leaves out is listed by own rule). The offset is the number of input bytes before the packet.
+    /// leaves out is listed by own rule). The packet is one that some words decode to, and the offset the number of input bytes
+    /// before it.
     ///
     /// `DataIncrement` and `DataDecrement` are returned exactly for a control change 96 and 97, respectively, of either protocol,
     /// and leave the translator as it was. `ExclusiveTooLong` is returned exactly when the packet adds to an exclusive that then

@@ -17,6 +17,3 @@ pub use crate::carried::Carried;
 pub use crate::down::Down;
 pub use crate::style::Style;
 pub use voice_state::{BadStep, Kind, Listed};
-
-#[cfg(test)]
-mod tests;

@@ -49,6 +49,7 @@ has_ci block = block.active && not (block.ci == 0)
 abbrev pub shares_group : Block → Block → Bool
 shares_group one other = (has_ci one && has_ci other) && (nat_lt one.first (other.first + other.count) && nat_lt other.first (one.first + one.count))
 
+-- no two active blocks with MIDI-CI share a group
 abbrev pub are_apart : List Block → Bool
 are_apart [] = true
 are_apart (block ∷ blocks) = list_all (λ other. not (shares_group block other)) blocks && are_apart blocks
@@ -57,6 +58,7 @@ are_apart (block ∷ blocks) = list_all (λ other. not (shares_group block other
 abbrev pub muids_of : List Block → List ℕ
 muids_of blocks = flat_map (λ block. block.muids) blocks
 
+-- no number appears twice
 abbrev pub are_distinct : List ℕ → Bool
 are_distinct [] = true
 are_distinct (n ∷ ns) = not (list_any (λ m. m == n) ns) && are_distinct ns
@@ -66,10 +68,11 @@ pub record IsBlock (b : Block) : Type 0 where
   pub named : (0 < length b.name) × (length b.name ≤ 91)
   pub hint : b.hint ≤ 3
   pub midi1 : b.midi1 ≤ 2
-  pub direction : b.direction ≤ 3
+  pub direction : (1 ≤ b.direction) × (b.direction ≤ 3)
   pub groups : (0 < b.count) × (b.first + b.count ≤ 16)
   pub ci : b.ci ≤ 2
   pub muids : All (λ muid. muid ≤ 268435199) b.muids
+  pub few_muids : length b.muids ≤ 16
 
 -- the items or the fault that was read, unless memory ran out
 abbrev pub Gives : {A : Type 0} → Read (List A) → Result (Vec A Global) SetupFault → Type 0

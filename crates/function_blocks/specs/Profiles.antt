@@ -1,5 +1,5 @@
 -- The profiles of a setup.
-use Rattle.std.specs.Prelude.{ℕ, ◌+◌, ◌-◌, Bool, true, false, ◌==◌, ◌&&◌, not, List, [], ◌∷◌, codes, Option, Some, None, option_and_then, if◌then◌else◌, slice_get, Ok}
+use Rattle.std.specs.Prelude.{ℕ, ◌≡◌, ◌<◌, ◌+◌, ◌-◌, nat_le, nat_lt, length, Bool, true, false, ◌==◌, ◌&&◌, not, List, [], ◌∷◌, codes, Option, Some, None, option_and_then, if◌then◌else◌, slice_get, Ok}
 use Rattle.std.specs.List.{list_any}
 use Rattle.std.specs.Str.{bytes_eq}
 use Rattle.toml.specs.Data.{Members}
@@ -60,6 +60,25 @@ same_place place.Function place.Function = true
 same_place (place.Group group) (place.Group other) = group == other
 same_place (place.Channel group channel) (place.Channel other_group other_channel) = group == other_group && channel == other_channel
 same_place _ _ = false
+
+-- a group of a block
+abbrev pub has_group : Block → ℕ → Bool
+has_group block group = nat_le block.first group && nat_lt group (block.first + block.count)
+
+-- the group that a place names, if any, is one of the block
+abbrev pub has_place : Block → Place → Bool
+has_place block place.Function = true
+has_place block (place.Group group) = has_group block group
+has_place block (place.Channel group channel) = has_group block group
+
+abbrev pub has_place_in : Option Block → Place → Bool
+has_place_in None place = false
+has_place_in (Some block) place = has_place block place
+
+-- what the rules guarantee of a profile: its block is there, and its place is one of that block
+pub record IsProfile (blocks : List Block) (profile : Profile) : Type 0 where
+  pub block : profile.block < length blocks
+  pub placed : has_place_in (slice_get blocks profile.block) profile.place ≡ true
 
 -- two profiles of the same block, place and id
 abbrev pub is_same_profile : Profile → Profile → Bool

@@ -1,5 +1,5 @@
 -- The setup of a text.
-use Rattle.std.specs.Prelude.{◌≡◌, ◌⊎◌, ◌<◌, ◌≤◌, ℕ, true, List, [], ◌∷◌, length, Option, Some, None, Result, Ok, Err, MatchResult, if◌then◌else◌, nat_le, ◌/◌, ◌%◌}
+use Rattle.std.specs.Prelude.{◌≡◌, ◌⊎◌, ◌≤◌, ℕ, true, List, [], ◌∷◌, length, Option, Some, None, Result, Ok, Err, MatchResult, if◌then◌else◌, nat_le, ◌/◌, ◌%◌}
 use Rattle.std.specs.List.{All}
 use Rattle.std.specs.Str.{is_utf8}
 use Rattle.toml.specs.Data.{Members}
@@ -13,7 +13,7 @@ use Rattle.function_blocks.specs.declared.setup.Identity.{Identity}
 use Rattle.function_blocks.specs.declared.setup.Profile.{Profile}
 use Rattle.function_blocks.specs.Blocks.{IsBlock, blocks_of, are_apart, are_distinct, muids_of}
 use Rattle.function_blocks.specs.Endpoints.{IsEndpoint, endpoint_of}
-use Rattle.function_blocks.specs.Profiles.{profiles_of, profiles_are_distinct}
+use Rattle.function_blocks.specs.Profiles.{IsProfile, profiles_of, profiles_are_distinct}
 use Rattle.function_blocks.specs.Rules.{Read, after, holds}
 
 -- what a setup says
@@ -53,8 +53,10 @@ pub record IsSetup (facts : Facts) : Type 0 where
   pub endpoint : IsEndpoint facts.endpoint
   pub few_blocks : length facts.blocks ≤ 32
   pub blocks : All IsBlock facts.blocks
+  pub apart : are_apart facts.blocks ≡ true
+  pub distinct_muids : are_distinct (muids_of facts.blocks) ≡ true
   pub few_profiles : length facts.profiles ≤ 64
-  pub profiles : All (λ profile. profile.block < length facts.blocks) facts.profiles
+  pub profiles : All (IsProfile facts.blocks) facts.profiles
   pub distinct : profiles_are_distinct facts.profiles ≡ true
 
 -- two bytes of seven bits, the lowest first

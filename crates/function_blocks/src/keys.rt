@@ -176,6 +176,7 @@ pub(crate) fn numbers_at<const N: usize>(
 fn wide_numbers_in<const N: usize>(values: &[Value], most: u32) -> Option<ShortList<u32, N>>
     requires { length values.now ≤ N }
     ensures value { result ≡ numbers_of most (items_view values.now) }
+    ensures few { IfSome result (λ numbers. length numbers ≤ N) }
     ensures most { IfSome result (λ numbers. All (λ n. n ≤ most) numbers) }
 {
     let mut numbers = ShortList::new();
@@ -191,6 +192,7 @@ fn wide_numbers_in<const N: usize>(values: &[Value], most: u32) -> Option<ShortL
 #[tactic(auto, using(crate::proofs::KeyLaws::count_items_of_view))]
 fn at_most<const N: usize>(values: &Vec<Value>, most: u32) -> Option<ShortList<u32, N>>
     ensures value { result ≡ at_most_of N most (array_view values.now) }
+    ensures few { IfSome result (λ numbers. length numbers ≤ N) }
     ensures most { IfSome result (λ numbers. All (λ n. n ≤ most) numbers) }
 {
     if values.len() > N {
@@ -206,6 +208,7 @@ pub(crate) fn short_numbers_at<const N: usize>(
     most: u32,
 ) -> Option<ShortList<u32, N>>
     ensures value { result ≡ short_numbers_of N most key.now (table_view table.now) }
+    ensures few { IfSome result (λ numbers. length numbers ≤ N) }
     ensures most { IfSome result (λ numbers. All (λ n. n ≤ most) numbers) }
 {
     match array_at(table, key) {

@@ -9,13 +9,10 @@ pub mod laws;
 mod profiles;
 mod reading;
 pub mod rules;
-pub mod setup;
+mod setup;
 pub mod whole;
 
 pub use crate::laws::{protocol_follows_the_requests, replies_are_few, replies_have_four_words};
 pub use crate::rules::{Rule, SetupFault};
 pub use crate::setup::{Block, Config, Identity, Place, Profile};
 pub use crate::whole::Setup;
-
-#[cfg(test)]
-mod tests;

@@ -5,9 +5,12 @@ ghost use Rattle.std.specs.Prelude.{
   ◌≤◌,
   codes,
   map,
+  slice_get,
+  true,
   length,
   IfOk,
   IfSome,
+  Some,
   option_and_then,
   option_map,
 };
@@ -23,8 +26,11 @@ ghost use Rattle.function_blocks.specs.Keys.{
   text_at as text_of,
 };
 ghost use Rattle.function_blocks.specs.Profiles.{
+  IsProfile,
   ci_block as ci_block_of,
   group_of,
+  has_group,
+  has_place,
   is_same_profile as are_same_profiles,
   kind_of as kind_of_word,
   place_of,
@@ -58,6 +64,7 @@ pub enum PlaceKind {
 fn ci_block(blocks: &[Block], number: u32) -> Option<&Block>
     requires { All IsBlock blocks.now }
     ensures value { option_map (λ b. b.now) result ≡ ci_block_of blocks.now number }
+    ensures there { IfSome result (λ b. slice_get blocks.now number ≡ Some b.now) }
     ensures fits { IfSome result (λ b. IsBlock b.now) }
     ensures within { IfSome result (λ b. number < length blocks.now) }
 {
@@ -93,7 +100,8 @@ fn kind_at(table: &Table) -> Option<PlaceKind>
 // A group of the block.
 fn group_at(table: &Table, block: &Block) -> Option<U4>
     requires { IsBlock block.now }
-    ensures { result ≡ group_of block.now (table_view table.now) }
+    ensures value { result ≡ group_of block.now (table_view table.now) }
+    ensures within { IfSome result (λ group. has_group block.now group ≡ true) }
 {
     let first = u32::from(block.first);
     let last = first + u32::from(block.count) - 1;
@@ -114,7 +122,8 @@ fn channel_at(table: &Table) -> Option<U4>
 
 fn read_place(table: &Table, block: &Block, kind: PlaceKind) -> Result<Place, SetupFault>
     requires { IsBlock block.now }
-    ensures { result ≡ place_of block.now (table_view table.now) kind }
+    ensures value { result ≡ place_of block.now (table_view table.now) kind }
+    ensures fits { IfOk result (λ place. has_place block.now place ≡ true) }
 {
     if let PlaceKind::Function = kind {
         return Ok(Place::Function);
@@ -128,7 +137,8 @@ fn read_place(table: &Table, block: &Block, kind: PlaceKind) -> Result<Place, Se
 }
 
 fn with_ci(block: &Block) -> Option<&Block>
-    ensures { option_map (λ b. b.now) result ≡ with_ci_of block.now }
+    ensures value { option_map (λ b. b.now) result ≡ with_ci_of block.now }
+    ensures same { IfSome result (λ b. b.now ≡ block.now) }
 {
     if block.ci == 0 { None } else { Some(block) }
 }
@@ -175,8 +185,8 @@ fn add_profile(
     blocks: &[Block],
 ) -> Result<(), SetupFault>
     requires { All IsBlock blocks.now }
-    ensures { AddsRead (profile_of blocks.now (table_view table.now))
-        (λ p. p.block < length blocks.now) profiles.old.items profiles.new.items result }
+    ensures { AddsRead (profile_of blocks.now (table_view table.now)) (IsProfile blocks.now)
+        profiles.old.items profiles.new.items result }
 {
     let number = number_at(table, "block", 0, 31).ok_or(broken(Rule::ProfileBlockHasCi))?;
     let block = ci_block(blocks, number).ok_or(broken(Rule::ProfileBlockHasCi))?;
@@ -199,7 +209,7 @@ fn add_profile(
 fn add_entry(profiles: &mut Vec<Profile>, value: &Value, blocks: &[Block]) -> Result<(), SetupFault>
     requires { All IsBlock blocks.now }
     ensures { AddsRead (needs rule.ProfilesAreTables (as_table (view value.now)) (profile_of blocks.now))
-        (λ p. p.block < length blocks.now) profiles.old.items profiles.new.items result }
+        (IsProfile blocks.now) profiles.old.items profiles.new.items result }
 {
     match value.as_table() {
         Some(table) => add_profile(profiles, table, blocks),
@@ -215,7 +225,7 @@ fn read_each_profile(
     requires { All IsBlock blocks.now }
     ensures value { Gives (each rule.ProfilesAreTables (profile_of blocks.now) (map view values.now)) result }
     ensures count { IfOk result (λ profiles. length profiles.items ≡ length values.now) }
-    ensures blocks { IfOk result (λ profiles. All (λ p. p.block < length blocks.now) profiles.items) }
+    ensures fits { IfOk result (λ profiles. All (IsProfile blocks.now) profiles.items) }
 {
     let mut profiles = Vec::new(alloc);
     for value in values {
@@ -233,7 +243,7 @@ pub(crate) fn read_profiles(
     requires { All IsBlock blocks.now }
     ensures value { Gives (profiles_of blocks.now (table_view setup.now)) result }
     ensures few { IfOk result (λ profiles. length profiles.items ≤ 64) }
-    ensures blocks { IfOk result (λ profiles. All (λ p. p.block < length blocks.now) profiles.items) }
+    ensures fits { IfOk result (λ profiles. All (IsProfile blocks.now) profiles.items) }
 {
     let values = entries_at(setup, "profile", 64, Rule::ProfilesAreTables)?;
     read_each_profile(alloc, values, blocks)

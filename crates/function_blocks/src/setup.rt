@@ -11,15 +11,19 @@ pub struct Endpoint {
     pub name: ShortList<u8, 98>,
     /// 1 to 42 bytes of 32 to 126.
     pub id: ShortList<u8, 42>,
+    /// Each 0 to 127.
     pub manufacturer: [u8; 3],
     /// 0 to 16,383.
     pub family: u16,
     /// 0 to 16,383.
     pub model: u16,
+    /// Each 0 to 127.
     pub revision: [u8; 4],
+    /// Whether it supports the MIDI 1.0 protocol.
     pub midi1: bool,
+    /// Whether it supports the MIDI 2.0 protocol; it supports one of them.
     pub midi2: bool,
-    /// 1 for MIDI 1.0, 2 for MIDI 2.0.
+    /// The protocol at the start, one that it supports: 1 for MIDI 1.0, 2 for MIDI 2.0.
     pub protocol: u8,
     /// Whether the function blocks never change: the key `static`.
     pub fixed: bool,
@@ -28,14 +32,15 @@ pub struct Endpoint {
 /// A function block, with the keys of the setup (own rules; M2-104-UM, Function Block Info).
 #[derive(Debug, PartialEq, Eq, Drop)]
 pub struct Block {
+    /// Whether it is in use. An inactive block has no MIDI-CI.
     pub active: bool,
     /// 1 to 91 bytes of UTF-8.
     pub name: ShortList<u8, 91>,
-    /// 0 to 3.
+    /// What it mainly does, as a hint to users, 0 to 3: 0 undeclared, 1 receives, 2 sends, 3 both.
     pub hint: u8,
-    /// 0 to 2.
+    /// Whether a MIDI 1.0 port is behind it, 0 to 2: 0 none, 1 one without a limit of speed, 2 one at 31.25 kbit/s.
     pub midi1: u8,
-    /// 1 to 3.
+    /// Which way its messages go, 1 to 3: 1 it only receives, 2 it only sends, 3 both.
     pub direction: u8,
     /// The first group, 0 to 15.
     pub first: u8,
@@ -43,6 +48,7 @@ pub struct Block {
     pub count: u8,
     /// The version of MIDI-CI, 0 to 2; 0 is none.
     pub ci: u8,
+    /// How many System Exclusive 8 streams it takes at a time, 0 to 255; 0 is none.
     pub sysex8: u8,
     /// The MUIDs that the block takes one after the other, each at most 268,435,199.
     pub muids: ShortList<u32, 16>,
@@ -76,6 +82,7 @@ pub struct Profile {
     /// The number of its block, counted from 0.
     pub block: u8,
     pub place: Place,
+    /// Its id (M2-101-UM, profile id).
     pub id: [U7; 5],
     /// Whether it is on at the start.
     pub on: bool,
@@ -85,9 +92,13 @@ pub struct Profile {
 /// lowest first.
 #[derive(Clone, Copy, Debug, PartialEq, Eq)]
 pub struct Identity {
+    /// Each 0 to 127.
     pub manufacturer: [u8; 3],
+    /// Each 0 to 127.
     pub family: [u8; 2],
+    /// Each 0 to 127.
     pub model: [u8; 2],
+    /// Each 0 to 127.
     pub revision: [u8; 4],
 }
 

@@ -43,14 +43,17 @@ fn in_two_bytes(number: u16) -> [u8; 2]
 }
 
 impl Setup {
-    ghost use Rattle.function_blocks.specs.Blocks.{IsBlock};
-    ghost use Rattle.function_blocks.specs.Profiles.{profiles_are_distinct};
+    ghost use Rattle.function_blocks.specs.Blocks.{IsBlock, are_apart, are_distinct, muids_of};
+    ghost use Rattle.function_blocks.specs.Profiles.{IsProfile, profiles_are_distinct};
     ghost use Rattle.function_blocks.specs.Setups.{identity_of};
 
-    /// The number of function blocks, at most 32.
+    /// The number of function blocks, at most 32. No two active ones with MIDI-CI share a group, and no MUID appears twice.
     pub fn block_count(&self) -> u8
         ensures value { result ≡ length self.now.blocks }
         ensures few { length self.now.blocks ≤ 32 }
+        ensures fits { All IsBlock self.now.blocks }
+        ensures apart { are_apart self.now.blocks ≡ true }
+        ensures distinct { are_distinct (muids_of self.now.blocks) ≡ true }
     {
         self.blocks.len() as u8
     }
@@ -75,10 +78,11 @@ impl Setup {
     }
 
     /// Profile `k` in the order of the setup, counted from 0; `None` exactly when `k` is past the last one. Its block is one of
-    /// the setup's blocks.
+    /// the setup's blocks, and where its place names a group, that is one of the block's.
     pub fn profile(&self, k: usize) -> Option<&Profile>
         ensures value { option_map (λ p. p.now) result ≡ slice_get self.now.profiles k }
         ensures block { IfSome result (λ p. p.now.block < length self.now.blocks) }
+        ensures fits { IfSome result (λ p. IsProfile self.now.blocks p.now) }
     {
         self.profiles.get(k)
     }
@@ -104,6 +108,7 @@ impl Setup {
     /// The product instance id, 1 to 42 bytes of 32 to 126.
     pub fn product_id(&self) -> &str
         ensures value { result.now ≡ self.now.endpoint.id }
+        ensures some { 0 < length self.now.endpoint.id }
         ensures few { length self.now.endpoint.id ≤ 42 }
         ensures printable { list_all is_printable self.now.endpoint.id ≡ true }
     {

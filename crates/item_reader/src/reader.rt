@@ -181,6 +181,7 @@ fn answer<I>(tail: Tail) -> Result<Option<I>, ReadStop>
 }
 
 // What is held at the front, or what comes where that is no whole item.
+#[inline(never)]
 fn look_ahead<H: Cut, S: Source>(
     how: &H,
     window: &mut Window,

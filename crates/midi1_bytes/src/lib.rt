@@ -15,6 +15,3 @@ pub use crate::spoken::{CommonBytes, RealTimeByte, VoiceBytes};
 pub use crate::step::{AfterCut, CutKind, Step};
 pub use crate::writers::{write_system, write_voice};
 pub use voice_messages::{System, U4, U7, U14, Voice1};
-
-#[cfg(test)]
-mod tests;

@@ -1,5 +1,6 @@
 // The objects of the outside over real readers, writers, folders and files. They tell no content.
-ghost use Rattle.std.specs.Prelude.{◌≡◌, ◌≤◌, Ok, IsErr, MatchResult};
+ghost use Rattle.std.specs.Prelude.{◌≡◌, ◌≢◌, ◌≤◌, Ok, IsErr, MatchResult};
+ghost use Rattle.std.specs.IoError.{error_kind};
 ghost use Rattle.midi_edge.specs.Outside.{HasCause, HasOpenCause, Rose};
 
 mod file_shelf;
@@ -14,6 +15,7 @@ pub use crate::adapters::folder_lanes::FolderLanes;
 pub use crate::adapters::read_source::ReadSource;
 pub use crate::adapters::write_sink::WriteSink;
 use crate::outside::{Failed, OpenFault};
+use std::io::{self, ErrorKind};
 
 // How many bytes are gathered in a buffer.
 const CAPACITY: usize = 8192;
@@ -49,4 +51,15 @@ fn counted_opening<T>(answer: Result<T, OpenFault>, faults: &mut u64) -> Result<
         count_fault(faults);
     }
     answer
+}
+
+// Why a file was not opened, created or read.
+fn fault_of(error: io::Error) -> OpenFault
+    ensures memory { error_kind error ≡ ErrorKind.OutOfMemory → result ≡ OpenFault.NoMemory }
+    ensures other { error_kind error ≢ ErrorKind.OutOfMemory → result ≡ OpenFault.Failed }
+{
+    match error.kind() {
+        ErrorKind::OutOfMemory => OpenFault::NoMemory,
+        _ => OpenFault::Failed,
+    }
 }

@@ -51,8 +51,8 @@ pub trait Source {
     /// How often the object has failed.
     ghost faults: { Self → ℕ };
 
-    /// Fills a front of the buffer, and says how many bytes. An answer of 0 is the end of input. After an `Err` nothing
-    /// was taken.
+    /// Fills a front of the buffer, which isn't empty, and says how many bytes. An answer of 0 is the end of input. After
+    /// an `Err`, which comes only where the count of faults rose, nothing was taken.
     fn take(&mut self, buf: &mut [u8]) -> Result<usize, Failed>
         requires { 0 < length buf.old }
         ensures bound { IfOk result (λ n. n ≤ length buf.new) }
@@ -68,7 +68,8 @@ pub trait Sink {
     /// How often the object has failed.
     ghost faults: { Self → ℕ };
 
-    /// Adds the piece at the end, or at an `Err` perhaps a front of it that isn't all of it.
+    /// Adds the piece, which isn't empty, at the end. At an `Err`, which comes only where the count of faults rose, it adds
+    /// at most a front that isn't all of it.
     fn put(&mut self, piece: &[u8]) -> Result<(), Failed>
         requires { 0 < length piece.now }
         ensures bytes { Puts (held self.old) (held self.new) result piece.now }
@@ -98,7 +99,8 @@ pub trait Lanes {
         ensures err { OnErr result (begun self.new ≡ begun self.old) }
         ensures cause { HasOpenCause (faults self.old) (faults self.new) result };
 
-    /// Adds a piece to a lane, or at an `Err` perhaps a nonempty front of it that isn't all of it.
+    /// Adds a piece, which isn't empty, to a lane, once `begin` has succeeded. At an `Err`, which comes only where the count
+    /// of faults rose, it adds nothing or a nonempty front that isn't all of the piece.
     fn put(&mut self, lane: U4, piece: &[u8]) -> Result<(), Failed>
         requires begun { begun self.old ≡ true }
         requires piece { 0 < length piece.now }

@@ -56,7 +56,7 @@ impl<T: Copy + Default, const N: usize> ShortList<T, N> {
         self.cells.as_slice()
     }
 
-    /// Adds an item at the end.
+    /// Adds an item at the end, where fewer than `N` stand.
     #[inline(always)]
     pub fn push(&mut self, item: T)
         requires { length self.old < N }
@@ -65,7 +65,7 @@ impl<T: Copy + Default, const N: usize> ShortList<T, N> {
         self.cells.push(item);
     }
 
-    /// Adds items at the end.
+    /// Adds items at the end, no more than there are places left of `N`.
     #[inline(always)]
     pub fn extend(&mut self, items: &[T])
         requires { length self.old + length items.now ≤ N }

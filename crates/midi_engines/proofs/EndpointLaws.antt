@@ -1,10 +1,8 @@
 -- What an endpoint answers by what it holds is what it answers by all packets before.
-use Rattle.std.proofs.Common.{◌≡◌, ◌≤◌, ◌<◌, ℕ, Bool, true, false, List, [], ◌∷◌, ◌++◌, ◌+◌, length, take, drop, Option, None, Some, zero, suc, refl, ap, sym, ◌∙◌, arith}
-use Rattle.std.specs.Prelude.{Ok, Err, if◌then◌else◌, IsTrue, ◌↔◌, unwrap_or, slice_get}
+use Rattle.std.proofs.Common.{◌≡◌, ◌≤◌, ◌<◌, ℕ, Bool, true, false, List, [], ◌∷◌, ◌++◌, ◌+◌, length, Option, None, Some, zero, suc, refl, ap, sym, ◌∙◌, arith}
+use Rattle.std.specs.Prelude.{Ok, Err, if◌then◌else◌, IsTrue, ◌↔◌, unwrap_or}
 use Rattle.std.specs.List.{All}
 use Rattle.std.specs.Option.{option_map, option_map_or, option_to_list}
-use native.Mathlib.Numerals.{add-one}
-use Rattle.std.proofs.lemmas.List.{append_assoc, append-nil}
 use Rattle.std.proofs.lemmas.List.Elements.{All-append, All-cons, All-nil}
 use Rattle.voice_messages.specs.declared.voice2.Form.{Form}
 use Rattle.voice_messages.specs.declared.voice2.Form.TheVariants as form
@@ -45,8 +43,10 @@ use Rattle.midi_lines.specs.declared.endpoint.Name.{Name}
 use Rattle.midi_lines.specs.declared.endpoint.Name.TheVariants as names
 use Rattle.midi_pass.specs.Places.{Places}
 use Rattle.midi_pass.specs.Put.{Put, in_notes}
-use Rattle.midi_engines.specs.Down.{line_puts, open_puts}
-use Rattle.midi_engines.specs.Endpoint.{Said, block_line_of, exclusive_lines, for_each, in_force, message_lines, message_replies, name_of_heard, name_of_replies, packet_lines, packet_replies, profile_line_of, protocol_after_packet, said_by, said_in, said_with, stream_lines, stream_name, stream_packet_replies, told_by, told_in_packets}
+use Rattle.listing_puts.specs.Lines.{line_puts}
+use Rattle.midi_engines.specs.Down.{open_puts}
+use Rattle.midi_pass.specs.Each.{for_each}
+use Rattle.midi_engines.specs.Endpoint.{Said, block_line_of, exclusive_lines, in_force, message_lines, message_replies, name_of_heard, name_of_replies, packet_lines, packet_replies, profile_line_of, protocol_after_packet, said_by, said_in, said_with, stream_lines, stream_name, stream_packet_replies, told_by, told_in_packets}
 use Rattle.midi_engines.specs.EndpointHeld.{TakesPacket, after_part, lost_by, packet_part_lines, part_replies, said_lines, said_of, said_of_packet}
 use Rattle.midi_engines.specs.ShowPackets.{bad_join}
 use Rattle.midi_engines.specs.declared.endpoint.EndpointEngine.{EndpointEngine}
@@ -286,53 +286,6 @@ blocks_are muid other same blocks =
 pub profiles_are : (on other : Key → Option Bool) → ((k : Key) → on k ≡ other k) → (profiles : List Profile) → for_each (profile_line_of on) 0 profiles ≡ for_each (profile_line_of other) 0 profiles
 profiles_are on other same profiles =
     same_for_each (profile_line_of on) (profile_line_of other) (λ n profile. ap (λ o. in_notes (profile_text profile (unwrap_or o profile.on)) ∷ []) (same (key_of profile))) 0 profiles
-
--- ---- one after the other
-
-pub each-then : {X : Type 0} (put : ℕ → X → List Put) (number : ℕ) (xs ys : List X) → for_each put number (xs ++ ys) ≡ for_each put number xs ++ for_each put (number + length xs) ys
-each-then put number [] ys = ap (λ n. for_each put n ys) (omega arith)
-each-then put number (x ∷ xs) ys =
-    ap (λ ps. put number x ++ ps) (each-then put (number + 1) xs ys)
-    ∙ ap (λ n. put number x ++ (for_each put (number + 1) xs ++ for_each put n ys)) {x = (number + 1) + length xs} {y = number + length (x ∷ xs)} (omega arith)
-    ∙ sym (append_assoc (put number x) (for_each put (number + 1) xs) (for_each put (number + length (x ∷ xs)) ys))
-
--- where an item stands in a list
-pub record At {X : Type 0} (n : ℕ) (xs : List X) (x : X) : Type 0 where
-  pub all : xs ≡ take n xs ++ x ∷ drop (suc n) xs
-  pub more : take (suc n) xs ≡ take n xs ++ x ∷ []
-  pub count : length (take n xs) ≡ n
-
-at_place : {X : Type 0} (n : ℕ) (xs : List X) (x : X) → slice_get xs n ≡ Some x → At n xs x
-at_place n [] x e = absurd (let h : None ≡ Some x = e in cc)
-at_place zero (y ∷ ys) x e =
-    let same : y ≡ x = ap (λ o. unwrap_or o x) e in
-    record { all = ap (λ z. z ∷ ys) same; more = ap (λ z. z ∷ []) same; count = refl }
-at_place (suc n) (y ∷ ys) x e =
-    let rest = at_place n ys x e in
-    record { all = ap (λ zs. y ∷ zs) rest.all; more = ap (λ zs. y ∷ zs) rest.more; count = ap suc rest.count }
-
-module _ {X : Type 0} (put : ℕ → X → List Put) (xs : List X) (n : ℕ) (x : X) (at : slice_get xs n ≡ Some x) where
-  pub next_each : for_each put 0 (take (n + 1) xs) ≡ for_each put 0 (take n xs) ++ put n x
-  next_each =
-      let is = at_place n xs x at in
-      ap (λ k. for_each put 0 (take k xs)) (add-one n)
-      ∙ ap (for_each put 0) is.more
-      ∙ each-then put 0 (take n xs) (x ∷ [])
-      ∙ ap (λ k. for_each put 0 (take n xs) ++ for_each put k (x ∷ [])) {x = 0 + length (take n xs)} {y = n} (omega (arith, is.count))
-      ∙ ap (λ ps. for_each put 0 (take n xs) ++ ps) (append-nil (put n x))
-
-  pub all_each : for_each put 0 xs ≡ for_each put 0 (take n xs) ++ (put n x ++ for_each put (n + 1) (drop (suc n) xs))
-  all_each =
-      let is = at_place n xs x at in
-      ap (for_each put 0) is.all
-      ∙ each-then put 0 (take n xs) (x ∷ drop (suc n) xs)
-      ∙ ap (λ k. for_each put 0 (take n xs) ++ for_each put k (x ∷ drop (suc n) xs)) {x = 0 + length (take n xs)} {y = n} (omega (arith, is.count))
-
--- what is before the end of a list is there
-pub not_past : {X : Type 0} (n : ℕ) (xs : List X) → slice_get xs n ≡ None → n < length xs → ⊥
-not_past n [] e below = omega (arith, below)
-not_past zero (x ∷ xs) e below = let h : Some x ≡ None = e in cc
-not_past (suc n) (x ∷ xs) e below = not_past n xs e (omega (arith, below))
 
 -- ---- packets that are no messages to an endpoint
 

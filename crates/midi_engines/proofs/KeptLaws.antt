@@ -31,9 +31,8 @@ use Rattle.midi_pass.specs.Places.{Places}
 use Rattle.midi_pass.specs.Put.{Put, in_output}
 use Rattle.midi_pass.specs.StepLaws.{takes_steps}
 use Rattle.midi_pass.specs.declared.ends.RunEnd.{RunEnd}
-use Rattle.midi_engines.specs.Down.{refusal_by}
+use Rattle.listing_puts.specs.Refusal.{refusal_by, refusal_of}
 use Rattle.midi_engines.specs.KeptState.{Kept, KeepsPacket, KeepsStep, StandsFor, after_completed, ended_by_answer, ended_in, fact_puts, with_ended}
-use Rattle.midi_engines.specs.ShowBytes.{refusal_of}
 
 -- ---- where memory is taken
 

@@ -21,7 +21,7 @@ use Rattle.midi_pass.specs.Put.{Put}
 use Rattle.midi_pass.specs.declared.ends.RunEnd.{RunEnd}
 use Rattle.midi_pass.specs.StepLaws.{takes_steps}
 use Rattle.midi_pass.specs.PutLaws.{after_puts-none, stops_more, then_put, then_stops}
-use Rattle.midi_engines.specs.Down.{line_puts}
+use Rattle.listing_puts.specs.Lines.{line_puts}
 use Rattle.midi_engines.specs.Raised.{Answers, AreDone, AreTaken, ByteIsDone, CanBeDone, CarriesOut, Doing}
 
 -- ---- some packets, and then others

@@ -13,7 +13,7 @@ use Rattle.up_translator.specs.Laws.{RaisedBytesAreTheDefinition}
 use Rattle.up_translator.specs.Recording.{HoldsUp}
 use Rattle.up_translator.specs.Step.{Raises}
 use Rattle.midi_pass.specs.Bytes.{bytes_of}
-use Rattle.midi_engines.specs.Down.{refusal_by}
+use Rattle.listing_puts.specs.Refusal.{refusal_by}
 use Rattle.midi_engines.specs.Raised.{byte_refusal, refusal_at}
 
 -- ---- accepted bytes

@@ -13,14 +13,15 @@ use Rattle.voice_state.specs.StepListing.{lines_at}
 use Rattle.up_translator.specs.Held.{UpState}
 use Rattle.down_translator.specs.Held.{DownState}
 use Rattle.midi_pass.specs.Bytes.{bytes_of}
-use Rattle.midi_pass.specs.Named.{AreNamed}
+use Rattle.midi_pass.specs.Named.{AreNamed, named-then}
 use Rattle.midi_pass.specs.Pass.{ArePut}
 use Rattle.midi_pass.specs.Put.{Put, output_in, output_of}
+use Rattle.listing_puts.specs.LineLaws.{lines_named, output-lines}
 use Rattle.midi_engines.specs.Back.{HoldsBack, byte_pieces, piece_puts, plain_puts, returning}
-use Rattle.midi_engines.specs.Down.{line_puts}
+use Rattle.listing_puts.specs.LineLaws.{lines_named}
+use Rattle.listing_puts.specs.Lines.{line_puts}
 use Rattle.midi_engines.specs.Options.{BackOptions}
 use Rattle.midi_engines.specs.Raised.{byte_lines, byte_packets, output_and_notes}
-use Rattle.midi_engines.specs.RaisedMeans.{lines_named, named-then}
 
 -- ---- the places of puts
 
@@ -32,7 +33,7 @@ plain_named : (paired : Bool) (past packets : List Packet) → AreNamed output_a
 plain_named paired past [] = tt
 plain_named paired past (packet ∷ packets) =
     let piece : List ℕ = plain_piece paired (whole_of past packet) packet in
-    named-then (piece_puts piece) (plain_puts paired (packet ∷ past) packets) (piece_named piece)
+    named-then output_and_notes (piece_puts piece) (plain_puts paired (packet ∷ past) packets) (piece_named piece)
     (plain_named paired (packet ∷ past) packets)
 
 pub returns_named : (options : BackOptions) (past : List (ℕ × ℕ)) (item : ℕ × ℕ) (puts : List Put) →
@@ -42,8 +43,8 @@ returns_named options past item puts put =
     let before : List Packet = reverse (packets_up options.paired (Some options.room) options.group (bytes_of past)) in
     let lines : List Listed = lines_at options.paired (Some options.room) options.group (bytes_of past) item.1 in
     subst A (sym put)
-    (named-then (byte_pieces options.paired options.room options.group past item) (line_puts lines)
-    (plain_named options.paired before (byte_packets options.paired options.room options.group past item)) (lines_named lines))
+    (named-then output_and_notes (byte_pieces options.paired options.room options.group past item) (line_puts lines)
+    (plain_named options.paired before (byte_packets options.paired options.room options.group past item)) (lines_named output_and_notes refl lines))
 
 -- ---- the bytes in the output
 
@@ -58,10 +59,6 @@ output-plain paired past (packet ∷ packets) =
     flat_map-append output_of (piece_puts piece) (plain_puts paired (packet ∷ past) packets)
     ∙ ap (λ xs. xs ++ output_in (plain_puts paired (packet ∷ past) packets)) (output-piece piece)
     ∙ ap (λ xs. piece ++ xs) (output-plain paired (packet ∷ past) packets)
-
-output-lines : (lines : List Listed) → output_in (line_puts lines) ≡ []
-output-lines [] = refl
-output-lines (line ∷ lines) = output-lines lines
 
 output-byte : (options : BackOptions) (past : List (ℕ × ℕ)) (item : ℕ × ℕ) (puts : List Put) →
     (returning options).IsPut past item puts

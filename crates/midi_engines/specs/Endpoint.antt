@@ -29,9 +29,11 @@ use Rattle.midi_lines.specs.EndpointLines.{block_text, endpoint_text, profile_te
 use Rattle.midi_lines.specs.declared.endpoint.Name.{Name}
 use Rattle.midi_lines.specs.declared.endpoint.Name.TheVariants as names
 use Rattle.down_translator.specs.Recording.{packets_of}
+use Rattle.midi_pass.specs.Each.{for_each}
 use Rattle.midi_pass.specs.Pass.{Work}
 use Rattle.midi_pass.specs.Put.{Put, in_notes}
-use Rattle.midi_engines.specs.Down.{line_puts, refusal_by}
+use Rattle.listing_puts.specs.Lines.{line_puts}
+use Rattle.listing_puts.specs.Refusal.{refusal_by}
 use Rattle.midi_engines.specs.Options.{EndpointOptions}
 use Rattle.midi_engines.specs.Packets.{all_placed, placed_of}
 use Rattle.midi_engines.specs.Raised.{output_and_notes}
@@ -158,11 +160,6 @@ module _ (setup : Facts) (room : ℕ) (past : List Placed) (placed : Placed) whe
       ++ exclusive_lines room (parts_of past) placed)
 
 -- ---- the end
-
--- what is put for each of these, which are numbered from a first one on
-abbrev pub for_each : {X : Type 0} → (ℕ → X → List Put) → ℕ → List X → List Put
-for_each put number [] = []
-for_each put number (x ∷ xs) = put number x ++ for_each put (number + 1) xs
 
 -- the line of a block that has MIDI-CI, with the MUID in force
 abbrev pub block_line_of : (ℕ → Option ℕ) → ℕ → Block → List Put

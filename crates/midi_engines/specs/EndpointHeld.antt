@@ -25,8 +25,11 @@ use Rattle.midi_pass.specs.Places.{Places}
 use Rattle.midi_pass.specs.Put.{Put, in_notes}
 use Rattle.midi_pass.specs.declared.ends.RunEnd.{RunEnd}
 use Rattle.midi_engines.specs.declared.endpoint.EndpointEngine.{EndpointEngine}
-use Rattle.midi_engines.specs.Down.{line_puts, open_puts, refusal_by}
-use Rattle.midi_engines.specs.Endpoint.{Said, block_line_of, for_each, in_force, name_of_fault, name_of_heard, profile_line_of, protocol_after_packet, said_in, stream_lines, stream_packet_replies, told_in_packets}
+use Rattle.listing_puts.specs.Lines.{line_puts}
+use Rattle.listing_puts.specs.Refusal.{refusal_by}
+use Rattle.midi_engines.specs.Down.{open_puts}
+use Rattle.midi_pass.specs.Each.{for_each}
+use Rattle.midi_engines.specs.Endpoint.{Said, block_line_of, in_force, name_of_fault, name_of_heard, profile_line_of, protocol_after_packet, said_in, stream_lines, stream_packet_replies, told_in_packets}
 use Rattle.midi_engines.specs.Options.{EndpointOptions}
 use Rattle.midi_engines.specs.Packets.{all_placed}
 use Rattle.midi_engines.specs.Raised.{Answers}

@@ -16,13 +16,14 @@ use Rattle.ci_responder.specs.declared.keys.Key.{Key}
 use Rattle.voice_state.specs.Listing.{end_lines, line_of}
 use Rattle.voice_state.specs.Parts.{Placed, parts_of}
 use Rattle.midi_lines.specs.EndpointLines.{block_text}
-use Rattle.midi_pass.specs.Named.{AreNamed}
+use Rattle.midi_pass.specs.Named.{AreNamed, named-then}
 use Rattle.midi_pass.specs.Put.{Put, in_notes}
-use Rattle.midi_engines.specs.Endpoint.{Said, answering, block_line_of, exclusive_lines, for_each, in_force, message_lines, profile_line_of, said_by, stream_lines, told_in_packets}
+use Rattle.midi_pass.specs.Each.{for_each}
+use Rattle.listing_puts.specs.LineLaws.{lines_named}
+use Rattle.midi_engines.specs.Endpoint.{Said, answering, block_line_of, exclusive_lines, in_force, message_lines, profile_line_of, said_by, stream_lines, told_in_packets}
 use Rattle.midi_engines.specs.Options.{EndpointOptions}
 use Rattle.midi_engines.specs.Packets.{all_placed, placed_of}
 use Rattle.midi_engines.specs.Raised.{output_and_notes}
-use Rattle.midi_engines.specs.RaisedMeans.{lines_named, named-then}
 use Rattle.midi_engines.specs.UpMeans.{written_named}
 
 abbrev Fine : List Put → Type 0
@@ -56,7 +57,7 @@ message_named setup told offset (packets.Reserved w) said = tt
 lost_named : (room : ℕ) (parts : List Part) (offset : ℕ) (packet : Packet) →
     Fine (exclusive_lines room parts (record { offset = offset; packet = packet }))
 lost_named room parts offset (packets.Exclusive g f b) =
-    lines_named (option_to_list
+    lines_named output_and_notes refl (option_to_list
     (line_of false (Some room) parts (record { offset = offset; packet = packets.Exclusive g f b })))
 lost_named room parts offset (packets.Stream f s l w x y) = tt
 lost_named room parts offset (packets.Utility s v) = tt
@@ -78,10 +79,10 @@ answers_named options past item puts put =
     let message : List Put = message_lines setup told placed.offset placed.packet said in
     let lost : List Put = exclusive_lines options.room (parts_of before) placed in
     subst Fine (sym put.2)
-    (named-then put.0 (stream ++ (message ++ lost)) (written_named options.order _ put.0 put.1)
-    (named-then stream (message ++ lost)
+    (named-then output_and_notes put.0 (stream ++ (message ++ lost)) (written_named options.order _ put.0 put.1)
+    (named-then output_and_notes stream (message ++ lost)
     (stream_named setup (in_force setup before) placed.offset placed.packet)
-    (named-then message lost (message_named setup told placed.offset placed.packet said)
+    (named-then output_and_notes message lost (message_named setup told placed.offset placed.packet said)
     (lost_named options.room (parts_of before) placed.offset placed.packet))))
 
 -- ---- the end
@@ -90,7 +91,7 @@ each_named : {X : Type 0} (put : ℕ → X → List Put) → ((n : ℕ) (x : X) 
     (number : ℕ) (xs : List X) → Fine (for_each put number xs)
 each_named put fine number [] = tt
 each_named put fine number (x ∷ xs) =
-    named-then (put number x) (for_each put (number + 1) xs) (fine number x)
+    named-then output_and_notes (put number x) (for_each put (number + 1) xs) (fine number x)
     (each_named put fine (number + 1) xs)
 
 block_named : (muid : ℕ → Option ℕ) (number : ℕ) (block : Block) → Fine (block_line_of muid number block)
@@ -113,9 +114,9 @@ answers_last_named options past puts put =
     let blocks : List Put = for_each (block_line_of (muid_at setup told)) 0 setup.blocks in
     let profiles : List Put = for_each (profile_line_of (on_at setup told)) 0 setup.profiles in
     subst Fine (sym put)
-    (named-then _ _ (lines_named (end_lines (Some options.room) (parts_of before))) (
+    (named-then output_and_notes _ _ (lines_named output_and_notes refl (end_lines (Some options.room) (parts_of before))) (
       refl,
-      named-then blocks profiles
+      named-then output_and_notes blocks profiles
           (each_named (block_line_of (muid_at setup told)) (block_named (muid_at setup told)) 0 setup.blocks)
           (each_named (profile_line_of (on_at setup told))
           (profile_named (on_at setup told)) 0 setup.profiles),

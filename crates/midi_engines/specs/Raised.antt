@@ -19,7 +19,8 @@ use Rattle.midi_pass.specs.Places.{FailsAt, Places, after_puts}
 use Rattle.midi_pass.specs.Put.{Put, in_lane, in_notes, in_output}
 use Rattle.midi_pass.specs.declared.ends.RunEnd.{RunEnd}
 use Rattle.midi_pass.specs.declared.ends.RunEnd.TheVariants.{Refused}
-use Rattle.midi_engines.specs.Down.{line_puts, refusal_by}
+use Rattle.listing_puts.specs.Lines.{line_puts}
+use Rattle.listing_puts.specs.Refusal.{refusal_by}
 
 -- such a pass names the output and the notes
 abbrev pub output_and_notes : Named

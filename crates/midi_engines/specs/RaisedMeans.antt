@@ -7,24 +7,16 @@ use Rattle.voice_state.specs.StepListing.{kinds_at_end, line_up, open_pair}
 use Rattle.midi_pass.specs.Bytes.{bytes_of}
 use Rattle.midi_pass.specs.Named.{AreNamed}
 use Rattle.midi_pass.specs.Put.{Put, in_lane, in_notes, in_output}
-use Rattle.midi_engines.specs.Down.{line_puts}
+use Rattle.listing_puts.specs.LineLaws.{lines_named}
+use Rattle.listing_puts.specs.Lines.{line_puts}
 use Rattle.midi_engines.specs.Raised.{last_lines, output_and_notes, output_puts}
-
-pub named-then : (ps qs : List Put) → AreNamed output_and_notes ps → AreNamed output_and_notes qs →
-    AreNamed output_and_notes (ps ++ qs)
-named-then [] qs first second = second
-named-then (p ∷ ps) qs first second = (first.0, named-then ps qs first.1 second)
-
-pub lines_named : (lines : List Listed) → AreNamed output_and_notes (line_puts lines)
-lines_named [] = tt
-lines_named (line ∷ lines) = (refl, lines_named lines)
 
 pub last_named : (room group : ℕ) (past : List (ℕ × ℕ)) (puts : List Put) →
     puts ≡ last_lines room group past → AreNamed output_and_notes puts
 last_named room group past puts put =
     let A : List Put → Type 0 = λ ps. AreNamed output_and_notes ps in
     subst A (sym put)
-    (lines_named (map (line_up group) (kinds_at_end (open_pair (Some room) (bytes_of past)))))
+    (lines_named output_and_notes refl (map (line_up group) (kinds_at_end (open_pair (Some room) (bytes_of past)))))
 
 -- ---- the puts in the output among others
 

@@ -6,11 +6,12 @@ use Rattle.voice_state.specs.Messages.{as_they_come, raised}
 use Rattle.voice_state.specs.States.{first_states}
 use Rattle.midi_pass.specs.Bytes.{byte_cutting}
 use Rattle.midi_pass.specs.Pass.{Ends, IsDoneUnless, Seen}
+use Rattle.midi_pass.specs.Refused.{IsRefusedWhere}
 use Rattle.midi_pass.specs.declared.ends.RunEnd.{RunEnd}
 use Rattle.midi_pass.specs.declared.ends.RunEnd.TheVariants as end
 use Rattle.midi_engines.specs.KeptState.{Kept, StandsFor}
 use Rattle.midi_engines.specs.Options.{ShowOptions, of_packets, of_bytes}
-use Rattle.midi_engines.specs.Packets.{packet_cutting}
+use Rattle.packet_items.specs.Packets.{packet_cutting}
 use Rattle.midi_engines.specs.ShowBytes.{showing_bytes}
 use Rattle.midi_engines.specs.ShowPackets.{showing}
 use Rattle.midi_engines.specs.declared.show.Lines.{Lines}
@@ -40,3 +41,9 @@ abbrev pub IsDoneShowing : ShowOptions → Seen → Seen → RunEnd → Type 0
 IsDoneShowing (of_packets options) old new end =
     IsDoneUnless (packet_cutting options.order) (showing options) old new end
 IsDoneShowing (of_bytes options) old new end = IsDoneUnless byte_cutting (showing_bytes options) old new end
+
+-- where the input has a first refusal and nothing fails, it ends with exactly that refusal
+abbrev pub IsRefusedShowing : ShowOptions → Seen → Seen → RunEnd → Type 0
+IsRefusedShowing (of_packets options) old new end =
+    IsRefusedWhere (packet_cutting options.order) (showing options) old new end
+IsRefusedShowing (of_bytes options) old new end = IsRefusedWhere byte_cutting (showing_bytes options) old new end

@@ -9,13 +9,14 @@ use Rattle.voice_state.specs.Raising.{packets_at, packets_up}
 use Rattle.voice_state.specs.StepListing.{lines_at}
 use Rattle.up_translator.specs.Held.{UpState}
 use Rattle.midi_pass.specs.Bytes.{bytes_of}
-use Rattle.midi_pass.specs.Named.{AreNamed}
+use Rattle.midi_pass.specs.Named.{AreNamed, named-then}
 use Rattle.midi_pass.specs.Pass.{ArePut}
 use Rattle.midi_pass.specs.Put.{Put}
-use Rattle.midi_engines.specs.Down.{line_puts}
+use Rattle.listing_puts.specs.LineLaws.{lines_named}
+use Rattle.listing_puts.specs.Lines.{line_puts}
 use Rattle.midi_engines.specs.Options.{UpOptions}
 use Rattle.midi_engines.specs.Raised.{output_and_notes, output_puts}
-use Rattle.midi_engines.specs.RaisedMeans.{lines_named, named-then, output-listed, output-then}
+use Rattle.midi_engines.specs.RaisedMeans.{output-listed, output-then}
 use Rattle.midi_engines.specs.Up.{AreWritten, HoldsRaised, raising}
 
 -- ---- written packets
@@ -27,7 +28,7 @@ written_named order [] puts written =
 written_named order (packet ∷ packets) puts written =
     let A : List Put → Type 0 = λ ps. AreNamed output_and_notes ps in
     subst A (sym written.4)
-    (named-then written.0 written.1 (subst A (sym written.2.2) (refl, tt))
+    (named-then output_and_notes written.0 written.1 (subst A (sym written.2.2) (refl, tt))
     (written_named order packets written.1 written.3))
 
 pub raises_named : (options : UpOptions) (past : List (ℕ × ℕ)) (item : ℕ × ℕ) (puts : List Put) →
@@ -37,7 +38,7 @@ raises_named options past item puts put =
     let packets : List Packet = packets_at options.paired (Some options.room) options.group (bytes_of past) item.1 in
     let lines : List Listed = lines_at options.paired (Some options.room) options.group (bytes_of past) item.1 in
     subst A (sym put.2)
-    (named-then put.0 (line_puts lines) (written_named options.order packets put.0 put.1) (lines_named lines))
+    (named-then output_and_notes put.0 (line_puts lines) (written_named options.order packets put.0 put.1) (lines_named output_and_notes refl lines))
 
 output-written : (order : Order) (packets : List Packet) (puts : List Put) → AreWritten order packets puts →
     output_puts puts ≡ puts

@@ -7,6 +7,7 @@ ghost use Rattle.voice_state.specs.Styles.{plain_style};
 ghost use Rattle.midi_pass.specs.Bytes.{byte_cutting};
 ghost use Rattle.midi_pass.specs.Pass.{Ends, IsDoneUnless, seen};
 ghost use Rattle.midi_pass.specs.Places.{Puts, places};
+ghost use Rattle.midi_pass.specs.Refused.{IsRefusedWhere};
 ghost use Rattle.midi_engines.specs.Back.{HoldsBack, ComesDown, options_of, piece_puts, PutsDown, returning};
 ghost use Rattle.midi_engines.specs.BackMeans.{returned_means, returns_named};
 ghost use Rattle.midi_engines.specs.RaisedMeans.{last_named};
@@ -201,6 +202,9 @@ pub fn run_back<S: Source, L: Lanes, W: Sink, N: Sink>(
     ensures complete { IsDoneUnless byte_cutting (returning engine)
         (seen S.Source L.Lanes W.Sink N.Sink input.old lanes.old output.old notes.old)
         (seen S.Source L.Lanes W.Sink N.Sink input.new lanes.new output.new notes.new) result }
+    ensures refused { IsRefusedWhere byte_cutting (returning engine)
+        (seen S.Source L.Lanes W.Sink N.Sink input.old lanes.old output.old notes.old)
+        (seen S.Source L.Lanes W.Sink N.Sink input.new lanes.new output.new notes.new) result }
 {
     let BackRun { up, down } = engine;
     translate(up, down, input, lanes, output, notes)
@@ -225,6 +229,9 @@ fn translate<S: Source, L: Lanes, W: Sink, N: Sink>(
         (seen S.Source L.Lanes W.Sink N.Sink input.old lanes.old output.old notes.old)
         (seen S.Source L.Lanes W.Sink N.Sink input.new lanes.new output.new notes.new) result }
     ensures complete { IsDoneUnless byte_cutting (returning (options_of up))
+        (seen S.Source L.Lanes W.Sink N.Sink input.old lanes.old output.old notes.old)
+        (seen S.Source L.Lanes W.Sink N.Sink input.new lanes.new output.new notes.new) result }
+    ensures refused { IsRefusedWhere byte_cutting (returning (options_of up))
         (seen S.Source L.Lanes W.Sink N.Sink input.old lanes.old output.old notes.old)
         (seen S.Source L.Lanes W.Sink N.Sink input.new lanes.new output.new notes.new) result }
 {

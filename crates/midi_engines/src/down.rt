@@ -8,29 +8,29 @@ ghost use Rattle.down_translator.specs.Held.{down_after, limit_of, new_down, pai
 ghost use Rattle.down_translator.specs.Lanes.{style_in};
 ghost use Rattle.midi_pass.specs.Pass.{Ends, IsDoneUnless, seen};
 ghost use Rattle.midi_pass.specs.Places.{Puts, places};
+ghost use Rattle.midi_pass.specs.Refused.{IsRefusedWhere};
 ghost use Rattle.voice_state.specs.Listing.{groups};
-ghost use Rattle.down_translator.specs.Carried.{line_in};
 ghost use Rattle.down_translator.specs.Recording.{pair_put};
-ghost use Rattle.midi_engines.specs.Down.{Carries, HoldsDown, IsReadyDown, carrying, line_puts, open_line, open_puts, options_of, pair_puts, puts_for, reason_of};
+ghost use Rattle.listing_puts.specs.Lines.{line_puts};
+ghost use Rattle.midi_engines.specs.Down.{Carries, HoldsDown, IsReadyDown, carrying, open_line, open_puts, options_of, pair_puts, puts_for};
 ghost use Rattle.midi_engines.specs.DownMeans.{carries_named, carries_nothing, carries_means, ends_named};
-ghost use Rattle.midi_engines.specs.Packets.{packet_cutting};
+ghost use Rattle.packet_items.specs.Packets.{packet_cutting};
 
-use crate::packets::PacketReader;
 use down_translator::laws::{
     one_more_accepted_packet_adds_its_pair_and_line, spelled_packets_are_in_range,
     what_is_held_is_the_definition,
 };
-use down_translator::{BadStep, Carried, Down, Kind, Listed, Style};
+use down_translator::{Carried, Down, Kind, Listed, Style};
+use listing_puts::{put_line, put_listed, refused};
 use midi_edge::{Lanes, NoMemory, Sink, Source, U4};
-use midi_lines::{Line, fill_listing_line};
-use midi_pass::places::{put_lane, put_notes};
-use midi_pass::{Engine, Reason, RunEnd, drive};
+use midi_pass::places::put_lane;
+use midi_pass::{Engine, RunEnd, drive};
+use packet_items::{PacketReader, packets_are_cut_once};
 use std::alloc::Global;
 use std::marker::Model;
 use sysex_groups::Groups;
 use ump_grammar::Packet;
-use ump_grammar::laws::words_spell_one_packet;
-use ump_words::{Framed, Order, fronts_are_cut_as_the_stream, one_cutting};
+use ump_words::{Framed, Order};
 use voice_state::style_laws::styled_pairs_are_a_translation;
 
 /// A translation down that is ready to begin, with all its memory. A contract sees its options.
@@ -141,8 +141,9 @@ impl Engine<Framed, Packet> for DownEngine {
 /// of its group, and in the notes the line of each packet that is listed, at the end those of the exclusives that are still open.
 /// Takes no memory.
 ///
-/// `Refused` comes at the first packet that is refused, with the number of input bytes before it, and for every `Reason`.
-/// `ReadFault`, `LaneFault` and `NoteFault` come only where the count of that object rose. The output stays as it is.
+/// `Refused` comes for `Truncated`, `InputTooLong`, `BadCount`, `HighBit`, `DataIncrement`, `DataDecrement` and `ExclusiveTooLong`,
+/// with the number of bytes before what is refused. `ReadFault`, `LaneFault` and `NoteFault` come only where the count of that object
+/// rose. The output stays as it is.
 pub fn run_down<S: Source, L: Lanes, W: Sink, N: Sink>(
     engine: DownRun,
     input: &mut S,
@@ -155,6 +156,9 @@ pub fn run_down<S: Source, L: Lanes, W: Sink, N: Sink>(
         (seen S.Source L.Lanes W.Sink N.Sink input.old lanes.old output.old notes.old)
         (seen S.Source L.Lanes W.Sink N.Sink input.new lanes.new output.new notes.new) result }
     ensures complete { IsDoneUnless (packet_cutting engine.order) (carrying engine)
+        (seen S.Source L.Lanes W.Sink N.Sink input.old lanes.old output.old notes.old)
+        (seen S.Source L.Lanes W.Sink N.Sink input.new lanes.new output.new notes.new) result }
+    ensures refused { IsRefusedWhere (packet_cutting engine.order) (carrying engine)
         (seen S.Source L.Lanes W.Sink N.Sink input.old lanes.old output.old notes.old)
         (seen S.Source L.Lanes W.Sink N.Sink input.new lanes.new output.new notes.new) result }
 {
@@ -193,29 +197,20 @@ fn translate<S: Source, L: Lanes, W: Sink, N: Sink>(
         }))
         (seen S.Source L.Lanes W.Sink N.Sink input.old lanes.old output.old notes.old)
         (seen S.Source L.Lanes W.Sink N.Sink input.new lanes.new output.new notes.new) result }
+    ensures refused { IsRefusedWhere (packet_cutting order)
+        (carrying (record {
+          paired = paired_of down;
+          style = style_of down;
+          order = order;
+          room = limit_of down;
+        }))
+        (seen S.Source L.Lanes W.Sink N.Sink input.old lanes.old output.old notes.old)
+        (seen S.Source L.Lanes W.Sink N.Sink input.new lanes.new output.new notes.new) result }
 {
     styled_pairs_are_a_translation();
-    one_cutting();
-    fronts_are_cut_as_the_stream();
-    words_spell_one_packet();
+    packets_are_cut_once();
     let reader = PacketReader::new(order);
     drive(reader, DownEngine { down }, input, lanes, output, notes)
-}
-
-/// Puts a line of the listing.
-pub(crate) fn put_line<L: Lanes, W: Sink, N: Sink>(
-    listed: &Listed,
-    lanes: &mut L,
-    output: &mut W,
-    notes: &mut N,
-) -> Result<(), RunEnd>
-    ensures { Puts (line_puts (listed.now ∷ []))
-        (places L.Lanes W.Sink N.Sink lanes.old output.old notes.old)
-        (places L.Lanes W.Sink N.Sink lanes.new output.new notes.new) result }
-{
-    let mut line = Line::new();
-    fill_listing_line(&mut line, listed);
-    put_notes(line.as_slice(), lanes, output, notes)
 }
 
 // Puts a piece into its lane, unless it is empty.
@@ -237,23 +232,6 @@ fn put_piece<L: Lanes, W: Sink, N: Sink>(
     }
 }
 
-// Puts a line of the listing, if there is one.
-fn put_listed<L: Lanes, W: Sink, N: Sink>(
-    carried: &Carried<'_>,
-    lanes: &mut L,
-    output: &mut W,
-    notes: &mut N,
-) -> Result<(), RunEnd>
-    ensures { Puts (line_puts (option_to_list (line_in carried.now)))
-        (places L.Lanes W.Sink N.Sink lanes.old output.old notes.old)
-        (places L.Lanes W.Sink N.Sink lanes.new output.new notes.new) result }
-{
-    match carried.listed() {
-        Some(listed) => put_line(&listed, lanes, output, notes),
-        None => Ok(()),
-    }
-}
-
 // Puts a piece into its lane, unless it is empty, and then its line of the listing, if there is one.
 fn put_carried<L: Lanes, W: Sink, N: Sink>(
     carried: &Carried<'_>,
@@ -267,21 +245,9 @@ fn put_carried<L: Lanes, W: Sink, N: Sink>(
         (places L.Lanes W.Sink N.Sink lanes.new output.new notes.new) result }
 {
     match put_piece(carried, lanes, output, notes) {
-        Ok(()) => put_listed(carried, lanes, output, notes),
+        Ok(()) => put_listed(carried.listed(), lanes, output, notes),
         Err(end) => Err(end),
     }
-}
-
-// The end at a packet that is refused.
-pub(crate) fn refused(bad: BadStep, offset: u64) -> RunEnd
-    ensures { result ≡ RunEnd.Refused (reason_of bad) offset }
-{
-    let reason = match bad {
-        BadStep::DataIncrement => Reason::DataIncrement,
-        BadStep::DataDecrement => Reason::DataDecrement,
-        BadStep::ExclusiveTooLong => Reason::ExclusiveTooLong,
-    };
-    RunEnd::Refused { reason, offset }
 }
 
 // Takes one packet down: puts its piece into the lane of its group, and its line into the notes.

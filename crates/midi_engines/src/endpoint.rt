@@ -8,13 +8,14 @@ ghost use Rattle.midi_lines.specs.EndpointLines.{protocol_text};
 ghost use Rattle.midi_pass.specs.Pass.{Ends, IsDoneUnless, seen};
 ghost use Rattle.midi_pass.specs.Places.{Puts, places};
 ghost use Rattle.midi_pass.specs.Put.{in_notes};
+ghost use Rattle.midi_pass.specs.Refused.{IsRefusedWhere};
 ghost use Rattle.system_stream.specs.Layout.{IsStream};
 ghost use Rattle.sysex_groups.specs.Table.{empty_table};
 ghost use Rattle.ump_grammar.specs.Ranges.{IsPacket};
+ghost use Rattle.midi_pass.specs.Each.{for_each};
 ghost use Rattle.midi_engines.specs.Endpoint.{
   answering,
   block_line_of,
-  for_each,
   profile_line_of,
   protocol_after_packet,
   stream_lines,
@@ -33,12 +34,11 @@ ghost use Rattle.midi_engines.specs.EndpointHeld.{
   setup_lines,
 };
 ghost use Rattle.midi_engines.specs.EndpointMeans.{answers_last_named, answers_named};
-ghost use Rattle.midi_engines.specs.Packets.{packet_cutting};
+ghost use Rattle.packet_items.specs.Packets.{packet_cutting};
 ghost use Rattle.midi_engines.specs.Raised.{CarriesOut};
 
 use crate::down::list_open;
 use crate::hearing::{Listener, take_part};
-use crate::packets::PacketReader;
 use crate::replies::ReplyWriter;
 use ci_responder::{Key, ProfileId, Responder, held_is_the_history};
 use down_translator::laws::{spelled_packets_are_in_range, what_is_held_is_the_definition};
@@ -49,13 +49,13 @@ use midi_edge::{Lanes, NoMemory, Sink, Source, U4};
 use midi_lines::{Line, Name, block_line, profile_line, protocol_line};
 use midi_pass::places::put_notes;
 use midi_pass::{Engine, RunEnd, drive};
+use packet_items::{PacketReader, packets_are_cut_once};
 use std::alloc::Global;
 use std::marker::Model;
 use sysex_groups::Groups;
 use system_stream::read;
-use ump_grammar::laws::words_spell_one_packet;
 use ump_grammar::{Packet, Replies};
-use ump_words::{Framed, Order, fronts_are_cut_as_the_stream, one_cutting};
+use ump_words::{Framed, Order};
 
 /// An endpoint that is ready to answer, with all its memory. A contract sees its options.
 #[derive(Drop)]
@@ -444,6 +444,9 @@ pub fn run_endpoint<S: Source, L: Lanes, W: Sink, N: Sink>(
     ensures complete { IsDoneUnless (packet_cutting engine.order) (answering engine)
         (seen S.Source L.Lanes W.Sink N.Sink input.old lanes.old output.old notes.old)
         (seen S.Source L.Lanes W.Sink N.Sink input.new lanes.new output.new notes.new) result }
+    ensures refused { IsRefusedWhere (packet_cutting engine.order) (answering engine)
+        (seen S.Source L.Lanes W.Sink N.Sink input.old lanes.old output.old notes.old)
+        (seen S.Source L.Lanes W.Sink N.Sink input.new lanes.new output.new notes.new) result }
 {
     let EndpointRun {
         setup,
@@ -476,10 +479,12 @@ fn answer_all<S: Source, L: Lanes, W: Sink, N: Sink>(
         (answering (record { setup = setup; order = order; room = listener.groups.room }))
         (seen S.Source L.Lanes W.Sink N.Sink input.old lanes.old output.old notes.old)
         (seen S.Source L.Lanes W.Sink N.Sink input.new lanes.new output.new notes.new) result }
+    ensures refused { IsRefusedWhere (packet_cutting order)
+        (answering (record { setup = setup; order = order; room = listener.groups.room }))
+        (seen S.Source L.Lanes W.Sink N.Sink input.old lanes.old output.old notes.old)
+        (seen S.Source L.Lanes W.Sink N.Sink input.new lanes.new output.new notes.new) result }
 {
-    one_cutting();
-    fronts_are_cut_as_the_stream();
-    words_spell_one_packet();
+    packets_are_cut_once();
     let _profiles = setup.profile_count();
     let config = setup.config();
     let writer = ReplyWriter {

@@ -5,7 +5,8 @@ ghost use Rattle.down_translator.specs.Held.{bad_answer};
 ghost use Rattle.midi_pass.specs.Places.{Puts, places};
 ghost use Rattle.sysex_groups.specs.Exclusives.{IsData};
 ghost use Rattle.sysex_groups.specs.Table.{answer_to, with_part};
-ghost use Rattle.midi_engines.specs.Down.{line_puts, refusal_by};
+ghost use Rattle.listing_puts.specs.Lines.{line_puts};
+ghost use Rattle.listing_puts.specs.Refusal.{refusal_by};
 ghost use Rattle.midi_engines.specs.Endpoint.{name_of_fault as fault_name, name_of_heard as heard_name, said_in};
 ghost use Rattle.midi_engines.specs.EndpointHeld.{
   AreWordsOf,
@@ -22,12 +23,12 @@ ghost use Rattle.midi_engines.specs.EndpointHeld.{
 };
 ghost use Rattle.midi_engines.specs.Raised.{Answers, CarriesOut};
 
-use crate::down::{put_line, refused};
 use crate::replies::ReplyWriter;
 use ci_messages::laws::views_that_are_read_fit;
 use ci_messages::{CiFault, read};
 use ci_responder::{Heard, Responder, views_tell_their_bytes};
 use down_translator::{BadStep, Kind, Listed};
+use listing_puts::{put_line, refused};
 use midi_edge::{Lanes, Sink, U4};
 use midi_lines::Name;
 use midi_pass::RunEnd;

@@ -7,22 +7,19 @@ ghost use Rattle.midi_engines.specs.Back.{returning};
 ghost use Rattle.midi_engines.specs.Down.{carrying};
 ghost use Rattle.midi_engines.specs.Endpoint.{answering};
 ghost use Rattle.midi_engines.specs.Options.{BackOptions, ByteLineOptions, DownOptions, EndpointOptions, PacketLineOptions, UpOptions};
-ghost use Rattle.midi_engines.specs.Packets.{packet_cutting};
+ghost use Rattle.packet_items.specs.Packets.{packet_cutting};
 ghost use Rattle.midi_engines.specs.ShowBytes.{showing_bytes};
 ghost use Rattle.midi_engines.specs.ShowPackets.{showing};
 ghost use Rattle.midi_engines.specs.Up.{raising};
 
 use midi_pass::laws::bytes_are_cut_once;
-use ump_grammar::laws::words_spell_one_packet;
-use ump_words::{fronts_are_cut_as_the_stream, one_cutting};
+use packet_items::packets_are_cut_once;
 
 /// A recording is cut into its packets in one way, and a front of it begins as it does.
 pub fn recordings_are_cut_once()
     ensures { (order : Order) → CutsOnce (packet_cutting order) }
 {
-    one_cutting();
-    fronts_are_cut_as_the_stream();
-    words_spell_one_packet();
+    packets_are_cut_once();
 }
 
 /// A recording has one first refusal: after packets that are accepted it is refused at one offset and for one reason, whichever
@@ -35,9 +32,7 @@ pub fn a_recording_has_one_first_refusal()
     ensures answered { (options : EndpointOptions) →
         HasOneFirstRefusal (packet_cutting options.order) (answering options) }
 {
-    one_cutting();
-    fronts_are_cut_as_the_stream();
-    words_spell_one_packet();
+    packets_are_cut_once();
 }
 
 /// So has a stream of bytes.

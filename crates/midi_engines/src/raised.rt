@@ -9,15 +9,15 @@ ghost use Rattle.up_translator.specs.Raised.{IsApart, lines_in, packets_in};
 ghost use Rattle.up_translator.specs.Step.{Raises};
 ghost use Rattle.midi_pass.specs.Places.{Puts, places};
 ghost use Rattle.midi_pass.specs.Put.{Put};
-ghost use Rattle.midi_engines.specs.Down.{line_puts};
+ghost use Rattle.listing_puts.specs.Lines.{line_puts};
 ghost use Rattle.midi_engines.specs.Raised.{Answers, AreDone, AreTaken, ByteIsDone, CanBeDone, CarriesOut, Doing, RaisedIsDone, byte_refusal, open_puts};
 
-use crate::down::{put_line, refused};
+use listing_puts::{put_listed, refused};
 use midi_edge::{Lanes, Sink, U4};
 use midi_pass::RunEnd;
 use sysex_groups::part;
 use ump_grammar::Packet;
-use up_translator::{Listed, Raised, Up};
+use up_translator::{Raised, Up};
 
 /// What is done with each of the packets to which a byte is raised.
 pub(crate) trait PacketWork {
@@ -101,23 +101,6 @@ fn put_packets<P: PacketWork, L: Lanes, W: Sink, N: Sink>(
     }
 }
 
-// Puts a line of the listing, if there is one.
-fn put_listed<L: Lanes, W: Sink, N: Sink>(
-    listed: Option<Listed>,
-    lanes: &mut L,
-    output: &mut W,
-    notes: &mut N,
-) -> Result<(), RunEnd>
-    ensures { Puts (line_puts (option_to_list listed))
-        (places L.Lanes W.Sink N.Sink lanes.old output.old notes.old)
-        (places L.Lanes W.Sink N.Sink lanes.new output.new notes.new) result }
-{
-    match listed {
-        Some(listed) => put_line(&listed, lanes, output, notes),
-        None => Ok(()),
-    }
-}
-
 // Puts the lines of a byte.
 fn put_lines<L: Lanes, W: Sink, N: Sink>(
     raised: &Raised<'_>,
@@ -129,6 +112,7 @@ fn put_lines<L: Lanes, W: Sink, N: Sink>(
         (places L.Lanes W.Sink N.Sink lanes.old output.old notes.old)
         (places L.Lanes W.Sink N.Sink lanes.new output.new notes.new) result }
 {
+    // The second line is asked for once the first is put: most bytes have none.
     match put_listed(raised.first(), lanes, output, notes) {
         Ok(()) => put_listed(raised.second(), lanes, output, notes),
         Err(end) => Err(end),

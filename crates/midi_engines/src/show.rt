@@ -2,7 +2,7 @@
 ghost use Rattle.std.specs.Prelude.{◌≡◌, ◌≢◌, ◌≤◌, IfOk, IsOk, OnErr, false};
 ghost use Rattle.midi_pass.specs.Pass.{seen};
 ghost use Rattle.midi_engines.specs.Options.{asks_state, show_options};
-ghost use Rattle.midi_engines.specs.ShowReady.{IsDoneShowing, ShowEnds, end_of};
+ghost use Rattle.midi_engines.specs.ShowReady.{IsDoneShowing, IsRefusedShowing, ShowEnds, end_of};
 
 use crate::kept_state::new_state;
 use crate::show_bytes::show_bytes;
@@ -105,6 +105,9 @@ pub fn run_show<S: Source, L: Lanes, W: Sink, N: Sink>(
         (seen S.Source L.Lanes W.Sink N.Sink input.old lanes.old output.old notes.old)
         (seen S.Source L.Lanes W.Sink N.Sink input.new lanes.new output.new notes.new) (end_of result) }
     ensures complete { IsDoneShowing engine
+        (seen S.Source L.Lanes W.Sink N.Sink input.old lanes.old output.old notes.old)
+        (seen S.Source L.Lanes W.Sink N.Sink input.new lanes.new output.new notes.new) (end_of result) }
+    ensures refused { IsRefusedShowing engine
         (seen S.Source L.Lanes W.Sink N.Sink input.old lanes.old output.old notes.old)
         (seen S.Source L.Lanes W.Sink N.Sink input.new lanes.new output.new notes.new) (end_of result) }
 {

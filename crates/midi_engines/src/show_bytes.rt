@@ -10,35 +10,26 @@ ghost use Rattle.midi_pass.specs.Bytes.{byte_cutting};
 ghost use Rattle.midi_pass.specs.Pass.{Ends, IsDoneUnless, Takes, TakesIn, seen};
 ghost use Rattle.midi_pass.specs.Places.{Puts, places};
 ghost use Rattle.midi_pass.specs.Put.{in_output};
+ghost use Rattle.midi_pass.specs.Refused.{IsRefusedWhere};
 ghost use Rattle.midi_engines.specs.KeptState.{KeepsStep, StandsFor, fact_puts};
-ghost use Rattle.midi_engines.specs.ShowBytes.{
-  HoldsBytes,
-  IsReadyBytes,
-  open_puts,
-  options_of,
-  puts_after,
-  refusal_of,
-  showing_bytes,
-  shown_puts,
-  shows_last_named,
-  shows_named,
-  shows_no_bytes,
-};
+ghost use Rattle.listing_puts.specs.Refusal.{refusal_of};
+ghost use Rattle.midi_engines.specs.ShowBytes.{HoldsBytes, IsReadyBytes, open_puts, options_of, puts_after, showing_bytes, shown_puts, shows_last_named, shows_named, shows_no_bytes};
 
 use crate::kept_state::{facts_of, keep_step, put_facts};
 use item_reader::ByteReader;
+use listing_puts::refused;
 use midi_edge::{Lanes, NoMemory, Sink, Source};
 use midi_lines::{Line, fill_byte_listing, fill_step_line};
 use midi_pass::laws::bytes_are_cut_once;
 use midi_pass::places::put_output;
-use midi_pass::{Engine, LIMIT, Reason, RunEnd, drive};
+use midi_pass::{Engine, LIMIT, RunEnd, drive};
 use midi1_bytes::laws::parsed_bytes_are_the_definition;
 use midi1_bytes::{AfterCut, CutKind, Parser, Step};
 use std::alloc::Global;
 use up_translator::{kind_of_cut, kind_of_open};
 use voice_state::state_laws::bytes_are_kept;
 use voice_state::up_laws::rooms_that_are_not_reached_do_not_matter_in_bytes;
-use voice_state::{Fact, Kind, VoiceState};
+use voice_state::{BadStep, Fact, Kind, VoiceState};
 
 // Puts a line for each message that the bytes of a stream complete, and for each byte that belongs to nothing or cuts something
 // off, and at the end a line for what is still open and, where a state is kept, those of what it tells.
@@ -100,9 +91,11 @@ impl Engine<u64, u8> for ShowBytes {
         }
     }
 
-    ghost puts_are_named = { λ first past item puts put. shows_named (options_of first.parser first.state) past item puts put };
+    ghost puts_are_named = { λ first past item puts put.
+        shows_named (options_of first.parser first.state) past item puts put };
 
-    ghost last_puts_are_named = { λ first past puts put. shows_last_named (options_of first.parser first.state) past puts put };
+    ghost last_puts_are_named = { λ first past puts put.
+        shows_last_named (options_of first.parser first.state) past puts put };
 
     ghost starts = { λ first ready. shows_no_bytes first.parser first.state ready };
 
@@ -127,6 +120,9 @@ pub(crate) fn show_bytes<S: Source, L: Lanes, W: Sink, N: Sink>(
         (seen S.Source L.Lanes W.Sink N.Sink input.old lanes.old output.old notes.old)
         (seen S.Source L.Lanes W.Sink N.Sink input.new lanes.new output.new notes.new) result }
     ensures complete { IsDoneUnless byte_cutting (showing_bytes (options_of parser state))
+        (seen S.Source L.Lanes W.Sink N.Sink input.old lanes.old output.old notes.old)
+        (seen S.Source L.Lanes W.Sink N.Sink input.new lanes.new output.new notes.new) result }
+    ensures refused { IsRefusedWhere byte_cutting (showing_bytes (options_of parser state))
         (seen S.Source L.Lanes W.Sink N.Sink input.old lanes.old output.old notes.old)
         (seen S.Source L.Lanes W.Sink N.Sink input.new lanes.new output.new notes.new) result }
 {
@@ -204,10 +200,7 @@ fn put_step<L: Lanes, W: Sink, N: Sink>(
 {
     match step {
         Step::Held => Ok(()),
-        Step::TooLong => Err(RunEnd::Refused {
-            reason: Reason::ExclusiveTooLong,
-            offset,
-        }),
+        Step::TooLong => Err(refused(BadStep::ExclusiveTooLong, offset)),
         Step::Stray => put_kind(line, Kind::Stray, offset, lanes, output, notes),
         Step::Undefined => put_kind(line, Kind::Undefined, offset, lanes, output, notes),
         Step::Cut { start, what, after } => {

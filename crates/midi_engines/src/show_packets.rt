@@ -9,28 +9,28 @@ ghost use Rattle.sysex_groups.specs.Table.{empty_table};
 ghost use Rattle.midi_pass.specs.Pass.{Ends, IsDoneUnless, TakesIn, seen};
 ghost use Rattle.midi_pass.specs.Places.{Puts, places};
 ghost use Rattle.midi_pass.specs.Put.{in_output};
+ghost use Rattle.midi_pass.specs.Refused.{IsRefusedWhere};
 ghost use Rattle.midi_lines.specs.PacketLines.{packet_text};
-ghost use Rattle.midi_engines.specs.Down.{refusal_by};
+ghost use Rattle.listing_puts.specs.Refusal.{refusal_by};
 ghost use Rattle.midi_engines.specs.KeptState.{KeepsPacket, StandsFor, ended_in};
-ghost use Rattle.midi_engines.specs.Packets.{packet_cutting};
+ghost use Rattle.packet_items.specs.Packets.{packet_cutting};
 ghost use Rattle.midi_engines.specs.ShowPackets.{HoldsShow, IsReadyShow, bad_join, options_of, showing, shows_last_named, shows_named, shows_nothing};
 ghost use Rattle.midi_engines.specs.Texts.{AreOfTheirKinds, line_of_text, text_of, text_puts, texts_after};
 
-use crate::down::refused;
 use crate::kept_state::{facts_of, keep_packet, put_facts};
-use crate::packets::PacketReader;
 use crate::texts::{Texts, put_text};
 use down_translator::laws::{spelled_packets_are_in_range, what_is_held_is_the_definition};
+use listing_puts::refused;
 use midi_edge::{Lanes, NoMemory, Sink, Source, U4};
 use midi_lines::{Line, fill_packet_line};
 use midi_pass::places::put_output;
 use midi_pass::{Engine, RunEnd, drive};
+use packet_items::{PacketReader, packets_are_cut_once};
 use std::alloc::Global;
 use sysex_groups::{Fed, Groups};
 use system_stream::joined_parts_are_the_definition;
 use ump_grammar::Packet;
-use ump_grammar::laws::words_spell_one_packet;
-use ump_words::{Framed, Order, fronts_are_cut_as_the_stream, one_cutting};
+use ump_words::{Framed, Order};
 use voice_state::laws::{joined_bytes_know_no_offsets, rooms_that_are_not_passed_do_not_matter};
 use voice_state::state_laws::packets_are_kept;
 use voice_state::{BadStep, VoiceState};
@@ -53,7 +53,8 @@ impl Engine<Framed, Packet> for ShowPackets {
 
     ghost UsesLanes = { ⊥ };
 
-    ghost Holds = { λ first now past. HoldsShow first.groups now.groups now.texts first.state now.state past };
+    ghost Holds = { λ first now past.
+        HoldsShow first.groups now.groups now.texts first.state now.state past };
 
     ghost Asks = { λ item. IsPacket item.1 };
 
@@ -88,9 +89,11 @@ impl Engine<Framed, Packet> for ShowPackets {
         }
     }
 
-    ghost puts_are_named = { λ first past item puts put. shows_named (options_of first.groups first.state) past item puts put };
+    ghost puts_are_named = { λ first past item puts put.
+        shows_named (options_of first.groups first.state) past item puts put };
 
-    ghost last_puts_are_named = { λ first past puts put. shows_last_named (options_of first.groups first.state) past puts put };
+    ghost last_puts_are_named = { λ first past puts put.
+        shows_last_named (options_of first.groups first.state) past puts put };
 
     ghost starts = { λ first ready. shows_nothing first.groups first.texts first.state ready };
 
@@ -121,10 +124,12 @@ pub(crate) fn show_packets<S: Source, L: Lanes, W: Sink, N: Sink>(
         (showing (record { state = is_some state; order = order; room = groups.room }))
         (seen S.Source L.Lanes W.Sink N.Sink input.old lanes.old output.old notes.old)
         (seen S.Source L.Lanes W.Sink N.Sink input.new lanes.new output.new notes.new) result }
+    ensures refused { IsRefusedWhere (packet_cutting order)
+        (showing (record { state = is_some state; order = order; room = groups.room }))
+        (seen S.Source L.Lanes W.Sink N.Sink input.old lanes.old output.old notes.old)
+        (seen S.Source L.Lanes W.Sink N.Sink input.new lanes.new output.new notes.new) result }
 {
-    one_cutting();
-    fronts_are_cut_as_the_stream();
-    words_spell_one_packet();
+    packets_are_cut_once();
     let reader = PacketReader::new(order);
     let engine = ShowPackets {
         groups,

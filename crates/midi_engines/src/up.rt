@@ -4,6 +4,7 @@ ghost use Rattle.ump_grammar.specs.Ranges.{IsPacket};
 ghost use Rattle.up_translator.specs.Recording.{HoldsUp};
 ghost use Rattle.midi_pass.specs.Bytes.{byte_cutting};
 ghost use Rattle.midi_pass.specs.Pass.{Ends, IsDoneUnless, seen};
+ghost use Rattle.midi_pass.specs.Refused.{IsRefusedWhere};
 ghost use Rattle.midi_engines.specs.Up.{HoldsRaised, IsWritten, options_of, raising};
 ghost use Rattle.midi_engines.specs.RaisedMeans.{last_named};
 ghost use Rattle.midi_engines.specs.UpMeans.{raised_means, raises_named};
@@ -189,6 +190,9 @@ pub fn run_up<S: Source, L: Lanes, W: Sink, N: Sink>(
     ensures complete { IsDoneUnless byte_cutting (raising engine)
         (seen S.Source L.Lanes W.Sink N.Sink input.old lanes.old output.old notes.old)
         (seen S.Source L.Lanes W.Sink N.Sink input.new lanes.new output.new notes.new) result }
+    ensures refused { IsRefusedWhere byte_cutting (raising engine)
+        (seen S.Source L.Lanes W.Sink N.Sink input.old lanes.old output.old notes.old)
+        (seen S.Source L.Lanes W.Sink N.Sink input.new lanes.new output.new notes.new) result }
 {
     let UpRun { up, order } = engine;
     translate(up, order, input, lanes, output, notes)
@@ -211,6 +215,9 @@ fn translate<S: Source, L: Lanes, W: Sink, N: Sink>(
         (seen S.Source L.Lanes W.Sink N.Sink input.old lanes.old output.old notes.old)
         (seen S.Source L.Lanes W.Sink N.Sink input.new lanes.new output.new notes.new) result }
     ensures complete { IsDoneUnless byte_cutting (raising (options_of up order))
+        (seen S.Source L.Lanes W.Sink N.Sink input.old lanes.old output.old notes.old)
+        (seen S.Source L.Lanes W.Sink N.Sink input.new lanes.new output.new notes.new) result }
+    ensures refused { IsRefusedWhere byte_cutting (raising (options_of up order))
         (seen S.Source L.Lanes W.Sink N.Sink input.old lanes.old output.old notes.old)
         (seen S.Source L.Lanes W.Sink N.Sink input.new lanes.new output.new notes.new) result }
 {

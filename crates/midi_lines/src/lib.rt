@@ -24,6 +24,3 @@ pub use crate::packets::{fill_packet_line, packet_line};
 pub use crate::put::{put_decimal, put_text};
 pub use crate::steps::{fill_step_line, step_line};
 pub use crate::texts::{fill_text_line, text_line};
-
-#[cfg(test)]
-mod tests;

@@ -19,6 +19,7 @@ pub fn listing_line(listed: &Listed) -> Line
 }
 
 /// Makes the line that of what is listed, as `listing_line` does, in the place of another one (own rule).
+#[inline(always)]
 pub fn fill_listing_line(line: &mut Line, listed: &Listed)
     ensures text { line.new ≡ listing_text listed.now }
     ensures some { 0 < length line.new }

@@ -26,6 +26,7 @@ pub fn packet_line(packet: &Packet, words: &[u32], offset: u64) -> Line
 }
 
 /// Makes the line that of a packet, as `packet_line` does, in the place of another one (own rule).
+#[inline(always)]
 pub fn fill_packet_line(line: &mut Line, packet: &Packet, words: &[u32], offset: u64)
     requires { length words.now ≤ 4 }
     ensures text { line.new ≡ packet_text packet.now words.now offset }
@@ -53,6 +54,7 @@ fn put_words(line: &mut Line, words: &[u32])
 }
 
 // The kind of a packet and its fields.
+#[inline(always)]
 fn put_packet(line: &mut Line, packet: &Packet)
     requires { length line.old ≤ 60 }
     ensures text { line.new ≡ line.old ++ packet_fields packet.now }

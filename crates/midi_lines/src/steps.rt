@@ -1,5 +1,5 @@
 // The lines of the messages of a stream of MIDI 1.0 bytes.
-ghost use Rattle.std.specs.Prelude.{◌≡◌, ◌<◌, ◌≤◌, ◌+◌, ◌++◌, length, codes, decimal, IfSome, Some, None, true, if◌then◌else◌};
+ghost use Rattle.std.specs.Prelude.{◌≡◌, ◌<◌, ◌≤◌, ◌+◌, ◌++◌, length, codes, decimal, IfSome, Some, None, true, false, if◌then◌else◌};
 ghost use Rattle.midi1_bytes.specs.Answers.{step_view};
 ghost use Rattle.midi_lines.specs.Fields.{field};
 ghost use Rattle.midi_lines.specs.StepLines.{HasBothEnds, step_text};
@@ -27,11 +27,12 @@ pub fn step_line(step: &Step<'_>, offset: u64) -> Option<Line>
 }
 
 /// Makes the line that of what a byte does, as `step_line` does, in the place of another one, and tells whether it completes a
-/// message (own rule). Where it completes none the line is of no use.
+/// message (own rule). Where it completes none the line stays as it was.
 pub fn fill_step_line(line: &mut Line, step: &Step<'_>, offset: u64) -> bool
     requires { HasBothEnds step.now }
     ensures text { step_text (step_view step.now) offset ≡ (if result then Some line.new else None) }
     ensures some { result ≡ true → 0 < length line.new }
+    ensures none { result ≡ false → line.new ≡ line.old }
 {
     match step {
         Step::Voice(bytes) => fill_voice_line(line, &bytes.message(), offset),

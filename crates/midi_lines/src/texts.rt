@@ -1,5 +1,5 @@
 // The lines of the texts of stream messages.
-ghost use Rattle.std.specs.Prelude.{◌≡◌, ◌<◌, ◌≤◌, ◌+◌, ◌*◌, ◌++◌, length, codes, IfSome, Some, None, true, if◌then◌else◌};
+ghost use Rattle.std.specs.Prelude.{◌≡◌, ◌<◌, ◌≤◌, ◌+◌, ◌*◌, ◌++◌, length, codes, IfSome, Some, None, true, false, if◌then◌else◌};
 ghost use Rattle.system_stream.specs.Joined.{joined_view};
 ghost use Rattle.midi_lines.specs.TextLines.{IsWithinLimit, joined_text, spaced_bytes, text_kind_word};
 
@@ -23,11 +23,12 @@ pub fn text_line(kind: TextKind, joined: &Joined<'_>) -> Option<Line>
 }
 
 /// Makes the line that of a text that has ended, as `text_line` does, in the place of another one, and tells whether it has ended
-/// (own rule). Where it is held the line is of no use.
+/// (own rule). Where it is held the line stays as it was.
 pub fn fill_text_line(line: &mut Line, kind: TextKind, joined: &Joined<'_>) -> bool
     requires { IsWithinLimit kind joined.now }
     ensures text { joined_text kind (joined_view joined.now) ≡ (if result then Some line.new else None) }
     ensures some { result ≡ true → 0 < length line.new }
+    ensures none { result ≡ false → line.new ≡ line.old }
 {
     match joined {
         Joined::Held => return false,

@@ -1,5 +1,5 @@
 -- An input that is cut into items by their lengths, read item by item.
-use Rattle.std.proofs.Common.{◌≡◌, ◌+◌, ◌≤◌, ℕ, List, [], ◌∷◌, ◌++◌, length, Option, None, Some, refl, sym, subst, arith, inl, inr}
+use Rattle.std.proofs.Common.{◌≡◌, ◌+◌, ◌≤◌, ℕ, List, [], ◌∷◌, ◌++◌, length, Option, None, Some, refl, ap, sym, subst, arith, inl, inr}
 use Rattle.std.specs.Prelude.{IfSome, ◌⊎◌}
 use Rattle.std.specs.List.{concat}
 use Rattle.std.proofs.lemmas.List.{append_assoc, append-nil}
@@ -11,9 +11,15 @@ use Rattle.item_reader.specs.SoFar.{ReadSoFar}
 use Rattle.item_reader.specs.declared.cutting.Tail.{Tail}
 use Rattle.item_reader.specs.declared.cutting.Tail.TheVariants as tail
 use Rattle.midi_pass.specs.ItemLaws.{ItemsAreTakenInOrder}
-use Rattle.midi_pass.specs.Items.{item_cutting, limit, refusal_at}
+use Rattle.midi_pass.specs.Items.{after_offset, item_cutting, limit, refusal_at}
 use Rattle.midi_pass.specs.Pass.{HasGivenUp, IsFront}
 use Rattle.midi_pass.specs.declared.ends.Reason.TheVariants.{Truncated}
+
+-- an item that is given out, after its offset
+pub placed : {How Item : Type 0} (asked : List ℕ → ℕ) (item_of : ℕ → List ℕ → Item × ℕ) (old new : Reading How) (before after : Option (List ℕ)) (given : Item × ℕ) → Gives asked old new before after item_of given
+    → Gives asked old new before after (after_offset item_of) (given.1, given.0)
+placed {Item = Item} asked item_of old new before after given gives =
+    record { chunk = gives.chunk; is_item = gives.is_item; lost = gives.lost; item_is = ap (λ (g : Item × ℕ). (g.1, g.0)) gives.item_is; within = gives.within; goes_on = gives.goes_on }
 
 both : (all : Option (List ℕ)) (P Q : List ℕ → Type 0) → IfSome all P → IfSome all Q → IfSome all (λ bytes. P bytes × Q bytes)
 both None P Q p q = tt

@@ -16,6 +16,10 @@ refusal_at tail.End = None
 refusal_at (tail.Truncated offset) = Some (Truncated, offset)
 refusal_at tail.TooLong = Some (InputTooLong, limit)
 
+-- an item after its offset, where it is read with its offset behind it
+abbrev pub after_offset : {Item : Type 0} → (ℕ → List ℕ → Item × ℕ) → ℕ → List ℕ → ℕ × Item
+after_offset item_of at chunk = ((item_of at chunk).1, (item_of at chunk).0)
+
 -- An input is cut into its items, each of as many bytes as it asks for: into all of them, or into those before the end within one,
 -- or into those within the limit.
 abbrev pub item_cutting : {Item : Type 0} → (List ℕ → ℕ) → (ℕ → List ℕ → Item) → Cutting Item

@@ -1,8 +1,8 @@
 // The bytes of a stream, one by one.
 ghost use Rattle.std.specs.Prelude.{◌≡◌, ◌-◌, ℕ, List, Option, length, None, Some};
 ghost use Rattle.midi_edge.specs.Outside.{ahead};
-ghost use Rattle.item_reader.specs.ByteReader.{new_bytes};
-ghost use Rattle.midi_pass.specs.Bytes.{GivenSoFar, byte_cutting, limit};
+ghost use Rattle.item_reader.specs.ByteReader.{each_byte, new_bytes, one_byte};
+ghost use Rattle.midi_pass.specs.Bytes.{GivenSoFar, byte_cutting, limit, placed_at};
 ghost use Rattle.midi_pass.specs.Next.{ComesNearer, GivesNext, NextCause};
 ghost use Rattle.midi_pass.specs.Pass.{Cutting};
 ghost use Rattle.midi_pass.specs.Starting.{none_given};
@@ -45,5 +45,5 @@ impl Items<u64, u8> for ByteReader {
         }
     }
 
-    ghost starts = { λ first all new. none_given first all new };
+    ghost starts = { λ first all new. none_given one_byte placed_at each_byte first all new };
 }

@@ -1,20 +1,10 @@
-//! Translates between Universal MIDI Packets and MIDI 1.0 streams, and shows both.
+//! Translates between Universal MIDI Packets and MIDI 1.0 streams, and shows both: `run` over the process's own words, input,
+//! folder, output, notes and files.
 #![tactic(auto)]
 
-mod last_line;
-mod run;
-mod self_test_line;
-mod status;
-#[cfg(test)]
-mod tests;
-
-use crate::last_line::put_last;
-use crate::run::run;
-use crate::status::Status;
+use midi_commands::{finish, run, unread_words};
 use midi_edge::{FileShelf, FolderLanes, ReadSource, WriteSink};
-use std::io::Write;
 use std::process::ExitCode;
-use std::rt::Files;
 use std::{env, io};
 
 fn main(rt: HostRuntime) -> io::Result<ExitCode> {
@@ -41,37 +31,4 @@ fn main(rt: HostRuntime) -> io::Result<ExitCode> {
     };
     let code = finish(status, &mut lanes, &mut output, &mut notes);
     Ok(ExitCode::from(code))
-}
-
-// Where the words cannot be had, tells why: one that is no UTF-8 is a faulty command line.
-fn unread_words<R: Files + AllocGlobal, O: Write, N: Write>(
-    kind: io::ErrorKind,
-    lanes: &mut FolderLanes<R>,
-    output: &mut WriteSink<O>,
-    notes: &mut WriteSink<N>,
-) -> Status {
-    let status = match kind {
-        io::ErrorKind::OutOfMemory => Status::NoMemory,
-        _ => Status::Usage,
-    };
-    put_last(status, lanes, output, notes);
-    status
-}
-
-// Writes out what the objects have gathered, whatever the status, the notes last, since the last line stands there. The exit code.
-fn finish<R: Files + AllocGlobal, O: Write, N: Write>(
-    status: Status,
-    lanes: &mut FolderLanes<R>,
-    output: &mut WriteSink<O>,
-    notes: &mut WriteSink<N>,
-) -> u8 {
-    let written = status
-        .after_writing(lanes.flush(), Status::LaneFault)
-        .after_writing(output.flush(), Status::OutputFault);
-    if written != status {
-        put_last(written, lanes, output, notes);
-    }
-    written
-        .after_writing(notes.flush(), Status::NoteFault)
-        .exit_code()
 }

@@ -9,6 +9,3 @@ mod pairs;
 
 pub use crate::collected::Collected;
 pub use crate::collector::Collector;
-
-#[cfg(test)]
-mod tests;

@@ -1,4 +1,2 @@
-pub mod EventLaws
 pub mod InputLaws
-pub mod LineLaws
 pub mod StepLaws

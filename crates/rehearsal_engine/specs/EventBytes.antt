@@ -3,7 +3,6 @@ use Rattle.std.specs.Prelude.{ℕ, ◌+◌, ◌*◌, List, slice_index, refl}
 use Rattle.std.proofs.Common.{lit<, lit≤}
 use Rattle.std.proofs.Math.Nat.{le_refl}
 use Rattle.item_reader.specs.Cut.{IsLength}
-use Rattle.item_reader.specs.Reading.{Reading, new_reading}
 use Rattle.rehearsal_engine.specs.declared.event.CalledEvent.{CalledEvent}
 use Rattle.rehearsal_engine.specs.declared.event.EachEvent.{EachEvent}
 
@@ -26,7 +25,3 @@ event_at at chunk = (called_of chunk, at)
 
 abbrev pub each_event : EachEvent
 each_event = record {}
-
--- a reader of events that has taken nothing
-abbrev pub new_events : ℕ → Reading EachEvent
-new_events limit = new_reading each_event limit

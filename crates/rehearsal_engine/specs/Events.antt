@@ -1,12 +1,9 @@
 -- A stream of the events of a rehearsal, cut into its events.
-use Rattle.std.specs.Prelude.{ℕ, List, Option}
-use Rattle.item_reader.specs.Reading.{Reading}
-use Rattle.item_reader.specs.SoFar.{ReadSoFar}
-use Rattle.midi_pass.specs.Items.{item_cutting, limit}
+use Rattle.std.specs.Prelude.{ℕ, List}
+use Rattle.midi_pass.specs.Items.{item_cutting}
 use Rattle.midi_pass.specs.Pass.{Cutting}
-use Rattle.rehearsal_engine.specs.EventBytes.{called_of, each_event, three_bytes}
+use Rattle.rehearsal_engine.specs.EventBytes.{called_of, three_bytes}
 use Rattle.rehearsal_engine.specs.declared.event.CalledEvent.{CalledEvent}
-use Rattle.rehearsal_engine.specs.declared.event.EachEvent.{EachEvent}
 
 -- an event after its offset
 abbrev pub placed_at : ℕ → List ℕ → ℕ × CalledEvent
@@ -16,7 +13,3 @@ placed_at at chunk = (at, called_of chunk)
 -- the limit.
 abbrev pub event_cutting : Cutting (ℕ × CalledEvent)
 event_cutting = item_cutting three_bytes placed_at
-
--- a reader has given these of all, and goes on
-abbrev pub GivenSoFar : Reading EachEvent → Option (List ℕ) → Option (List ℕ) → List (ℕ × CalledEvent) → Type 0
-GivenSoFar reader all left items = ReadSoFar three_bytes placed_at each_event limit reader all left items

@@ -1,6 +1,5 @@
 pub mod EventBytes
 pub mod Events
-pub mod Starting
 pub mod Rehearse
 pub mod RehearseMeans
 pub mod Laws

@@ -20,6 +20,7 @@ use Rattle.ci_initiator.specs.Stage.{Stage, event_of, next_by}
 use Rattle.midi_lines.specs.EndpointLines.{name_word, profile_text, state_word}
 use Rattle.midi_lines.specs.declared.endpoint.Name.{Name}
 use Rattle.midi_lines.specs.declared.endpoint.Name.TheVariants as names
+use Rattle.midi_pass.specs.Each.{for_each}
 use Rattle.midi_pass.specs.Pass.{Tail, Work}
 use Rattle.midi_pass.specs.Put.{Put, in_output}
 use Rattle.midi_pass.specs.declared.ends.Reason.{Reason}
@@ -66,11 +67,6 @@ held_word (Some on) = state_word on
 -- what is held of a watch, by its number
 abbrev pub held_text : ℕ → Option Bool → List ℕ
 held_text number held = codes "held " ++ decimal number ++ codes " " ++ held_word held ++ codes "\n"
-
--- what is put for each of these, which are numbered from a first one on
-abbrev pub for_each : {X : Type 0} → (ℕ → X → List Put) → ℕ → List X → List Put
-for_each put number [] = []
-for_each put number (x ∷ xs) = put number x ++ for_each put (number + 1) xs
 
 abbrev pub held_line : ℕ → Watched → List Put
 held_line number watched = in_output (held_text number watched.held) ∷ []

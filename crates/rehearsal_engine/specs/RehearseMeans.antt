@@ -18,7 +18,8 @@ use Rattle.midi_pass.specs.Named.{AreNamed, named-then}
 use Rattle.midi_pass.specs.Put.{Put}
 use Rattle.rehearsal_engine.specs.declared.event.CalledEvent.{CalledEvent}
 use Rattle.rehearsal_engine.specs.declared.rehearse.RehearseEngine.{RehearseEngine}
-use Rattle.rehearsal_engine.specs.Rehearse.{HeldWasTold, called, closing_lines, course_at, event_puts, events_in, for_each, held_line, profile_line_of, rehearsing, stage_at}
+use Rattle.midi_pass.specs.Each.{for_each}
+use Rattle.rehearsal_engine.specs.Rehearse.{HeldWasTold, called, closing_lines, course_at, event_puts, events_in, held_line, profile_line_of, rehearsing, stage_at}
 
 -- the laws that a rehearsal stands on, and what its setup is
 pub record IsSound (setup : Facts) : Type 0 where

@@ -1,8 +1,8 @@
-// Events as they stand in an input, and their reader.
+// Events as they stand in an input.
 ghost use Rattle.std.specs.Prelude.{◌≡◌, ◌≤◌, ◌^◌, length};
-ghost use Rattle.rehearsal_engine.specs.EventBytes.{event_at, event_length, new_events, three_bytes};
+ghost use Rattle.rehearsal_engine.specs.EventBytes.{event_at, event_length, three_bytes};
 
-use item_reader::{Cut, ItemReader};
+use item_reader::Cut;
 
 /// An event of a rehearsal as its three bytes say it (own rule).
 #[derive(Clone, Copy, Debug, PartialEq, Eq)]
@@ -40,12 +40,4 @@ impl Cut for EachEvent {
     }
 
     ghost lengths = { λ _. event_length };
-}
-
-/// A reader of events that has taken nothing, and gives out at most `limit` bytes.
-pub(crate) fn new_reader(limit: u64) -> ItemReader<EachEvent>
-    requires { limit ≤ 2 ^ 62 }
-    ensures { result ≡ new_events limit }
-{
-    ItemReader::new(EachEvent, limit)
 }

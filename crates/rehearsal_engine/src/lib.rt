@@ -2,7 +2,6 @@
 #![tactic(auto)]
 
 pub mod event;
-mod events;
 pub mod laws;
 mod lines;
 mod rehearse;

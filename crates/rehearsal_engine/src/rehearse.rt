@@ -4,10 +4,11 @@ ghost use Rattle.ci_responder.specs.Keys.{key_of, state_in};
 ghost use Rattle.midi_pass.specs.Pass.{Ends, IsDoneUnless, seen};
 ghost use Rattle.midi_pass.specs.Places.{Puts, places};
 ghost use Rattle.midi_pass.specs.Put.{in_output};
+ghost use Rattle.midi_pass.specs.Refused.{IsRefusedWhere};
 ghost use Rattle.rehearsal_engine.specs.Events.{event_cutting};
+ghost use Rattle.midi_pass.specs.Each.{for_each};
 ghost use Rattle.rehearsal_engine.specs.Rehearse.{
   closing_lines,
-  for_each,
   held_line as held_line_of,
   held_text,
   profile_line_of,
@@ -25,8 +26,7 @@ ghost use Rattle.rehearsal_engine.specs.RehearseMeans.{
   rehearses_nothing,
 };
 
-use crate::event::CalledEvent;
-use crate::events::Events;
+use crate::event::{CalledEvent, EachEvent};
 use crate::laws::events_are_cut_once;
 use crate::lines::{held_line, told_line};
 use ci_initiator::laws::{stage_is_the_course, what_is_held_was_told};
@@ -36,7 +36,7 @@ use function_blocks::{Profile, Setup};
 use midi_edge::{Lanes, NoMemory, Sink, Source};
 use midi_lines::profile_line;
 use midi_pass::places::put_output;
-use midi_pass::{Engine, Reason, RunEnd, drive};
+use midi_pass::{EachItems, Engine, Reason, RunEnd, drive};
 use std::alloc::Global;
 use std::marker::Model;
 
@@ -169,7 +169,8 @@ fn put_held<L: Lanes, W: Sink, N: Sink>(
 
 // Whether a profile is on. The responder knows each profile of the setup.
 fn is_on(rehearsal: &Rehearsal, profile: &Profile) -> bool
-    ensures { result ≡ unwrap_or (state_in rehearsal.now.responder.states (key_of profile.now)) profile.now.on }
+    ensures { result
+        ≡ unwrap_or (state_in rehearsal.now.responder.states (key_of profile.now)) profile.now.on }
 {
     let id = profile.id;
     let key = Key {
@@ -280,6 +281,9 @@ pub fn run_rehearse<S: Source, L: Lanes, W: Sink, N: Sink>(
     ensures complete { IsDoneUnless event_cutting (rehearsing run)
         (seen S.Source L.Lanes W.Sink N.Sink input.old lanes.old output.old notes.old)
         (seen S.Source L.Lanes W.Sink N.Sink input.new lanes.new output.new notes.new) result }
+    ensures refused { IsRefusedWhere event_cutting (rehearsing run)
+        (seen S.Source L.Lanes W.Sink N.Sink input.old lanes.old output.old notes.old)
+        (seen S.Source L.Lanes W.Sink N.Sink input.new lanes.new output.new notes.new) result }
 {
     let RehearseRun { engine } = run;
     rehearse(engine, input, lanes, output, notes)
@@ -300,9 +304,19 @@ fn rehearse<S: Source, L: Lanes, W: Sink, N: Sink>(
     ensures complete { IsDoneUnless event_cutting (rehearsing engine.setup)
         (seen S.Source L.Lanes W.Sink N.Sink input.old lanes.old output.old notes.old)
         (seen S.Source L.Lanes W.Sink N.Sink input.new lanes.new output.new notes.new) result }
+    ensures refused { IsRefusedWhere event_cutting (rehearsing engine.setup)
+        (seen S.Source L.Lanes W.Sink N.Sink input.old lanes.old output.old notes.old)
+        (seen S.Source L.Lanes W.Sink N.Sink input.new lanes.new output.new notes.new) result }
 {
     events_are_cut_once();
     stage_is_the_course();
     what_is_held_was_told();
-    drive(Events::new(), engine, input, lanes, output, notes)
+    drive(
+        EachItems::new(EachEvent),
+        engine,
+        input,
+        lanes,
+        output,
+        notes,
+    )
 }

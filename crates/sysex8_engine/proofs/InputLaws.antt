@@ -8,7 +8,7 @@ use Rattle.ump_words.specs.declared.words.Framed.{Framed}
 use Rattle.ump_grammar.specs.declared.packet.Packet.{Packet}
 use Rattle.midi_pass.specs.Places.{Places, with_more}
 use Rattle.midi_pass.specs.Put.{Put, notes_in, notes_of, pair_of, pairs_in}
-use Rattle.midi_engines.specs.Packets.{packet_cutting}
+use Rattle.packet_items.specs.Packets.{packet_cutting}
 use Rattle.sysex8_streams.specs.History.{key_of}
 use Rattle.sysex8_engine.specs.declared.lines.Kind8.TheVariants as kinds
 use Rattle.sysex8_engine.specs.Joining.{group_puts, open_put, open_puts}

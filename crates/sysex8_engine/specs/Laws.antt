@@ -5,7 +5,7 @@ use Rattle.ump_words.specs.declared.words.Framed.{Framed}
 use Rattle.ump_grammar.specs.declared.packet.Packet.{Packet}
 use Rattle.midi_pass.specs.Pass.{IsDone, Seen}
 use Rattle.midi_pass.specs.Places.{with_more}
-use Rattle.midi_engines.specs.Packets.{packet_cutting}
+use Rattle.packet_items.specs.Packets.{packet_cutting}
 use Rattle.sysex8_engine.specs.Completed.{completed8, piece_of}
 use Rattle.sysex8_engine.specs.Joining.{CompleteAlone, joining}
 use Rattle.sysex8_engine.specs.Listing.{lines_of, open_lines}

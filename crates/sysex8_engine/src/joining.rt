@@ -5,7 +5,8 @@ ghost use Rattle.ump_grammar.specs.Places.{type_of};
 ghost use Rattle.ump_grammar.specs.Ranges.{IsPacket};
 ghost use Rattle.midi_pass.specs.Pass.{Ends, IsDoneUnless, Takes, seen};
 ghost use Rattle.midi_pass.specs.Places.{Puts, places};
-ghost use Rattle.midi_engines.specs.Packets.{packet_cutting};
+ghost use Rattle.midi_pass.specs.Refused.{IsRefusedWhere};
+ghost use Rattle.packet_items.specs.Packets.{packet_cutting};
 ghost use Rattle.sysex8_streams.specs.Fed8.{fed8_view};
 ghost use Rattle.sysex8_streams.specs.History.{key_of};
 ghost use Rattle.sysex8_streams.specs.Table.{answer8_to, empty_table8};
@@ -32,16 +33,18 @@ ghost use Rattle.sysex8_engine.specs.Parts.{part_in};
 ghost use Rattle.sysex8_engine.specs.JoiningMeans.{joins_mean, joins_named, open_named};
 
 use crate::lines::{Kind8, kind_line, whole_line};
+use listing_puts::refused;
 use midi_edge::{Lanes, NoMemory, Sink, Source, U4};
-use midi_engines::PacketReader;
 use midi_engines::laws::recordings_are_cut_once;
 use midi_pass::places::{put_lane, put_notes};
-use midi_pass::{Engine, Reason, RunEnd, drive};
+use midi_pass::{Engine, RunEnd, drive};
+use packet_items::PacketReader;
 use std::alloc::Global;
 use std::marker::Model;
 use sysex8_streams::{Fed8, Streams, fed_streams_are_the_definition, read8};
 use ump_grammar::Packet;
 use ump_words::{Framed, Order, Words};
+use voice_state::BadStep;
 
 /// A join of 8-bit exclusives that is ready to begin, with all its memory. A contract sees its options.
 #[derive(Drop)]
@@ -158,6 +161,9 @@ pub fn run_sysex8<S: Source, L: Lanes, W: Sink, N: Sink>(
     ensures complete { IsDoneUnless (packet_cutting engine.order) (joining engine)
         (seen S.Source L.Lanes W.Sink N.Sink input.old lanes.old output.old notes.old)
         (seen S.Source L.Lanes W.Sink N.Sink input.new lanes.new output.new notes.new) result }
+    ensures refused { IsRefusedWhere (packet_cutting engine.order) (joining engine)
+        (seen S.Source L.Lanes W.Sink N.Sink input.old lanes.old output.old notes.old)
+        (seen S.Source L.Lanes W.Sink N.Sink input.new lanes.new output.new notes.new) result }
 {
     let Sysex8Run { streams, order } = engine;
     join(streams, order, input, lanes, output, notes)
@@ -182,6 +188,10 @@ fn join<S: Source, L: Lanes, W: Sink, N: Sink>(
         (seen S.Source L.Lanes W.Sink N.Sink input.old lanes.old output.old notes.old)
         (seen S.Source L.Lanes W.Sink N.Sink input.new lanes.new output.new notes.new) result }
     ensures complete { IsDoneUnless (packet_cutting order)
+        (joining (record { slots = length streams.slots; order = order; room = streams.room }))
+        (seen S.Source L.Lanes W.Sink N.Sink input.old lanes.old output.old notes.old)
+        (seen S.Source L.Lanes W.Sink N.Sink input.new lanes.new output.new notes.new) result }
+    ensures refused { IsRefusedWhere (packet_cutting order)
         (joining (record { slots = length streams.slots; order = order; room = streams.room }))
         (seen S.Source L.Lanes W.Sink N.Sink input.old lanes.old output.old notes.old)
         (seen S.Source L.Lanes W.Sink N.Sink input.new lanes.new output.new notes.new) result }
@@ -351,10 +361,7 @@ fn put_answer<L: Lanes, W: Sink, N: Sink>(
         Fed8::RestartedWhole { cut_at, whole } => {
             put_cut(cut_at, offset, group, stream, whole, lanes, output, notes)
         }
-        Fed8::TooLong => Err(RunEnd::Refused {
-            reason: Reason::ExclusiveTooLong,
-            offset,
-        }),
+        Fed8::TooLong => Err(refused(BadStep::ExclusiveTooLong, offset)),
         Fed8::Full => put_kind(Kind8::Full, offset, group, lanes, output, notes),
     }
 }

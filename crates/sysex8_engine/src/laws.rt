@@ -1,5 +1,5 @@
 // What holds of all recordings.
-ghost use Rattle.midi_engines.specs.Packets.{packet_cutting};
+ghost use Rattle.packet_items.specs.Packets.{packet_cutting};
 ghost use Rattle.midi_pass.specs.FirstRefusal.{HasOneFirstRefusal};
 ghost use Rattle.sysex8_engine.specs.Joining.{joining};
 ghost use Rattle.sysex8_engine.specs.Laws.{DoneJoinsTheInput};

@@ -21,6 +21,3 @@ pub use crate::message::{BadFormat, StreamMessage};
 pub use crate::reading::read;
 pub use crate::texts::TextKind;
 pub use crate::writing::write;
-
-#[cfg(test)]
-mod tests;

@@ -21,7 +21,7 @@ use ump_grammar::encoding::form_bits;
 use voice_messages::Form;
 
 /// The packet of a message that isn't `Other` (M2-104-UM, UMP stream messages), with zeros in the places that its row doesn't
-/// name.
+/// name. Each field of the message is in its range.
 pub fn write(message: &StreamMessage) -> Packet
     requires { FitsPlaces message.now }
     ensures packet { result ≡ packet_of message.now }

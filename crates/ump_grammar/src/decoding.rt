@@ -20,8 +20,9 @@ use midi_edge::ShortList;
 use ump_words::{Framed, Words};
 use voice_messages::Form;
 
-/// The packet that the words spell (M2-104-UM). `Err(BadCount)` is returned exactly when a 7-bit exclusive counts more than six
-/// bytes, and `Err(HighBit)` exactly when another packet has a byte of 128 or more in a place of seven bits.
+/// The packet that the words spell (M2-104-UM); they are as many as the type in the first one has. `Err(BadCount)` is returned
+/// exactly when a 7-bit exclusive counts more than six bytes, and `Err(HighBit)` exactly when another packet has a byte of 128 or
+/// more in a place of seven bits.
 #[tactic(auto, using(crate::proofs::Fitting::decoded_fits))]
 #[inline(always)]
 pub fn decode(framed: &Framed) -> Result<Packet, Bad>

@@ -20,7 +20,8 @@ use crate::packet::Packet;
 use ump_words::Words;
 use voice_messages::{Bank, Form, ParamKind, System, U4, U7, U14, Voice1, Voice2};
 
-/// The words that spell the packet (M2-104-UM), with zeros in the places that its row doesn't name.
+/// The words that spell the packet (M2-104-UM), with zeros in the places that its row doesn't name. The packet is one that some
+/// words decode to.
 #[inline(always)]
 #[tactic(auto, using(crate::proofs::OnePacket::one_packet))]
 pub fn encode(packet: &Packet) -> Words

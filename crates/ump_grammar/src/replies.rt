@@ -33,7 +33,8 @@ impl Replies {
         }
     }
 
-    /// Appends the words of the packet, as `encode` gives them (M2-104-UM).
+    /// Appends the words of the packet, as `encode` gives them (M2-104-UM), where no more than 1,024 words stand afterwards.
+    /// The packet is one that some words decode to.
     pub fn push(&mut self, packet: &Packet)
         requires packet { IsPacket packet.now }
         requires fits { length self.old + word_count packet.now ≤ 1024 }

@@ -39,6 +39,14 @@ IsApart raised = AreApart (packet_in raised) (payload_in raised)
 
 -- ---- lines
 
+abbrev pub AreInOrder : {X : Type 0} → Option X → Option X → Type 0
+AreInOrder None (Some line) = ⊥
+AreInOrder _ _ = Unit {0}
+
+-- there is no second line without a first
+abbrev pub IsInOrder : Raised → Type 0
+IsInOrder raised = AreInOrder raised.first raised.second
+
 abbrev pub line_by : ℕ → Line → Listed
 line_by group line = record { offset = line.offset; group = Some group; kind = line.kind }
 

@@ -11,7 +11,7 @@ use Rattle.voice_state.specs.UpRefusal.{refusal_of_step}
 use Rattle.param_collector.specs.Holding.{Holding}
 use Rattle.param_collector.specs.Keeps.{Keeps}
 use Rattle.up_translator.specs.declared.raised.Raised.{Raised}
-use Rattle.up_translator.specs.Raised.{packet_in, payload_in, packets_in, lines_in, IsApart}
+use Rattle.up_translator.specs.Raised.{group_in, packet_in, payload_in, packets_in, lines_in, IsApart, IsInOrder}
 use Rattle.up_translator.specs.Held.{UpState, step_in}
 
 -- the packets and the lines of a step, from the state of the group before it, with paired controllers or without
@@ -24,11 +24,13 @@ abbrev pub payload_by : Option Message → Option (List ℕ)
 payload_by (Some (exclusive bytes)) = Some bytes
 payload_by _ = None
 
--- A step is accepted with the payload of its exclusive, and with what is raised of it from each
+-- A step is accepted in the group, with the payload of its exclusive, and with what is raised of it from each
 -- state that is kept; its packet is one that some words spell.
 pub record Accepts (holding : Holding) (group offset : ℕ) (step : Step) (raised : Raised) : Type 0 where
   pub accepted : refusal_of_step step ≡ None
+  pub grouped : group_in raised ≡ group
   pub apart : IsApart raised
+  pub in_order : IsInOrder raised
   pub payload : payload_in raised ≡ payload_by (completed_by step)
   pub spelled : IfSome (packet_in raised) IsPacket
   pub raised_of : (state : GroupState) → Keeps holding state → IsRaised holding.paired state group offset step raised

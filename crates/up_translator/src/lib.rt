@@ -13,6 +13,3 @@ pub use crate::lines::{kind_of_cut, kind_of_open};
 pub use crate::raised::Raised;
 pub use crate::up::Up;
 pub use voice_state::{BadStep, Kind, Listed};
-
-#[cfg(test)]
-mod tests;

@@ -40,7 +40,9 @@ impl<'a> Raised<'a> {
       first_in,
       second_in,
       is_empty_in,
+      AreInOrder,
       IsApart,
+      IsInOrder,
     };
 
     fn new(
@@ -53,6 +55,7 @@ impl<'a> Raised<'a> {
         ensures packet { result.packet ≡ packet.entry }
         ensures payload { result.payload ≡ payload.entry }
         ensures group { group_in result ≡ group }
+        ensures order { AreInOrder first second → IsInOrder result }
         ensures lines { lines_in result ≡
             map (line_up group) (map told_of (option_to_list first ++ option_to_list second)) }
     {
@@ -67,6 +70,8 @@ impl<'a> Raised<'a> {
 
     /// Lines alone, at most two, in order.
     pub(crate) fn only_listed(group: U4, first: Option<Line>, second: Option<Line>) -> Raised<'a>
+        ensures group { group_in result ≡ group }
+        ensures order { AreInOrder first second → IsInOrder result }
         ensures apart { IsApart result }
         ensures packet { packet_in result ≡ None }
         ensures payload { payload_in result ≡ None }
@@ -79,6 +84,8 @@ impl<'a> Raised<'a> {
 
     /// A packet, and a line if there is one.
     pub(crate) fn of_packet(group: U4, packet: &'a Packet, first: Option<Line>) -> Raised<'a>
+        ensures group { group_in result ≡ group }
+        ensures order { IsInOrder result }
         ensures apart { IsApart result }
         ensures packet { packet_in result ≡ Some packet.now }
         ensures payload { payload_in result ≡ None }
@@ -91,6 +98,8 @@ impl<'a> Raised<'a> {
     /// The payload of an exclusive that is given from F0 to F7.
     pub(crate) fn of_exclusive(group: U4, bytes: &'a [u8]) -> Raised<'a>
         requires { bytes.now ≡ framed (payload_of bytes.now) }
+        ensures group { group_in result ≡ group }
+        ensures order { IsInOrder result }
         ensures apart { IsApart result }
         ensures packet { packet_in result ≡ None }
         ensures payload { payload_in result ≡ Some (payload_of bytes.now) }

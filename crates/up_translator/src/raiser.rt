@@ -58,9 +58,11 @@ impl Raiser {
       packet_in,
       payload_in,
       packets_in,
+      group_in,
       lines_in,
       told_of,
       IsApart,
+      IsInOrder,
     };
     ghost use Rattle.up_translator.specs.Step.{RaisesStep};
 
@@ -87,6 +89,8 @@ impl Raiser {
     // Lends a packet, with a line if there is one.
     #[inline(always)]
     fn give(&mut self, packet: Packet, line: Option<Line>) -> Raised<'_>
+        ensures group { group_in result ≡ self.old.group }
+        ensures order { IsInOrder result }
         ensures apart { IsApart result }
         ensures packet { packet_in result ≡ Some packet }
         ensures payload { payload_in result ≡ None }
@@ -101,6 +105,8 @@ impl Raiser {
     /// A system message, with a line for what its byte cuts off, if it cuts anything off.
     #[inline(always)]
     pub(crate) fn system(&mut self, message: System, line: Option<Line>) -> Raised<'_>
+        ensures group { group_in result ≡ self.old.group }
+        ensures order { IsInOrder result }
         ensures apart { IsApart result }
         ensures spelled { IfSome (packet_in result) IsPacket }
         ensures payload { payload_in result ≡ None }

@@ -25,7 +25,9 @@ use Rattle.usb_midi1.specs.declared.event.Event.{Event}
 use Rattle.usb_engines.specs.Events.{event_cutting, events_of, placed_at}
 use Rattle.usb_engines.specs.Laws.{DonePacksTheInput, DoneSplitsTheInput, PacksTheInput, lines_of, listing_of, reserved_from}
 use Rattle.usb_engines.specs.Options.{PackOptions}
-use Rattle.usb_engines.specs.Pack.{CarryTheMessages, event_puts, line_puts, packing}
+use Rattle.listing_puts.specs.LineLaws.{notes-lines, output-lines}
+use Rattle.listing_puts.specs.Lines.{line_puts}
+use Rattle.usb_engines.specs.Pack.{CarryTheMessages, event_puts, packing}
 use Rattle.usb_engines.specs.Split.{reserved_lines}
 
 at_end : (tail : Tail) → None ≡ refusal_at tail → tail ≡ End
@@ -128,14 +130,6 @@ bytes-turned (item ∷ items) =
 notes-events : (events : List (List ℕ)) → notes_in (event_puts events) ≡ []
 notes-events [] = refl
 notes-events (event ∷ events) = notes-events events
-
-notes-lines : (lines : List Listed) → notes_in (line_puts lines) ≡ flat_map listing_text lines
-notes-lines [] = refl
-notes-lines (line ∷ lines) = ap (λ xs. listing_text line ++ xs) (notes-lines lines)
-
-output-lines : (lines : List Listed) → output_in (line_puts lines) ≡ []
-output-lines [] = refl
-output-lines (line ∷ lines) = output-lines lines
 
 module _ (options : PackOptions) where
   notes-are : (past : List (ℕ × ℕ)) (puts : List Put) → ArePlaced past → ArePut (packing options) past puts → notes_in puts ≡ flat_map listing_text (lines_of (Some options.room) options.cable (bytes_of past))

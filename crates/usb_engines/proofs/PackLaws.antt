@@ -15,7 +15,9 @@ use Rattle.usb_midi1.specs.Laws.{ExclusiveEventsComeInOrder}
 use Rattle.usb_midi1.specs.Packed.{IsPacked, cable_in, events_from, events_in, lines_in, whole_in, whole_of}
 use Rattle.usb_midi1.specs.Packing.{events_by, exclusive_events, first_event}
 use Rattle.usb_midi1.specs.declared.packed.Packed.{Packed}
-use Rattle.usb_engines.specs.Pack.{event_puts, line_puts, packed_puts, refusal_of}
+use Rattle.listing_puts.specs.Lines.{line_puts}
+use Rattle.listing_puts.specs.Refusal.{refusal_of}
+use Rattle.usb_engines.specs.Pack.{event_puts, packed_puts}
 
 -- ---- steps within the room
 

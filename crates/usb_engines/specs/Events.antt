@@ -1,11 +1,8 @@
 -- A stream of USB-MIDI 1.0 events, cut into its events.
-use Rattle.std.specs.Prelude.{ℕ, List, map, Option}
-use Rattle.item_reader.specs.Reading.{Reading}
-use Rattle.item_reader.specs.SoFar.{ReadSoFar}
-use Rattle.midi_pass.specs.Items.{item_cutting, limit}
+use Rattle.std.specs.Prelude.{ℕ, List, map}
+use Rattle.midi_pass.specs.Items.{item_cutting}
 use Rattle.midi_pass.specs.Pass.{Cutting}
-use Rattle.usb_midi1.specs.Events.{each_event, event_of, four_bytes}
-use Rattle.usb_midi1.specs.declared.event.EachEvent.{EachEvent}
+use Rattle.usb_midi1.specs.Events.{event_of, four_bytes}
 use Rattle.usb_midi1.specs.declared.event.Event.{Event}
 
 -- an event after its offset
@@ -19,7 +16,3 @@ events_of items = map (λ item. item.1) items
 -- the limit.
 abbrev pub event_cutting : Cutting (ℕ × Event)
 event_cutting = item_cutting four_bytes placed_at
-
--- a reader has given these of all, and goes on
-abbrev pub GivenSoFar : Reading EachEvent → Option (List ℕ) → Option (List ℕ) → List (ℕ × Event) → Type 0
-GivenSoFar reader all left items = ReadSoFar four_bytes placed_at each_event limit reader all left items

@@ -5,4 +5,3 @@ pub mod Pack
 pub mod PackMeans
 pub mod Split
 pub mod SplitMeans
-pub mod Starting

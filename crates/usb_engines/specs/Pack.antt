@@ -1,33 +1,25 @@
 -- A stream of MIDI 1.0 bytes that is packed: the events of each byte, and its lines; at the end the line of what is open.
 use Rattle.std.specs.Prelude.{◌≡◌, ℕ, false, true, ◌<◌, List, ◌++◌, map, reverse, None, Some}
 use Rattle.std.specs.List.{AllByRecursion, concat}
-use Rattle.midi1_bytes.specs.Steps.{Step, completed, completed_by, step_of, too_long}
+use Rattle.midi1_bytes.specs.Steps.{Step, completed, completed_by, step_of}
 use Rattle.voice_state.specs.StepListing.{kinds_at_end, kinds_of_step, line_up, open_pair}
 use Rattle.voice_state.specs.UpRefusal.{AreStepsWithinRoom}
 use Rattle.voice_state.specs.declared.listed.Kind.{Kind}
 use Rattle.voice_state.specs.declared.listed.Listed.{Listed}
-use Rattle.midi_lines.specs.ListingLines.{listing_text}
 use Rattle.midi_pass.specs.Bytes.{bytes_of}
-use Rattle.midi_pass.specs.Pass.{Tail, Work}
-use Rattle.midi_pass.specs.Put.{Put, in_notes, in_output, output_in}
-use Rattle.midi_pass.specs.declared.ends.Reason.TheVariants.{ExclusiveTooLong}
+use Rattle.midi_pass.specs.Pass.{Work}
+use Rattle.midi_pass.specs.Put.{Put, in_output, output_in}
+use Rattle.listing_puts.specs.Lines.{line_puts}
+use Rattle.listing_puts.specs.Refusal.{refusal_of}
 use Rattle.usb_midi1.specs.Held.{PackerState, packer_after}
 use Rattle.usb_midi1.specs.Laws.{SplitEventsMeanTheBytes}
 use Rattle.usb_midi1.specs.Packing.{events_by, stream_events}
 use Rattle.usb_midi1.specs.Split.{on_cable, split}
 use Rattle.usb_engines.specs.Options.{PackOptions}
 
--- a byte is refused only where its exclusive passes the room
-abbrev pub refusal_of : Step → ℕ → Tail
-refusal_of too_long offset = Some (ExclusiveTooLong, offset)
-refusal_of _ offset = None
-
--- the puts of events, each by itself, and of lines of the listing
+-- the puts of events, each by itself
 abbrev pub event_puts : List (List ℕ) → List Put
 event_puts events = map in_output events
-
-abbrev pub line_puts : List Listed → List Put
-line_puts lines = map (λ line. in_notes (listing_text line)) lines
 
 -- the events of the message that a step completes, and then the lines of the step at this offset
 abbrev pub packed_puts : ℕ → Step → ℕ → List Put

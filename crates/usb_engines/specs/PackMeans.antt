@@ -14,7 +14,9 @@ use Rattle.midi_pass.specs.Put.{Put, output_in, output_of}
 use Rattle.usb_midi1.specs.Held.{PackerState}
 use Rattle.usb_midi1.specs.Packing.{events_by, stream_events}
 use Rattle.usb_engines.specs.Options.{PackOptions}
-use Rattle.usb_engines.specs.Pack.{CarryTheMessages, HoldsPacked, event_puts, line_puts, packed_puts, packing}
+use Rattle.listing_puts.specs.LineLaws.{lines_named, output-lines}
+use Rattle.listing_puts.specs.Lines.{line_puts}
+use Rattle.usb_engines.specs.Pack.{CarryTheMessages, HoldsPacked, event_puts, packed_puts, packing}
 
 -- ---- the places
 
@@ -26,10 +28,6 @@ module _ (options : PackOptions) where
   events_named [] = tt
   events_named (event ∷ events) = (refl, events_named events)
 
-  lines_named : (lines : List Listed) → Are (line_puts lines)
-  lines_named [] = tt
-  lines_named (line ∷ lines) = (refl, lines_named lines)
-
   pub packs_named : (past : List (ℕ × ℕ)) (item : ℕ × ℕ) (puts : List Put) → (packing options).IsPut past item puts → Are puts
   packs_named past item puts put =
       let step : Step = step_of (Some options.room) (bytes_of past) item.1 in
@@ -37,22 +35,19 @@ module _ (options : PackOptions) where
       let lines : List Listed = map (line_up options.cable) (kinds_of_step step item.0) in
       let A : List Put → Type 0 = λ ps. Are ps in
       subst A (sym put)
-      (named-then (packing options).names (event_puts events) (line_puts lines) (events_named events) (lines_named lines))
+      (named-then (packing options).names (event_puts events) (line_puts lines) (events_named events)
+      (lines_named (packing options).names refl lines))
 
   pub last_named : (past : List (ℕ × ℕ)) (puts : List Put) → (packing options).IsPutAtEnd past puts → Are puts
   last_named past puts put =
       let A : List Put → Type 0 = λ ps. Are ps in
-      subst A (sym put) (lines_named (map (line_up options.cable) (kinds_at_end (open_pair (Some options.room) (bytes_of past)))))
+      subst A (sym put) (lines_named (packing options).names refl (map (line_up options.cable) (kinds_at_end (open_pair (Some options.room) (bytes_of past)))))
 
 -- ---- what they mean
 
 output-events : (events : List (List ℕ)) → output_in (event_puts events) ≡ concat events
 output-events [] = refl
 output-events (event ∷ events) = ap (λ xs. event ++ xs) (output-events events)
-
-output-lines : (lines : List Listed) → output_in (line_puts lines) ≡ []
-output-lines [] = refl
-output-lines (line ∷ lines) = output-lines lines
 
 output-packed : (cable : ℕ) (step : Step) (offset : ℕ) →
     output_in (packed_puts cable step offset) ≡ concat (events_by cable (completed_by step))

@@ -1,7 +1,6 @@
 //! The passes over USB-MIDI 1.0 events: the events of a recording to the stream of each cable, and a stream to the events of a cable.
 #![tactic(auto)]
 
-mod events;
 pub mod laws;
 mod pack;
 mod split;

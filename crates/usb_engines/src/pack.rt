@@ -6,27 +6,21 @@ ghost use Rattle.voice_state.specs.StepListing.{kinds_at_end};
 ghost use Rattle.midi_pass.specs.Bytes.{byte_cutting};
 ghost use Rattle.midi_pass.specs.Pass.{Ends, IsDoneUnless, Takes, seen};
 ghost use Rattle.midi_pass.specs.Places.{Puts, places};
+ghost use Rattle.midi_pass.specs.Refused.{IsRefusedWhere};
 ghost use Rattle.usb_midi1.specs.Held.{packer_behind, step_in};
 ghost use Rattle.usb_midi1.specs.Packed.{IsApart, events_in, lines_in, whole_in};
 ghost use Rattle.usb_midi1.specs.Packing.{exclusive_events};
-ghost use Rattle.usb_engines.specs.Pack.{
-  HoldsPacked,
-  event_puts,
-  line_puts,
-  open_lines,
-  options_of,
-  packed_puts,
-  packing,
-  refusal_of,
-};
+ghost use Rattle.listing_puts.specs.Lines.{line_puts};
+ghost use Rattle.listing_puts.specs.Refusal.{refusal_of};
+ghost use Rattle.usb_engines.specs.Pack.{HoldsPacked, event_puts, open_lines, options_of, packed_puts, packing};
 ghost use Rattle.usb_engines.specs.PackMeans.{last_named, packs_mean, packs_named};
 
 use item_reader::ByteReader;
+use listing_puts::{put_both, put_listed, refused};
 use midi_edge::{Lanes, NoMemory, Sink, Source, U4};
-use midi_lines::{Line, fill_listing_line};
 use midi_pass::laws::bytes_are_cut_once;
-use midi_pass::places::{put_notes, put_output};
-use midi_pass::{Engine, LIMIT, Reason, RunEnd, drive};
+use midi_pass::places::put_output;
+use midi_pass::{Engine, LIMIT, RunEnd, drive};
 use midi1_bytes::laws::parsed_bytes_are_the_definition;
 use std::alloc::Global;
 use std::marker::Model;
@@ -34,7 +28,7 @@ use usb_midi1::laws::{
     exclusive_events_come_in_order, packed_bytes_are_the_definition, split_events_mean_the_bytes,
 };
 use usb_midi1::{Packed, Packer, TooLong, exclusive_event};
-use voice_state::Listed;
+use voice_state::BadStep;
 
 /// A packing that is ready to begin, with all its memory. A contract sees its options.
 #[derive(Drop)]
@@ -143,6 +137,9 @@ pub fn run_pack<S: Source, L: Lanes, W: Sink, N: Sink>(
     ensures complete { IsDoneUnless byte_cutting (packing engine)
         (seen S.Source L.Lanes W.Sink N.Sink input.old lanes.old output.old notes.old)
         (seen S.Source L.Lanes W.Sink N.Sink input.new lanes.new output.new notes.new) result }
+    ensures refused { IsRefusedWhere byte_cutting (packing engine)
+        (seen S.Source L.Lanes W.Sink N.Sink input.old lanes.old output.old notes.old)
+        (seen S.Source L.Lanes W.Sink N.Sink input.new lanes.new output.new notes.new) result }
 {
     let PackRun { packer } = engine;
     pack(packer, input, lanes, output, notes)
@@ -163,6 +160,9 @@ fn pack<S: Source, L: Lanes, W: Sink, N: Sink>(
         (seen S.Source L.Lanes W.Sink N.Sink input.old lanes.old output.old notes.old)
         (seen S.Source L.Lanes W.Sink N.Sink input.new lanes.new output.new notes.new) result }
     ensures complete { IsDoneUnless byte_cutting (packing (options_of packer))
+        (seen S.Source L.Lanes W.Sink N.Sink input.old lanes.old output.old notes.old)
+        (seen S.Source L.Lanes W.Sink N.Sink input.new lanes.new output.new notes.new) result }
+    ensures refused { IsRefusedWhere byte_cutting (packing (options_of packer))
         (seen S.Source L.Lanes W.Sink N.Sink input.old lanes.old output.old notes.old)
         (seen S.Source L.Lanes W.Sink N.Sink input.new lanes.new output.new notes.new) result }
 {
@@ -191,10 +191,7 @@ fn pack_byte<L: Lanes, W: Sink, N: Sink>(
 {
     match packer.byte(byte, offset) {
         Ok(packed) => put_packed(&packed, lanes, output, notes),
-        Err(TooLong) => Err(RunEnd::Refused {
-            reason: Reason::ExclusiveTooLong,
-            offset,
-        }),
+        Err(TooLong) => Err(refused(BadStep::ExclusiveTooLong, offset)),
     }
 }
 
@@ -277,45 +274,7 @@ fn put_lines<L: Lanes, W: Sink, N: Sink>(
         (places L.Lanes W.Sink N.Sink lanes.old output.old notes.old)
         (places L.Lanes W.Sink N.Sink lanes.new output.new notes.new) result }
 {
-    match put_listed(packed.first(), lanes, output, notes) {
-        Ok(()) => put_listed(packed.second(), lanes, output, notes),
-        Err(end) => Err(end),
-    }
-}
-
-// Puts a line of the listing, if there is one.
-#[inline(always)]
-fn put_listed<L: Lanes, W: Sink, N: Sink>(
-    listed: Option<Listed>,
-    lanes: &mut L,
-    output: &mut W,
-    notes: &mut N,
-) -> Result<(), RunEnd>
-    ensures { Puts (line_puts (option_to_list listed))
-        (places L.Lanes W.Sink N.Sink lanes.old output.old notes.old)
-        (places L.Lanes W.Sink N.Sink lanes.new output.new notes.new) result }
-{
-    match listed {
-        Some(listed) => put_line(&listed, lanes, output, notes),
-        None => Ok(()),
-    }
-}
-
-// Puts a line of the listing.
-#[inline(never)]
-fn put_line<L: Lanes, W: Sink, N: Sink>(
-    listed: &Listed,
-    lanes: &mut L,
-    output: &mut W,
-    notes: &mut N,
-) -> Result<(), RunEnd>
-    ensures { Puts (line_puts (listed.now ∷ []))
-        (places L.Lanes W.Sink N.Sink lanes.old output.old notes.old)
-        (places L.Lanes W.Sink N.Sink lanes.new output.new notes.new) result }
-{
-    let mut line = Line::new();
-    fill_listing_line(&mut line, listed);
-    put_notes(line.as_slice(), lanes, output, notes)
+    put_both(packed.first(), packed.second(), lanes, output, notes)
 }
 
 // Puts the line of what is still open at the end, if anything is.

@@ -3,17 +3,17 @@ ghost use Rattle.std.specs.Prelude.{◌≡◌, ◌<◌, ◌∷◌, [], true, len
 ghost use Rattle.midi_pass.specs.Pass.{Ends, IsDoneUnless, seen};
 ghost use Rattle.midi_pass.specs.Places.{Puts, places};
 ghost use Rattle.midi_pass.specs.Put.{in_notes};
+ghost use Rattle.midi_pass.specs.Refused.{IsRefusedWhere};
 ghost use Rattle.usb_engines.specs.Events.{event_cutting};
 ghost use Rattle.usb_engines.specs.Split.{event_puts, reserved_text, splitting};
 ghost use Rattle.usb_engines.specs.SplitMeans.{none_named, splits_mean, splits_named};
 
-use crate::events::Events;
 use crate::laws::events_are_cut_once;
 use midi_edge::{Lanes, Sink, Source, U4};
 use midi_lines::{Line, put_decimal, put_text};
 use midi_pass::places::{put_lane, put_notes};
-use midi_pass::{Engine, RunEnd, drive};
-use usb_midi1::{Event, carried, is_reserved};
+use midi_pass::{EachItems, Engine, RunEnd, drive};
+use usb_midi1::{EachEvent, Event, carried, is_reserved};
 
 // Puts what each event carries in the lane of its cable, and in the notes a line for each event whose code is reserved.
 #[derive(Drop)]
@@ -81,9 +81,19 @@ pub fn run_split<S: Source, L: Lanes, W: Sink, N: Sink>(
     ensures complete { IsDoneUnless event_cutting splitting
         (seen S.Source L.Lanes W.Sink N.Sink input.old lanes.old output.old notes.old)
         (seen S.Source L.Lanes W.Sink N.Sink input.new lanes.new output.new notes.new) result }
+    ensures refused { IsRefusedWhere event_cutting splitting
+        (seen S.Source L.Lanes W.Sink N.Sink input.old lanes.old output.old notes.old)
+        (seen S.Source L.Lanes W.Sink N.Sink input.new lanes.new output.new notes.new) result }
 {
     events_are_cut_once();
-    drive(Events::new(), SplitEngine, input, lanes, output, notes)
+    drive(
+        EachItems::new(EachEvent),
+        SplitEngine,
+        input,
+        lanes,
+        output,
+        notes,
+    )
 }
 
 // Puts what an event carries into the lane of its cable, or its line in the notes, where its code is reserved.

@@ -11,6 +11,3 @@ pub use crate::event::{EachEvent, Event, EventReader, carried, is_reserved};
 pub use crate::packed::{Packed, TooLong};
 pub use crate::packer::Packer;
 pub use crate::packing::exclusive_event;
-
-#[cfg(test)]
-mod tests;

@@ -31,6 +31,3 @@ pub use crate::listed::{BadStep, Kind, Listed};
 pub use crate::registers::{Registers, is_null_param};
 pub use crate::role::ControlRole;
 pub use crate::running::VoiceState;
-
-#[cfg(test)]
-mod tests;

@@ -1,16 +1,15 @@
 // A shelf over files.
-ghost use Rattle.std.specs.Prelude.{◌≡◌, ◌≢◌, ℕ, List, [], ◌++◌, None, Some, Err, OnOk, OnErr, IfSome, take};
-ghost use Rattle.std.specs.IoError.{error_kind};
+ghost use Rattle.std.specs.Prelude.{◌≡◌, ℕ, List, [], ◌++◌, None, Some, Err, OnOk, OnErr, IfSome, take};
 ghost use Rattle.midi_edge.specs.Outside.{HasOpenCause, Fetches, kept_bytes};
 
 #[cfg(test)]
 mod tests;
 
-use super::counted_opening;
+use super::{counted_opening, fault_of};
 use crate::kept_text::KeptText;
 use crate::outside::{OpenFault, Shelf};
 use std::fs;
-use std::io::{self, ErrorKind, Read};
+use std::io::{self, Read};
 use std::rt::Files;
 
 /// A shelf of files, each named by its path. An empty path is no file, so fetching it fails, as does fetching a folder. No more
@@ -36,17 +35,6 @@ impl<R: Files> FileShelf<R> {
             faults: 0,
             name: KeptText::new(),
         }
-    }
-}
-
-// Why a file was not opened or not read.
-fn fault_of(error: io::Error) -> OpenFault
-    ensures memory { error_kind error ≡ ErrorKind.OutOfMemory → result ≡ OpenFault.NoMemory }
-    ensures other { error_kind error ≢ ErrorKind.OutOfMemory → result ≡ OpenFault.Failed }
-{
-    match error.kind() {
-        ErrorKind::OutOfMemory => OpenFault::NoMemory,
-        _ => OpenFault::Failed,
     }
 }
 

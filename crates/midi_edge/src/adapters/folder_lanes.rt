@@ -4,7 +4,7 @@ ghost use Rattle.midi_edge.specs.Adapters.{IsWrittenOut, AcceptsInLane, KeepsEac
 ghost use Rattle.midi_edge.specs.Outside.{HasCause, HasOpenCause, PutsPair, kept_bytes};
 
 use super::write_sink::WriteSink;
-use super::{counted, counted_opening};
+use super::{counted, counted_opening, fault_of};
 use crate::few_bits::U4;
 use crate::kept_text::KeptText;
 use crate::outside::{Failed, Lanes, OpenFault, Sink};
@@ -13,10 +13,10 @@ use std::io::Write;
 use std::rt::Files;
 
 /// Sixteen files in a folder, one for each lane, each with an empty buffer of 8,192 bytes that `begin` takes. An empty path is no
-/// folder, so opening it fails. A small piece is gathered in the buffer, and written out when a later one has no room. So an `Ok` of `put`
-/// says that the piece was accepted, and a fault shows at the `put` that makes room, or at `flush`. A fault takes nothing from what
-/// was accepted before: what it left unwritten is written out by the next call that writes to this lane. Call `flush` when all is
-/// put, since the drop of the lanes tells no fault.
+/// folder, so opening it fails; where there is no memory to open the files, the answer is `NoMemory`. A small piece is gathered in
+/// the buffer, and written out when a later one doesn't fit. So an `Ok` of `put` says that the piece was accepted, and a fault shows
+/// at the `put` that writes out, or at `flush`. A fault takes nothing from what was accepted before: what it left unwritten is
+/// written out by the next call that writes to this lane. Call `flush` when all is put, since the drop of the lanes tells no fault.
 #[derive(Drop)]
 pub struct FolderLanes<R: Files + AllocGlobal> {
     rt: R,
@@ -102,7 +102,7 @@ fn open_lane<R: Files + AllocGlobal>(rt: &R, folder: &str, lane: u8) -> Result<R
     let Ok(name) = format!(in rt.alloc(); "{folder}/group-{lane:02}.midi1") else {
         return Err(OpenFault::NoMemory);
     };
-    fs::create(rt, name.as_str()).map_err(|_| OpenFault::Failed)
+    fs::create(rt, name.as_str()).map_err(fault_of)
 }
 
 impl<R: Files + AllocGlobal> Lanes for FolderLanes<R> {

@@ -239,3 +239,16 @@ fn a_blank_at_the_end_of_a_path_counts(rt: HostRuntime) -> Result<(), Fail> {
     fs::remove_dir_all(&rt, without.as_str())?;
     Ok(())
 }
+
+#[test]
+fn only_a_lack_of_memory_is_told_apart(rt: HostRuntime) {
+    for (kind, fault) in [
+        (ErrorKind::OutOfMemory, OpenFault::NoMemory),
+        (ErrorKind::NotFound, OpenFault::Failed),
+        (ErrorKind::PermissionDenied, OpenFault::Failed),
+        (ErrorKind::IsADirectory, OpenFault::Failed),
+        (ErrorKind::Interrupted, OpenFault::Failed),
+    ] {
+        assert_eq!(rt; fault_of(io::Error::from(kind)), fault);
+    }
+}

@@ -3,6 +3,7 @@ use Rattle.midi_clip.specs.Header.{HasTaken}
 use Rattle.midi_pass.specs.Pass.{Seen, seen}
 use Rattle.clip_engine.specs.Ends.{ClipEnds}
 use Rattle.clip_engine.proofs.EndLaws.{header-fails, is_done, no-clip, seen-before}
+use Rattle.clip_engine.proofs.RefusedLaws.{is_refused}
 use Rattle.clip_engine.proofs.clipping.run_clip.Goals as goal
 
 pub returns-in-Ok-true-clause-ends : goal.returns-in-Ok-true-clause-ends
@@ -17,6 +18,9 @@ returns-in-Ok-true-clause-ends g c =
 pub returns-in-Ok-true-clause-complete : goal.returns-in-Ok-true-clause-complete
 returns-in-Ok-true-clause-complete g c = is_done c.clip_files_are_cut_once.ensures _ _ c.show_packets.result (returns-in-Ok-true-clause-ends g c)
 
+pub returns-in-Ok-true-clause-refused : goal.returns-in-Ok-true-clause-refused
+returns-in-Ok-true-clause-refused g c = is_refused c.clip_files_are_cut_once.ensures _ _ c.show_packets.result (returns-in-Ok-true-clause-ends g c)
+
 pub returns-in-Ok-false-clause-ends : goal.returns-in-Ok-false-clause-ends
 returns-in-Ok-false-clause-ends g c =
     let T : Bool → Type 0 = λ is_header. HasTaken (g.S.Source.left c.args.input.now) (g.S.Source.left c.header.new.source) is_header in
@@ -25,9 +29,15 @@ returns-in-Ok-false-clause-ends g c =
 pub returns-in-Ok-false-clause-complete : goal.returns-in-Ok-false-clause-complete
 returns-in-Ok-false-clause-complete g c = is_done c.clip_files_are_cut_once.ensures _ _ _ (returns-in-Ok-false-clause-ends g c)
 
+pub returns-in-Ok-false-clause-refused : goal.returns-in-Ok-false-clause-refused
+returns-in-Ok-false-clause-refused g c = is_refused c.clip_files_are_cut_once.ensures _ _ _ (returns-in-Ok-false-clause-ends g c)
+
 pub returns-in-Err-clause-ends : goal.returns-in-Err-clause-ends
 returns-in-Err-clause-ends g c =
     header-fails _ _ (record { taken = c.in-Err.ensures.bytes.0; few = c.in-Err.ensures.bytes.1; lost = c.in-Err.ensures.bytes.2; places = refl; reads = c.in-Err.ensures.cause.rose })
 
 pub returns-in-Err-clause-complete : goal.returns-in-Err-clause-complete
 returns-in-Err-clause-complete g c = is_done c.clip_files_are_cut_once.ensures _ _ _ (returns-in-Err-clause-ends g c)
+
+pub returns-in-Err-clause-refused : goal.returns-in-Err-clause-refused
+returns-in-Err-clause-refused g c = is_refused c.clip_files_are_cut_once.ensures _ _ _ (returns-in-Err-clause-ends g c)

@@ -1,21 +1,19 @@
 use Rattle.std.proofs.Common.{◌-◌}
-use Rattle.midi_clip.specs.Header.{header_bytes}
-use Rattle.midi_edge.specs.Outside.{ahead}
-use Rattle.midi_pass.proofs.PassLaws.{SoFar}
+use Rattle.midi_pass.specs.PassLaws.{SoFar}
 use Rattle.midi_pass.specs.Pass.{seen}
 use Rattle.clip_engine.specs.Clipping.{clipping}
-use Rattle.clip_engine.specs.Cutting.{HasGiven}
 use Rattle.clip_engine.specs.Ends.{with_header}
+use Rattle.clip_engine.proofs.HeaderLaws.{HasGiven}
 use Rattle.clip_engine.proofs.StepLaws.{HoldsClip}
 use Rattle.clip_engine.proofs.clipping.show_packets.Given as goal
 
 abbrev pub invariant-loop-at : goal.invariant-loop-at
 invariant-loop-at g l =
     SoFar clipping
-    (λ items. HasGiven l.reader.words l.reader.end (ahead header_bytes (g.S.Source.left l.fn.input)) (g.S.Source.left l.input) items)
+    (λ items. HasGiven l.words l.size (g.S.Source.left l.fn.input) (g.S.Source.left l.input) items)
     (λ past. HoldsClip l.clip past)
     (with_header (seen g.S.Source g.L.Lanes g.W.Sink g.N.Sink l.fn.input l.fn.lanes l.fn.output l.fn.notes))
     (seen g.S.Source g.L.Lanes g.W.Sink g.N.Sink l.input l.lanes l.output l.notes)
 
 abbrev pub decreases-loop-at : goal.decreases-loop-at
-decreases-loop-at g l = l.reader.words.limit - l.reader.words.offset
+decreases-loop-at g l = l.words.limit - l.words.offset

@@ -1,5 +1,6 @@
-use Rattle.clip_engine.proofs.CuttingLaws.{clips_once}
+use Rattle.ump_words.specs.declared.words.Order.TheVariants.{Big}
+use Rattle.clip_engine.proofs.HeaderLaws.{clips_once}
 use Rattle.clip_engine.proofs.laws.clip_files_are_cut_once.Goals as goal
 
 pub returns : goal.returns
-returns c = clips_once c.one_cutting.ensures c.fronts_are_cut_as_the_stream.ensures c.words_spell_one_packet.ensures
+returns c = clips_once (c.packets_are_cut_once.ensures Big 8)

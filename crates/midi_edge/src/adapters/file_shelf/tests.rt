@@ -1,6 +1,7 @@
 // What a shelf over files fetches.
 use super::*;
 use crate::adapters::tests::{Scripted, Step};
+use std::io::ErrorKind;
 use std::process;
 use std::process::Abort;
 use std::test::Fail;
@@ -50,19 +51,6 @@ fn no_more_than_the_limit_is_read(rt: HostRuntime) -> Result<(), Fail> {
     shelf.fetch("/dev/zero", 100_000, &mut into)?;
     assert_eq!(rt; into.len(), 100_000);
     Ok(())
-}
-
-#[test]
-fn only_a_lack_of_memory_is_told_apart(rt: HostRuntime) {
-    for (kind, fault) in [
-        (ErrorKind::OutOfMemory, OpenFault::NoMemory),
-        (ErrorKind::NotFound, OpenFault::Failed),
-        (ErrorKind::PermissionDenied, OpenFault::Failed),
-        (ErrorKind::IsADirectory, OpenFault::Failed),
-        (ErrorKind::Interrupted, OpenFault::Failed),
-    ] {
-        assert_eq!(rt; fault_of(io::Error::from(kind)), fault);
-    }
 }
 
 #[test]

@@ -5,7 +5,8 @@ use Rattle.voice_state.specs.Listing.{groups}
 use Rattle.midi_pass.specs.Put.{Put}
 use Rattle.midi_pass.specs.Places.{FailsAt, after_puts, places}
 use Rattle.midi_pass.specs.PutLaws.{then_put, then_stops, stops_more}
-use Rattle.midi_engines.specs.Down.{line_puts, open_line, open_puts}
+use Rattle.listing_puts.specs.Lines.{line_puts}
+use Rattle.midi_engines.specs.Down.{open_line, open_puts}
 use Rattle.midi_engines.proofs.OpenLaws.{at_group, next_group, open-then, open-one}
 use Rattle.midi_engines.proofs.down.list_open.Goals as goal
 

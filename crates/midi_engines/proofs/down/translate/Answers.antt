@@ -3,9 +3,9 @@ use Rattle.ump_words.specs.declared.words.Order.{Order}
 use Rattle.down_translator.specs.Held.{limit_of, paired_of, style_of}
 use Rattle.midi_pass.specs.Pass.{Ends, seen}
 use Rattle.midi_pass.specs.DoneLaws.{is_done_unless}
+use Rattle.midi_pass.specs.RefusedLaws.{is_refused_where}
 use Rattle.midi_engines.specs.Down.{carrying}
-use Rattle.midi_engines.specs.Packets.{packet_cutting}
-use Rattle.midi_engines.proofs.CuttingLaws.{packets_once}
+use Rattle.packet_items.specs.Packets.{packet_cutting}
 use Rattle.midi_engines.proofs.down.translate.Goals as goal
 
 pub returns-clause-ends : goal.returns-clause-ends
@@ -18,5 +18,10 @@ returns-clause-ends g c =
 
 pub returns-clause-complete : goal.returns-clause-complete
 returns-clause-complete g c =
-    is_done_unless (packet_cutting c.args.order) (carrying (record { paired = paired_of c.args.down; style = style_of c.args.down; order = c.args.order; room = limit_of c.args.down })) (packets_once c.one_cutting.ensures c.fronts_are_cut_as_the_stream.ensures c.words_spell_one_packet.ensures c.args.order) _ _ c.drive.result
+    is_done_unless (packet_cutting c.args.order) (carrying (record { paired = paired_of c.args.down; style = style_of c.args.down; order = c.args.order; room = limit_of c.args.down })) (c.packets_are_cut_once.ensures c.args.order 0) _ _ c.drive.result
+    (returns-clause-ends g c)
+
+pub returns-clause-refused : goal.returns-clause-refused
+returns-clause-refused g c =
+    is_refused_where (packet_cutting c.args.order) (carrying (record { paired = paired_of c.args.down; style = style_of c.args.down; order = c.args.order; room = limit_of c.args.down })) (c.packets_are_cut_once.ensures c.args.order 0) _ _ c.drive.result
     (returns-clause-ends g c)

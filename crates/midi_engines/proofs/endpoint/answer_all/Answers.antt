@@ -2,9 +2,9 @@ use Rattle.std.proofs.Common.{ap, subst}
 use Rattle.ump_words.specs.declared.words.Order.{Order}
 use Rattle.midi_pass.specs.DoneLaws.{is_done_unless}
 use Rattle.midi_pass.specs.Pass.{Ends, seen}
+use Rattle.midi_pass.specs.RefusedLaws.{is_refused_where}
 use Rattle.midi_engines.specs.Endpoint.{answering}
-use Rattle.midi_engines.specs.Packets.{packet_cutting}
-use Rattle.midi_engines.proofs.CuttingLaws.{packets_once}
+use Rattle.packet_items.specs.Packets.{packet_cutting}
 use Rattle.midi_engines.proofs.endpoint.answer_all.Goals as goal
 
 pub returns-clause-ends : goal.returns-clause-ends
@@ -18,5 +18,11 @@ returns-clause-ends g c =
 pub returns-clause-complete : goal.returns-clause-complete
 returns-clause-complete g c =
     is_done_unless (packet_cutting c.args.order) (answering (record { setup = c.args.setup; order = c.args.order; room = c.args.listener.groups.room }))
-    (packets_once c.one_cutting.ensures c.fronts_are_cut_as_the_stream.ensures c.words_spell_one_packet.ensures c.args.order) _ _ c.drive.result
+    (c.packets_are_cut_once.ensures c.args.order 0) _ _ c.drive.result
+    (returns-clause-ends g c)
+
+pub returns-clause-refused : goal.returns-clause-refused
+returns-clause-refused g c =
+    is_refused_where (packet_cutting c.args.order) (answering (record { setup = c.args.setup; order = c.args.order; room = c.args.listener.groups.room }))
+    (c.packets_are_cut_once.ensures c.args.order 0) _ _ c.drive.result
     (returns-clause-ends g c)

@@ -2,7 +2,8 @@ use Rattle.std.proofs.Common.{subst}
 use Rattle.sysex_groups.specs.Exclusives.{Answer}
 use Rattle.down_translator.specs.Held.{bad_answer}
 use Rattle.midi_pass.specs.Places.{places}
-use Rattle.midi_engines.specs.Down.{line_puts, refusal_by}
+use Rattle.listing_puts.specs.Lines.{line_puts}
+use Rattle.listing_puts.specs.Refusal.{refusal_by}
 use Rattle.midi_engines.specs.Endpoint.{said_in}
 use Rattle.midi_engines.specs.EndpointHeld.{WrittenAndListed, lost_by, part_lines, part_replies, said_lines, said_of, said_replies}
 use Rattle.midi_engines.specs.Raised.{Answers}

@@ -1,5 +1,4 @@
-use Rattle.midi_engines.proofs.CuttingLaws.{packets_once}
 use Rattle.midi_engines.proofs.laws.recordings_are_cut_once.Goals as goal
 
 pub returns : goal.returns
-returns c = packets_once c.one_cutting.ensures c.fronts_are_cut_as_the_stream.ensures c.words_spell_one_packet.ensures
+returns c = λ order. c.packets_are_cut_once.ensures order 0

@@ -1,7 +1,7 @@
 use Rattle.std.proofs.Common.{Option, sym, subst}
 use Rattle.voice_state.specs.declared.listed.BadStep.{BadStep}
 use Rattle.midi_pass.specs.Places.{places}
-use Rattle.midi_engines.specs.Down.{refusal_by}
+use Rattle.listing_puts.specs.Refusal.{refusal_by}
 use Rattle.midi_engines.specs.Raised.{Answers, ByteIsDone, RaisedIsDone}
 use Rattle.midi_engines.proofs.RaisedLaws.{carries_as}
 use Rattle.midi_engines.proofs.raised.put_byte.Goals as goal

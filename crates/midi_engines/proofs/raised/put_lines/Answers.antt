@@ -1,13 +1,12 @@
 use Rattle.std.proofs.Common.{◌≡◌, List, Option, sym, subst}
 use Rattle.std.specs.Option.{option_to_list}
-use Rattle.std.proofs.lemmas.List.{map-append}
 use Rattle.voice_state.specs.declared.listed.Listed.{Listed}
 use Rattle.up_translator.specs.Raised.{first_in, second_in}
 use Rattle.midi_pass.specs.Places.{Puts, after_puts, places}
-use Rattle.midi_pass.specs.Put.{Put, in_notes}
+use Rattle.midi_pass.specs.Put.{Put}
 use Rattle.midi_pass.specs.PutLaws.{then_puts}
-use Rattle.midi_lines.specs.ListingLines.{listing_text}
-use Rattle.midi_engines.specs.Down.{line_puts}
+use Rattle.listing_puts.specs.LineLaws.{lines-then}
+use Rattle.listing_puts.specs.Lines.{line_puts}
 use Rattle.midi_engines.proofs.raised.put_lines.Goals as goal
 
 pub returns-in-Ok : goal.returns-in-Ok
@@ -20,5 +19,5 @@ returns-in-Ok g c =
     let F : Option Listed → Type 0 = λ listed. mid ≡ after_puts (line_puts (option_to_list listed)) old in
     let S : Option Listed → Type 0 = λ listed. Puts (line_puts (option_to_list listed)) mid new c.put_listed-in-Ok.result in
     let P : List Put → Type 0 = λ puts. Puts puts old new c.put_listed-in-Ok.result in
-    subst P (sym (map-append (λ (line : Listed). in_notes (listing_text line)) first second))
+    subst P (sym (lines-then first second))
     (then_puts (line_puts first) (line_puts second) old mid new c.put_listed-in-Ok.result (subst F c.first.ensures c.in-Ok.ensures) (subst S c.second.ensures c.put_listed-in-Ok.ensures))

@@ -1,4 +1,5 @@
 use Rattle.midi_pass.specs.DoneLaws.{is_done_unless}
+use Rattle.midi_pass.specs.RefusedLaws.{is_refused_where}
 use Rattle.rehearsal_engine.specs.Events.{event_cutting}
 use Rattle.rehearsal_engine.specs.Rehearse.{rehearsing}
 use Rattle.rehearsal_engine.proofs.rehearse.rehearse.Goals as goal
@@ -17,3 +18,6 @@ drive-requires-clause-ready g c =
 
 pub returns-clause-complete : goal.returns-clause-complete
 returns-clause-complete g c = is_done_unless event_cutting (rehearsing c.args.engine.setup) c.events_are_cut_once.ensures _ _ c.drive.result c.drive.ensures
+
+pub returns-clause-refused : goal.returns-clause-refused
+returns-clause-refused g c = is_refused_where event_cutting (rehearsing c.args.engine.setup) c.events_are_cut_once.ensures _ _ c.drive.result c.drive.ensures

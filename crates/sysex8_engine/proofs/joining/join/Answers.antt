@@ -2,7 +2,8 @@ use Rattle.std.proofs.Common.{ap, length, subst}
 use Rattle.ump_words.specs.declared.words.Order.{Order}
 use Rattle.midi_pass.specs.Pass.{Ends, seen}
 use Rattle.midi_pass.specs.DoneLaws.{is_done_unless}
-use Rattle.midi_engines.specs.Packets.{packet_cutting}
+use Rattle.midi_pass.specs.RefusedLaws.{is_refused_where}
+use Rattle.packet_items.specs.Packets.{packet_cutting}
 use Rattle.sysex8_engine.specs.Joining.{joining}
 use Rattle.sysex8_engine.proofs.joining.join.Goals as goal
 
@@ -21,4 +22,9 @@ returns-clause-ends g c =
 pub returns-clause-complete : goal.returns-clause-complete
 returns-clause-complete g c =
     is_done_unless (packet_cutting c.args.order) (joining (record { slots = length c.args.streams.slots; order = c.args.order; room = c.args.streams.room })) (c.recordings_are_cut_once.ensures c.args.order) _ _ c.drive.result
+    (returns-clause-ends g c)
+
+pub returns-clause-refused : goal.returns-clause-refused
+returns-clause-refused g c =
+    is_refused_where (packet_cutting c.args.order) (joining (record { slots = length c.args.streams.slots; order = c.args.order; room = c.args.streams.room })) (c.recordings_are_cut_once.ensures c.args.order) _ _ c.drive.result
     (returns-clause-ends g c)

@@ -1,5 +1,5 @@
 use Rattle.midi_pass.specs.FirstRefusal.{one_refusal}
-use Rattle.midi_engines.specs.Packets.{packet_cutting}
+use Rattle.packet_items.specs.Packets.{packet_cutting}
 use Rattle.sysex8_engine.specs.Joining.{joining}
 use Rattle.sysex8_engine.proofs.laws.a_join_has_one_first_refusal.Goals as goal
 

@@ -1,4 +1,10 @@
+use Rattle.std.proofs.Common.{sym, subst}
+use Rattle.std.specs.Prelude.{Err}
+use Rattle.midi_pass.specs.Pass.{Takes}
 use Rattle.midi_pass.specs.Places.{places}
+use Rattle.midi_pass.specs.declared.ends.RunEnd.{RunEnd}
+use Rattle.listing_puts.specs.Refusal.{refusal_of}
+use Rattle.usb_engines.specs.Pack.{packed_puts}
 use Rattle.midi1_bytes.specs.Steps.{Step}
 use Rattle.usb_midi1.specs.Held.{step_in}
 use Rattle.usb_engines.proofs.PackLaws.{accepts, has_both_ends, refuses}
@@ -17,4 +23,6 @@ returns-in-Ok-clause-takes g c =
 pub returns-in-Err-clause-takes : goal.returns-in-Err-clause-takes
 returns-in-Err-clause-takes g c =
     let old = places g.L.Lanes g.W.Sink g.N.Sink c.args.lanes.now c.args.output.now c.args.notes.now in
-    refuses c.args.packer.now.cable c.args.offset (step_in c.args.packer.now c.args.offset c.args.byte) old c.in-Err.ensures.answer
+    let step : Step = step_in c.args.packer.now c.args.offset c.args.byte in
+    let T : RunEnd → Type 0 = λ end. Takes (refusal_of step c.args.offset) (packed_puts c.args.packer.now.cable step c.args.offset) old old (Err end) in
+    subst T (sym c.refused.ensures) (refuses c.args.packer.now.cable c.args.offset step old c.in-Err.ensures.answer)

@@ -1,7 +1,8 @@
 use Rattle.midi_pass.specs.Places.{places}
 use Rattle.midi_pass.specs.PutLaws.{then_puts}
 use Rattle.usb_midi1.specs.Packed.{events_in, lines_in}
-use Rattle.usb_engines.specs.Pack.{event_puts, line_puts}
+use Rattle.listing_puts.specs.Lines.{line_puts}
+use Rattle.usb_engines.specs.Pack.{event_puts}
 use Rattle.usb_engines.proofs.pack.put_packed.Goals as goal
 
 pub returns-in-Ok : goal.returns-in-Ok

@@ -9,7 +9,7 @@ use Rattle.midi_pass.specs.Pass.{Tail}
 use Rattle.midi_pass.specs.Places.{places}
 use Rattle.midi_pass.specs.Put.{Put}
 use Rattle.midi_engines.specs.Back.{ComesDown, options_of, PutsDown, returning}
-use Rattle.midi_engines.specs.Down.{line_puts}
+use Rattle.listing_puts.specs.Lines.{line_puts}
 use Rattle.midi_engines.specs.Raised.{Answers, AreDone, AreTaken, RaisedIsDone, byte_lines}
 use Rattle.midi_engines.proofs.BackLaws.{byte_comes_down, piece_is_put}
 use Rattle.midi_engines.proofs.RaisedLaws.{answered_steps}

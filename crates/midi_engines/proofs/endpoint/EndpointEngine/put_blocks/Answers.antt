@@ -4,8 +4,9 @@ use Rattle.ci_responder.specs.Held.{muid_in}
 use Rattle.midi_pass.specs.Places.{FailsAt, after_puts, places}
 use Rattle.midi_pass.specs.Put.{Put}
 use Rattle.midi_pass.specs.PutLaws.{stops_more, then_put, then_stops}
-use Rattle.midi_engines.specs.Endpoint.{block_line_of, for_each}
-use Rattle.midi_engines.proofs.EndpointLaws.{all_each, next_each, not_past}
+use Rattle.midi_pass.specs.Each.{for_each}
+use Rattle.midi_engines.specs.Endpoint.{block_line_of}
+use Rattle.midi_pass.specs.EachLaws.{all_each, next_each, not_past}
 use Rattle.midi_engines.proofs.endpoint.EndpointEngine.put_blocks.Goals as goal
 
 pub unreachable-requires : goal.unreachable-requires

@@ -1,7 +1,8 @@
 use Rattle.std.proofs.Common.{◌≡◌, take}
 use Rattle.ci_responder.specs.Held.{muid_in}
 use Rattle.midi_pass.specs.Places.{after_puts, places}
-use Rattle.midi_engines.specs.Endpoint.{block_line_of, for_each}
+use Rattle.midi_pass.specs.Each.{for_each}
+use Rattle.midi_engines.specs.Endpoint.{block_line_of}
 use Rattle.midi_engines.proofs.endpoint.EndpointEngine.put_blocks.Given as goal
 
 abbrev pub invariant-loop-number : goal.invariant-loop-number

@@ -1,6 +1,7 @@
 use Rattle.ci_responder.specs.Held.{muid_in}
 use Rattle.ci_responder.specs.Keys.{state_in}
-use Rattle.midi_engines.specs.Endpoint.{block_line_of, for_each, profile_line_of}
+use Rattle.midi_pass.specs.Each.{for_each}
+use Rattle.midi_engines.specs.Endpoint.{block_line_of, profile_line_of}
 use Rattle.midi_pass.specs.Places.{places}
 use Rattle.midi_pass.specs.PutLaws.{stops_more, then_puts}
 use Rattle.midi_engines.proofs.endpoint.EndpointEngine.put_setup.Goals as goal

@@ -11,8 +11,10 @@ use Rattle.voice_state.specs.Styles.{plain_style}
 use Rattle.down_translator.specs.Recording.{state_of}
 use Rattle.midi_lines.specs.EndpointLines.{protocol_text}
 use Rattle.midi_pass.specs.Put.{Put, in_notes}
-use Rattle.midi_engines.specs.Down.{line_puts, open_puts}
-use Rattle.midi_engines.specs.Endpoint.{block_line_of, for_each, in_force, profile_line_of, told_in_packets}
+use Rattle.listing_puts.specs.Lines.{line_puts}
+use Rattle.midi_engines.specs.Down.{open_puts}
+use Rattle.midi_pass.specs.Each.{for_each}
+use Rattle.midi_engines.specs.Endpoint.{block_line_of, in_force, profile_line_of, told_in_packets}
 use Rattle.midi_engines.specs.EndpointHeld.{held_closing}
 use Rattle.midi_engines.specs.Packets.{all_placed}
 use Rattle.midi_engines.proofs.EndpointLaws.{blocks_are, open_is, profiles_are}

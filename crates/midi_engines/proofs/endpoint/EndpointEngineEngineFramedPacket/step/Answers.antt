@@ -12,7 +12,7 @@ use Rattle.down_translator.specs.Recording.{packets_of, state_of}
 use Rattle.midi_pass.specs.Pass.{Tail}
 use Rattle.midi_pass.specs.Places.{places}
 use Rattle.midi_pass.specs.Put.{Put}
-use Rattle.midi_engines.specs.Down.{refusal_by}
+use Rattle.listing_puts.specs.Refusal.{refusal_by}
 use Rattle.midi_engines.specs.Endpoint.{answering, in_force, packet_lines, packet_replies, protocol_after_packet, stream_lines, stream_packet_replies}
 use Rattle.midi_engines.specs.EndpointHeld.{WrittenAndListed, after_part, options_of, packet_part_lines, part_replies, said_of_packet}
 use Rattle.midi_engines.specs.Packets.{all_placed, placed_of}

@@ -8,7 +8,7 @@ use Rattle.up_translator.specs.Raised.{packets_in}
 use Rattle.midi_pass.specs.Bytes.{bytes_of}
 use Rattle.midi_pass.specs.Pass.{Tail}
 use Rattle.midi_pass.specs.Places.{places}
-use Rattle.midi_engines.specs.Down.{line_puts}
+use Rattle.listing_puts.specs.Lines.{line_puts}
 use Rattle.midi_engines.specs.Raised.{Answers, AreTaken, RaisedIsDone}
 use Rattle.midi_engines.specs.Up.{AreWritten, options_of, raising}
 use Rattle.midi_engines.proofs.RaisedLaws.{answered_steps}

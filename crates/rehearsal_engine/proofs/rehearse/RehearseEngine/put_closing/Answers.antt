@@ -1,5 +1,6 @@
 use Rattle.ci_responder.specs.Keys.{state_in}
-use Rattle.rehearsal_engine.specs.Rehearse.{for_each, held_line, profile_line_of}
+use Rattle.midi_pass.specs.Each.{for_each}
+use Rattle.rehearsal_engine.specs.Rehearse.{held_line, profile_line_of}
 use Rattle.midi_pass.specs.Places.{places}
 use Rattle.midi_pass.specs.PutLaws.{stops_more, then_puts}
 use Rattle.rehearsal_engine.proofs.rehearse.RehearseEngine.put_closing.Goals as goal

@@ -4,8 +4,9 @@ use Rattle.ci_responder.specs.Keys.{state_in}
 use Rattle.midi_pass.specs.Places.{FailsAt, after_puts, places}
 use Rattle.midi_pass.specs.Put.{Put}
 use Rattle.midi_pass.specs.PutLaws.{stops_more, then_put, then_stops}
-use Rattle.rehearsal_engine.specs.Rehearse.{profile_line_of, for_each}
-use Rattle.rehearsal_engine.proofs.LineLaws.{all_each, next_each, not_past}
+use Rattle.midi_pass.specs.Each.{for_each}
+use Rattle.rehearsal_engine.specs.Rehearse.{profile_line_of}
+use Rattle.midi_pass.specs.EachLaws.{all_each, next_each, not_past}
 use Rattle.rehearsal_engine.proofs.rehearse.RehearseEngine.put_profiles.Goals as goal
 
 pub unreachable-requires : goal.unreachable-requires

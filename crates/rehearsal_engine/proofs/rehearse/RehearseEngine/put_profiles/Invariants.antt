@@ -1,7 +1,8 @@
 use Rattle.std.proofs.Common.{◌≡◌, take}
 use Rattle.ci_responder.specs.Keys.{state_in}
 use Rattle.midi_pass.specs.Places.{after_puts, places}
-use Rattle.rehearsal_engine.specs.Rehearse.{for_each, profile_line_of}
+use Rattle.midi_pass.specs.Each.{for_each}
+use Rattle.rehearsal_engine.specs.Rehearse.{profile_line_of}
 use Rattle.rehearsal_engine.proofs.rehearse.RehearseEngine.put_profiles.Given as goal
 
 abbrev pub invariant-loop-k : goal.invariant-loop-k

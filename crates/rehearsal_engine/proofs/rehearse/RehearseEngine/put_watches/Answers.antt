@@ -3,8 +3,9 @@ use Rattle.ci_initiator.specs.declared.watch.Watched.{Watched}
 use Rattle.midi_pass.specs.Places.{FailsAt, after_puts, places}
 use Rattle.midi_pass.specs.Put.{Put, in_output}
 use Rattle.midi_pass.specs.PutLaws.{stops_more, then_put, then_stops}
-use Rattle.rehearsal_engine.specs.Rehearse.{for_each, held_line, held_text}
-use Rattle.rehearsal_engine.proofs.LineLaws.{all_each, next_each}
+use Rattle.midi_pass.specs.Each.{for_each}
+use Rattle.rehearsal_engine.specs.Rehearse.{held_line, held_text}
+use Rattle.midi_pass.specs.EachLaws.{all_each, next_each}
 use Rattle.rehearsal_engine.proofs.rehearse.RehearseEngine.put_watches.Goals as goal
 
 -- the watch of which something is held

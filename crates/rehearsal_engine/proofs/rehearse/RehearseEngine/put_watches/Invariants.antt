@@ -1,6 +1,7 @@
 use Rattle.std.proofs.Common.{◌≡◌, take}
 use Rattle.midi_pass.specs.Places.{after_puts, places}
-use Rattle.rehearsal_engine.specs.Rehearse.{for_each, held_line}
+use Rattle.midi_pass.specs.Each.{for_each}
+use Rattle.rehearsal_engine.specs.Rehearse.{held_line}
 use Rattle.rehearsal_engine.proofs.rehearse.RehearseEngine.put_watches.Given as goal
 
 abbrev pub invariant-loop-k : goal.invariant-loop-k

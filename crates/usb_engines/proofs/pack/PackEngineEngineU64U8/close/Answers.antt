@@ -5,7 +5,8 @@ use Rattle.midi1_bytes.specs.Stream.{Open}
 use Rattle.midi_pass.specs.Bytes.{bytes_of}
 use Rattle.voice_state.specs.StepListing.{kinds_at_end}
 use Rattle.usb_midi1.specs.Held.{PackerState}
-use Rattle.usb_engines.specs.Pack.{line_puts, open_lines}
+use Rattle.listing_puts.specs.Lines.{line_puts}
+use Rattle.usb_engines.specs.Pack.{open_lines}
 use Rattle.usb_engines.proofs.pack.PackEngineEngineU64U8.close.Goals as goal
 
 pub returns : goal.returns

@@ -8,7 +8,8 @@ use Rattle.midi_pass.specs.Pass.{Takes}
 use Rattle.midi_pass.specs.Places.{places}
 use Rattle.midi_pass.specs.StepLaws.{takes_steps}
 use Rattle.usb_midi1.specs.Held.{PackerState, packer_after, packer_behind, step_in}
-use Rattle.usb_engines.specs.Pack.{options_of, packed_puts, packing, refusal_of}
+use Rattle.listing_puts.specs.Refusal.{refusal_of}
+use Rattle.usb_engines.specs.Pack.{options_of, packed_puts, packing}
 use Rattle.usb_engines.proofs.PackLaws.{step_within}
 use Rattle.usb_engines.proofs.pack.PackEngineEngineU64U8.step.Goals as goal
 

@@ -1,0 +1,590 @@
+// Messages by hand from the tables of M2-101-UM: read and written, cut short, and refused.
+ghost use Rattle.std.specs.Prelude.{◌≤◌, length, IfSome};
+ghost use Rattle.ci_messages.specs.Fields.{IsData};
+ghost use Rattle.ci_messages.specs.Reading.{IsExclusive};
+ghost use Rattle.ci_messages.specs.Writing.{IsView, message_bytes};
+
+use ci_messages::*;
+use midi_edge::ShortList;
+use voice_messages::{U4, U7};
+
+// What comes before the sub-id and after the version: from MUID 5 to 19088743, at channel 2.
+const BEFORE_SUB: [u8; 3] = [0x7E, 0x02, 0x0D];
+
+const AFTER_VERSION: [u8; 8] = [0x05, 0x00, 0x00, 0x00, 0x67, 0x0A, 0x0D, 0x09];
+
+// The exclusive with these bytes between F0 and F7; `None` where they aren't data bytes, or more than 510.
+fn framed(payload: &[u8]) -> Option<ShortList<u8, 512>>
+    ensures { IfSome result IsExclusive }
+{
+    if payload.len() > 510 || payload.iter().any(|byte| *byte >= 128) {
+        return None;
+    }
+    let mut message = ShortList::new();
+    message.push(0xF0);
+    message.extend(payload);
+    message.push(0xF7);
+    Some(message)
+}
+
+// The bytes between F0 and F7 of a message with a body; `None` where there are more than 510.
+fn payload(sub: u8, version: u8, body: &[u8]) -> Option<ShortList<u8, 510>> {
+    if body.len() > 497 {
+        return None;
+    }
+    let mut payload = ShortList::new();
+    payload.extend(&BEFORE_SUB);
+    payload.push(sub);
+    payload.push(version);
+    payload.extend(&AFTER_VERSION);
+    payload.extend(body);
+    Some(payload)
+}
+
+// A view of a message with a body, of version 02 unless another is given.
+macro_rules! view_of {
+    ($sub:expr, $body:expr) => {
+        view_of!($sub, 2, $body)
+    };
+    ($sub:expr, $version:expr, $body:expr) => {
+        CiView {
+            address: Address::Channel(U4::low_bits(2)),
+            sub: $sub,
+            version: $version,
+            source: 5,
+            destination: 19_088_743,
+            body: $body,
+        }
+    };
+}
+
+// Whether the bytes between F0 and F7 are read as the view.
+fn is_read(payload: &[u8], view: &CiView<'_>) -> bool {
+    match framed(payload) {
+        Some(message) => matches!(read(message.as_slice()), Ok(found) if found == *view),
+        None => false,
+    }
+}
+
+// Whether the bytes between F0 and F7 are refused for the fault.
+fn is_refused(payload: &[u8], fault: CiFault) -> bool {
+    match framed(payload) {
+        Some(message) => matches!(read(message.as_slice()), Err(found) if found == fault),
+        None => false,
+    }
+}
+
+// Whether the view is written as the exclusive with these bytes between F0 and F7.
+fn is_written(view: &CiView<'_>, payload: &[u8]) -> bool
+    requires view { IsView view.now }
+    requires version { 1 ≤ view.now.version }
+    requires fits { length (message_bytes view.now) ≤ 512 }
+{
+    let mut message = ShortList::new();
+    write(view, &mut message);
+    match framed(payload) {
+        Some(framed) => framed == message,
+        None => false,
+    }
+}
+
+// Whether a message whose body has these bytes is read as the view, which is written as that message.
+fn is_row(bytes: &[u8], view: &CiView<'_>) -> bool
+    requires view { IsView view.now }
+    requires version { 1 ≤ view.now.version }
+    requires fits { length (message_bytes view.now) ≤ 512 }
+{
+    match payload(view.sub, view.version, bytes) {
+        Some(payload) => is_read(payload.as_slice(), view) && is_written(view, payload.as_slice()),
+        None => false,
+    }
+}
+
+fn profile() -> ProfileId
+    ensures { IsData result.bytes }
+{
+    ProfileId {
+        bytes: [
+            U7::low_bits(0x7E),
+            U7::low_bits(0x00),
+            U7::low_bits(0x01),
+            U7::low_bits(0x02),
+            U7::low_bits(0x03),
+        ],
+    }
+}
+
+#[test]
+fn discovery_messages(rt: HostRuntime) {
+    let bytes = [
+        0x00, 0x21, 0x09, 0x11, 0x12, 0x13, 0x14, 0x01, 0x02, 0x03, 0x04, 0x1C, 0x05, 0x06, 0x07,
+        0x01, 0x1E, 0x1F,
+    ];
+    let discovery = Body::Discovery {
+        manufacturer: [0x00, 0x21, 0x09],
+        family: [0x11, 0x12],
+        model: [0x13, 0x14],
+        revision: [0x01, 0x02, 0x03, 0x04],
+        category: 0x1C,
+        size: 2_212_613,
+        path: 0x1E,
+    };
+    assert!(rt; is_row(&bytes[..17], &view_of!(0x70, discovery)));
+    let reply = Body::DiscoveryReply {
+        manufacturer: [0x00, 0x21, 0x09],
+        family: [0x11, 0x12],
+        model: [0x13, 0x14],
+        revision: [0x01, 0x02, 0x03, 0x04],
+        category: 0x1C,
+        size: 2_212_613,
+        path: 0x1E,
+        block: 0x1F,
+    };
+    assert!(rt; is_row(&bytes, &view_of!(0x71, reply)));
+}
+
+#[test]
+fn management_messages(rt: HostRuntime) {
+    let inquiry = Body::EndpointInquiry { status: 3 };
+    assert!(rt; is_row(&[0x03], &view_of!(0x72, inquiry)));
+    let reply = Body::EndpointReply {
+        status: 3,
+        text: &[0x53, 0x4E, 0x31],
+    };
+    let bytes = [0x03, 0x03, 0x00, 0x53, 0x4E, 0x31];
+    assert!(rt; is_row(&bytes, &view_of!(0x73, reply)));
+    let invalidate = Body::Invalidate { target: 19_088_743 };
+    let bytes = [0x67, 0x0A, 0x0D, 0x09];
+    assert!(rt; is_row(&bytes, &view_of!(0x7E, invalidate)));
+    let nak = Body::Nak {
+        original: 0x22,
+        code: 0x01,
+        value: 0x02,
+        details: [0x03, 0x04, 0x05, 0x06, 0x07],
+        text: &[0x6E, 0x6F],
+    };
+    let bytes = [
+        0x22, 0x01, 0x02, 0x03, 0x04, 0x05, 0x06, 0x07, 0x02, 0x00, 0x6E, 0x6F,
+    ];
+    assert!(rt; is_row(&bytes, &view_of!(0x7F, nak)));
+}
+
+#[test]
+fn profile_messages(rt: HostRuntime) {
+    assert!(rt; is_row(&[], &view_of!(0x20, Body::ProfileInquiry)));
+    let reply = Body::ProfileReply {
+        on: &[0x7E, 0x00, 0x01, 0x02, 0x03, 0x7E, 0x00, 0x02, 0x02, 0x03],
+        off: &[0x7E, 0x00, 0x03, 0x02, 0x03],
+    };
+    let bytes = [
+        0x02, 0x00, 0x7E, 0x00, 0x01, 0x02, 0x03, 0x7E, 0x00, 0x02, 0x02, 0x03, 0x01, 0x00, 0x7E,
+        0x00, 0x03, 0x02, 0x03,
+    ];
+    assert!(rt; is_row(&bytes, &view_of!(0x21, reply)));
+    let bytes = [0x7E, 0x00, 0x01, 0x02, 0x03, 0x01, 0x02];
+    let set_on = Body::SetOn {
+        id: profile(),
+        channels: 257,
+    };
+    assert!(rt; is_row(&bytes, &view_of!(0x22, set_on)));
+    let enabled = Body::EnabledReport {
+        id: profile(),
+        channels: 257,
+    };
+    assert!(rt; is_row(&bytes, &view_of!(0x24, enabled)));
+    let disabled = Body::DisabledReport {
+        id: profile(),
+        channels: 257,
+    };
+    assert!(rt; is_row(&bytes, &view_of!(0x25, disabled)));
+    let set_off = Body::SetOff { id: profile() };
+    let bytes = [0x7E, 0x00, 0x01, 0x02, 0x03, 0x00, 0x00];
+    assert!(rt; is_row(&bytes, &view_of!(0x23, set_off)));
+}
+
+#[test]
+fn unread_messages(rt: HostRuntime) {
+    let bytes = [0x01, 0x02, 0x03];
+    assert!(rt; is_row(&bytes, &view_of!(0x30, Body::Property(&[0x01, 0x02, 0x03]))));
+    assert!(rt; is_row(&bytes, &view_of!(0x3F, Body::Property(&[0x01, 0x02, 0x03]))));
+    assert!(rt; is_row(&bytes, &view_of!(0x29, Body::Other(&[0x01, 0x02, 0x03]))));
+    assert!(rt; is_row(&[], &view_of!(0x40, Body::Other(&[]))));
+    for sub in [0x00, 0x1F, 0x26, 0x2F, 0x40, 0x6F, 0x74, 0x7D] {
+        let view = view_of!(sub, Body::Other(&bytes));
+        match payload(sub, 2, &bytes) {
+            Some(payload) => assert!(rt; is_read(payload.as_slice(), &view), "sub-id {sub}"),
+            None => assert!(rt; false, "sub-id {sub}"),
+        }
+    }
+}
+
+// A Discovery to broadcast, and a switch of a profile.
+const DISCOVERY: [u8; 30] = [
+    0x7E, 0x7F, 0x0D, 0x70, 0x02, 0x05, 0x00, 0x00, 0x00, 0x7F, 0x7F, 0x7F, 0x7F, 0x7D, 0x00, 0x00,
+    0x01, 0x00, 0x02, 0x00, 0x01, 0x00, 0x00, 0x00, 0x04, 0x00, 0x02, 0x00, 0x00, 0x00,
+];
+
+const SET_ON: [u8; 20] = [
+    0x7E, 0x02, 0x0D, 0x22, 0x02, 0x05, 0x00, 0x00, 0x00, 0x67, 0x0A, 0x0D, 0x09, 0x7E, 0x00, 0x01,
+    0x01, 0x00, 0x01, 0x00,
+];
+
+#[test]
+fn worked_messages(rt: HostRuntime) {
+    let discovery = CiView {
+        address: Address::Block,
+        sub: 0x70,
+        version: 2,
+        source: 5,
+        destination: 0x0FFF_FFFF,
+        body: Body::Discovery {
+            manufacturer: [125, 0, 0],
+            family: [1, 0],
+            model: [2, 0],
+            revision: [1, 0, 0, 0],
+            category: 4,
+            size: 256,
+            path: 0,
+        },
+    };
+    assert!(rt; is_read(&DISCOVERY, &discovery));
+    assert!(rt; is_written(&discovery, &DISCOVERY));
+    let id = ProfileId {
+        bytes: [
+            U7::low_bits(126),
+            U7::low_bits(0),
+            U7::low_bits(1),
+            U7::low_bits(1),
+            U7::low_bits(0),
+        ],
+    };
+    let set_on = view_of!(0x22, Body::SetOn { id, channels: 1 });
+    assert!(rt; is_read(&SET_ON, &set_on));
+    assert!(rt; is_written(&set_on, &SET_ON));
+}
+
+#[test]
+fn a_text_of_130_bytes(rt: HostRuntime) {
+    // 130 is 02 01, the low seven bits first.
+    let mut bytes = [0x41; 133];
+    bytes[0] = 0x00;
+    bytes[1] = 0x02;
+    bytes[2] = 0x01;
+    let reply = Body::EndpointReply {
+        status: 0,
+        text: &[0x41; 130],
+    };
+    assert!(rt; is_row(&bytes, &view_of!(0x73, reply)));
+}
+
+#[test]
+fn the_most_profiles(rt: HostRuntime) {
+    // 98 ids of five bytes fill 509 bytes, and 64 is 40 00.
+    let mut bytes = [0x11; 494];
+    bytes[0] = 0x22;
+    bytes[1] = 0x00;
+    bytes[172] = 0x40;
+    bytes[173] = 0x00;
+    let reply = Body::ProfileReply {
+        on: &[0x11; 170],
+        off: &[0x11; 320],
+    };
+    assert!(rt; is_row(&bytes, &view_of!(0x21, reply)));
+}
+
+#[test]
+fn addresses(rt: HostRuntime) {
+    for (number, address) in [
+        (0x00, Address::Channel(U4::low_bits(0))),
+        (0x0F, Address::Channel(U4::low_bits(15))),
+        (0x7E, Address::Group),
+        (0x7F, Address::Block),
+    ] {
+        let mut payload = SET_ON;
+        payload[1] = number;
+        match framed(&payload) {
+            Some(message) => match read(message.as_slice()) {
+                Ok(found) => assert!(rt; found.address == address, "address {number}"),
+                Err(_) => assert!(rt; false, "address {number}"),
+            },
+            None => assert!(rt; false, "address {number}"),
+        }
+    }
+    for number in [0x10, 0x7D] {
+        let mut payload = SET_ON;
+        payload[1] = number;
+        assert!(rt;
+            is_refused(&payload, CiFault::BadAddress),
+            "address {number}"
+        );
+    }
+}
+
+#[test]
+fn versions(rt: HostRuntime) {
+    for version in [1, 3, 127] {
+        let view = view_of!(0x7E, version, Body::Invalidate { target: 5 });
+        match payload(0x7E, version, &[0x05, 0x00, 0x00, 0x00]) {
+            Some(payload) => assert!(rt; is_read(payload.as_slice(), &view), "version {version}"),
+            None => assert!(rt; false, "version {version}"),
+        }
+    }
+    for sub in [0x70, 0x7E, 0x30] {
+        let view = view_of!(sub, 0, Body::Other(&[0x05]));
+        match payload(sub, 0, &[0x05]) {
+            Some(payload) => assert!(rt; is_read(payload.as_slice(), &view), "sub-id {sub}"),
+            None => assert!(rt; false, "sub-id {sub}"),
+        }
+    }
+}
+
+// Of a Discovery the path has no place, and of its reply neither the path nor the block.
+#[test]
+fn short_discovery_messages(rt: HostRuntime) {
+    let bytes = [
+        0x00, 0x21, 0x09, 0x11, 0x12, 0x13, 0x14, 0x01, 0x02, 0x03, 0x04, 0x1C, 0x05, 0x06, 0x07,
+        0x01,
+    ];
+    let discovery = Body::Discovery {
+        manufacturer: [0x00, 0x21, 0x09],
+        family: [0x11, 0x12],
+        model: [0x13, 0x14],
+        revision: [0x01, 0x02, 0x03, 0x04],
+        category: 0x1C,
+        size: 2_212_613,
+        path: 0,
+    };
+    assert!(rt; is_row(&bytes, &view_of!(0x70, 1, discovery)));
+    let reply = Body::DiscoveryReply {
+        manufacturer: [0x00, 0x21, 0x09],
+        family: [0x11, 0x12],
+        model: [0x13, 0x14],
+        revision: [0x01, 0x02, 0x03, 0x04],
+        category: 0x1C,
+        size: 2_212_613,
+        path: 0,
+        block: 0x7F,
+    };
+    assert!(rt; is_row(&bytes, &view_of!(0x71, 1, reply)));
+}
+
+#[test]
+fn short_management_messages(rt: HostRuntime) {
+    let invalidate = Body::Invalidate { target: 19_088_743 };
+    let bytes = [0x67, 0x0A, 0x0D, 0x09];
+    assert!(rt; is_row(&bytes, &view_of!(0x7E, 1, invalidate)));
+    let nak = Body::Nak {
+        original: 0,
+        code: 0,
+        value: 0,
+        details: [0, 0, 0, 0, 0],
+        text: &[],
+    };
+    assert!(rt; is_row(&[], &view_of!(0x7F, 1, nak)));
+    // The messages of the endpoint have no row.
+    let bytes = [0x03, 0x03, 0x00];
+    assert!(rt; is_row(&bytes, &view_of!(0x72, 1, Body::Other(&[0x03, 0x03, 0x00]))));
+    assert!(rt; is_row(&bytes, &view_of!(0x73, 1, Body::Other(&[0x03, 0x03, 0x00]))));
+    assert!(rt;
+        is_row(
+            &bytes,
+            &view_of!(0x34, 1, Body::Property(&[0x03, 0x03, 0x00]))
+        )
+    );
+    assert!(rt; is_row(&bytes, &view_of!(0x7D, 1, Body::Other(&[0x03, 0x03, 0x00]))));
+}
+
+// The channels and the reserved bytes of a switch have no place.
+#[test]
+fn short_profile_messages(rt: HostRuntime) {
+    assert!(rt; is_row(&[], &view_of!(0x20, 1, Body::ProfileInquiry)));
+    let reply = Body::ProfileReply {
+        on: &[0x7E, 0x00, 0x01, 0x02, 0x03],
+        off: &[],
+    };
+    let bytes = [0x01, 0x00, 0x7E, 0x00, 0x01, 0x02, 0x03, 0x00, 0x00];
+    assert!(rt; is_row(&bytes, &view_of!(0x21, 1, reply)));
+    let bytes = [0x7E, 0x00, 0x01, 0x02, 0x03];
+    let set_on = Body::SetOn {
+        id: profile(),
+        channels: 0,
+    };
+    assert!(rt; is_row(&bytes, &view_of!(0x22, 1, set_on)));
+    let set_off = Body::SetOff { id: profile() };
+    assert!(rt; is_row(&bytes, &view_of!(0x23, 1, set_off)));
+    let enabled = Body::EnabledReport {
+        id: profile(),
+        channels: 0,
+    };
+    assert!(rt; is_row(&bytes, &view_of!(0x24, 1, enabled)));
+    let disabled = Body::DisabledReport {
+        id: profile(),
+        channels: 0,
+    };
+    assert!(rt; is_row(&bytes, &view_of!(0x25, 1, disabled)));
+}
+
+// The fault of the exclusive with these bytes between F0 and F7; `None` where it is read.
+fn fault_of(payload: &[u8]) -> Option<CiFault> {
+    let message = framed(payload)?;
+    match read(message.as_slice()) {
+        Ok(_) => None,
+        Err(fault) => Some(fault),
+    }
+}
+
+#[test]
+fn each_prefix(rt: HostRuntime) {
+    // Each sub-id with a body that ends with its last field.
+    let rows: [(u8, &[u8]); 11] = [
+        (0x70, &[0x01; 17]),
+        (0x71, &[0x01; 18]),
+        (0x72, &[0x01]),
+        (0x73, &[0x01, 0x02, 0x00, 0x6E, 0x6F]),
+        (0x7E, &[0x01; 4]),
+        (
+            0x7F,
+            &[
+                0x01, 0x01, 0x01, 0x01, 0x01, 0x01, 0x01, 0x01, 0x01, 0x00, 0x6E,
+            ],
+        ),
+        (
+            0x21,
+            &[
+                0x01, 0x00, 0x01, 0x01, 0x01, 0x01, 0x01, 0x01, 0x00, 0x01, 0x01, 0x01, 0x01, 0x01,
+            ],
+        ),
+        (0x22, &[0x01; 7]),
+        (0x23, &[0x01; 7]),
+        (0x24, &[0x01; 7]),
+        (0x25, &[0x01; 7]),
+    ];
+    for (sub, body) in rows {
+        let Some(whole) = payload(sub, 2, body) else {
+            assert!(rt; false, "sub-id {sub}");
+            return;
+        };
+        let whole = whole.as_slice();
+        for size in 0..whole.len() {
+            let fault = if size < 4 {
+                CiFault::NotCi
+            } else {
+                CiFault::Short
+            };
+            assert!(rt;
+                is_refused(&whole[..size], fault),
+                "sub-id {sub}, {size} bytes"
+            );
+        }
+        assert!(rt; fault_of(whole).is_none(), "sub-id {sub}");
+    }
+}
+
+// A message of version 01 that ends before its last field, and one that goes on after it.
+#[test]
+fn each_end_of_a_short_message(rt: HostRuntime) {
+    for (sub, size) in [
+        (0x70, 16),
+        (0x71, 16),
+        (0x7E, 4),
+        (0x21, 4),
+        (0x22, 5),
+        (0x23, 5),
+        (0x24, 5),
+        (0x25, 5),
+    ] {
+        let Some(whole) = payload(sub, 1, &[0x00; 20]) else {
+            assert!(rt; false, "sub-id {sub}");
+            return;
+        };
+        let whole = whole.as_slice();
+        assert!(rt;
+            is_refused(&whole[..(12 + size).min(whole.len())], CiFault::Short),
+            "sub-id {sub}"
+        );
+        assert!(rt;
+            fault_of(&whole[..(13 + size).min(whole.len())]).is_none(),
+            "sub-id {sub}"
+        );
+        assert!(rt; fault_of(whole).is_none(), "sub-id {sub}");
+    }
+    for sub in [0x20, 0x30, 0x40, 0x72, 0x73, 0x7F] {
+        match payload(sub, 1, &[]) {
+            Some(payload) => assert!(rt; fault_of(payload.as_slice()).is_none(), "sub-id {sub}"),
+            None => assert!(rt; false, "sub-id {sub}"),
+        }
+    }
+}
+
+#[test]
+fn each_prefix_of_what_has_no_end(rt: HostRuntime) {
+    for sub in [0x20, 0x30, 0x40] {
+        let Some(whole) = payload(sub, 2, &[0x01; 3]) else {
+            assert!(rt; false, "sub-id {sub}");
+            return;
+        };
+        let whole = whole.as_slice();
+        for size in 0..whole.len() {
+            let fault = match size {
+                0..=3 => Some(CiFault::NotCi),
+                4..=12 => Some(CiFault::Short),
+                _ => None,
+            };
+            assert!(rt;
+                fault_of(&whole[..size]) == fault,
+                "sub-id {sub}, {size} bytes"
+            );
+        }
+        assert!(rt; fault_of(whole).is_none(), "sub-id {sub}");
+    }
+}
+
+#[test]
+fn bytes_after_the_fields(rt: HostRuntime) {
+    let invalidate = view_of!(0x7E, Body::Invalidate { target: 5 });
+    let inquiry = view_of!(0x20, Body::ProfileInquiry);
+    match payload(0x7E, 2, &[0x05, 0x00, 0x00, 0x00, 0x01, 0x02]) {
+        Some(payload) => assert!(rt; is_read(payload.as_slice(), &invalidate)),
+        None => assert!(rt; false),
+    }
+    match payload(0x20, 2, &[0x01, 0x02]) {
+        Some(payload) => assert!(rt; is_read(payload.as_slice(), &inquiry)),
+        None => assert!(rt; false),
+    }
+}
+
+#[test]
+fn the_first_fault(rt: HostRuntime) {
+    // Neither universal and non-realtime nor of MIDI-CI, however short.
+    assert!(rt; is_refused(&[], CiFault::NotCi));
+    assert!(rt; is_refused(&[0x7F, 0x7F, 0x0D, 0x70], CiFault::NotCi));
+    assert!(rt; is_refused(&[0x7E, 0x7F, 0x0E, 0x70], CiFault::NotCi));
+    // Too short, though no address is 10.
+    assert!(rt; is_refused(&[0x7E, 0x7F, 0x0D, 0x70], CiFault::Short));
+    assert!(rt; is_refused(&[0x7E, 0x10, 0x0D, 0x20], CiFault::Short));
+    // No address, though broadcast is no source.
+    let mut inquiry = [
+        0x7E, 0x10, 0x0D, 0x20, 0x02, 0x7F, 0x7F, 0x7F, 0x7F, 0x7F, 0x7F, 0x7F, 0x7F,
+    ];
+    assert!(rt; is_refused(&inquiry, CiFault::BadAddress));
+    // Broadcast, and the first and last of the reserved MUIDs.
+    inquiry[1] = 0x7F;
+    assert!(rt; is_refused(&inquiry, CiFault::ReservedMuid));
+    inquiry[5] = 0x7E;
+    assert!(rt; is_refused(&inquiry, CiFault::ReservedMuid));
+    inquiry[5] = 0x00;
+    inquiry[6] = 0x7E;
+    assert!(rt; is_refused(&inquiry, CiFault::ReservedMuid));
+    // The MUID before them, to broadcast.
+    inquiry[5] = 0x7F;
+    inquiry[6] = 0x7D;
+    let view = CiView {
+        address: Address::Block,
+        sub: 0x20,
+        version: 2,
+        source: 0x0FFF_FEFF,
+        destination: 0x0FFF_FFFF,
+        body: Body::ProfileInquiry,
+    };
+    assert!(rt; is_read(&inquiry, &view));
+}

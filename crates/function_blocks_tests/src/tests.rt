@@ -1,0 +1,616 @@
+// Each rule by the smallest front of a setup that breaks it, values past each border, and worked rows of replies.
+use function_blocks::*;
+use midi_edge::U4;
+use std::alloc::{AllocError, Global};
+use std::test::Fail;
+use system_stream::StreamMessage;
+use ump_grammar::Replies;
+
+// A setup that keeps all rules. Its first lines alone are a text too.
+const LINES: [&str; 29] = [
+    "[endpoint]",
+    "name = \"Demo Endpoint X\"",
+    "id = \"SN-0001\"",
+    "manufacturer = [125, 0, 0]",
+    "family = 1",
+    "model = 2",
+    "revision = [1, 0, 0, 0]",
+    "midi1 = true",
+    "midi2 = true",
+    "protocol = 2",
+    "static = true",
+    "[[block]]",
+    "active = true",
+    "name = \"Main\"",
+    "hint = 3",
+    "midi1 = 0",
+    "direction = 3",
+    "first = 0",
+    "count = 1",
+    "ci = 2",
+    "sysex8 = 0",
+    "muids = [19088743, 300]",
+    "[[profile]]",
+    "block = 0",
+    "place = \"channel\"",
+    "group = 0",
+    "channel = 2",
+    "id = [126, 0, 1, 1, 0]",
+    "on = false",
+];
+
+fn add_line(text: &mut Vec<u8>, line: &str) -> Result<(), AllocError> {
+    text.extend_from_slice(line.as_bytes())?;
+    text.push(b'\n')?;
+    Ok(())
+}
+
+// The text of the first `count` lines, with one of them replaced, and of more lines.
+fn text_of(
+    alloc: Global,
+    count: usize,
+    index: usize,
+    line: &str,
+    more: &[&str],
+) -> Result<Vec<u8>, AllocError> {
+    let mut text = Vec::new(alloc);
+    for (k, own) in LINES.iter().enumerate() {
+        if k < count {
+            add_line(&mut text, if k == index { line } else { *own })?;
+        }
+    }
+    for line in more {
+        add_line(&mut text, line)?;
+    }
+    Ok(text)
+}
+
+fn read_only(alloc: Global, text: &[u8]) -> Result<(), SetupFault> {
+    match Setup::read(alloc, text) {
+        Ok(_) => Ok(()),
+        Err(fault) => Err(fault),
+    }
+}
+
+// What the first `count` lines are read as.
+fn front(alloc: Global, count: usize) -> Result<(), SetupFault> {
+    match text_of(alloc, count, LINES.len(), "", &[]) {
+        Ok(text) => read_only(alloc, text.as_slice()),
+        Err(_) => Err(SetupFault::NoMemory),
+    }
+}
+
+// What the whole setup is read as, where one line is replaced.
+fn with_line(alloc: Global, index: usize, line: &str) -> Result<(), SetupFault> {
+    match text_of(alloc, LINES.len(), index, line, &[]) {
+        Ok(text) => read_only(alloc, text.as_slice()),
+        Err(_) => Err(SetupFault::NoMemory),
+    }
+}
+
+// What the whole setup is read as with more lines after it.
+fn with_more(alloc: Global, more: &[&str]) -> Result<(), SetupFault> {
+    match text_of(alloc, LINES.len(), LINES.len(), "", more) {
+        Ok(text) => read_only(alloc, text.as_slice()),
+        Err(_) => Err(SetupFault::NoMemory),
+    }
+}
+
+// Each front lacks all that comes after it, so it breaks all later rules too: the first is reported.
+#[test]
+fn the_first_missing_key_is_told(rt: HostRuntime) {
+    let rules: [u8; 29] = [
+        1, 2, 3, 4, 5, 6, 7, 8, 8, 9, 10, 99, 12, 13, 14, 15, 16, 17, 18, 19, 20, 21, 99, 25, 26,
+        27, 28, 29, 30,
+    ];
+    for (count, rule) in rules.iter().enumerate() {
+        let expected = if *rule == 99 {
+            Ok(())
+        } else {
+            Err(SetupFault::Field(*rule))
+        };
+        assert_eq!(rt; front(rt.alloc(), count), expected, "{count} lines");
+    }
+    assert_eq!(rt; front(rt.alloc(), 29), Ok(()));
+}
+
+#[test]
+fn the_endpoint_past_each_border(rt: HostRuntime) {
+    let name =
+        "name = \"123456789 123456789 123456789 123456789 123456789 123456789 123456789 123456789 123456789 12345678\"";
+    let long_name =
+        "name = \"123456789 123456789 123456789 123456789 123456789 123456789 123456789 123456789 123456789 123456789\"";
+    let rows: [(usize, &str, u8); 37] = [
+        (0, "endpoint = 1", 1),
+        (1, "name = \"\"", 2),
+        (1, "name = 1", 2),
+        (1, name, 99),
+        (1, long_name, 2),
+        (2, "id = \"\"", 3),
+        (2, "id = \"123456789 123456789 123456789 123456789 12\"", 99),
+        (2, "id = \"123456789 123456789 123456789 123456789 123\"", 3),
+        (2, "id = \"SN\\u001F\"", 3),
+        (2, "id = \"SN\\u007F\"", 3),
+        (2, "id = \" ~\"", 99),
+        (2, "id = \"\\u00E9\"", 3),
+        (3, "manufacturer = [125, 0]", 4),
+        (3, "manufacturer = [125, 0, 0, 0]", 4),
+        (3, "manufacturer = [125, 0, 128]", 4),
+        (3, "manufacturer = [125, 0, -1]", 4),
+        (3, "manufacturer = 125", 4),
+        (4, "family = 16383", 99),
+        (4, "family = 16384", 5),
+        (4, "family = -1", 5),
+        (4, "family = 1.0", 5),
+        (5, "model = 16384", 6),
+        (5, "model = \"2\"", 6),
+        (6, "revision = [1, 0, 0]", 7),
+        (6, "revision = [1, 0, 0, 128]", 7),
+        (6, "revision = [1, 0, 0, true]", 7),
+        (7, "midi1 = 1", 8),
+        (7, "midi1 = false", 99),
+        (8, "midi2 = 1", 8),
+        (8, "midi2 = false", 9),
+        (9, "protocol = 0", 9),
+        (9, "protocol = 1", 99),
+        (9, "protocol = 3", 9),
+        (9, "protocol = true", 9),
+        (10, "static = 1", 10),
+        (10, "static = false", 99),
+        (10, "static = \"true\"", 10),
+    ];
+    for (index, line, rule) in rows {
+        let expected = if rule == 99 {
+            Ok(())
+        } else {
+            Err(SetupFault::Field(rule))
+        };
+        assert_eq!(rt; with_line(rt.alloc(), index, line), expected, "{line}");
+    }
+}
+
+#[test]
+fn blocks_past_each_border(rt: HostRuntime) {
+    let name =
+        "name = \"123456789 123456789 123456789 123456789 123456789 123456789 123456789 123456789 123456789 1\"";
+    let long_name =
+        "name = \"123456789 123456789 123456789 123456789 123456789 123456789 123456789 123456789 123456789 12\"";
+    let rows: [(usize, &str, u8); 32] = [
+        (12, "active = 1", 12),
+        (12, "active = false", 99),
+        (13, "name = \"\"", 13),
+        (13, name, 99),
+        (13, long_name, 13),
+        (14, "hint = 4", 14),
+        (14, "hint = -1", 14),
+        (15, "midi1 = 2", 99),
+        (15, "midi1 = 3", 15),
+        (16, "direction = 0", 16),
+        (16, "direction = 1", 99),
+        (16, "direction = 4", 16),
+        (17, "first = 16", 17),
+        (17, "first = 15", 27),
+        (18, "count = 0", 18),
+        (18, "count = 16", 99),
+        (18, "count = 17", 18),
+        (17, "first = 15\ncount = 2\n[[block.more]]", 18),
+        (17, "first = 15\ncount = 1\n[[block.more]]", 19),
+        (19, "ci = 3", 19),
+        (19, "ci = 0", 25),
+        (20, "sysex8 = 255", 99),
+        (20, "sysex8 = 256", 20),
+        (21, "muids = []", 21),
+        (21, "muids = [268435199]", 99),
+        (21, "muids = [268435200]", 21),
+        (
+            21,
+            "muids = [1, 2, 3, 4, 5, 6, 7, 8, 9, 10, 11, 12, 13, 14, 15, 16]",
+            99,
+        ),
+        (
+            21,
+            "muids = [1, 2, 3, 4, 5, 6, 7, 8, 9, 10, 11, 12, 13, 14, 15, 16, 17]",
+            21,
+        ),
+        (21, "muids = [1, \"2\"]", 21),
+        (21, "muids = [300, 300]", 23),
+        (11, "[block]", 11),
+        (11, "[[blocks]]", 25),
+    ];
+    for (index, line, rule) in rows {
+        let expected = if rule == 99 {
+            Ok(())
+        } else {
+            Err(SetupFault::Field(rule))
+        };
+        assert_eq!(rt; with_line(rt.alloc(), index, line), expected, "{line}");
+    }
+}
+
+#[test]
+fn profiles_past_each_border(rt: HostRuntime) {
+    let rows: [(usize, &str, u8); 22] = [
+        (22, "[profile]", 24),
+        (23, "block = 1", 25),
+        (23, "block = -1", 25),
+        (24, "place = \"block\"", 26),
+        (24, "place = 1", 26),
+        (24, "place = \"\"", 26),
+        (24, "place = \"function\"", 99),
+        (24, "place = \"group\"", 99),
+        (25, "group = 1", 27),
+        (25, "group = -1", 27),
+        (26, "channel = 15", 99),
+        (26, "channel = 16", 28),
+        (27, "id = [126, 0, 1, 1]", 29),
+        (27, "id = [126, 0, 1, 1, 0, 0]", 29),
+        (27, "id = [126, 0, 1, 1, 128]", 29),
+        (28, "on = 1", 30),
+        (28, "on = true", 99),
+        (28, "on = true\nunknown = 1", 99),
+        (25, "", 27),
+        (26, "", 28),
+        (24, "place = \"group\"\ngroup = 0\n[ignored]", 29),
+        (
+            24,
+            "place = \"function\"\nid = [1, 2, 3, 4, 5]\non = true\n[ignored]",
+            99,
+        ),
+    ];
+    for (index, line, rule) in rows {
+        let expected = if rule == 99 {
+            Ok(())
+        } else {
+            Err(SetupFault::Field(rule))
+        };
+        assert_eq!(rt; with_line(rt.alloc(), index, line), expected, "{line}");
+    }
+}
+
+// The keys of a block after `active` and before `first`.
+const BLOCK: &str = "name = \"More\"\nhint = 0\nmidi1 = 0\ndirection = 1\nsysex8 = 0";
+
+// The keys of a profile after `block`.
+const PROFILE: &str = "place = \"channel\"\ngroup = 0\non = true\n";
+
+#[test]
+fn blocks_and_profiles_together(rt: HostRuntime) {
+    let other = "[[block]]\nactive = true\nfirst = 0\ncount = 16\nci = 1\nmuids = [5]";
+    let alloc = rt.alloc();
+    assert_eq!(rt;
+        with_more(alloc, &[other, BLOCK]),
+        Err(SetupFault::Field(22))
+    );
+    let last = "[[block]]\nactive = true\nfirst = 1\ncount = 15\nci = 1\nmuids = [5]";
+    assert_eq!(rt; with_more(alloc, &[last, BLOCK]), Ok(()));
+    let without_ci = "[[block]]\nactive = true\nfirst = 0\ncount = 1\nci = 0\nmuids = []";
+    assert_eq!(rt; with_more(alloc, &[without_ci, BLOCK]), Ok(()));
+    let inactive = "[[block]]\nactive = false\nfirst = 0\ncount = 1\nci = 2\nmuids = [5]";
+    assert_eq!(rt; with_more(alloc, &[inactive, BLOCK]), Ok(()));
+    let same_muid = "[[block]]\nactive = false\nfirst = 0\ncount = 1\nci = 0\nmuids = [300]";
+    assert_eq!(rt;
+        with_more(alloc, &[same_muid, BLOCK]),
+        Err(SetupFault::Field(23))
+    );
+    let both = "[[block]]\nactive = true\nfirst = 0\ncount = 1\nci = 1\nmuids = [300]";
+    assert_eq!(rt;
+        with_more(alloc, &[both, BLOCK]),
+        Err(SetupFault::Field(22))
+    );
+    let broken = "[[block]]\nactive = true\nfirst = 0\ncount = 1\nci = 3\nmuids = [300]";
+    assert_eq!(rt;
+        with_more(alloc, &[broken, BLOCK]),
+        Err(SetupFault::Field(19))
+    );
+    let same = "[[profile]]\nblock = 0\nid = [126, 0, 1, 1, 0]\nchannel = 2";
+    assert_eq!(rt;
+        with_more(alloc, &[same, PROFILE]),
+        Err(SetupFault::Field(31))
+    );
+    let other_channel = "[[profile]]\nblock = 0\nid = [126, 0, 1, 1, 0]\nchannel = 3";
+    assert_eq!(rt; with_more(alloc, &[other_channel, PROFILE]), Ok(()));
+    let other_id = "[[profile]]\nblock = 0\nid = [126, 0, 1, 1, 1]\nchannel = 2";
+    assert_eq!(rt; with_more(alloc, &[other_id, PROFILE]), Ok(()));
+    let two = [other_id, PROFILE, same, PROFILE];
+    assert_eq!(rt; with_more(alloc, &two), Err(SetupFault::Field(31)));
+}
+
+// The endpoint of the setup and this many blocks without MIDI-CI, each with a name of 91 bytes, and profiles that aren't read.
+fn many_blocks(alloc: Global, blocks: usize) -> Result<Vec<u8>, AllocError> {
+    let mut text = text_of(alloc, 11, LINES.len(), "", &[])?;
+    for _ in 0..blocks {
+        add_line(&mut text, "[[block]]")?;
+        add_line(
+            &mut text,
+            "active = false\nfirst = 0\ncount = 1\nci = 0\nmuids = []",
+        )?;
+        add_line(&mut text, "hint = 0\nmidi1 = 0\ndirection = 1\nsysex8 = 0")?;
+        let name =
+            "name = \"123456789 123456789 123456789 123456789 123456789 123456789 123456789 123456789 123456789 1\"";
+        add_line(&mut text, name)?;
+    }
+    Ok(text)
+}
+
+fn many_profiles(alloc: Global, profiles: usize) -> Result<Vec<u8>, AllocError> {
+    let mut text = text_of(alloc, 22, LINES.len(), "", &[])?;
+    for k in 0..profiles {
+        add_line(
+            &mut text,
+            "[[profile]]\nblock = 0\nplace = \"function\"\non = true",
+        )?;
+        let line = format!(in alloc; "id = [0, 0, 0, 0, {k}]")?;
+        add_line(&mut text, line.as_str())?;
+    }
+    Ok(text)
+}
+
+#[test]
+fn no_more_blocks_and_profiles_than_fit(rt: HostRuntime) -> Result<(), Fail> {
+    let alloc = rt.alloc();
+    assert_eq!(rt;
+        read_only(alloc, many_blocks(alloc, 32)?.as_slice()),
+        Ok(())
+    );
+    assert_eq!(rt;
+        read_only(alloc, many_blocks(alloc, 33)?.as_slice()),
+        Err(SetupFault::Field(11))
+    );
+    assert_eq!(rt;
+        read_only(alloc, many_profiles(alloc, 64)?.as_slice()),
+        Ok(())
+    );
+    assert_eq!(rt;
+        read_only(alloc, many_profiles(alloc, 65)?.as_slice()),
+        Err(SetupFault::Field(24))
+    );
+    Ok(())
+}
+
+#[test]
+fn texts_that_are_no_toml(rt: HostRuntime) -> Result<(), Fail> {
+    let alloc = rt.alloc();
+    assert_eq!(rt; with_line(alloc, 14, "hint ="), Err(SetupFault::Syntax));
+    assert_eq!(rt;
+        with_line(alloc, 14, "hint = 3\nhint = 3"),
+        Err(SetupFault::Syntax)
+    );
+    assert_eq!(rt;
+        with_line(alloc, 14, "hint = 9223372036854775808"),
+        Err(SetupFault::Syntax)
+    );
+    assert_eq!(rt;
+        with_line(alloc, 14, "hint = 9223372036854775807"),
+        Err(SetupFault::Field(14))
+    );
+    assert_eq!(rt;
+        read_only(alloc, b"[endpoint]\nname = \"\xFF\""),
+        Err(SetupFault::Syntax)
+    );
+    let blank = vec![in alloc; b' '; 65_536]?;
+    assert_eq!(rt;
+        read_only(alloc, blank.as_slice()),
+        Err(SetupFault::Field(1))
+    );
+    let too_long = vec![in alloc; 0xFF; 65_537]?;
+    assert_eq!(rt;
+        read_only(alloc, too_long.as_slice()),
+        Err(SetupFault::Field(0))
+    );
+    Ok(())
+}
+
+fn setup_of(alloc: Global, text: Result<Vec<u8>, AllocError>) -> Result<Setup, SetupFault> {
+    match text {
+        Ok(text) => Setup::read(alloc, text.as_slice()),
+        Err(_) => Err(SetupFault::NoMemory),
+    }
+}
+
+#[test]
+fn what_the_setup_says(rt: HostRuntime) {
+    let Ok(setup) = setup_of(rt.alloc(), text_of(rt.alloc(), 29, 29, "", &[])) else {
+        assert!(rt; false, "the setup is read");
+        return;
+    };
+    assert_eq!(rt; setup.block_count(), 1);
+    match setup.block(0) {
+        Some(block) => {
+            assert_eq!(rt; block.name.as_slice(), b"Main".as_slice());
+            assert_eq!(rt; block.muids.as_slice(), [19_088_743, 300].as_slice());
+            let keys = [block.hint, block.midi1, block.direction, block.first];
+            assert_eq!(rt; keys, [3, 0, 3, 0]);
+            assert_eq!(rt; [block.count, block.ci, block.sysex8], [1, 2, 0]);
+            assert!(rt; block.active);
+        }
+        None => assert!(rt; false, "block 0"),
+    }
+    assert!(rt; setup.block(1).is_none());
+    assert_eq!(rt; setup.profile_count(), 1);
+    match setup.profile(0) {
+        Some(profile) => {
+            let place = Place::Channel(U4::low_bits(0), U4::low_bits(2));
+            assert!(rt; profile.block == 0 && profile.place == place && !profile.on);
+            let id = [126, 0, 1, 1, 0];
+            for (k, number) in id.iter().enumerate() {
+                assert_eq!(rt; profile.id[k].get(), *number);
+            }
+        }
+        None => assert!(rt; false, "profile 0"),
+    }
+    assert!(rt; setup.profile(1).is_none());
+    assert_eq!(rt; setup.product_id(), "SN-0001");
+    let identity = Identity {
+        manufacturer: [125, 0, 0],
+        family: [1, 0],
+        model: [2, 0],
+        revision: [1, 0, 0, 0],
+    };
+    assert_eq!(rt; setup.identity(), identity);
+    assert_eq!(rt; setup.config(), Config { protocol: 2 });
+}
+
+#[test]
+fn seven_bits_a_byte_the_lowest_first(rt: HostRuntime) {
+    let text = text_of(rt.alloc(), 11, 4, "family = 16383", &[]);
+    match setup_of(rt.alloc(), text) {
+        Ok(setup) => assert_eq!(rt; setup.identity().family, [127, 127]),
+        Err(_) => assert!(rt; false, "the setup is read"),
+    }
+    let text = text_of(rt.alloc(), 11, 5, "model = 300", &[]);
+    match setup_of(rt.alloc(), text) {
+        Ok(setup) => assert_eq!(rt; setup.identity().model, [44, 2]),
+        Err(_) => assert!(rt; false, "the setup is read"),
+    }
+}
+
+// Whether the setup answers the message with these words.
+fn is_answered(setup: &Setup, config: &mut Config, message: &StreamMessage, words: &[u32]) -> bool {
+    let mut replies = Replies::new();
+    let any = setup.answer(message, config, &mut replies);
+    replies.words() == words && any != words.is_empty()
+}
+
+#[test]
+fn discoveries_are_answered(rt: HostRuntime) {
+    let Ok(setup) = setup_of(rt.alloc(), text_of(rt.alloc(), 29, 29, "", &[])) else {
+        assert!(rt; false, "the setup is read");
+        return;
+    };
+    let mut config = setup.config();
+    let all: [u32; 24] = [
+        0xF001_0101,
+        0x8100_0300,
+        0,
+        0,
+        0xF002_0000,
+        0x007D_0000,
+        0x0100_0200,
+        0x0100_0000,
+        0xF403_4465,
+        0x6D6F_2045,
+        0x6E64_706F,
+        0x696E_7420,
+        0xFC03_5800,
+        0,
+        0,
+        0,
+        0xF004_534E,
+        0x2D30_3030,
+        0x3100_0000,
+        0,
+        0xF006_0200,
+        0,
+        0,
+        0,
+    ];
+    let rows: [(u8, &[u32]); 8] = [
+        (0x1F, &all),
+        (0xFF, &all),
+        (0x01, &all[..4]),
+        (0x02, &all[4..8]),
+        (0x04, &all[8..16]),
+        (0x08, &all[16..20]),
+        (0x10, &all[20..]),
+        (0xE0, &[]),
+    ];
+    for (filter, words) in rows {
+        let discovery = StreamMessage::Discovery {
+            major: 1,
+            minor: 1,
+            filter,
+        };
+        assert!(rt;
+            is_answered(&setup, &mut config, &discovery, words),
+            "filter {filter}"
+        );
+    }
+    let info = [
+        0xF011_8033,
+        0x0001_0200,
+        0,
+        0,
+        0xF012_004D,
+        0x6169_6E00,
+        0,
+        0,
+    ];
+    let blocks: [(u8, u8, &[u32]); 6] = [
+        (255, 3, &info),
+        (0, 3, &info),
+        (0, 1, &info[..4]),
+        (0, 2, &info[4..]),
+        (1, 3, &[]),
+        (0, 0xFC, &[]),
+    ];
+    for (block, filter, words) in blocks {
+        let discovery = StreamMessage::BlockDiscovery { block, filter };
+        assert!(rt;
+            is_answered(&setup, &mut config, &discovery, words),
+            "block {block} {filter}"
+        );
+    }
+    let notice = StreamMessage::ConfigNotice { protocol: 1, jr: 0 };
+    assert!(rt; is_answered(&setup, &mut config, &notice, &[]));
+    assert!(rt; is_answered(&setup, &mut config, &StreamMessage::Other, &[]));
+    assert_eq!(rt; config, Config { protocol: 2 });
+}
+
+#[test]
+fn requests_put_a_supported_protocol_in_force(rt: HostRuntime) {
+    let Ok(setup) = setup_of(rt.alloc(), text_of(rt.alloc(), 29, 29, "", &[])) else {
+        assert!(rt; false, "the setup is read");
+        return;
+    };
+    let Ok(new) = setup_of(rt.alloc(), text_of(rt.alloc(), 11, 7, "midi1 = false", &[])) else {
+        assert!(rt; false, "the setup is read");
+        return;
+    };
+    let mut config = setup.config();
+    let rows: [(u8, u32); 5] = [
+        (1, 0xF006_0100),
+        (0, 0xF006_0100),
+        (3, 0xF006_0100),
+        (2, 0xF006_0200),
+        (255, 0xF006_0200),
+    ];
+    for (protocol, first) in rows {
+        let request = StreamMessage::ConfigRequest { protocol, jr: 3 };
+        assert!(rt; is_answered(&setup, &mut config, &request, &[first, 0, 0, 0]));
+    }
+    let mut config = new.config();
+    let request = StreamMessage::ConfigRequest { protocol: 1, jr: 0 };
+    assert!(rt; is_answered(&new, &mut config, &request, &[0xF006_0200, 0, 0, 0]));
+    assert_eq!(rt; config, Config { protocol: 2 });
+}
+
+#[test]
+fn the_most_replies_fit(rt: HostRuntime) {
+    let Ok(setup) = setup_of(rt.alloc(), many_blocks(rt.alloc(), 32)) else {
+        assert!(rt; false, "the setup is read");
+        return;
+    };
+    let mut config = setup.config();
+    let mut replies = Replies::new();
+    let discovery = StreamMessage::BlockDiscovery {
+        block: 255,
+        filter: 3,
+    };
+    assert!(rt; setup.answer(&discovery, &mut config, &mut replies));
+    let words = replies.words();
+    assert_eq!(rt; words.len(), 1024);
+    let rows: [(usize, [u32; 4]); 3] = [
+        (0, [0xF011_0001, 0x0001_0000, 0, 0]),
+        (992, [0xF011_1F01, 0x0001_0000, 0, 0]),
+        (1020, [0xFC12_1F39, 0x2031_3233, 0x3435_3637, 0x3839_2031]),
+    ];
+    for (start, packet) in rows {
+        for (k, word) in packet.iter().enumerate() {
+            assert_eq!(rt;
+                words.get(start + k).copied(),
+                Some(*word),
+                "word {start} {k}"
+            );
+        }
+    }
+}

@@ -1,0 +1,28 @@
+-- What the puts of lines of the listing leave, and where they go.
+use Rattle.std.proofs.Common.{◌≡◌, true, List, [], ◌∷◌, ◌++◌, refl, ap}
+use Rattle.std.specs.List.{flat_map}
+use Rattle.std.proofs.lemmas.List.{map-append}
+use Rattle.voice_state.specs.declared.listed.Listed.{Listed}
+use Rattle.midi_lines.specs.ListingLines.{listing_text}
+use Rattle.midi_pass.specs.Named.{AreNamed, Named}
+use Rattle.midi_pass.specs.Put.{in_notes, notes_in, output_in, pairs_in}
+use Rattle.listing_puts.specs.Lines.{line_puts}
+
+pub lines-then : (first second : List Listed) → line_puts (first ++ second) ≡ line_puts first ++ line_puts second
+lines-then first second = map-append (λ (line : Listed). in_notes (listing_text line)) first second
+
+pub lines_named : (names : Named) → names.notes ≡ true → (lines : List Listed) → AreNamed names (line_puts lines)
+lines_named names named [] = tt
+lines_named names named (line ∷ lines) = (named, lines_named names named lines)
+
+pub notes-lines : (lines : List Listed) → notes_in (line_puts lines) ≡ flat_map listing_text lines
+notes-lines [] = refl
+notes-lines (line ∷ lines) = ap (λ xs. listing_text line ++ xs) (notes-lines lines)
+
+pub output-lines : (lines : List Listed) → output_in (line_puts lines) ≡ []
+output-lines [] = refl
+output-lines (line ∷ lines) = output-lines lines
+
+pub pairs-lines : (lines : List Listed) → pairs_in (line_puts lines) ≡ []
+pairs-lines [] = refl
+pairs-lines (line ∷ lines) = pairs-lines lines

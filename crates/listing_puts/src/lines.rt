@@ -1,0 +1,65 @@
+// Lines of the listing in the notes.
+ghost use Rattle.std.specs.Prelude.{◌≡◌, ◌∷◌, ◌++◌, []};
+ghost use Rattle.std.specs.Option.{option_to_list};
+ghost use Rattle.midi_pass.specs.Places.{Puts, places};
+ghost use Rattle.listing_puts.specs.Lines.{line_puts};
+
+use midi_edge::{Lanes, Sink};
+use midi_lines::{Line, fill_listing_line};
+use midi_pass::RunEnd;
+use midi_pass::places::put_notes;
+use voice_state::Listed;
+
+/// Puts a line of the listing in the notes.
+#[inline(never)]
+pub fn put_line<L: Lanes, W: Sink, N: Sink>(
+    listed: &Listed,
+    lanes: &mut L,
+    output: &mut W,
+    notes: &mut N,
+) -> Result<(), RunEnd>
+    ensures { Puts (line_puts (listed.now ∷ []))
+        (places L.Lanes W.Sink N.Sink lanes.old output.old notes.old)
+        (places L.Lanes W.Sink N.Sink lanes.new output.new notes.new) result }
+{
+    let mut line = Line::new();
+    fill_listing_line(&mut line, listed);
+    put_notes(line.as_slice(), lanes, output, notes)
+}
+
+/// Puts a line of the listing in the notes, if there is one. Mostly there is none, so only that question stands at each call.
+#[inline(always)]
+pub fn put_listed<L: Lanes, W: Sink, N: Sink>(
+    listed: Option<Listed>,
+    lanes: &mut L,
+    output: &mut W,
+    notes: &mut N,
+) -> Result<(), RunEnd>
+    ensures { Puts (line_puts (option_to_list listed))
+        (places L.Lanes W.Sink N.Sink lanes.old output.old notes.old)
+        (places L.Lanes W.Sink N.Sink lanes.new output.new notes.new) result }
+{
+    match listed {
+        Some(listed) => put_line(&listed, lanes, output, notes),
+        None => Ok(()),
+    }
+}
+
+/// Puts one line of the listing in the notes and then another, each if there is one.
+#[inline(always)]
+pub fn put_both<L: Lanes, W: Sink, N: Sink>(
+    first: Option<Listed>,
+    second: Option<Listed>,
+    lanes: &mut L,
+    output: &mut W,
+    notes: &mut N,
+) -> Result<(), RunEnd>
+    ensures { Puts (line_puts (option_to_list first ++ option_to_list second))
+        (places L.Lanes W.Sink N.Sink lanes.old output.old notes.old)
+        (places L.Lanes W.Sink N.Sink lanes.new output.new notes.new) result }
+{
+    match put_listed(first, lanes, output, notes) {
+        Ok(()) => put_listed(second, lanes, output, notes),
+        Err(end) => Err(end),
+    }
+}

@@ -1,0 +1,70 @@
+// How a run ends.
+ghost use Rattle.std.specs.Prelude.{◌≡◌, ◌≢◌, OnOk, OnErr};
+
+use midi_edge::Failed;
+use midi_pass::Reason;
+
+/// How a run ends.
+#[derive(Clone, Copy, Debug, PartialEq, Eq)]
+pub enum Status {
+    /// The input was read to its end; a self test, which reads none, has put its line.
+    Done,
+    /// What stands at this offset is refused: a packet, a byte, an event, a clip that doesn't end, or the input where it ends too
+    /// early or passes its limit. The offset is the number of input bytes before it.
+    Refused { reason: Reason, offset: u64 },
+    /// A read failed.
+    ReadFault,
+    /// The folder could not be opened, or a write to a lane failed.
+    LaneFault,
+    /// A write to the output failed.
+    OutputFault,
+    /// A write to the notes failed.
+    NoteFault,
+    /// The setup could not be read.
+    ShelfFault,
+    /// The words are no command.
+    Usage,
+    /// The setup isn't UTF-8, or no TOML.
+    SetupSyntax,
+    /// The rule of this number, 0 to 31, is the first that the setup breaks.
+    SetupField(u8),
+    /// There was no memory.
+    NoMemory,
+}
+
+impl Status {
+    ghost use Rattle.midi_commands.specs.ExitCode.{exit_code_of};
+
+    /// The exit code: 0 for `Done`, 1 for `Refused`, 2 to 6 for faults of reading, of the lanes, of the output, of the notes
+    /// and of the shelf, 7 for `Usage`, 8 for `SetupSyntax`, 9 for `SetupField`, 10 for `NoMemory` (own rule).
+    pub fn exit_code(self) -> u8
+        ensures { result ≡ exit_code_of self }
+    {
+        match self {
+            Status::Done => 0,
+            Status::Refused { .. } => 1,
+            Status::ReadFault => 2,
+            Status::LaneFault => 3,
+            Status::OutputFault => 4,
+            Status::NoteFault => 5,
+            Status::ShelfFault => 6,
+            Status::Usage => 7,
+            Status::SetupSyntax => 8,
+            Status::SetupField(_) => 9,
+            Status::NoMemory => 10,
+        }
+    }
+
+    /// The status once an object has written out what it gathered: `Done` becomes this fault where that failed. Every other
+    /// status has its cause already, and stays.
+    pub fn after_writing(self, answer: Result<(), Failed>, fault: Status) -> Status
+        ensures written { OnOk answer (result ≡ self) }
+        ensures fault { self ≡ Status.Done → OnErr answer (result ≡ fault) }
+        ensures cause { self ≢ Status.Done → result ≡ self }
+    {
+        match (self, answer) {
+            (Status::Done, Err(_)) => fault,
+            (status, _) => status,
+        }
+    }
+}

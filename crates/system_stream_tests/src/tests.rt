@@ -1,0 +1,329 @@
+// The rows of the standard's layout by hand, worked rows, and each way in which a text can go wrong.
+ghost use Rattle.std.specs.Prelude.{◌≡◌, ◌<◌, ◌^◌};
+ghost use Rattle.ump_grammar.specs.Ranges.{IsPacket};
+ghost use Rattle.system_stream.specs.Layout.{FitsPlaces, IsStream};
+
+use system_stream::*;
+use ump_grammar::{Packet, encode};
+use voice_messages::Form;
+
+fn stream(format: u8, status: u16, low: u16, second: u32, third: u32, fourth: u32) -> Packet
+    requires format { format < 4 }
+    requires status { status < 2 ^ 10 }
+    ensures stream { IsStream result }
+    ensures fits { IsPacket result }
+{
+    Packet::Stream {
+        format,
+        status,
+        low,
+        second,
+        third,
+        fourth,
+    }
+}
+
+// Whether the words are those of the packet, which is read as the message and written from it.
+fn is_row(words: [u32; 4], packet: &Packet, message: &StreamMessage) -> bool
+    requires stream { IsStream packet.now }
+    requires packet { IsPacket packet.now }
+    requires message { FitsPlaces message.now }
+{
+    encode(packet).as_slice() == words.as_slice()
+        && read(packet) == Ok(*message)
+        && write(message) == *packet
+}
+
+#[test]
+fn messages_of_one_packet(rt: HostRuntime) {
+    let discovery = StreamMessage::Discovery {
+        major: 1,
+        minor: 1,
+        filter: 0x1F,
+    };
+    let packet = stream(0, 0x000, 0x0101, 0x1F, 0, 0);
+    assert!(rt; is_row([0xF000_0101, 0x0000_001F, 0, 0], &packet, &discovery));
+    let info = StreamMessage::Info {
+        major: 1,
+        minor: 1,
+        fixed: true,
+        blocks: 1,
+        midi2: true,
+        midi1: true,
+        receives_jr: false,
+        sends_jr: false,
+    };
+    let packet = stream(0, 0x001, 0x0101, 0x8100_0300, 0, 0);
+    assert!(rt; is_row([0xF001_0101, 0x8100_0300, 0, 0], &packet, &info));
+    let identity = StreamMessage::Identity {
+        manufacturer: [125, 0, 0],
+        family: [1, 0],
+        model: [2, 0],
+        revision: [1, 0, 0, 0],
+    };
+    let packet = stream(0, 0x002, 0, 0x007D_0000, 0x0100_0200, 0x0100_0000);
+    assert!(rt;
+        is_row(
+            [0xF002_0000, 0x007D_0000, 0x0100_0200, 0x0100_0000],
+            &packet,
+            &identity
+        )
+    );
+    let request = StreamMessage::ConfigRequest { protocol: 1, jr: 0 };
+    let packet = stream(0, 0x005, 0x0100, 0, 0, 0);
+    assert!(rt; is_row([0xF005_0100, 0, 0, 0], &packet, &request));
+    let notice = StreamMessage::ConfigNotice { protocol: 2, jr: 3 };
+    let packet = stream(0, 0x006, 0x0203, 0, 0, 0);
+    assert!(rt; is_row([0xF006_0203, 0, 0, 0], &packet, &notice));
+}
+
+#[test]
+fn messages_of_blocks_and_clips(rt: HostRuntime) {
+    let discovery = StreamMessage::BlockDiscovery {
+        block: 255,
+        filter: 3,
+    };
+    let packet = stream(0, 0x010, 0xFF03, 0, 0, 0);
+    assert!(rt; is_row([0xF010_FF03, 0, 0, 0], &packet, &discovery));
+    let info = StreamMessage::BlockInfo {
+        active: true,
+        block: 0,
+        hint: 3,
+        midi1: 0,
+        direction: 3,
+        first: 0,
+        count: 1,
+        ci: 2,
+        sysex8: 0,
+    };
+    let packet = stream(0, 0x011, 0x8033, 0x0001_0200, 0, 0);
+    assert!(rt; is_row([0xF011_8033, 0x0001_0200, 0, 0], &packet, &info));
+    let odd = StreamMessage::BlockInfo {
+        active: false,
+        block: 127,
+        hint: 1,
+        midi1: 2,
+        direction: 1,
+        first: 15,
+        count: 1,
+        ci: 1,
+        sysex8: 255,
+    };
+    let packet = stream(0, 0x011, 0x7F19, 0x0F01_01FF, 0, 0);
+    assert!(rt; is_row([0xF011_7F19, 0x0F01_01FF, 0, 0], &packet, &odd));
+    let start = stream(0, 0x020, 0, 0, 0, 0);
+    assert!(rt; is_row([0xF020_0000, 0, 0, 0], &start, &StreamMessage::StartClip));
+    let end = stream(0, 0x021, 0, 0, 0, 0);
+    assert!(rt; is_row([0xF021_0000, 0, 0, 0], &end, &StreamMessage::EndClip));
+}
+
+#[test]
+fn packets_of_texts(rt: HostRuntime) {
+    let first = StreamMessage::Name {
+        form: Form::Start,
+        text: *b"Demo Endpoint ",
+    };
+    let packet = stream(1, 0x003, 0x4465, 0x6D6F_2045, 0x6E64_706F, 0x696E_7420);
+    assert!(rt;
+        is_row(
+            [0xF403_4465, 0x6D6F_2045, 0x6E64_706F, 0x696E_7420],
+            &packet,
+            &first
+        )
+    );
+    let last = StreamMessage::Name {
+        form: Form::End,
+        text: *b"X\0\0\0\0\0\0\0\0\0\0\0\0\0",
+    };
+    let packet = stream(3, 0x003, 0x5800, 0, 0, 0);
+    assert!(rt; is_row([0xFC03_5800, 0, 0, 0], &packet, &last));
+    let product = StreamMessage::ProductId {
+        form: Form::Complete,
+        text: *b"SN-0001\0\0\0\0\0\0\0",
+    };
+    let packet = stream(0, 0x004, 0x534E, 0x2D30_3030, 0x3100_0000, 0);
+    assert!(rt;
+        is_row(
+            [0xF004_534E, 0x2D30_3030, 0x3100_0000, 0],
+            &packet,
+            &product
+        )
+    );
+    let block = StreamMessage::BlockName {
+        form: Form::Continue,
+        block: 2,
+        text: *b"Main\0\0\0\0\0\0\0\0!",
+    };
+    let packet = stream(2, 0x012, 0x024D, 0x6169_6E00, 0, 0x0000_0021);
+    assert!(rt; is_row([0xF812_024D, 0x6169_6E00, 0, 0x0000_0021], &packet, &block));
+}
+
+#[test]
+fn formats_and_unnamed_places(rt: HostRuntime) {
+    for status in [
+        0x000, 0x001, 0x002, 0x005, 0x006, 0x010, 0x011, 0x020, 0x021,
+    ] {
+        for format in 1..4u8 {
+            assert_eq!(rt; read(&stream(format, status, 0, 0, 0, 0)), Err(BadFormat));
+        }
+    }
+    assert_eq!(rt;
+        read(&stream(0, 0x022, 0, 0, 0, 0)),
+        Ok(StreamMessage::Other)
+    );
+    assert_eq!(rt;
+        read(&stream(2, 0x3FF, 0, 0, 0, 0)),
+        Ok(StreamMessage::Other)
+    );
+    let full = stream(0, 0x000, 0x0102, 0xFFFF_FF03, u32::MAX, u32::MAX);
+    let discovery = StreamMessage::Discovery {
+        major: 1,
+        minor: 2,
+        filter: 3,
+    };
+    assert_eq!(rt; read(&full), Ok(discovery));
+    let full = stream(0, 0x001, 0, 0x00FF_FCFC, u32::MAX, u32::MAX);
+    let info = StreamMessage::Info {
+        major: 0,
+        minor: 0,
+        fixed: false,
+        blocks: 0,
+        midi2: false,
+        midi1: false,
+        receives_jr: false,
+        sends_jr: false,
+    };
+    assert_eq!(rt; read(&full), Ok(info));
+}
+
+// Whether packet `k` of the text has these words.
+fn is_cut(kind: TextKind, text: &[u8], k: usize, words: [u32; 4]) -> bool {
+    if text.is_empty() || text.len() > kind.limit() {
+        return false;
+    }
+    match cut_text(kind, 5, text, k) {
+        Some(packet) => encode(&packet).as_slice() == words.as_slice(),
+        None => false,
+    }
+}
+
+fn is_past(kind: TextKind, text: &[u8], k: usize) -> bool {
+    if text.is_empty() || text.len() > kind.limit() {
+        return false;
+    }
+    cut_text(kind, 5, text, k).is_none()
+}
+
+#[test]
+fn texts_are_cut(rt: HostRuntime) {
+    let name = b"Demo Endpoint X";
+    let first = [0xF403_4465, 0x6D6F_2045, 0x6E64_706F, 0x696E_7420];
+    assert!(rt; is_cut(TextKind::EndpointName, name, 0, first));
+    assert!(rt; is_cut(TextKind::EndpointName, name, 1, [0xFC03_5800, 0, 0, 0]));
+    assert!(rt; is_past(TextKind::EndpointName, name, 2));
+    assert!(rt; is_past(TextKind::EndpointName, name, usize::MAX));
+    let id = [0xF004_534E, 0x2D30_3030, 0x3100_0000, 0];
+    assert!(rt; is_cut(TextKind::ProductId, b"SN-0001", 0, id));
+    assert!(rt; is_past(TextKind::ProductId, b"SN-0001", 1));
+    let block = b"abcdefghijklmnopqrstuvwxyz!";
+    let first = [0xF412_0561, 0x6263_6465, 0x6667_6869, 0x6A6B_6C6D];
+    let second = [0xF812_056E, 0x6F70_7172, 0x7374_7576, 0x7778_797A];
+    assert!(rt; is_cut(TextKind::BlockName, block, 0, first));
+    assert!(rt; is_cut(TextKind::BlockName, block, 1, second));
+    assert!(rt; is_cut(TextKind::BlockName, block, 2, [0xFC12_0521, 0, 0, 0]));
+    assert!(rt; is_past(TextKind::BlockName, block, 3));
+    assert!(rt; is_past(TextKind::BlockName, &block[..26], 2));
+}
+
+#[test]
+fn a_name_is_joined(rt: HostRuntime) {
+    let mut name = TextJoin::new(TextKind::EndpointName);
+    assert_eq!(rt; name.part(Form::Start, 0, b"Demo Endpoint "), Joined::Held);
+    let end = name.part(Form::End, 0, b"X\0\0\0\0\0\0\0\0\0\0\0\0\0");
+    assert_eq!(rt; end, Joined::Whole(b"Demo Endpoint X"));
+    assert_eq!(rt; name.part(Form::End, 0, b"X"), Joined::Bad);
+    assert_eq!(rt; name.part(Form::Continue, 0, b"X"), Joined::Bad);
+    assert_eq!(rt;
+        name.part(Form::Complete, 0, b"a\0b\0\0"),
+        Joined::Whole(b"a\0b")
+    );
+    assert_eq!(rt; name.part(Form::Complete, 0, b"\0\0"), Joined::Whole(b""));
+    assert_eq!(rt; name.part(Form::Start, 0, b"lost"), Joined::Held);
+    assert_eq!(rt; name.part(Form::Start, 0, b"one"), Joined::Held);
+    assert_eq!(rt;
+        name.part(Form::End, 0, b" text"),
+        Joined::Whole(b"one text")
+    );
+    assert_eq!(rt; name.part(Form::Start, 0, b"lost"), Joined::Held);
+    assert_eq!(rt;
+        name.part(Form::Complete, 0, b"whole"),
+        Joined::Whole(b"whole")
+    );
+    assert_eq!(rt; name.part(Form::End, 0, b"X"), Joined::Bad);
+}
+
+#[test]
+fn utf8_is_tested_on_the_whole_text(rt: HostRuntime) {
+    let mut name = TextJoin::new(TextKind::EndpointName);
+    assert_eq!(rt; name.part(Form::Start, 0, b"Ther\xC3"), Joined::Held);
+    let end = name.part(Form::End, 0, b"\xA9mine\0\0");
+    assert_eq!(rt; end, Joined::Whole(b"Ther\xC3\xA9mine"));
+    assert_eq!(rt; name.part(Form::Complete, 0, b"Ther\xC3"), Joined::Bad);
+    assert_eq!(rt; name.part(Form::Complete, 0, b"\xFF"), Joined::Bad);
+}
+
+#[test]
+fn a_product_id_is_printable(rt: HostRuntime) {
+    let mut id = TextJoin::new(TextKind::ProductId);
+    assert_eq!(rt;
+        id.part(Form::Complete, 0, b"SN-0001\0\0"),
+        Joined::Whole(b"SN-0001")
+    );
+    assert_eq!(rt; id.part(Form::Complete, 0, b" ~"), Joined::Whole(b" ~"));
+    assert_eq!(rt; id.part(Form::Complete, 0, b"SN\x1F"), Joined::Bad);
+    assert_eq!(rt; id.part(Form::Complete, 0, b"SN\x7F"), Joined::Bad);
+    assert_eq!(rt; id.part(Form::Complete, 0, b"S\0N"), Joined::Bad);
+}
+
+#[test]
+fn a_block_name_stays_with_its_block(rt: HostRuntime) {
+    let mut name = TextJoin::new(TextKind::BlockName);
+    assert_eq!(rt; name.part(Form::Start, 1, b"Left "), Joined::Held);
+    assert_eq!(rt; name.part(Form::Continue, 2, b"or "), Joined::Bad);
+    assert_eq!(rt; name.part(Form::End, 1, b"right"), Joined::Bad);
+    assert_eq!(rt; name.part(Form::Start, 2, b"Right"), Joined::Held);
+    assert_eq!(rt; name.part(Form::End, 2, b"!\0"), Joined::Whole(b"Right!"));
+}
+
+// What a number of full packets answer, one after the other, the last of them as an end; `None` before the last where one before
+// it isn't held.
+fn joins_packets(kind: TextKind, count: usize) -> Option<bool> {
+    let mut join = TextJoin::new(kind);
+    for k in 1..count {
+        let form = if k == 1 { Form::Start } else { Form::Continue };
+        if join.part(form, 0, &[b'a'; 14][..kind.part_size().min(14)]) != Joined::Held {
+            return None;
+        }
+    }
+    match join.part(Form::End, 0, &[b'a'; 14][..kind.part_size().min(14)]) {
+        Joined::Whole(text) => Some(text.len() == kind.limit()),
+        Joined::Held => None,
+        Joined::Bad => Some(false),
+    }
+}
+
+#[test]
+fn the_limit_counts_whole_packets(rt: HostRuntime) {
+    assert_eq!(rt; joins_packets(TextKind::EndpointName, 7), Some(true));
+    assert_eq!(rt; joins_packets(TextKind::EndpointName, 8), Some(false));
+    assert_eq!(rt; joins_packets(TextKind::ProductId, 3), Some(true));
+    assert_eq!(rt; joins_packets(TextKind::ProductId, 4), Some(false));
+    assert_eq!(rt; joins_packets(TextKind::BlockName, 7), Some(true));
+    assert_eq!(rt; joins_packets(TextKind::BlockName, 8), Some(false));
+    let mut id = TextJoin::new(TextKind::ProductId);
+    assert_eq!(rt; id.part(Form::Start, 0, &[b'a'; 42]), Joined::Held);
+    assert_eq!(rt; id.part(Form::Continue, 0, &[0]), Joined::Bad);
+    assert_eq!(rt; id.part(Form::End, 0, b""), Joined::Bad);
+    assert_eq!(rt; id.part(Form::Start, 0, &[b'a'; 43]), Joined::Bad);
+    assert_eq!(rt; id.part(Form::Complete, 0, &[0; 43]), Joined::Bad);
+}
