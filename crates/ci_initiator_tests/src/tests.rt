@@ -9,6 +9,7 @@ use ci_responder::{Heard, Key};
 use function_blocks::{Place, Setup};
 use midi_edge::ShortList;
 use std::alloc::{AllocError, Global};
+use std::test::Fail;
 use voice_messages::{U4, U7};
 
 // A block with MIDI-CI on group 0, and a profile of it.
@@ -435,4 +436,16 @@ fn the_messages_that_ask(rt: HostRuntime) {
     ];
     assert!(rt; is_asked(&initiator, Ask::Off(0), &off));
     assert!(rt; !initiator.can_ask(Ask::Off(2)));
+}
+
+#[test]
+fn each_fault_has_its_text(rt: HostRuntime) -> Result<(), Fail> {
+    for (fault, text) in [
+        (EventFault::BadEvent, "the event asks for what isn't there"),
+        (EventFault::TooMany, "there are 1,024 messages already"),
+    ] {
+        let shown = format!(in rt.alloc(); "{fault}")?;
+        assert_eq!(rt; shown.as_str(), text);
+    }
+    Ok(())
 }

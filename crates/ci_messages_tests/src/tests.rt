@@ -6,6 +6,7 @@ ghost use Rattle.ci_messages.specs.Writing.{IsView, message_bytes};
 
 use ci_messages::*;
 use midi_edge::ShortList;
+use std::test::Fail;
 use voice_messages::{U4, U7};
 
 // What comes before the sub-id and after the version: from MUID 5 to 19088743, at channel 2.
@@ -587,4 +588,21 @@ fn the_first_fault(rt: HostRuntime) {
         body: Body::ProfileInquiry,
     };
     assert!(rt; is_read(&inquiry, &view));
+}
+
+#[test]
+fn each_fault_has_its_text(rt: HostRuntime) -> Result<(), Fail> {
+    for (fault, text) in [
+        (CiFault::NotCi, "the exclusive is not MIDI-CI"),
+        (CiFault::Short, "the message is shorter than its fields"),
+        (
+            CiFault::BadAddress,
+            "the address is neither a channel, the group nor the function block",
+        ),
+        (CiFault::ReservedMuid, "the source is a reserved MUID"),
+    ] {
+        let shown = format!(in rt.alloc(); "{fault}")?;
+        assert_eq!(rt; shown.as_str(), text);
+    }
+    Ok(())
 }

@@ -614,3 +614,27 @@ fn the_most_replies_fit(rt: HostRuntime) {
         }
     }
 }
+
+#[test]
+fn each_fault_has_its_text(rt: HostRuntime) -> Result<(), Fail> {
+    for (fault, text) in [
+        (SetupFault::Syntax, "the setup is not TOML"),
+        (
+            SetupFault::Field(Rule::TextIsShort.number()),
+            "the setup breaks rule 0",
+        ),
+        (
+            SetupFault::Field(Rule::BlocksWithCiShareNoGroup.number()),
+            "the setup breaks rule 22",
+        ),
+        (
+            SetupFault::Field(Rule::ProfilesAreDistinct.number()),
+            "the setup breaks rule 31",
+        ),
+        (SetupFault::NoMemory, "there is no memory for the setup"),
+    ] {
+        let shown = format!(in rt.alloc(); "{fault}")?;
+        assert_eq!(rt; shown.as_str(), text);
+    }
+    Ok(())
+}

@@ -1,5 +1,5 @@
 // Lines of the listing in the notes.
-ghost use Rattle.std.specs.Prelude.{◌≡◌, ◌∷◌, ◌++◌, []};
+ghost use Rattle.std.specs.Prelude.{◌∷◌, []};
 ghost use Rattle.std.specs.Option.{option_to_list};
 ghost use Rattle.midi_pass.specs.Places.{Puts, places};
 ghost use Rattle.listing_puts.specs.Lines.{line_puts};
@@ -42,24 +42,5 @@ pub fn put_listed<L: Lanes, W: Sink, N: Sink>(
     match listed {
         Some(listed) => put_line(&listed, lanes, output, notes),
         None => Ok(()),
-    }
-}
-
-/// Puts one line of the listing in the notes and then another, each if there is one.
-#[inline(always)]
-pub fn put_both<L: Lanes, W: Sink, N: Sink>(
-    first: Option<Listed>,
-    second: Option<Listed>,
-    lanes: &mut L,
-    output: &mut W,
-    notes: &mut N,
-) -> Result<(), RunEnd>
-    ensures { Puts (line_puts (option_to_list first ++ option_to_list second))
-        (places L.Lanes W.Sink N.Sink lanes.old output.old notes.old)
-        (places L.Lanes W.Sink N.Sink lanes.new output.new notes.new) result }
-{
-    match put_listed(first, lanes, output, notes) {
-        Ok(()) => put_listed(second, lanes, output, notes),
-        Err(end) => Err(end),
     }
 }

@@ -1,4 +1,5 @@
 pub mod Command
+pub mod Ending
 pub mod ExitCode
 pub mod LastLine
 pub mod Run

@@ -1,37 +1,36 @@
 // What comes after a run.
 ghost use Rattle.std.specs.Prelude.{◌≡◌, ◌≢◌, []};
-ghost use Rattle.midi_edge.specs.Adapters.{IsWrittenOut, unwritten};
-ghost use Rattle.midi_pass.specs.Places.{Puts, places};
+ghost use Rattle.std.specs.Io.KnownBytes.{Keeps};
+ghost use Rattle.midi_edge.specs.Adapters.{IsWrittenOut, KeepsLanes, accepted, unwritten};
+ghost use Rattle.midi_pass.specs.Places.{places, with_faults};
+ghost use Rattle.midi_commands.specs.Ending.{EndsAs, IsOutOrFailed, IsOutOrTold, PutsLast, WritesBoth};
 ghost use Rattle.midi_commands.specs.ExitCode.{exit_code_of};
-ghost use Rattle.midi_commands.specs.LastLine.{last_puts};
 
-use crate::last_line::put_last;
+use crate::last_line::last_line;
 use crate::status::Status;
-use midi_edge::{FolderLanes, WriteSink};
+use midi_edge::{FolderLanes, Lanes, Sink, WriteSink};
 use std::io::{ErrorKind, Write};
 use std::rt::Files;
 
 /// Where the words of the command line can't be had, tells why: one that is no UTF-8 is `Usage`, want of memory `NoMemory` (own
 /// rule). The last line stands in the notes.
-pub fn unread_words<R: Files + AllocGlobal, O: Write, N: Write>(
-    kind: ErrorKind,
-    lanes: &mut FolderLanes<R>,
-    output: &mut WriteSink<O>,
-    notes: &mut WriteSink<N>,
-) -> Status
+pub fn unread_words<N: Write>(kind: ErrorKind, notes: &mut WriteSink<N>) -> Status
     ensures memory { kind ≡ ErrorKind.OutOfMemory → result ≡ Status.NoMemory }
     ensures other { kind ≢ ErrorKind.OutOfMemory → result ≡ Status.Usage }
+    ensures line { PutsLast result (accepted N.contents notes.old) (accepted N.contents notes.new)
+        (⟦<WriteSink<N> as Sink>⟧.faults notes.old) (⟦<WriteSink<N> as Sink>⟧.faults notes.new) }
 {
     let status = match kind {
         ErrorKind::OutOfMemory => Status::NoMemory,
         _ => Status::Usage,
     };
-    put_last(status, lanes, output, notes);
+    tell_last(status, notes);
     status
 }
 
 /// Writes out what the objects have gathered, whatever the status, the notes last, since the last line stands there, and gives the
-/// exit code. A fault at this writing turns `Done` alone into the fault of that object (own rule).
+/// exit code. A fault at this writing turns `Done` alone into the fault of that object (own rule), the first of the lanes, the output
+/// and the notes that failed, whose last line is put. What was put before stays.
 pub fn finish<R: Files + AllocGlobal, O: Write, N: Write>(
     status: Status,
     lanes: &mut FolderLanes<R>,
@@ -40,17 +39,70 @@ pub fn finish<R: Files + AllocGlobal, O: Write, N: Write>(
 ) -> u8
     ensures cause { status ≢ Status.Done → result ≡ exit_code_of status }
     ensures done { result ≡ 0 → status ≡ Status.Done }
-    ensures lanes { result ≡ 0 → IsWrittenOut lanes.new }
-    ensures output { result ≡ 0 → unwritten output.new ≡ [] }
-    ensures notes { result ≡ 0 → unwritten notes.new ≡ [] }
+    ensures ends { let before = (places ⟦<FolderLanes<R> as Lanes>⟧ ⟦<WriteSink<O> as Sink>⟧ ⟦<WriteSink<N> as Sink>⟧
+        lanes.old output.old notes.old).faults in
+        let now = (places ⟦<FolderLanes<R> as Lanes>⟧ ⟦<WriteSink<O> as Sink>⟧ ⟦<WriteSink<N> as Sink>⟧
+        lanes.new output.new notes.new).faults in
+        status ≡ Status.Done → (end : Status) × (result ≡ exit_code_of end)
+        × EndsAs end before now (accepted N.contents notes.old) (accepted N.contents notes.new) }
+    ensures lanes { IsOutOrTold (IsWrittenOut lanes.new) (⟦<FolderLanes<R> as Lanes>⟧.faults lanes.old)
+        (⟦<FolderLanes<R> as Lanes>⟧.faults lanes.new) result }
+    ensures output { IsOutOrTold (unwritten output.new ≡ []) (⟦<WriteSink<O> as Sink>⟧.faults output.old)
+        (⟦<WriteSink<O> as Sink>⟧.faults output.new) result }
+    ensures notes { IsOutOrTold (unwritten notes.new ≡ []) (⟦<WriteSink<N> as Sink>⟧.faults notes.old)
+        (⟦<WriteSink<N> as Sink>⟧.faults notes.new) result }
+    ensures keeps_lanes { KeepsLanes ⟦<R::File as Write>⟧.contents lanes.old lanes.new }
+    ensures keeps_output { Keeps (accepted O.contents output.old) (accepted O.contents output.new) }
+    ensures keeps_notes { status ≢ Status.Done →
+        Keeps (accepted N.contents notes.old) (accepted N.contents notes.new) }
 {
-    let written = status
-        .after_writing(lanes.flush(), Status::LaneFault)
-        .after_writing(output.flush(), Status::OutputFault);
-    if written != status {
-        put_last(written, lanes, output, notes);
-    }
+    let written = write_out(status, lanes, output);
+    tell_fault(status, written, notes);
     written
         .after_writing(notes.flush(), Status::NoteFault)
         .exit_code()
+}
+
+// Writes out what the lanes and the output have gathered, and gives the status after that.
+fn write_out<R: Files + AllocGlobal, O: Write>(
+    status: Status,
+    lanes: &mut FolderLanes<R>,
+    output: &mut WriteSink<O>,
+) -> Status
+    ensures cause { status ≢ Status.Done → result ≡ status }
+    ensures done { status ≡ Status.Done → WritesBoth result
+        (⟦<FolderLanes<R> as Lanes>⟧.faults lanes.old) (⟦<FolderLanes<R> as Lanes>⟧.faults lanes.new)
+        (⟦<WriteSink<O> as Sink>⟧.faults output.old) (⟦<WriteSink<O> as Sink>⟧.faults output.new) }
+    ensures lanes { IsOutOrFailed (IsWrittenOut lanes.new) (⟦<FolderLanes<R> as Lanes>⟧.faults lanes.old)
+        (⟦<FolderLanes<R> as Lanes>⟧.faults lanes.new) result }
+    ensures output { IsOutOrFailed (unwritten output.new ≡ []) (⟦<WriteSink<O> as Sink>⟧.faults output.old)
+        (⟦<WriteSink<O> as Sink>⟧.faults output.new) result }
+    ensures keeps_lanes { KeepsLanes ⟦<R::File as Write>⟧.contents lanes.old lanes.new }
+    ensures keeps_output { Keeps (accepted O.contents output.old) (accepted O.contents output.new) }
+{
+    status
+        .after_writing(lanes.flush(), Status::LaneFault)
+        .after_writing(output.flush(), Status::OutputFault)
+}
+
+// Puts the last line of the fault that `Done` has become. Every other status has its line already.
+fn tell_fault<N: Write>(status: Status, written: Status, notes: &mut WriteSink<N>)
+    ensures done { status ≡ Status.Done → PutsLast written
+        (accepted N.contents notes.old) (accepted N.contents notes.new)
+        (⟦<WriteSink<N> as Sink>⟧.faults notes.old) (⟦<WriteSink<N> as Sink>⟧.faults notes.new) }
+    ensures cause { status ≢ Status.Done → notes.new ≡ notes.old }
+{
+    if status == Status::Done {
+        tell_last(written, notes);
+    }
+}
+
+// Puts the last line of a status, if it has one. Where that fails, a front of the line may stand, and the count of faults tells it.
+fn tell_last<N: Write>(status: Status, notes: &mut WriteSink<N>)
+    ensures { PutsLast status (accepted N.contents notes.old) (accepted N.contents notes.new)
+        (⟦<WriteSink<N> as Sink>⟧.faults notes.old) (⟦<WriteSink<N> as Sink>⟧.faults notes.new) }
+{
+    if let Some(line) = last_line(status) {
+        let _ = notes.put(line.as_slice());
+    }
 }

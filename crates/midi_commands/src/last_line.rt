@@ -70,8 +70,8 @@ fn line_of(text: &str) -> Line
     line
 }
 
-// The last line for a status, or none for `Done` and `NoteFault`.
-fn last_line(status: Status) -> Option<Line>
+/// The last line for a status, or none for `Done` and `NoteFault`.
+pub fn last_line(status: Status) -> Option<Line>
     ensures text { result ≡ last_line_text status }
     ensures some { IfSome result (λ line. 0 < length line) }
 {

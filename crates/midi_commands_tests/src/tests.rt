@@ -1,4 +1,7 @@
-// The worked rows.
+// The worked rows. A table is a text of rows, with an empty line between two. The lines of a row say what a run is given, behind a
+// name of the row, and from `leaves` on what it leaves: its status, the pieces of the lanes, the output and the notes.
+ghost use Rattle.std.specs.Prelude.{◌<◌};
+
 mod back_rows;
 mod byte_rows;
 mod clip_rows;
@@ -11,104 +14,178 @@ mod paired_rows;
 mod readme_rows;
 mod rehearse_rows;
 mod selftest_rows;
+mod show_rows;
 mod state_rows;
 mod sysex8_rows;
 mod up_rows;
 mod usb_rows;
 mod word_rows;
 
-use down_translator::Style;
 use midi_commands::{Status, run};
-use midi_edge::{Lanes, MemLanes, MemShelf, MemSink, MemSource};
-use midi_engines::{DownRun, run_down};
-use midi_pass::{Reason, RunEnd};
-use std::alloc::{AllocError, Global};
+use midi_edge::{MemLanes, MemShelf, MemSink, MemSource};
+use std::alloc::Global;
 use std::process::Abort;
 use std::test::Fail;
-use ump_words::Order;
 
-fn bytes_of(alloc: Global, words: &[u32]) -> Result<Vec<u8>, AllocError> {
-    let mut bytes = Vec::new(alloc);
-    for word in words {
-        bytes.extend_from_slice(&word.to_be_bytes())?;
-    }
-    Ok(bytes)
-}
+// `examples/endpoint.toml` without its comments.
+const SETUP: &str =
+    "[endpoint]\nname = \"Demo Endpoint X\"\nid = \"SN-0001\"\nmanufacturer = [125, 0, 0]\nfamily = 1\nmodel = 2\nrevision = [1, 0, 0, 0]\nmidi1 = true\nmidi2 = true\nprotocol = 2\nstatic = true\n\n[[block]]\nactive = true\nname = \"Main\"\nhint = 3\nmidi1 = 0\ndirection = 3\nfirst = 0\ncount = 1\nci = 2\nsysex8 = 0\nmuids = [19088743, 300]\n\n[[profile]]\nblock = 0\nplace = \"channel\"\ngroup = 0\nchannel = 2\nid = [126, 0, 1, 1, 0]\non = false\n";
 
-fn words_of(alloc: Global, words: &[&str]) -> Result<Vec<String>, AllocError> {
-    let mut all = Vec::new(alloc);
-    for word in words {
-        all.push(String::from_str(alloc, word)?)?;
-    }
-    Ok(all)
-}
+// How many bytes the lanes, the output and the notes have room for, and how many pieces the lanes.
+const ROOM: usize = 65_536;
 
-const DOWN: [&str; 4] = ["translate", "down", "--folder", "F"];
+const ENTRIES: usize = 16_384;
 
-const NOTE: [u32; 2] = [0x40903C00, 0xC9240000];
-
-// The words, the recording, and where the objects cut or fail.
+// The words, the input, the text of the shelf named `a.toml`, and where the objects cut or fail.
 #[derive(Drop)]
-struct Case<'a> {
-    words: &'a [&'a str],
+struct Given<'a> {
+    words: Option<&'a str>,
     input: Vec<u8>,
+    setup: Vec<u8>,
     cuts: Vec<usize>,
     reads: Vec<u64>,
+    fetches: Vec<u64>,
     lane_puts: Vec<(u64, usize)>,
     output_puts: Vec<(u64, usize)>,
     note_puts: Vec<(u64, usize)>,
 }
 
-fn case_of<'a>(alloc: Global, words: &'a [&'a str], input: &[u32]) -> Result<Case<'a>, AllocError> {
-    Ok(Case {
-        words,
-        input: bytes_of(alloc, input)?,
+// What a run leaves.
+#[derive(Drop)]
+struct Left {
+    status: Status,
+    lanes: MemLanes,
+    output: MemSink,
+    notes: MemSink,
+}
+
+// How the output of a command is told: as text, or in hexadecimal digits, by words of four bytes or by bytes.
+#[derive(Clone, Copy)]
+enum Form {
+    Text,
+    Words,
+    Bytes,
+}
+
+// Each row of the table leaves what it says.
+fn rows_hold(rt: &impl Abort, alloc: Global, table: &str) -> Result<(), Fail> {
+    for row in table.split("\n\n") {
+        row_holds(rt, alloc, row)?;
+    }
+    Ok(())
+}
+
+// A row, of which the first line is the name.
+fn row_holds(rt: &impl Abort, alloc: Global, row: &str) -> Result<(), Fail> {
+    let Some((lines, leaves)) = row.split_once("\nleaves ") else {
+        return Err(Fail::new("a row does not say what it leaves"));
+    };
+    let (name, _) = lines.split_once('\n').unwrap_or((lines, ""));
+    let given = given_of(alloc, lines)?;
+    let form = form_of(given.words.unwrap_or(""));
+    let left = left_by(alloc, given)?;
+    let told = told_of(alloc, form, &left)?;
+    assert_eq!(rt; told.as_str(), leaves, "{name}");
+    Ok(())
+}
+
+// What these lines give.
+fn given_of<'a>(alloc: Global, lines: &'a str) -> Result<Given<'a>, Fail> {
+    let mut given = Given {
+        words: None,
+        input: Vec::new(alloc),
+        setup: Vec::new(alloc),
         cuts: Vec::new(alloc),
         reads: Vec::new(alloc),
+        fetches: Vec::new(alloc),
         lane_puts: Vec::new(alloc),
         output_puts: Vec::new(alloc),
         note_puts: Vec::new(alloc),
-    })
+    };
+    for line in lines.split('\n') {
+        take_line(&mut given, line)?;
+    }
+    Ok(given)
 }
 
-// What a run leaves: its status, the pieces of the lanes, the output and the notes.
-#[derive(Clone, Copy)]
-struct Left<'a> {
-    status: Status,
-    pieces: &'a [(u8, &'a [u8])],
-    output: &'a str,
-    notes: &'a str,
+// Takes a line; one of no kind is a fault.
+fn take_line<'a>(given: &mut Given<'a>, line: &'a str) -> Result<(), Fail> {
+    let (kind, rest) = line.split_once(' ').unwrap_or((line, ""));
+    match kind {
+        "#" => {}
+        "run" => given.words = Some(rest),
+        "input" => push_hex(&mut given.input, rest)?,
+        "input-ends-after" => given.input.truncate(rest.parse::<usize>()?),
+        "cut" => given.cuts.push(rest.parse::<usize>()?)?,
+        "cuts-of-one" => given.cuts.resize(rest.parse::<usize>()?, 1)?,
+        "demo-setup" => given.setup.extend_from_slice(SETUP.as_bytes())?,
+        "setup-line" => {
+            given.setup.extend_from_slice(rest.as_bytes())?;
+            given.setup.push(b'\n')?;
+        }
+        "setup-bytes" => push_hex(&mut given.setup, rest)?,
+        "setup-filled" => given.setup.resize(rest.parse::<usize>()?, b'#')?,
+        "read-fails" => given.reads.push(rest.parse::<u64>()?)?,
+        "fetch-fails" => given.fetches.push(rest.parse::<u64>()?)?,
+        "lane-fails" => given.lane_puts.push(failing_put(rest)?)?,
+        "output-fails" => given.output_puts.push(failing_put(rest)?)?,
+        "note-fails" => given.note_puts.push(failing_put(rest)?)?,
+        _ => return Err(Fail::new("a row has a line of no kind")),
+    }
+    Ok(())
 }
 
-fn pieces_are(rt: &impl Abort, lanes: &MemLanes, pieces: &[(u8, &[u8])]) {
-    for (k, (lane, piece)) in pieces.iter().enumerate() {
-        match lanes.entry(k) {
-            Some((found, bytes)) => {
-                assert_eq!(rt; found.get(), *lane);
-                assert_eq!(rt; bytes, *piece);
-            }
-            None => assert_eq!(rt; k, pieces.len()),
+// The number of a put that fails, and how many bytes are kept then.
+fn failing_put(text: &str) -> Result<(u64, usize), Fail> {
+    let Some((put, kept)) = text.split_once(' ') else {
+        return Err(Fail::new("a put that fails has two numbers"));
+    };
+    Ok((put.parse::<u64>()?, kept.parse::<usize>()?))
+}
+
+// Adds bytes, each of two hexadecimal digits, in groups.
+fn push_hex(bytes: &mut Vec<u8>, text: &str) -> Result<(), Fail> {
+    for group in text.split_whitespace() {
+        for pair in group.as_bytes().chunks(2) {
+            let [high, low] = pair else {
+                return Err(Fail::new("a byte has two digits"));
+            };
+            bytes.push(digit(*high)? << 4 | digit(*low)?)?;
         }
     }
-    assert_eq!(rt; lanes.entry(pieces.len()).is_none(), true);
+    Ok(())
 }
 
-fn leaves(rt: &impl Abort, alloc: Global, given: Case<'_>, left: Left<'_>) -> Result<(), Fail> {
-    let Case {
-        words,
-        input,
-        cuts,
-        reads,
-        lane_puts,
-        output_puts,
-        note_puts,
-    } = given;
+fn digit(code: u8) -> Result<u8, Fail> {
+    match code {
+        b'0'..=b'9' => Ok(code - b'0'),
+        b'A'..=b'F' => Ok(code - b'A' + 10),
+        _ => Err(Fail::new("that is no hexadecimal digit")),
+    }
+}
+
+// The words of a command line; two quotes are an empty one.
+fn words_of(alloc: Global, text: &str) -> Result<Vec<String>, Fail> {
+    let mut words = Vec::new(alloc);
+    for word in text.split_whitespace() {
+        let word = if word == "''" { "" } else { word };
+        words.push(String::from_str(alloc, word)?)?;
+    }
+    Ok(words)
+}
+
+fn left_by(alloc: Global, given: Given<'_>) -> Result<Left, Fail> {
+    let Some(words) = given.words else {
+        return Err(Fail::new("a row has no words"));
+    };
     let words = words_of(alloc, words)?;
-    let mut input = MemSource::new(input, cuts, reads);
-    let mut lanes = MemLanes::new(alloc, 64, 16, lane_puts)?;
-    let mut output = MemSink::new(alloc, 512, output_puts)?;
-    let mut notes = MemSink::new(alloc, 512, note_puts)?;
-    let mut shelf = MemShelf::new(Vec::new(alloc), Vec::new(alloc));
+    let mut texts = Vec::new(alloc);
+    texts.push((String::from_str(alloc, "a.toml")?, given.setup))?;
+    let mut input = MemSource::new(given.input, given.cuts, given.reads);
+    let mut lanes = MemLanes::new(alloc, ROOM, ENTRIES, given.lane_puts)?;
+    let mut output = MemSink::new(alloc, ROOM, given.output_puts)?;
+    let mut notes = MemSink::new(alloc, ROOM, given.note_puts)?;
+    let mut shelf = MemShelf::new(texts, given.fetches);
     let status = run(
         alloc,
         &words,
@@ -118,312 +195,80 @@ fn leaves(rt: &impl Abort, alloc: Global, given: Case<'_>, left: Left<'_>) -> Re
         &mut notes,
         &mut shelf,
     );
-    assert_eq!(rt; status, left.status);
-    pieces_are(rt, &lanes, left.pieces);
-    assert_eq!(rt; output.held(), left.output.as_bytes());
-    assert_eq!(rt; notes.held(), left.notes.as_bytes());
-    Ok(())
+    Ok(Left {
+        status,
+        lanes,
+        output,
+        notes,
+    })
 }
 
-// What a translation down of these words leaves.
-fn carries(
-    rt: &impl Abort,
-    alloc: Global,
-    words: &[u32],
-    status: Status,
-    pieces: &[(u8, &[u8])],
-    notes: &str,
-) -> Result<(), Fail> {
-    let given = case_of(alloc, &DOWN, words)?;
-    leaves(
-        rt,
-        alloc,
-        given,
-        Left {
-            status,
-            pieces,
-            output: "",
-            notes,
-        },
-    )
-}
-
-fn refused(reason: Reason, offset: u64) -> Status {
-    Status::Refused { reason, offset }
-}
-
-#[test]
-fn notes_are_carried(rt: HostRuntime) -> Result<(), Fail> {
-    let alloc = rt.alloc();
-    let rows: [(&[u32], &[u8], &str); 4] = [
-        (&NOTE, &[0x90, 0x3C, 0x64], ""),
-        (&[0x40903C00, 0x01FF0000], &[0x90, 0x3C, 0x01], ""),
-        (&[0x40803C00, 0x80000000], &[0x80, 0x3C, 0x40], ""),
-        (
-            &[0x40903C01, 0xC9240007],
-            &[0x90, 0x3C, 0x64],
-            "0 0 note-attribute\n",
-        ),
-    ];
-    for (words, piece, notes) in rows {
-        carries(&rt, alloc, words, Status::Done, &[(0, piece)], notes)?;
+fn form_of(words: &str) -> Form {
+    let mut words = words.split_whitespace();
+    match (words.next(), words.next()) {
+        (Some("translate"), Some("back")) => Form::Bytes,
+        (Some("translate" | "usb" | "endpoint"), _) => Form::Words,
+        _ => Form::Text,
     }
-    carries(&rt, alloc, &[], Status::Done, &[], "")
 }
 
-#[test]
-fn groups_and_exclusives_are_carried(rt: HostRuntime) -> Result<(), Fail> {
-    let alloc = rt.alloc();
-    let all = [
-        0x30160102, 0x03040506, 0x31021112, 0x00000000, 0x30310700, 0x00000000, 0x11F80000,
-        0x40C00001, 0x05000102,
-    ];
-    carries(
-        &rt,
-        alloc,
-        &all,
-        Status::Done,
-        &[
-            (1, &[0xF0, 0x11, 0x12, 0xF7]),
-            (0, &[0xF0, 1, 2, 3, 4, 5, 6, 7, 0xF7]),
-            (1, &[0xF8]),
-            (0, &[0xB0, 0x00, 0x01, 0xB0, 0x20, 0x02, 0xC0, 0x05]),
-        ],
-        "",
-    )?;
-    let open = [
-        0x33161112, 0x13141516, 0x30160102, 0x03040506, 0x40403C00, 0x00000001,
-    ];
-    carries(
-        &rt,
-        alloc,
-        &open,
-        Status::Done,
-        &[],
-        "16 0 relative-parameter\n8 0 open-exclusive\n0 3 open-exclusive\n",
-    )
-}
-
-// What a translation down of these words leaves, where an exclusive has room for six bytes.
-fn carries_within_six(
-    rt: &impl Abort,
-    alloc: Global,
-    words: &[u32],
-    end: RunEnd,
-    pieces: &[(u8, &[u8])],
-) -> Result<(), Fail> {
-    let engine = DownRun::new(alloc, Style::Plain, Order::Big, 6, false)?;
-    let mut input = MemSource::new(bytes_of(alloc, words)?, Vec::new(alloc), Vec::new(alloc));
-    let mut lanes = MemLanes::new(alloc, 64, 8, Vec::new(alloc))?;
-    let mut output = MemSink::new(alloc, 0, Vec::new(alloc))?;
-    let mut notes = MemSink::new(alloc, 64, Vec::new(alloc))?;
-    lanes.begin("F")?;
-    let answer = run_down(engine, &mut input, &mut lanes, &mut output, &mut notes);
-    assert_eq!(rt; answer, end);
-    pieces_are(rt, &lanes, pieces);
-    assert_eq!(rt; notes.held().len(), 0);
-    Ok(())
-}
-
-#[test]
-fn exclusives_fit_the_room(rt: HostRuntime) -> Result<(), Fail> {
-    let alloc = rt.alloc();
-    let within = [0x30160102, 0x03040506, 0x30300000, 0x00000000];
-    let past = [0x30160102, 0x03040506, 0x30310700, 0x00000000];
-    let too_long = RunEnd::Refused {
-        reason: Reason::ExclusiveTooLong,
-        offset: 8,
-    };
-    carries_within_six(
-        &rt,
-        alloc,
-        &within,
-        RunEnd::Done,
-        &[(0, &[0xF0, 1, 2, 3, 4, 5, 6, 0xF7])],
-    )?;
-    carries_within_six(&rt, alloc, &past, too_long, &[])
-}
-
-#[test]
-fn pieces_of_one_byte(rt: HostRuntime) -> Result<(), Fail> {
-    let alloc = rt.alloc();
-    let mut given = case_of(alloc, &DOWN, &NOTE)?;
-    given.cuts = vec![in alloc; 1; 16]?;
-    let left = Left {
-        status: Status::Done,
-        pieces: &[(0, &[0x90, 0x3C, 0x64])],
-        output: "",
-        notes: "",
-    };
-    leaves(&rt, alloc, given, left)
-}
-
-#[test]
-fn refusals(rt: HostRuntime) -> Result<(), Fail> {
-    let alloc = rt.alloc();
-    let alone: [(&[u32], Reason, &str); 5] = [
-        (&[0x40903C00], Reason::Truncated, "refused Truncated at 0\n"),
-        (
-            &[0x30070000, 0],
-            Reason::BadCount,
-            "refused BadCount at 0\n",
-        ),
-        (&[0x20903C80], Reason::HighBit, "refused HighBit at 0\n"),
-        (
-            &[0x20B06000],
-            Reason::DataIncrement,
-            "refused DataIncrement at 0\n",
-        ),
-        (
-            &[0x40B06100, 0],
-            Reason::DataDecrement,
-            "refused DataDecrement at 0\n",
-        ),
-    ];
-    for (words, reason, notes) in alone {
-        carries(&rt, alloc, words, refused(reason, 0), &[], notes)?;
+// What is left, as a row says it behind `leaves`.
+fn told_of(alloc: Global, form: Form, left: &Left) -> Result<String, Fail> {
+    let mut told = format!(in alloc; "{:?}", left.status)?;
+    push_pieces(&mut told, &left.lanes)?;
+    let output = left.output.held();
+    match form {
+        Form::Text => push_lines(&mut told, "output", output)?,
+        Form::Words => push_bytes(&mut told, 4, output)?,
+        Form::Bytes => push_bytes(&mut told, 1, output)?,
     }
-    carries(
-        &rt,
-        alloc,
-        &[NOTE[0], NOTE[1], 0x20903C80],
-        refused(Reason::HighBit, 8),
-        &[(0, &[0x90, 0x3C, 0x64])],
-        "refused HighBit at 8\n",
-    )?;
-    carries(
-        &rt,
-        alloc,
-        &[NOTE[0], NOTE[1], 0x40903C00],
-        refused(Reason::Truncated, 8),
-        &[(0, &[0x90, 0x3C, 0x64])],
-        "refused Truncated at 8\n",
-    )
+    push_lines(&mut told, "note", left.notes.held())?;
+    Ok(told)
 }
 
-#[test]
-fn faults(rt: HostRuntime) -> Result<(), Fail> {
-    let alloc = rt.alloc();
-    let twice = [NOTE[0], NOTE[1], NOTE[0], NOTE[1]];
-    let mut given = case_of(alloc, &DOWN, &twice)?;
-    given.lane_puts = vec![in alloc; (1, 1)]?;
-    let left = Left {
-        status: Status::LaneFault,
-        pieces: &[(0, &[0x90, 0x3C, 0x64]), (0, &[0x90])],
-        output: "",
-        notes: "lane write failed\n",
-    };
-    leaves(&rt, alloc, given, left)?;
-    let mut given = case_of(alloc, &DOWN, &twice)?;
-    given.cuts = vec![in alloc; 8]?;
-    given.reads = vec![in alloc; 1]?;
-    let left = Left {
-        status: Status::ReadFault,
-        pieces: &[(0, &[0x90, 0x3C, 0x64])],
-        output: "",
-        notes: "read failed\n",
-    };
-    leaves(&rt, alloc, given, left)?;
-    let mut given = case_of(alloc, &DOWN, &[0x40903C01, 0xC9240007, NOTE[0], NOTE[1]])?;
-    given.note_puts = vec![in alloc; (0, 0)]?;
-    let left = Left {
-        status: Status::NoteFault,
-        pieces: &[(0, &[0x90, 0x3C, 0x64])],
-        output: "",
-        notes: "",
-    };
-    leaves(&rt, alloc, given, left)
-}
-
-#[test]
-fn other_words_are_told_the_usage(rt: HostRuntime) -> Result<(), Fail> {
-    let alloc = rt.alloc();
-    let usage = Left {
-        status: Status::Usage,
-        pieces: &[],
-        output: "",
-        notes: "usage: translate, show, endpoint or selftest\n",
-    };
-    let faulty: [&[&str]; 9] = [
-        &[],
-        &["--help"],
-        &["translate", "sideways"],
-        &["translate", "down", "--folder", "--folder"],
-        &["translate", "up", "--group", "16"],
-        &["translate", "up", "--folder", "F"],
-        &["translate", "back", "--little"],
-        &["show", "--room", "5"],
-        &["show", "--bytes", "--little"],
-    ];
-    for words in faulty {
-        leaves(&rt, alloc, case_of(alloc, words, &NOTE)?, usage)?;
+// A line for each piece of the lanes.
+fn push_pieces(told: &mut String, lanes: &MemLanes) -> Result<(), Fail> {
+    for k in 0..ENTRIES {
+        let Some((lane, piece)) = lanes.entry(k) else {
+            return Ok(());
+        };
+        write!(told, "\nlane {}", lane.get())?;
+        push_digits(told, 1, piece)?;
     }
     Ok(())
 }
 
-#[test]
-fn packets_are_shown(rt: HostRuntime) -> Result<(), Fail> {
-    let alloc = rt.alloc();
-    let all = [NOTE[0], NOTE[1], 0x10F80000, 0x30160102, 0x03040506];
-    let lines = Left {
-        status: Status::Done,
-        pieces: &[],
-        output: "0 40903C00 C9240000 note-on group=0 channel=0 note=60 velocity=51492 type=0 attribute=0\n8 10F80000 system group=0 status=F8\n12 30160102 03040506 exclusive group=0 form=start bytes=010203040506\n",
-        notes: "",
-    };
-    leaves(&rt, alloc, case_of(alloc, &["show"], &all)?, lines)?;
-    let clock = Left {
-        status: refused(Reason::HighBit, 4),
-        pieces: &[],
-        output: "0 10F80000 system group=0 status=F8\n",
-        notes: "refused HighBit at 4\n",
-    };
-    let given = case_of(alloc, &["show"], &[0x10F80000, 0x20903C80])?;
-    leaves(&rt, alloc, given, clock)?;
-    let mut given = case_of(alloc, &["show"], &all)?;
-    given.output_puts = vec![in alloc; (0, 5); 1]?;
-    let left = Left {
-        status: Status::OutputFault,
-        pieces: &[],
-        output: "0 409",
-        notes: "output write failed\n",
-    };
-    leaves(&rt, alloc, given, left)
+// A line for each sixteen bytes of the output, in groups of so many.
+fn push_bytes(told: &mut String, group: usize, bytes: &[u8]) -> Result<(), Fail>
+    requires { 0 < group }
+{
+    for line in bytes.chunks(16) {
+        told.push_str("\noutput")?;
+        push_digits(told, group, line)?;
+    }
+    Ok(())
 }
 
-#[test]
-fn texts_are_shown(rt: HostRuntime) -> Result<(), Fail> {
-    let alloc = rt.alloc();
-    let name = [
-        0xF4034465, 0x6D6F2045, 0x6E64706F, 0x696E7420, 0xFC035800, 0, 0, 0,
-    ];
-    let whole = Left {
-        status: Status::Done,
-        pieces: &[],
-        output: "0 F4034465 6D6F2045 6E64706F 696E7420 stream format=1 status=003\n16 FC035800 00000000 00000000 00000000 stream format=3 status=003\ntext endpoint-name 44656D6F20456E64706F696E742058\n",
-        notes: "",
-    };
-    leaves(&rt, alloc, case_of(alloc, &["show"], &name)?, whole)?;
-    let bad = Left {
-        status: Status::Done,
-        pieces: &[],
-        output: "0 FC043100 00000000 00000000 00000000 stream format=3 status=004\ntext product-id bad\n",
-        notes: "",
-    };
-    leaves(
-        &rt,
-        alloc,
-        case_of(alloc, &["show"], &[0xFC043100, 0, 0, 0])?,
-        bad,
-    )?;
-    let two = Left {
-        status: Status::Done,
-        pieces: &[],
-        output: "0 F4034465 6D6F2045 6E64706F 696E7420 stream format=1 status=003\n16 F0120141 00000000 00000000 00000000 stream format=0 status=012\ntext block-name 41\n32 FC035800 00000000 00000000 00000000 stream format=3 status=003\ntext endpoint-name 44656D6F20456E64706F696E742058\n",
-        notes: "",
-    };
-    let between = [
-        0xF4034465, 0x6D6F2045, 0x6E64706F, 0x696E7420, 0xF0120141, 0, 0, 0, 0xFC035800, 0, 0, 0,
-    ];
-    leaves(&rt, alloc, case_of(alloc, &["show"], &between)?, two)
+// The digits of bytes, in groups of so many.
+fn push_digits(told: &mut String, group: usize, bytes: &[u8]) -> Result<(), Fail>
+    requires { 0 < group }
+{
+    for word in bytes.chunks(group) {
+        told.push(' ')?;
+        for byte in word {
+            write!(told, "{byte:02X}")?;
+        }
+    }
+    Ok(())
+}
+
+// The lines of a text; one that doesn't end is told as cut.
+fn push_lines(told: &mut String, key: &str, text: &[u8]) -> Result<(), Fail> {
+    for line in str::from_utf8(text)?.split_inclusive('\n') {
+        match line.strip_suffix('\n') {
+            Some(whole) => write!(told, "\n{key} {whole}")?,
+            None => write!(told, "\n{key}-cut |{line}|")?,
+        }
+    }
+    Ok(())
 }

@@ -1,6 +1,6 @@
 -- What an endpoint answers by what it holds is what it answers by all packets before.
 use Rattle.std.proofs.Common.{◌≡◌, ◌≤◌, ◌<◌, ℕ, Bool, true, false, List, [], ◌∷◌, ◌++◌, ◌+◌, length, Option, None, Some, zero, suc, refl, ap, sym, ◌∙◌, arith}
-use Rattle.std.specs.Prelude.{Ok, Err, if◌then◌else◌, IsTrue, ◌↔◌, unwrap_or}
+use Rattle.std.specs.Prelude.{Ok, Err, if◌then◌else◌, IsTrue, ◌↔◌}
 use Rattle.std.specs.List.{All}
 use Rattle.std.specs.Option.{option_map, option_map_or, option_to_list}
 use Rattle.std.proofs.lemmas.List.Elements.{All-append, All-cons, All-nil}
@@ -14,7 +14,6 @@ use Rattle.system_stream.specs.Layout.{IsStream, has_bad_format, message_in}
 use Rattle.function_blocks.specs.Blocks.{has_ci}
 use Rattle.function_blocks.specs.Profiles.{profiles_are_distinct}
 use Rattle.function_blocks.specs.declared.setup.Block.{Block}
-use Rattle.function_blocks.specs.declared.setup.Profile.{Profile}
 use Rattle.function_blocks.specs.InForce.{message_read, protocol_at}
 use Rattle.function_blocks.specs.Replies.{protocol_after}
 use Rattle.function_blocks.specs.Setups.{Facts}
@@ -22,13 +21,12 @@ use Rattle.ci_messages.specs.Reading.{ci_fault}
 use Rattle.ci_messages.specs.declared.view.CiFault.{CiFault}
 use Rattle.ci_responder.specs.Held.{Held, block_in, heard_in, replies_in, sender_in}
 use Rattle.ci_responder.specs.History.{held_at}
-use Rattle.ci_responder.specs.Keys.{key_of}
 use Rattle.ci_responder.specs.Laws.{HeldIsTheHistory}
-use Rattle.ci_responder.specs.declared.keys.Key.{Key}
 use Rattle.ci_responder.specs.Messages.{Told}
 use Rattle.ci_responder.specs.Read.{told_in}
 use Rattle.ci_responder.specs.Replies.{Sender, first_packets, replies_by, reply_to, sent}
 use Rattle.ci_responder.specs.declared.heard.Heard.{Heard}
+use Rattle.ci_lines.specs.Names.{name_of_heard}
 use Rattle.sysex_groups.specs.Cut.{part_count}
 use Rattle.sysex_groups.specs.Exclusives.{Answer, Part, Room, ended_by, fits, framed, held, too_long, whole}
 use Rattle.sysex_groups.specs.Table.{Begun, Table, answer_of, begun_in}
@@ -38,7 +36,7 @@ use Rattle.voice_state.specs.Refusal.{bad_part}
 use Rattle.voice_state.specs.Styles.{plain_style}
 use Rattle.down_translator.specs.Laws.{WhatIsHeldIsTheDefinition}
 use Rattle.down_translator.specs.Recording.{AreInRange, state_of}
-use Rattle.midi_lines.specs.EndpointLines.{block_text, endpoint_text, profile_text}
+use Rattle.midi_lines.specs.EndpointLines.{block_text, endpoint_text}
 use Rattle.midi_lines.specs.declared.endpoint.Name.{Name}
 use Rattle.midi_lines.specs.declared.endpoint.Name.TheVariants as names
 use Rattle.midi_pass.specs.Places.{Places}
@@ -46,7 +44,7 @@ use Rattle.midi_pass.specs.Put.{Put, in_notes}
 use Rattle.listing_puts.specs.Lines.{line_puts}
 use Rattle.midi_engines.specs.Down.{open_puts}
 use Rattle.midi_pass.specs.Each.{for_each}
-use Rattle.midi_engines.specs.Endpoint.{Said, block_line_of, exclusive_lines, in_force, message_lines, message_replies, name_of_heard, name_of_replies, packet_lines, packet_replies, profile_line_of, protocol_after_packet, said_by, said_in, said_with, stream_lines, stream_name, stream_packet_replies, told_by, told_in_packets}
+use Rattle.midi_engines.specs.Endpoint.{Said, block_line_of, exclusive_lines, in_force, message_lines, message_replies, name_of_replies, packet_lines, packet_replies, protocol_after_packet, said_by, said_in, said_with, stream_lines, stream_name, stream_packet_replies, told_by, told_in_packets}
 use Rattle.midi_engines.specs.EndpointHeld.{TakesPacket, after_part, lost_by, packet_part_lines, part_replies, said_lines, said_of, said_of_packet}
 use Rattle.midi_engines.specs.ShowPackets.{bad_join}
 use Rattle.midi_engines.specs.declared.endpoint.EndpointEngine.{EndpointEngine}
@@ -282,10 +280,6 @@ same_for_each one other same number (x ∷ xs) =
 pub blocks_are : (muid other : ℕ → Option ℕ) → ((n : ℕ) → muid n ≡ other n) → (blocks : List Block) → for_each (block_line_of muid) 0 blocks ≡ for_each (block_line_of other) 0 blocks
 blocks_are muid other same blocks =
     same_for_each (block_line_of muid) (block_line_of other) (λ n block. ap (λ m. if has_ci block then in_notes (block_text n m) ∷ [] else []) (same n)) 0 blocks
-
-pub profiles_are : (on other : Key → Option Bool) → ((k : Key) → on k ≡ other k) → (profiles : List Profile) → for_each (profile_line_of on) 0 profiles ≡ for_each (profile_line_of other) 0 profiles
-profiles_are on other same profiles =
-    same_for_each (profile_line_of on) (profile_line_of other) (λ n profile. ap (λ o. in_notes (profile_text profile (unwrap_or o profile.on)) ∷ []) (same (key_of profile))) 0 profiles
 
 -- ---- packets that are no messages to an endpoint
 

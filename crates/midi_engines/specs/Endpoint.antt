@@ -1,6 +1,6 @@
 -- A recording of a peer that is answered: the words of the replies to each packet and then its lines; at the end the lines of the
 -- exclusives that are open, of the protocol in force, and of the blocks and profiles.
-use Rattle.std.specs.Prelude.{◌≡◌, ℕ, Bool, false, List, [], ◌∷◌, ◌++◌, Option, None, Some, unwrap_or, ◌+◌, if◌then◌else◌, Result, Ok, Err}
+use Rattle.std.specs.Prelude.{◌≡◌, ℕ, false, List, [], ◌∷◌, ◌++◌, Option, None, Some, if◌then◌else◌, Result, Ok, Err}
 use Rattle.std.specs.Option.{option_map, option_map_or, option_to_list}
 use Rattle.ump_words.specs.declared.words.Framed.{Framed}
 use Rattle.ump_grammar.specs.declared.packet.Packet.{Packet}
@@ -11,21 +11,19 @@ use Rattle.function_blocks.specs.InForce.{message_read, protocol_at}
 use Rattle.function_blocks.specs.Replies.{protocol_after, stream_replies}
 use Rattle.function_blocks.specs.Setups.{Facts}
 use Rattle.function_blocks.specs.declared.setup.Block.{Block}
-use Rattle.function_blocks.specs.declared.setup.Profile.{Profile}
 use Rattle.ci_messages.specs.Reading.{ci_fault}
 use Rattle.ci_messages.specs.declared.view.CiFault.{CiFault}
 use Rattle.ci_messages.specs.declared.view.CiFault.TheVariants as faults
-use Rattle.ci_responder.specs.declared.heard.Heard.{Heard}
-use Rattle.ci_responder.specs.declared.heard.Heard.TheVariants as heard
-use Rattle.ci_responder.specs.declared.keys.Key.{Key}
 use Rattle.ci_responder.specs.History.{heard_at, muid_at, on_at, replies_at}
-use Rattle.ci_responder.specs.Keys.{key_of}
 use Rattle.ci_responder.specs.Messages.{Told}
 use Rattle.ci_responder.specs.Read.{told_in}
+use Rattle.ci_lines.specs.Names.{name_of_heard}
+use Rattle.ci_lines.specs.Profiles.{profile_lines}
+use Rattle.ci_lines.specs.declared.profiles.LinePlace.TheVariants.{Notes}
 use Rattle.voice_state.specs.Listing.{end_lines, line_of}
 use Rattle.voice_state.specs.Parts.{Placed, part_of, parts_of, whole_by}
 use Rattle.voice_state.specs.Refusal.{bad_part}
-use Rattle.midi_lines.specs.EndpointLines.{block_text, endpoint_text, profile_text, protocol_text}
+use Rattle.midi_lines.specs.EndpointLines.{block_text, endpoint_text, protocol_text}
 use Rattle.midi_lines.specs.declared.endpoint.Name.{Name}
 use Rattle.midi_lines.specs.declared.endpoint.Name.TheVariants as names
 use Rattle.down_translator.specs.Recording.{packets_of}
@@ -99,19 +97,6 @@ told_in_packets room [] = []
 told_in_packets room (placed ∷ past) =
     told_by (said_by room (parts_of past) placed.packet) ++ told_in_packets room past
 
-abbrev pub name_of_heard : Heard → Name
-name_of_heard heard.NoBlock = names.NoBlock
-name_of_heard heard.Silent = names.Silent
-name_of_heard heard.Collision = names.Collision
-name_of_heard heard.OldVersion = names.OldVersion
-name_of_heard heard.NotOurs = names.NotOurs
-name_of_heard heard.Moved = names.Moved
-name_of_heard heard.Report = names.Report
-name_of_heard heard.Broadcast = names.Broadcast
-name_of_heard heard.Answered = names.Answered
-name_of_heard heard.Passed = names.Passed
-name_of_heard heard.Nak = names.Nak
-
 abbrev pub name_of_fault : CiFault → Name
 name_of_fault faults.NotCi = names.NotCi
 name_of_fault faults.Short = names.Short
@@ -165,11 +150,6 @@ module _ (setup : Facts) (room : ℕ) (past : List Placed) (placed : Placed) whe
 abbrev pub block_line_of : (ℕ → Option ℕ) → ℕ → Block → List Put
 block_line_of muid number block = if has_ci block then in_notes (block_text number (muid number)) ∷ [] else []
 
--- the line of a profile: on or off, where that is known, else as the setup says
-abbrev pub profile_line_of : (Key → Option Bool) → ℕ → Profile → List Put
-profile_line_of on number profile =
-    in_notes (profile_text profile (unwrap_or (on (key_of profile)) profile.on)) ∷ []
-
 -- the lines at the end: of the exclusives that are open, of the protocol, of the blocks and of the profiles. A profile is on or off by
 -- the last switch of it that was accepted, else as the setup says.
 abbrev pub closing_lines : Facts → ℕ → List Placed → List Put
@@ -177,7 +157,7 @@ closing_lines setup room past =
     line_puts (end_lines (Some room) (parts_of past))
     ++ (in_notes (protocol_text (in_force setup past)) ∷ []
     ++ (for_each (block_line_of (muid_at setup (told_in_packets room past))) 0 setup.blocks
-    ++ for_each (profile_line_of (on_at setup (told_in_packets room past))) 0 setup.profiles))
+    ++ profile_lines Notes (on_at setup (told_in_packets room past)) setup.profiles))
 
 -- ---- a recording
 

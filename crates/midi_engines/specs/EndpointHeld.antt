@@ -13,6 +13,9 @@ use Rattle.function_blocks.specs.Profiles.{profiles_are_distinct}
 use Rattle.ci_responder.specs.Held.{Held, after, heard_in, muid_in, replies_in}
 use Rattle.ci_responder.specs.History.{held_at}
 use Rattle.ci_responder.specs.Keys.{state_in}
+use Rattle.ci_lines.specs.Names.{name_of_heard}
+use Rattle.ci_lines.specs.Profiles.{profile_lines}
+use Rattle.ci_lines.specs.declared.profiles.LinePlace.TheVariants.{Notes}
 use Rattle.voice_state.specs.declared.listed.Kind.TheVariants as kinds
 use Rattle.voice_state.specs.declared.listed.Listed.{Listed}
 use Rattle.voice_state.specs.Listing.{groups}
@@ -29,7 +32,7 @@ use Rattle.listing_puts.specs.Lines.{line_puts}
 use Rattle.listing_puts.specs.Refusal.{refusal_by}
 use Rattle.midi_engines.specs.Down.{open_puts}
 use Rattle.midi_pass.specs.Each.{for_each}
-use Rattle.midi_engines.specs.Endpoint.{Said, block_line_of, in_force, name_of_fault, name_of_heard, profile_line_of, protocol_after_packet, said_in, stream_lines, stream_packet_replies, told_in_packets}
+use Rattle.midi_engines.specs.Endpoint.{Said, block_line_of, in_force, name_of_fault, protocol_after_packet, said_in, stream_lines, stream_packet_replies, told_in_packets}
 use Rattle.midi_engines.specs.Options.{EndpointOptions}
 use Rattle.midi_engines.specs.Packets.{all_placed}
 use Rattle.midi_engines.specs.Raised.{Answers}
@@ -133,7 +136,7 @@ pub record TakesPacket (now later : EndpointEngine) (offset : ℕ) (packet : Pac
 abbrev pub setup_lines : EndpointEngine → List Put
 setup_lines now =
     for_each (block_line_of (muid_in now.listener.responder.blocks)) 0 now.setup.blocks
-    ++ for_each (profile_line_of (state_in now.listener.responder.states)) 0 now.setup.profiles
+    ++ profile_lines Notes (state_in now.listener.responder.states) now.setup.profiles
 
 abbrev pub held_closing : EndpointEngine → List Put
 held_closing now =

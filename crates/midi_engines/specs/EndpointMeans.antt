@@ -9,10 +9,11 @@ use Rattle.sysex_groups.specs.Exclusives.{Part}
 use Rattle.function_blocks.specs.Blocks.{has_ci}
 use Rattle.function_blocks.specs.Setups.{Facts}
 use Rattle.function_blocks.specs.declared.setup.Block.{Block}
-use Rattle.function_blocks.specs.declared.setup.Profile.{Profile}
 use Rattle.ci_responder.specs.History.{muid_at, on_at}
 use Rattle.ci_responder.specs.Messages.{Told}
-use Rattle.ci_responder.specs.declared.keys.Key.{Key}
+use Rattle.ci_lines.specs.ProfileLaws.{profiles_named}
+use Rattle.ci_lines.specs.Profiles.{profile_lines}
+use Rattle.ci_lines.specs.declared.profiles.LinePlace.TheVariants.{Notes}
 use Rattle.voice_state.specs.Listing.{end_lines, line_of}
 use Rattle.voice_state.specs.Parts.{Placed, parts_of}
 use Rattle.midi_lines.specs.EndpointLines.{block_text}
@@ -20,7 +21,7 @@ use Rattle.midi_pass.specs.Named.{AreNamed, named-then}
 use Rattle.midi_pass.specs.Put.{Put, in_notes}
 use Rattle.midi_pass.specs.Each.{for_each}
 use Rattle.listing_puts.specs.LineLaws.{lines_named}
-use Rattle.midi_engines.specs.Endpoint.{Said, answering, block_line_of, exclusive_lines, in_force, message_lines, profile_line_of, said_by, stream_lines, told_in_packets}
+use Rattle.midi_engines.specs.Endpoint.{Said, answering, block_line_of, exclusive_lines, in_force, message_lines, said_by, stream_lines, told_in_packets}
 use Rattle.midi_engines.specs.Options.{EndpointOptions}
 use Rattle.midi_engines.specs.Packets.{all_placed, placed_of}
 use Rattle.midi_engines.specs.Raised.{output_and_notes}
@@ -101,10 +102,6 @@ block_named muid number block = by_ci (has_ci block)
     by_ci true = (refl, tt)
     by_ci false = tt
 
-profile_named : (on : Key → Option Bool) (number : ℕ) (profile : Profile) →
-    Fine (profile_line_of on number profile)
-profile_named on number profile = (refl, tt)
-
 pub answers_last_named : (options : EndpointOptions) (past : List (Framed × Packet)) (puts : List Put) →
     (answering options).IsPutAtEnd past puts → Fine puts
 answers_last_named options past puts put =
@@ -112,12 +109,11 @@ answers_last_named options past puts put =
     let before : List Placed = all_placed past in
     let told : List Told = told_in_packets options.room before in
     let blocks : List Put = for_each (block_line_of (muid_at setup told)) 0 setup.blocks in
-    let profiles : List Put = for_each (profile_line_of (on_at setup told)) 0 setup.profiles in
+    let profiles : List Put = profile_lines Notes (on_at setup told) setup.profiles in
     subst Fine (sym put)
     (named-then output_and_notes _ _ (lines_named output_and_notes refl (end_lines (Some options.room) (parts_of before))) (
       refl,
       named-then output_and_notes blocks profiles
           (each_named (block_line_of (muid_at setup told)) (block_named (muid_at setup told)) 0 setup.blocks)
-          (each_named (profile_line_of (on_at setup told))
-          (profile_named (on_at setup told)) 0 setup.profiles),
+          (profiles_named output_and_notes Notes (λ text. refl) (on_at setup told) setup.profiles),
     ))

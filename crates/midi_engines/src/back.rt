@@ -1,9 +1,5 @@
 // From a stream of MIDI 1.0 bytes to packets, and from these to MIDI 1.0 bytes again.
-ghost use Rattle.std.specs.Prelude.{◌≡◌, ◌<◌, ◌≤◌, ℕ, List, [], IfOk, length};
-ghost use Rattle.ump_grammar.specs.Ranges.{IsPacket};
-ghost use Rattle.up_translator.specs.Recording.{HoldsUp};
-ghost use Rattle.down_translator.specs.Held.{new_down};
-ghost use Rattle.voice_state.specs.Styles.{plain_style};
+ghost use Rattle.std.specs.Prelude.{◌≡◌, ◌<◌, ◌≤◌, [], IfOk, length};
 ghost use Rattle.midi_pass.specs.Bytes.{byte_cutting};
 ghost use Rattle.midi_pass.specs.Pass.{Ends, IsDoneUnless, seen};
 ghost use Rattle.midi_pass.specs.Places.{Puts, places};
@@ -189,6 +185,8 @@ impl Engine<u64, u8> for BackEngine {
 ///
 /// `Refused` comes for `InputTooLong`, `DataIncrement`, `DataDecrement` and `ExclusiveTooLong`, with the number of bytes before what
 /// is refused. `ReadFault`, `OutputFault` and `NoteFault` come only where the count of that object rose. The lanes stay as they are.
+// Never inlined, so that the loops of the other passes keep their registers.
+#[inline(never)]
 pub fn run_back<S: Source, L: Lanes, W: Sink, N: Sink>(
     engine: BackRun,
     input: &mut S,
@@ -206,38 +204,10 @@ pub fn run_back<S: Source, L: Lanes, W: Sink, N: Sink>(
         (seen S.Source L.Lanes W.Sink N.Sink input.old lanes.old output.old notes.old)
         (seen S.Source L.Lanes W.Sink N.Sink input.new lanes.new output.new notes.new) result }
 {
-    let BackRun { up, down } = engine;
-    translate(up, down, input, lanes, output, notes)
-}
-
-// Translates a stream by translators of which one has had no byte and in the other nothing is open. It stays a function of its
-// own, so that the loops of the other passes keep their registers.
-#[inline(never)]
-fn translate<S: Source, L: Lanes, W: Sink, N: Sink>(
-    up: Up,
-    down: Down,
-    input: &mut S,
-    lanes: &mut L,
-    output: &mut W,
-    notes: &mut N,
-) -> RunEnd
-    requires new { HoldsUp up.holding.paired up.parsing.room up.group [] up }
-    requires empty { down ≡ new_down up.holding.paired plain_style up.parsing.room }
-    requires least { 6 ≤ up.parsing.room }
-    requires few { up.group < 16 }
-    ensures ends { Ends byte_cutting (returning (options_of up))
-        (seen S.Source L.Lanes W.Sink N.Sink input.old lanes.old output.old notes.old)
-        (seen S.Source L.Lanes W.Sink N.Sink input.new lanes.new output.new notes.new) result }
-    ensures complete { IsDoneUnless byte_cutting (returning (options_of up))
-        (seen S.Source L.Lanes W.Sink N.Sink input.old lanes.old output.old notes.old)
-        (seen S.Source L.Lanes W.Sink N.Sink input.new lanes.new output.new notes.new) result }
-    ensures refused { IsRefusedWhere byte_cutting (returning (options_of up))
-        (seen S.Source L.Lanes W.Sink N.Sink input.old lanes.old output.old notes.old)
-        (seen S.Source L.Lanes W.Sink N.Sink input.new lanes.new output.new notes.new) result }
-{
     bytes_are_cut_once();
     bytes_that_come_back_mean_the_same();
     rooms_that_are_not_reached_do_not_matter_in_bytes();
+    let BackRun { up, down } = engine;
     drive(
         ByteReader::new(LIMIT),
         BackEngine { up, down },

@@ -1,10 +1,10 @@
 // From packets to MIDI 1.0 bytes.
-ghost use Rattle.std.specs.Prelude.{◌≡◌, ◌<◌, ◌≤◌, ◌∷◌, IfOk, [], true};
+ghost use Rattle.std.specs.Prelude.{◌≡◌, ◌<◌, ◌≤◌, IfOk, true};
 ghost use Rattle.std.specs.Option.{option_map, option_to_list};
 ghost use Rattle.sysex_groups.specs.Table.{Table, begun_in};
 ghost use Rattle.ump_grammar.specs.declared.packet.Packet.{Packet};
 ghost use Rattle.ump_grammar.specs.Ranges.{IsPacket};
-ghost use Rattle.down_translator.specs.Held.{down_after, limit_of, new_down, paired_of, style_of};
+ghost use Rattle.down_translator.specs.Held.{down_after};
 ghost use Rattle.down_translator.specs.Lanes.{style_in};
 ghost use Rattle.midi_pass.specs.Pass.{Ends, IsDoneUnless, seen};
 ghost use Rattle.midi_pass.specs.Places.{Puts, places};
@@ -162,53 +162,9 @@ pub fn run_down<S: Source, L: Lanes, W: Sink, N: Sink>(
         (seen S.Source L.Lanes W.Sink N.Sink input.old lanes.old output.old notes.old)
         (seen S.Source L.Lanes W.Sink N.Sink input.new lanes.new output.new notes.new) result }
 {
-    let DownRun { down, order } = engine;
-    translate(down, order, input, lanes, output, notes)
-}
-
-// Translates a recording by a translator in which nothing is open.
-#[inline(always)]
-fn translate<S: Source, L: Lanes, W: Sink, N: Sink>(
-    down: Down,
-    order: Order,
-    input: &mut S,
-    lanes: &mut L,
-    output: &mut W,
-    notes: &mut N,
-) -> RunEnd
-    requires empty { down ≡ new_down (paired_of down) (style_of down) (limit_of down) }
-    requires least { 6 ≤ limit_of down }
-    requires begun { L.begun lanes.old ≡ true }
-    ensures ends { Ends (packet_cutting order)
-        (carrying (record {
-          paired = paired_of down;
-          style = style_of down;
-          order = order;
-          room = limit_of down;
-        }))
-        (seen S.Source L.Lanes W.Sink N.Sink input.old lanes.old output.old notes.old)
-        (seen S.Source L.Lanes W.Sink N.Sink input.new lanes.new output.new notes.new) result }
-    ensures complete { IsDoneUnless (packet_cutting order)
-        (carrying (record {
-          paired = paired_of down;
-          style = style_of down;
-          order = order;
-          room = limit_of down;
-        }))
-        (seen S.Source L.Lanes W.Sink N.Sink input.old lanes.old output.old notes.old)
-        (seen S.Source L.Lanes W.Sink N.Sink input.new lanes.new output.new notes.new) result }
-    ensures refused { IsRefusedWhere (packet_cutting order)
-        (carrying (record {
-          paired = paired_of down;
-          style = style_of down;
-          order = order;
-          room = limit_of down;
-        }))
-        (seen S.Source L.Lanes W.Sink N.Sink input.old lanes.old output.old notes.old)
-        (seen S.Source L.Lanes W.Sink N.Sink input.new lanes.new output.new notes.new) result }
-{
     styled_pairs_are_a_translation();
     packets_are_cut_once();
+    let DownRun { down, order } = engine;
     let reader = PacketReader::new(order);
     drive(reader, DownEngine { down }, input, lanes, output, notes)
 }

@@ -1,22 +1,17 @@
 // The endpoint that a peer finds: its replies to stream messages and to MIDI-CI.
-ghost use Rattle.std.specs.Prelude.{◌≡◌, ◌≤◌, [], ◌∷◌, ◌++◌, IfOk, unwrap_or};
+ghost use Rattle.std.specs.Prelude.{◌≡◌, ◌≤◌, [], ◌∷◌, ◌++◌, IfOk};
 ghost use Rattle.ci_responder.specs.Held.{muid_in};
-ghost use Rattle.ci_responder.specs.History.{held_at};
-ghost use Rattle.ci_responder.specs.Keys.{key_of, state_in};
-ghost use Rattle.function_blocks.specs.Profiles.{profiles_are_distinct};
 ghost use Rattle.midi_lines.specs.EndpointLines.{protocol_text};
 ghost use Rattle.midi_pass.specs.Pass.{Ends, IsDoneUnless, seen};
 ghost use Rattle.midi_pass.specs.Places.{Puts, places};
 ghost use Rattle.midi_pass.specs.Put.{in_notes};
 ghost use Rattle.midi_pass.specs.Refused.{IsRefusedWhere};
 ghost use Rattle.system_stream.specs.Layout.{IsStream};
-ghost use Rattle.sysex_groups.specs.Table.{empty_table};
 ghost use Rattle.ump_grammar.specs.Ranges.{IsPacket};
 ghost use Rattle.midi_pass.specs.Each.{for_each};
 ghost use Rattle.midi_engines.specs.Endpoint.{
   answering,
   block_line_of,
-  profile_line_of,
   protocol_after_packet,
   stream_lines,
   stream_name,
@@ -40,13 +35,14 @@ ghost use Rattle.midi_engines.specs.Raised.{CarriesOut};
 use crate::down::list_open;
 use crate::hearing::{Listener, take_part};
 use crate::replies::ReplyWriter;
-use ci_responder::{Key, ProfileId, Responder, held_is_the_history};
+use ci_lines::{LinePlace, put_profiles};
+use ci_responder::{Responder, held_is_the_history};
 use down_translator::laws::{spelled_packets_are_in_range, what_is_held_is_the_definition};
 use function_blocks::{
-    Block, Config, Profile, Setup, protocol_follows_the_requests, replies_have_four_words,
+    Block, Config, Setup, protocol_follows_the_requests, replies_have_four_words,
 };
 use midi_edge::{Lanes, NoMemory, Sink, Source, U4};
-use midi_lines::{Line, Name, block_line, profile_line, protocol_line};
+use midi_lines::{Line, Name, block_line, protocol_line};
 use midi_pass::places::put_notes;
 use midi_pass::{Engine, RunEnd, drive};
 use packet_items::{PacketReader, packets_are_cut_once};
@@ -226,35 +222,6 @@ fn put_block<L: Lanes, W: Sink, N: Sink>(
     put_notes(line.as_slice(), lanes, output, notes)
 }
 
-// Whether a profile is on. The responder knows each profile of the setup.
-fn is_on(responder: &Responder, profile: &Profile) -> bool
-    ensures { result ≡ unwrap_or (state_in responder.now.states (key_of profile.now)) profile.now.on }
-{
-    let id = profile.id;
-    let key = Key {
-        block: profile.block,
-        place: profile.place,
-        id: ProfileId { bytes: id },
-    };
-    responder.profile_is_on(&key).unwrap_or(profile.on)
-}
-
-// Puts the line of a profile.
-fn put_profile<L: Lanes, W: Sink, N: Sink>(
-    responder: &Responder,
-    profile: &Profile,
-    lanes: &mut L,
-    output: &mut W,
-    notes: &mut N,
-) -> Result<(), RunEnd>
-    ensures { Puts (profile_line_of (state_in responder.now.states) 0 profile.now)
-        (places L.Lanes W.Sink N.Sink lanes.old output.old notes.old)
-        (places L.Lanes W.Sink N.Sink lanes.new output.new notes.new) result }
-{
-    let line = profile_line(profile, is_on(responder, profile));
-    put_notes(line.as_slice(), lanes, output, notes)
-}
-
 impl EndpointEngine {
     // Takes one more packet: a stream packet is answered, and a part of an exclusive joined and, where it ends one, heard.
     fn take_packet<L: Lanes, W: Sink, N: Sink>(
@@ -345,32 +312,6 @@ impl EndpointEngine {
         Ok(())
     }
 
-    // Puts the line of each profile, on or off.
-    fn put_profiles<L: Lanes, W: Sink, N: Sink>(
-        &self,
-        lanes: &mut L,
-        output: &mut W,
-        notes: &mut N,
-    ) -> Result<(), RunEnd>
-        ensures { Puts (for_each (profile_line_of (state_in self.now.listener.responder.states)) 0
-            self.now.setup.profiles)
-            (places L.Lanes W.Sink N.Sink lanes.old output.old notes.old)
-            (places L.Lanes W.Sink N.Sink lanes.new output.new notes.new) result }
-    {
-        for k in 0..self.setup.profile_count() {
-            match self.setup.profile(k) {
-                Some(profile) => {
-                    match put_profile(&self.listener.responder, profile, lanes, output, notes) {
-                        Ok(()) => {}
-                        Err(end) => return Err(end),
-                    }
-                }
-                None => unreachable!(),
-            }
-        }
-        Ok(())
-    }
-
     // Puts the lines of the blocks and of the profiles.
     fn put_setup<L: Lanes, W: Sink, N: Sink>(
         &self,
@@ -383,7 +324,14 @@ impl EndpointEngine {
             (places L.Lanes W.Sink N.Sink lanes.new output.new notes.new) result }
     {
         match self.put_blocks(lanes, output, notes) {
-            Ok(()) => self.put_profiles(lanes, output, notes),
+            Ok(()) => put_profiles(
+                &self.setup,
+                &self.listener.responder,
+                LinePlace::Notes,
+                lanes,
+                output,
+                notes,
+            ),
             Err(end) => Err(end),
         }
     }
@@ -431,6 +379,8 @@ impl EndpointEngine {
 ///
 /// `Refused` comes for `Truncated`, `InputTooLong`, `BadCount`, `HighBit` and `ExclusiveTooLong`, with the number of bytes before what is
 /// refused. `ReadFault`, `OutputFault` and `NoteFault` come only where the count of that object rose. The lanes stay as they are.
+// Never inlined, so that the loops of the other passes keep their registers.
+#[inline(never)]
 pub fn run_endpoint<S: Source, L: Lanes, W: Sink, N: Sink>(
     engine: EndpointRun,
     input: &mut S,
@@ -448,43 +398,12 @@ pub fn run_endpoint<S: Source, L: Lanes, W: Sink, N: Sink>(
         (seen S.Source L.Lanes W.Sink N.Sink input.old lanes.old output.old notes.old)
         (seen S.Source L.Lanes W.Sink N.Sink input.new lanes.new output.new notes.new) result }
 {
+    packets_are_cut_once();
     let EndpointRun {
         setup,
         order,
         listener,
     } = engine;
-    answer_all(setup, order, listener, input, lanes, output, notes)
-}
-
-// Answers the packets of a peer by an endpoint that has heard nothing. It stays a function of its own, so that the loops of the other
-// passes keep their registers.
-#[inline(never)]
-fn answer_all<S: Source, L: Lanes, W: Sink, N: Sink>(
-    setup: Setup,
-    order: Order,
-    listener: Listener,
-    input: &mut S,
-    lanes: &mut L,
-    output: &mut W,
-    notes: &mut N,
-) -> RunEnd
-    requires least { 6 ≤ listener.groups.room }
-    requires empty { listener.groups ≡ empty_table listener.groups.room }
-    requires unheard { listener.responder ≡ held_at setup listener.groups.room [] }
-    ensures ends { Ends (packet_cutting order)
-        (answering (record { setup = setup; order = order; room = listener.groups.room }))
-        (seen S.Source L.Lanes W.Sink N.Sink input.old lanes.old output.old notes.old)
-        (seen S.Source L.Lanes W.Sink N.Sink input.new lanes.new output.new notes.new) result }
-    ensures complete { IsDoneUnless (packet_cutting order)
-        (answering (record { setup = setup; order = order; room = listener.groups.room }))
-        (seen S.Source L.Lanes W.Sink N.Sink input.old lanes.old output.old notes.old)
-        (seen S.Source L.Lanes W.Sink N.Sink input.new lanes.new output.new notes.new) result }
-    ensures refused { IsRefusedWhere (packet_cutting order)
-        (answering (record { setup = setup; order = order; room = listener.groups.room }))
-        (seen S.Source L.Lanes W.Sink N.Sink input.old lanes.old output.old notes.old)
-        (seen S.Source L.Lanes W.Sink N.Sink input.new lanes.new output.new notes.new) result }
-{
-    packets_are_cut_once();
     let _profiles = setup.profile_count();
     let config = setup.config();
     let writer = ReplyWriter {

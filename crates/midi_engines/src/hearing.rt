@@ -7,7 +7,7 @@ ghost use Rattle.sysex_groups.specs.Exclusives.{IsData};
 ghost use Rattle.sysex_groups.specs.Table.{answer_to, with_part};
 ghost use Rattle.listing_puts.specs.Lines.{line_puts};
 ghost use Rattle.listing_puts.specs.Refusal.{refusal_by};
-ghost use Rattle.midi_engines.specs.Endpoint.{name_of_fault as fault_name, name_of_heard as heard_name, said_in};
+ghost use Rattle.midi_engines.specs.Endpoint.{name_of_fault as fault_name, said_in};
 ghost use Rattle.midi_engines.specs.EndpointHeld.{
   AreWordsOf,
   WrittenAndListed,
@@ -24,9 +24,10 @@ ghost use Rattle.midi_engines.specs.EndpointHeld.{
 ghost use Rattle.midi_engines.specs.Raised.{Answers, CarriesOut};
 
 use crate::replies::ReplyWriter;
+use ci_lines::name_of_heard;
 use ci_messages::laws::views_that_are_read_fit;
 use ci_messages::{CiFault, read};
-use ci_responder::{Heard, Responder, views_tell_their_bytes};
+use ci_responder::{Responder, views_tell_their_bytes};
 use down_translator::{BadStep, Kind, Listed};
 use listing_puts::{put_line, refused};
 use midi_edge::{Lanes, Sink, U4};
@@ -44,25 +45,6 @@ const EXCLUSIVE_WORDS: usize = 2;
 pub(crate) struct Listener {
     pub(crate) groups: Groups,
     pub(crate) responder: Responder,
-}
-
-// What the line of a message says that is heard so.
-fn name_of_heard(heard: Heard) -> Name
-    ensures { result ≡ heard_name heard }
-{
-    match heard {
-        Heard::NoBlock => Name::NoBlock,
-        Heard::Silent => Name::Silent,
-        Heard::Collision => Name::Collision,
-        Heard::OldVersion => Name::OldVersion,
-        Heard::NotOurs => Name::NotOurs,
-        Heard::Moved => Name::Moved,
-        Heard::Report => Name::Report,
-        Heard::Broadcast => Name::Broadcast,
-        Heard::Answered => Name::Answered,
-        Heard::Passed => Name::Passed,
-        Heard::Nak => Name::Nak,
-    }
 }
 
 // What the line of an exclusive with this fault says.

@@ -1,7 +1,6 @@
 // From a stream of MIDI 1.0 bytes to packets.
-ghost use Rattle.std.specs.Prelude.{◌≡◌, ◌≤◌, ◌<◌, ℕ, List, [], IfOk, length, refl};
+ghost use Rattle.std.specs.Prelude.{◌≡◌, ◌≤◌, ◌<◌, [], IfOk, length, refl};
 ghost use Rattle.ump_grammar.specs.Ranges.{IsPacket};
-ghost use Rattle.up_translator.specs.Recording.{HoldsUp};
 ghost use Rattle.midi_pass.specs.Bytes.{byte_cutting};
 ghost use Rattle.midi_pass.specs.Pass.{Ends, IsDoneUnless, seen};
 ghost use Rattle.midi_pass.specs.Refused.{IsRefusedWhere};
@@ -177,6 +176,8 @@ impl Engine<u64, u8> for UpEngine {
 ///
 /// `Refused` comes for `InputTooLong`, `DataIncrement`, `DataDecrement` and `ExclusiveTooLong`, with the number of bytes before what
 /// is refused. `ReadFault`, `OutputFault` and `NoteFault` come only where the count of that object rose. The lanes stay as they are.
+// Never inlined, so that the loops of the other passes keep their registers.
+#[inline(never)]
 pub fn run_up<S: Source, L: Lanes, W: Sink, N: Sink>(
     engine: UpRun,
     input: &mut S,
@@ -194,36 +195,10 @@ pub fn run_up<S: Source, L: Lanes, W: Sink, N: Sink>(
         (seen S.Source L.Lanes W.Sink N.Sink input.old lanes.old output.old notes.old)
         (seen S.Source L.Lanes W.Sink N.Sink input.new lanes.new output.new notes.new) result }
 {
-    let UpRun { up, order } = engine;
-    translate(up, order, input, lanes, output, notes)
-}
-
-// Translates a stream by a translator that has had no byte. It stays a function of its own, so that the loops of the other
-// passes keep their registers.
-#[inline(never)]
-fn translate<S: Source, L: Lanes, W: Sink, N: Sink>(
-    up: Up,
-    order: Order,
-    input: &mut S,
-    lanes: &mut L,
-    output: &mut W,
-    notes: &mut N,
-) -> RunEnd
-    requires new { HoldsUp up.holding.paired up.parsing.room up.group [] up }
-    requires few { up.group < 16 }
-    ensures ends { Ends byte_cutting (raising (options_of up order))
-        (seen S.Source L.Lanes W.Sink N.Sink input.old lanes.old output.old notes.old)
-        (seen S.Source L.Lanes W.Sink N.Sink input.new lanes.new output.new notes.new) result }
-    ensures complete { IsDoneUnless byte_cutting (raising (options_of up order))
-        (seen S.Source L.Lanes W.Sink N.Sink input.old lanes.old output.old notes.old)
-        (seen S.Source L.Lanes W.Sink N.Sink input.new lanes.new output.new notes.new) result }
-    ensures refused { IsRefusedWhere byte_cutting (raising (options_of up order))
-        (seen S.Source L.Lanes W.Sink N.Sink input.old lanes.old output.old notes.old)
-        (seen S.Source L.Lanes W.Sink N.Sink input.new lanes.new output.new notes.new) result }
-{
     bytes_are_cut_once();
     raised_packets_mean_the_bytes();
     rooms_that_are_not_reached_do_not_matter_in_bytes();
+    let UpRun { up, order } = engine;
     let words = WordOutput { order };
     drive(
         ByteReader::new(LIMIT),

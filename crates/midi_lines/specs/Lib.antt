@@ -3,7 +3,9 @@ pub mod FactLines
 pub mod Fields
 pub mod ListingLines
 pub mod PacketLines
+pub mod Room
 pub mod StepLines
 pub mod TextLines
 pub mod Voice1Lines
 pub mod Voice2Lines
+pub mod VoiceLines

@@ -2,51 +2,33 @@
 -- no group.
 use Rattle.std.specs.Prelude.{ℕ, List, ◌++◌, codes, Option}
 use Rattle.midi_lines.specs.Fields.{group_field, group_and_channel, field, hex_field}
+use Rattle.midi_lines.specs.VoiceLines.{channel_value, controller_value, note_value}
 use Rattle.voice_messages.specs.declared.voice1.Voice1.{Voice1}
 use Rattle.voice_messages.specs.declared.voice1.Voice1.TheVariants as voice1
 use Rattle.voice_messages.specs.declared.voice1.System.{System}
 use Rattle.voice_messages.specs.declared.voice1.System.TheVariants as system
 
-abbrev pub m1_note_off : Option ℕ → ℕ → ℕ → ℕ → List ℕ
-m1_note_off group channel note velocity =
-    codes "m1-note-off" ++ group_and_channel group channel ++ field (codes "note") note
-    ++ field (codes "velocity") velocity
-
-abbrev pub m1_note_on : Option ℕ → ℕ → ℕ → ℕ → List ℕ
-m1_note_on group channel note velocity =
-    codes "m1-note-on" ++ group_and_channel group channel ++ field (codes "note") note
-    ++ field (codes "velocity") velocity
-
-abbrev pub m1_poly : Option ℕ → ℕ → ℕ → ℕ → List ℕ
-m1_poly group channel note value =
-    codes "m1-poly" ++ group_and_channel group channel ++ field (codes "note") note
-    ++ field (codes "value") value
-
-abbrev pub m1_control : Option ℕ → ℕ → ℕ → ℕ → List ℕ
-m1_control group channel index value =
-    codes "m1-control" ++ group_and_channel group channel ++ field (codes "index") index
-    ++ field (codes "value") value
+-- a note off or a note on
+abbrev pub m1_note : List ℕ → Option ℕ → ℕ → ℕ → ℕ → List ℕ
+m1_note kind group channel note velocity =
+    kind ++ group_and_channel group channel ++ field (codes "note") note ++ field (codes "velocity") velocity
 
 abbrev pub m1_program : Option ℕ → ℕ → ℕ → List ℕ
 m1_program group channel program =
     codes "m1-program" ++ group_and_channel group channel ++ field (codes "program") program
 
-abbrev pub m1_pressure : Option ℕ → ℕ → ℕ → List ℕ
-m1_pressure group channel value =
-    codes "m1-pressure" ++ group_and_channel group channel ++ field (codes "value") value
-
-abbrev pub m1_bend : Option ℕ → ℕ → ℕ → List ℕ
-m1_bend group channel value =
-    codes "m1-bend" ++ group_and_channel group channel ++ field (codes "value") value
-
 abbrev pub voice1_fields : Option ℕ → Voice1 → List ℕ
-voice1_fields group (voice1.NoteOff channel note velocity) = m1_note_off group channel note velocity
-voice1_fields group (voice1.NoteOn channel note velocity) = m1_note_on group channel note velocity
-voice1_fields group (voice1.PolyPressure channel note value) = m1_poly group channel note value
-voice1_fields group (voice1.Control channel index value) = m1_control group channel index value
+voice1_fields group (voice1.NoteOff channel note velocity) =
+    m1_note (codes "m1-note-off") group channel note velocity
+voice1_fields group (voice1.NoteOn channel note velocity) =
+    m1_note (codes "m1-note-on") group channel note velocity
+voice1_fields group (voice1.PolyPressure channel note value) =
+    note_value (codes "m1-poly") group channel note value
+voice1_fields group (voice1.Control channel index value) =
+    controller_value (codes "m1-control") group channel index value
 voice1_fields group (voice1.Program channel program) = m1_program group channel program
-voice1_fields group (voice1.Pressure channel value) = m1_pressure group channel value
-voice1_fields group (voice1.Bend channel value) = m1_bend group channel value
+voice1_fields group (voice1.Pressure channel value) = channel_value (codes "m1-pressure") group channel value
+voice1_fields group (voice1.Bend channel value) = channel_value (codes "m1-bend") group channel value
 
 -- `system` with the status byte in two hexadecimal digits
 abbrev pub system_status : Option ℕ → ℕ → List ℕ

@@ -1,6 +1,7 @@
 -- The lines of channel voice messages of the MIDI 2.0 protocol, from their kind on.
 use Rattle.std.specs.Prelude.{ℕ, List, ◌++◌, codes, decimal, Option, Some, None}
 use Rattle.midi_lines.specs.Fields.{group_and_channel, field, word_field}
+use Rattle.midi_lines.specs.VoiceLines.{channel_value, controller_value, note_value}
 use Rattle.voice_messages.specs.declared.voice2.ParamKind.{ParamKind}
 use Rattle.voice_messages.specs.declared.voice2.ParamKind.TheVariants.{Registered, Assignable}
 use Rattle.voice_messages.specs.declared.voice2.Param.{Param}
@@ -28,52 +29,21 @@ unfoldable pub bank_field : Option Bank → List ℕ
 bank_field None = codes " bank=none"
 bank_field (Some bank) = codes " bank=" ++ decimal bank.msb ++ codes "/" ++ decimal bank.lsb
 
-abbrev pub note_off : Option ℕ → ℕ → ℕ → ℕ → ℕ → ℕ → List ℕ
-note_off group channel note velocity attribute_type attribute =
-    codes "note-off" ++ group_and_channel group channel ++ field (codes "note") note
+-- a note off or a note on
+abbrev pub note_message : List ℕ → Option ℕ → ℕ → ℕ → ℕ → ℕ → ℕ → List ℕ
+note_message kind group channel note velocity attribute_type attribute =
+    kind ++ group_and_channel group channel ++ field (codes "note") note
     ++ field (codes "velocity") velocity ++ field (codes "type") attribute_type
     ++ field (codes "attribute") attribute
 
-abbrev pub note_on : Option ℕ → ℕ → ℕ → ℕ → ℕ → ℕ → List ℕ
-note_on group channel note velocity attribute_type attribute =
-    codes "note-on" ++ group_and_channel group channel ++ field (codes "note") note
-    ++ field (codes "velocity") velocity ++ field (codes "type") attribute_type
-    ++ field (codes "attribute") attribute
-
-abbrev pub poly : Option ℕ → ℕ → ℕ → ℕ → List ℕ
-poly group channel note value =
-    codes "poly" ++ group_and_channel group channel ++ field (codes "note") note
-    ++ field (codes "value") value
-
-abbrev pub note_bend : Option ℕ → ℕ → ℕ → ℕ → List ℕ
-note_bend group channel note value =
-    codes "note-bend" ++ group_and_channel group channel ++ field (codes "note") note
-    ++ field (codes "value") value
-
-abbrev pub control : Option ℕ → ℕ → ℕ → ℕ → List ℕ
-control group channel index value =
-    codes "control" ++ group_and_channel group channel ++ field (codes "index") index
-    ++ field (codes "value") value
-
-abbrev pub parameter : Option ℕ → ℕ → Param → ℕ → List ℕ
-parameter group channel param value =
-    codes "parameter" ++ group_and_channel group channel ++ param_fields param ++ field (codes "value") value
-
-abbrev pub relative : Option ℕ → ℕ → Param → ℕ → List ℕ
-relative group channel param value =
-    codes "relative" ++ group_and_channel group channel ++ param_fields param ++ field (codes "value") value
+-- a value of a parameter, or a change of its value
+abbrev pub param_value : List ℕ → Option ℕ → ℕ → Param → ℕ → List ℕ
+param_value kind group channel param value =
+    kind ++ group_and_channel group channel ++ param_fields param ++ field (codes "value") value
 
 abbrev pub program : Option ℕ → ℕ → ℕ → Option Bank → List ℕ
 program group channel number bank =
     codes "program" ++ group_and_channel group channel ++ field (codes "program") number ++ bank_field bank
-
-abbrev pub pressure : Option ℕ → ℕ → ℕ → List ℕ
-pressure group channel value =
-    codes "pressure" ++ group_and_channel group channel ++ field (codes "value") value
-
-abbrev pub bend : Option ℕ → ℕ → ℕ → List ℕ
-bend group channel value =
-    codes "bend" ++ group_and_channel group channel ++ field (codes "value") value
 
 abbrev pub note_controller : Option ℕ → ℕ → ParamKind → ℕ → ℕ → ℕ → List ℕ
 note_controller group channel kind note index value =
@@ -87,17 +57,22 @@ note_management group channel note flags =
 
 abbrev pub voice2_fields : Option ℕ → Voice2 → List ℕ
 voice2_fields group (voice2.NoteOff channel note velocity attribute_type attribute) =
-    note_off group channel note velocity attribute_type attribute
+    note_message (codes "note-off") group channel note velocity attribute_type attribute
 voice2_fields group (voice2.NoteOn channel note velocity attribute_type attribute) =
-    note_on group channel note velocity attribute_type attribute
-voice2_fields group (voice2.PolyPressure channel note value) = poly group channel note value
-voice2_fields group (voice2.Control channel index value) = control group channel index value
-voice2_fields group (voice2.Set channel param value) = parameter group channel param value
-voice2_fields group (voice2.Shift channel param value) = relative group channel param value
+    note_message (codes "note-on") group channel note velocity attribute_type attribute
+voice2_fields group (voice2.PolyPressure channel note value) =
+    note_value (codes "poly") group channel note value
+voice2_fields group (voice2.Control channel index value) =
+    controller_value (codes "control") group channel index value
+voice2_fields group (voice2.Set channel param value) =
+    param_value (codes "parameter") group channel param value
+voice2_fields group (voice2.Shift channel param value) =
+    param_value (codes "relative") group channel param value
 voice2_fields group (voice2.Program channel number bank) = program group channel number bank
-voice2_fields group (voice2.Pressure channel value) = pressure group channel value
-voice2_fields group (voice2.Bend channel value) = bend group channel value
+voice2_fields group (voice2.Pressure channel value) = channel_value (codes "pressure") group channel value
+voice2_fields group (voice2.Bend channel value) = channel_value (codes "bend") group channel value
 voice2_fields group (voice2.NoteController channel kind note index value) =
     note_controller group channel kind note index value
-voice2_fields group (voice2.NoteBend channel note value) = note_bend group channel note value
+voice2_fields group (voice2.NoteBend channel note value) =
+    note_value (codes "note-bend") group channel note value
 voice2_fields group (voice2.NoteManagement channel note flags) = note_management group channel note flags

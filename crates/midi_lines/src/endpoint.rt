@@ -1,5 +1,5 @@
 // The lines of the command `endpoint`.
-ghost use Rattle.std.specs.Prelude.{◌≡◌, ◌<◌, ◌≤◌, ◌+◌, ◌++◌, length, codes};
+ghost use Rattle.std.specs.Prelude.{◌≡◌, ◌<◌, ◌≤◌, ◌+◌, ◌*◌, ◌++◌, length, codes};
 ghost use Rattle.midi_lines.specs.Fields.{hex_bytes};
 ghost use Rattle.midi_lines.specs.EndpointLines.{
   name_word,
@@ -11,6 +11,7 @@ ghost use Rattle.midi_lines.specs.EndpointLines.{
   state_word,
   profile_text,
 };
+ghost use Rattle.midi_lines.specs.Room.{AddsAtMost, HasRoom, before_kind, id_digits, longest_field, longest_name, longest_word};
 
 use crate::line::Line;
 use crate::listing::put_group_or_hyphen;
@@ -156,9 +157,9 @@ pub fn fill_profile_line(line: &mut Line, profile: &Profile, on: bool)
 
 // A MUID, or that there is none.
 fn put_muid(line: &mut Line, muid: Option<u32>)
-    requires { length line.old ≤ 60 }
+    requires { length line.old ≤ before_kind }
     ensures text { line.new ≡ line.old ++ muid_text muid }
-    ensures room { length line.new ≤ length line.old + 25 }
+    ensures room { AddsAtMost longest_field line.old line.new }
 {
     match muid {
         Some(muid) => {
@@ -171,9 +172,9 @@ fn put_muid(line: &mut Line, muid: Option<u32>)
 
 // The place of a profile.
 fn put_place(line: &mut Line, place: Place)
-    requires { length line.old ≤ 60 }
+    requires { length line.old ≤ before_kind }
     ensures text { line.new ≡ line.old ++ place_text place }
-    ensures room { length line.new ≤ length line.old + 49 }
+    ensures room { AddsAtMost (2 * longest_field) line.old line.new }
 {
     match place {
         Place::Function => put_text(line, "function"),
@@ -192,9 +193,9 @@ fn put_place(line: &mut Line, place: Place)
 
 // The ID of a profile in ten hexadecimal digits.
 fn put_id(line: &mut Line, id: &[U7; 5])
-    requires { length line.old ≤ 120 }
+    requires { HasRoom id_digits line.old }
     ensures text { line.new ≡ line.old ++ hex_bytes id.now }
-    ensures room { length line.new ≡ length line.old + 10 }
+    ensures room { length line.new ≡ length line.old + id_digits }
 {
     for byte in id {
         put_hex(line, 2, byte.get() as u32);
@@ -204,7 +205,7 @@ fn put_id(line: &mut Line, id: &[U7; 5])
 // Whether a profile is on.
 fn state_name(on: bool) -> &'static str
     ensures word { result.now ≡ state_word on }
-    ensures size { length result.now ≤ 3 }
+    ensures size { length result.now ≤ longest_word }
 {
     if on { "on" } else { "off" }
 }
@@ -212,7 +213,7 @@ fn state_name(on: bool) -> &'static str
 /// The word of a name in a line (own rule).
 pub fn word_of(name: Name) -> &'static str
     ensures word { result.now ≡ name_word name }
-    ensures size { length result.now ≤ 13 }
+    ensures size { length result.now ≤ longest_name }
 {
     match name {
         Name::NotCi => "not-ci",

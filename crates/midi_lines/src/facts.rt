@@ -1,6 +1,7 @@
 // The lines of what is told of a state.
-ghost use Rattle.std.specs.Prelude.{◌≡◌, ◌<◌, ◌≤◌, ◌+◌, ◌++◌, length, codes};
+ghost use Rattle.std.specs.Prelude.{◌≡◌, ◌<◌, ◌≤◌, ◌+◌, ◌*◌, ◌++◌, length, codes};
 ghost use Rattle.midi_lines.specs.FactLines.{bank_words, fact_text, fact_words, loose_word, of_channel, of_group, param_words, spaced, two_numbers, value_word};
+ghost use Rattle.midi_lines.specs.Room.{AddsAtMost, HasRoom, HasRoomForEnd, before_kind, longest_field, longest_number, longest_word};
 
 use crate::line::Line;
 use crate::put::{put_decimal, put_text};
@@ -29,9 +30,9 @@ pub fn fill_fact_line(line: &mut Line, f: &Fact)
 
 // The words of a fact.
 fn put_fact(line: &mut Line, f: &Fact)
-    requires { length line.old ≤ 60 }
+    requires { length line.old ≤ before_kind }
     ensures text { line.new ≡ line.old ++ fact_words f.now }
-    ensures room { length line.new ≤ 240 }
+    ensures room { HasRoomForEnd line.new }
 {
     match *f {
         Fact::On {
@@ -122,9 +123,9 @@ fn put_fact(line: &mut Line, f: &Fact)
 // A number with a space before it.
 #[tactic(auto, unfolding(crate::specs::FactLines::spaced))]
 fn put_spaced(line: &mut Line, number: u64)
-    requires { length line.old ≤ 230 }
+    requires { HasRoom (1 + longest_number) line.old }
     ensures text { line.new ≡ line.old ++ spaced number }
-    ensures room { length line.new ≤ length line.old + 21 }
+    ensures room { AddsAtMost (1 + longest_number) line.old line.new }
 {
     put_text(line, " ");
     put_decimal(line, number);
@@ -132,9 +133,9 @@ fn put_spaced(line: &mut Line, number: u64)
 
 #[tactic(auto, unfolding(crate::specs::FactLines::of_group))]
 fn put_group(line: &mut Line, group: U4)
-    requires { length line.old ≤ 200 }
+    requires { HasRoom longest_field line.old }
     ensures text { line.new ≡ line.old ++ of_group group }
-    ensures room { length line.new ≤ length line.old + 26 }
+    ensures room { AddsAtMost longest_field line.old line.new }
 {
     put_text(line, "state");
     put_spaced(line, group.get() as u64);
@@ -142,9 +143,9 @@ fn put_group(line: &mut Line, group: U4)
 
 #[tactic(auto, unfolding(crate::specs::FactLines::of_channel))]
 fn put_channel(line: &mut Line, group: U4, channel: U4)
-    requires { length line.old ≤ 160 }
+    requires { HasRoom (2 * longest_field) line.old }
     ensures text { line.new ≡ line.old ++ of_channel group channel }
-    ensures room { length line.new ≤ length line.old + 47 }
+    ensures room { AddsAtMost (2 * longest_field) line.old line.new }
 {
     put_group(line, group);
     put_spaced(line, channel.get() as u64);
@@ -152,10 +153,10 @@ fn put_channel(line: &mut Line, group: U4, channel: U4)
 
 // What has a note or an index, and a value.
 fn put_two_numbers(line: &mut Line, group: U4, channel: U4, name: &str, first: U7, second: u32)
-    requires old { length line.old ≤ 60 }
-    requires name { length name.now ≤ 20 }
+    requires old { length line.old ≤ before_kind }
+    requires name { length name.now ≤ longest_word }
     ensures text { line.new ≡ line.old ++ (of_channel group channel ++ two_numbers name.now first second) }
-    ensures room { length line.new ≤ 240 }
+    ensures room { HasRoomForEnd line.new }
 {
     put_channel(line, group, channel);
     put_text(line, name);
@@ -165,10 +166,10 @@ fn put_two_numbers(line: &mut Line, group: U4, channel: U4, name: &str, first: U
 
 // What has a value alone.
 fn put_value(line: &mut Line, group: U4, channel: U4, name: &str, value: u32)
-    requires old { length line.old ≤ 60 }
-    requires name { length name.now ≤ 20 }
+    requires old { length line.old ≤ before_kind }
+    requires name { length name.now ≤ longest_word }
     ensures text { line.new ≡ line.old ++ (of_channel group channel ++ name.now ++ spaced value) }
-    ensures room { length line.new ≤ 240 }
+    ensures room { HasRoomForEnd line.new }
 {
     put_channel(line, group, channel);
     put_text(line, name);
@@ -176,10 +177,10 @@ fn put_value(line: &mut Line, group: U4, channel: U4, name: &str, value: u32)
 }
 
 fn put_program(line: &mut Line, group: U4, channel: U4, program: U7, bank: Option<Bank>)
-    requires { length line.old ≤ 60 }
+    requires { length line.old ≤ before_kind }
     ensures text { line.new ≡ line.old
         ++ (of_channel group channel ++ codes " program" ++ spaced program ++ bank_words bank) }
-    ensures room { length line.new ≤ 240 }
+    ensures room { HasRoomForEnd line.new }
 {
     put_channel(line, group, channel);
     put_text(line, " program");
@@ -190,9 +191,9 @@ fn put_program(line: &mut Line, group: U4, channel: U4, program: U7, bank: Optio
 // The bank that a program change took, if it took one.
 #[tactic(auto, unfolding(crate::specs::FactLines::bank_words))]
 fn put_bank(line: &mut Line, bank: Option<Bank>)
-    requires { length line.old ≤ 180 }
+    requires { HasRoom (2 * longest_field) line.old }
     ensures text { line.new ≡ line.old ++ bank_words bank }
-    ensures room { length line.new ≤ length line.old + 47 }
+    ensures room { AddsAtMost (2 * longest_field) line.old line.new }
 {
     match bank {
         None => put_text(line, " bank none"),
@@ -216,11 +217,11 @@ fn put_param(
     value: Option<u32>,
     loose: bool,
 )
-    requires old { length line.old ≤ 60 }
-    requires name { length name.now ≤ 20 }
+    requires old { length line.old ≤ before_kind }
+    requires name { length name.now ≤ longest_word }
     ensures text { line.new ≡ line.old
         ++ (of_channel group channel ++ param_words name.now bank index value loose) }
-    ensures room { length line.new ≤ 240 }
+    ensures room { HasRoomForEnd line.new }
 {
     put_channel(line, group, channel);
     put_text(line, name);
@@ -232,9 +233,9 @@ fn put_param(
 
 #[tactic(auto, unfolding(crate::specs::FactLines::value_word))]
 fn put_param_value(line: &mut Line, value: Option<u32>)
-    requires { length line.old ≤ 200 }
+    requires { HasRoom longest_field line.old }
     ensures text { line.new ≡ line.old ++ value_word value }
-    ensures room { length line.new ≤ length line.old + 21 }
+    ensures room { AddsAtMost longest_field line.old line.new }
 {
     match value {
         None => put_text(line, " none"),
@@ -244,9 +245,9 @@ fn put_param_value(line: &mut Line, value: Option<u32>)
 
 #[tactic(auto, unfolding(crate::specs::FactLines::loose_word))]
 fn put_looseness(line: &mut Line, loose: bool)
-    requires { length line.old ≤ 240 }
+    requires { HasRoom longest_word line.old }
     ensures text { line.new ≡ line.old ++ loose_word loose }
-    ensures room { length line.new ≤ length line.old + 6 }
+    ensures room { AddsAtMost longest_word line.old line.new }
 {
     if loose {
         put_text(line, " loose");
@@ -255,10 +256,10 @@ fn put_looseness(line: &mut Line, loose: bool)
 
 // How many messages came.
 fn put_count(line: &mut Line, group: U4, name: &str, count: u64)
-    requires old { length line.old ≤ 60 }
-    requires name { length name.now ≤ 20 }
+    requires old { length line.old ≤ before_kind }
+    requires name { length name.now ≤ longest_word }
     ensures text { line.new ≡ line.old ++ (of_group group ++ name.now ++ spaced count) }
-    ensures room { length line.new ≤ 240 }
+    ensures room { HasRoomForEnd line.new }
 {
     put_group(line, group);
     put_text(line, name);

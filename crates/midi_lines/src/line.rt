@@ -1,23 +1,28 @@
 // A line of text.
 ghost use Rattle.std.specs.Prelude.{◌≡◌, ◌≤◌, ◌+◌, [], ◌++◌, length, take};
+ghost use Rattle.midi_lines.specs.Room.{HasRoom};
 
 use std::marker::Model;
+
+/// How many bytes a line holds.
+pub const CAPACITY: usize = 256;
 
 /// A line of at most 256 bytes, with the line feed at its end. To a contract it is the list of its bytes.
 #[derive(Drop)]
 pub struct Line {
-    bytes: [u8; 256],
+    bytes: [u8; CAPACITY],
     size: usize,
 }
 
 impl Model for Line {
     ghost use Rattle.std.specs.Prelude.{◌≡◌, ◌≤◌, ℕ, List, length, take};
+    ghost use Rattle.midi_lines.specs.declared.line.TheConstants.{CAPACITY};
 
     ghost Value = { List ℕ };
 
     ghost view = { λ l. take l.size l.bytes };
 
-    ghost invariant = { λ l. (l.size ≤ 256) × (length l.bytes ≡ 256) };
+    ghost invariant = { λ l. (l.size ≤ CAPACITY) × (length l.bytes ≡ CAPACITY) };
 }
 
 impl Line {
@@ -27,7 +32,7 @@ impl Line {
         ensures { result ≡ [] }
     {
         Line {
-            bytes: [0; 256],
+            bytes: [0; CAPACITY],
             size: 0,
         }
     }
@@ -36,7 +41,7 @@ impl Line {
     #[inline(always)]
     pub fn as_slice(&self) -> &[u8]
         ensures value { result.now ≡ self.now }
-        ensures fits { length self.now ≤ 256 }
+        ensures fits { length self.now ≤ CAPACITY }
     {
         &self.bytes[..self.size]
     }
@@ -52,7 +57,7 @@ impl Line {
     /// Adds bytes at the end, which has room for them.
     #[inline(always)]
     pub(crate) fn extend(&mut self, bytes: &[u8])
-        requires { length self.old + length bytes.now ≤ 256 }
+        requires { HasRoom (length bytes.now) self.old }
         ensures { self.new ≡ self.old ++ bytes.now }
     {
         let size = self.size;
@@ -64,7 +69,7 @@ impl Line {
     /// copied without asking how many are wanted.
     #[inline(always)]
     pub(crate) fn extend_by(&mut self, bytes: &[u8], count: usize)
-        requires room { length self.old + length bytes.now ≤ 256 }
+        requires room { HasRoom (length bytes.now) self.old }
         requires within { count ≤ length bytes.now }
         ensures { self.new ≡ self.old ++ take count bytes.now }
     {
@@ -77,10 +82,10 @@ impl Line {
 // Writes bytes over those from a place on. Written one by one they need no test whether both places overlap, as a copy of all
 // makes, and the compiler joins them where it knows the text.
 #[inline(always)]
-fn write_at(cells: &mut [u8; 256], start: usize, bytes: &[u8])
-    requires { start + length bytes.now ≤ 256 }
+fn write_at(cells: &mut [u8; CAPACITY], start: usize, bytes: &[u8])
+    requires { start + length bytes.now ≤ CAPACITY }
     ensures front { take (start + length bytes.now) cells.new ≡ take start cells.old ++ bytes.now }
-    ensures size { length cells.new ≡ 256 }
+    ensures size { length cells.new ≡ CAPACITY }
 {
     for (index, byte) in bytes.iter().enumerate() {
         cells[start + index] = *byte;

@@ -2,6 +2,7 @@
 ghost use Rattle.std.specs.Prelude.{◌≡◌, ◌<◌, ◌≤◌, ◌+◌, ◌++◌, length, codes};
 ghost use Rattle.midi_lines.specs.ListingLines.{group_text, listed_word, listing_text};
 ghost use Rattle.midi_lines.specs.StepLines.{byte_listing_text};
+ghost use Rattle.midi_lines.specs.Room.{AddsAtMost, before_kind, longest_number, longest_word};
 
 use crate::line::Line;
 use crate::put::{put_decimal, put_text};
@@ -54,9 +55,9 @@ pub fn fill_byte_listing(line: &mut Line, kind: Kind, offset: u64)
 
 // A group, or a hyphen for none.
 pub(crate) fn put_group_or_hyphen(line: &mut Line, group: Option<U4>)
-    requires { length line.old ≤ 60 }
+    requires { length line.old ≤ before_kind }
     ensures text { line.new ≡ line.old ++ group_text group }
-    ensures room { length line.new ≤ length line.old + 20 }
+    ensures room { AddsAtMost longest_number line.old line.new }
 {
     match group {
         Some(group) => put_decimal(line, group.get() as u64),
@@ -66,7 +67,7 @@ pub(crate) fn put_group_or_hyphen(line: &mut Line, group: Option<U4>)
 
 // The word of a kind, with a space before it, and the end of the line.
 fn put_kind(line: &mut Line, kind: Kind)
-    requires { length line.old ≤ 90 }
+    requires { length line.old ≤ before_kind }
     ensures text { line.new ≡ line.old ++ codes " " ++ listed_word kind ++ codes "\n" }
     ensures some { 0 < length line.new }
 {
@@ -78,7 +79,7 @@ fn put_kind(line: &mut Line, kind: Kind)
 // The word of a kind.
 fn kind_name(kind: Kind) -> &'static str
     ensures word { result.now ≡ listed_word kind }
-    ensures size { length result.now ≤ 20 }
+    ensures size { length result.now ≤ longest_word }
 {
     match kind {
         Kind::Utility => "utility",

@@ -2,6 +2,7 @@
 ghost use Rattle.std.specs.Prelude.{◌≡◌, ◌<◌, ◌≤◌, ◌+◌, ◌*◌, ◌++◌, length, codes, decimal};
 ghost use Rattle.midi_lines.specs.Fields.{hex_words, field};
 ghost use Rattle.midi_lines.specs.PacketLines.{packet_fields, packet_text, form_word, utility, exclusive, stream};
+ghost use Rattle.midi_lines.specs.Room.{AddsAtMost, HasRoomForEnd, before_fields, before_kind, longest_number, longest_word, longest_words, most_words};
 
 use crate::line::Line;
 use crate::put::{
@@ -16,7 +17,7 @@ use voice_messages::{Form, U4};
 /// The line of a packet that stands at this offset, with its one to four words: the offset in decimal digits, each word in
 /// eight hexadecimal digits, the kind of the packet and its fields (own rule).
 pub fn packet_line(packet: &Packet, words: &[u32], offset: u64) -> Line
-    requires { length words.now ≤ 4 }
+    requires { length words.now ≤ most_words }
     ensures text { result ≡ packet_text packet.now words.now offset }
     ensures some { 0 < length result }
 {
@@ -28,7 +29,7 @@ pub fn packet_line(packet: &Packet, words: &[u32], offset: u64) -> Line
 /// Makes the line that of a packet, as `packet_line` does, in the place of another one (own rule).
 #[inline(always)]
 pub fn fill_packet_line(line: &mut Line, packet: &Packet, words: &[u32], offset: u64)
-    requires { length words.now ≤ 4 }
+    requires { length words.now ≤ most_words }
     ensures text { line.new ≡ packet_text packet.now words.now offset }
     ensures some { 0 < length line.new }
 {
@@ -42,10 +43,10 @@ pub fn fill_packet_line(line: &mut Line, packet: &Packet, words: &[u32], offset:
 
 // Each word with a space before it.
 fn put_words(line: &mut Line, words: &[u32])
-    requires few { length words.now ≤ 4 }
-    requires room { length line.old ≤ 20 }
+    requires few { length words.now ≤ most_words }
+    requires room { length line.old ≤ longest_number }
     ensures text { line.new ≡ line.old ++ hex_words words.now }
-    ensures room { length line.new ≤ length line.old + 36 }
+    ensures room { AddsAtMost longest_words line.old line.new }
 {
     for word in words {
         put_text(line, " ");
@@ -56,9 +57,9 @@ fn put_words(line: &mut Line, words: &[u32])
 // The kind of a packet and its fields.
 #[inline(always)]
 fn put_packet(line: &mut Line, packet: &Packet)
-    requires { length line.old ≤ 60 }
+    requires { length line.old ≤ before_kind }
     ensures text { line.new ≡ line.old ++ packet_fields packet.now }
-    ensures room { length line.new ≤ 240 }
+    ensures room { HasRoomForEnd line.new }
 {
     match packet {
         Packet::Utility { status, value } => put_utility(line, *status, *value),
@@ -74,9 +75,9 @@ fn put_packet(line: &mut Line, packet: &Packet)
 }
 
 fn put_utility(line: &mut Line, status: u8, value: u32)
-    requires { length line.old ≤ 60 }
+    requires { length line.old ≤ before_kind }
     ensures text { line.new ≡ line.old ++ utility status value }
-    ensures room { length line.new ≤ 240 }
+    ensures room { HasRoomForEnd line.new }
 {
     put_field(line, "utility status=", status as u32);
     put_field(line, " value=", value);
@@ -84,9 +85,9 @@ fn put_utility(line: &mut Line, status: u8, value: u32)
 
 // A kind whose only field is the group.
 fn put_group(line: &mut Line, kind: &str, group: U4)
-    requires { length line.old + length kind.now ≤ 80 }
+    requires { length line.old + length kind.now ≤ before_fields }
     ensures text { line.new ≡ line.old ++ kind.now ++ field (codes "group") group }
-    ensures room { length line.new ≤ 240 }
+    ensures room { HasRoomForEnd line.new }
 {
     put_text(line, kind);
     put_field(line, " group=", group.get() as u32);
@@ -95,7 +96,7 @@ fn put_group(line: &mut Line, kind: &str, group: U4)
 // The word of a form.
 fn form_name(form: Form) -> &'static str
     ensures word { result.now ≡ form_word form }
-    ensures size { length result.now ≤ 8 }
+    ensures size { length result.now ≤ longest_word }
 {
     match form {
         Form::Complete => "complete",
@@ -106,9 +107,9 @@ fn form_name(form: Form) -> &'static str
 }
 
 fn put_exclusive(line: &mut Line, group: U4, form: Form, bytes: &ShortList<u8, 6>)
-    requires { length line.old ≤ 60 }
+    requires { length line.old ≤ before_kind }
     ensures text { line.new ≡ line.old ++ exclusive group form bytes.now }
-    ensures room { length line.new ≤ 240 }
+    ensures room { HasRoomForEnd line.new }
 {
     put_field(line, "exclusive group=", group.get() as u32);
     put_word_field(line, " form=", form_name(form));
@@ -117,9 +118,9 @@ fn put_exclusive(line: &mut Line, group: U4, form: Form, bytes: &ShortList<u8, 6
 }
 
 fn put_stream(line: &mut Line, format: u8, status: u16)
-    requires { length line.old ≤ 60 }
+    requires { length line.old ≤ before_kind }
     ensures text { line.new ≡ line.old ++ stream format status }
-    ensures room { length line.new ≤ 240 }
+    ensures room { HasRoomForEnd line.new }
 {
     put_field(line, "stream format=", format as u32);
     put_hex_field(line, " status=", 3, status as u32);

@@ -1,6 +1,7 @@
 // The parts that lines are put together from, each with its room.
 ghost use Rattle.std.specs.Prelude.{◌≡◌, ◌<◌, ◌≤◌, ◌+◌, ◌*◌, ◌/◌, ◌++◌, length, decimal, flat_map};
 ghost use Rattle.midi_lines.specs.Fields.{hex_digit, hex, hex_bytes};
+ghost use Rattle.midi_lines.specs.Room.{AddsAtMost, HasRoom, longest_number};
 
 use crate::line::Line;
 use itoa::Buffer;
@@ -8,7 +9,7 @@ use itoa::Buffer;
 /// Adds a text at the end. A line has 256 bytes, and asks room for all of the text.
 #[inline(always)]
 pub fn put_text(line: &mut Line, text: &str)
-    requires { length line.old + length text.now ≤ 256 }
+    requires { HasRoom (length text.now) line.old }
     ensures { line.new ≡ line.old ++ text.now }
 {
     line.extend(text.as_bytes());
@@ -36,9 +37,9 @@ fn digit_count(number: u8) -> usize
 // Adds a number of at most three digits. Four bytes are copied, whatever the number of digits is.
 #[inline(always)]
 fn put_small(line: &mut Line, number: u8)
-    requires { length line.old + 4 ≤ 256 }
+    requires { HasRoom longest_number line.old }
     ensures text { line.new ≡ line.old ++ decimal number }
-    ensures room { length line.new ≤ length line.old + 3 }
+    ensures room { AddsAtMost longest_number line.old line.new }
 {
     let at = number as usize * 4;
     let digits = [
@@ -54,9 +55,9 @@ fn put_small(line: &mut Line, number: u8)
 /// number has, whatever the number is.
 #[inline(always)]
 pub fn put_decimal(line: &mut Line, number: u64)
-    requires { length line.old + 20 ≤ 256 }
+    requires { HasRoom longest_number line.old }
     ensures text { line.new ≡ line.old ++ decimal number }
-    ensures room { length line.new ≤ length line.old + 20 }
+    ensures room { AddsAtMost longest_number line.old line.new }
 {
     if number < 256 {
         put_small(line, number as u8);
@@ -68,9 +69,9 @@ pub fn put_decimal(line: &mut Line, number: u64)
 // Adds a number of several digits.
 #[inline(never)]
 fn put_long(line: &mut Line, number: u64)
-    requires { length line.old + 20 ≤ 256 }
+    requires { HasRoom longest_number line.old }
     ensures text { line.new ≡ line.old ++ decimal number }
-    ensures room { length line.new ≤ length line.old + 20 }
+    ensures room { AddsAtMost longest_number line.old line.new }
 {
     let mut buffer = Buffer::new();
     line.extend(buffer.format(number).as_bytes());
@@ -91,7 +92,7 @@ fn digit_byte(digit: u8) -> u8
 /// Adds the last `width` hexadecimal digits of a number. The line of 256 bytes asks room for `width`.
 #[tactic(auto, unfolding(crate::specs::Fields::hex))]
 pub fn put_hex(line: &mut Line, width: usize, number: u32)
-    requires { length line.old + width ≤ 256 }
+    requires { HasRoom width line.old }
     ensures text { line.new ≡ line.old ++ hex width number }
     ensures room { length line.new ≡ length line.old + width }
 {
@@ -116,7 +117,7 @@ fn byte_above(number: u32) -> u32
 // Adds the last two hexadecimal digits.
 #[inline(always)]
 fn put_pair(line: &mut Line, number: u32)
-    requires { length line.old + 2 ≤ 256 }
+    requires { HasRoom 2 line.old }
     ensures text { line.new ≡ line.old ++ hex 2 number }
     ensures room { length line.new ≡ length line.old + 2 }
 {
@@ -127,7 +128,7 @@ fn put_pair(line: &mut Line, number: u32)
 /// Adds a word in eight hexadecimal digits. The line of 256 bytes asks room for them.
 #[tactic(auto, unfolding(crate::specs::Fields::hex))]
 pub fn put_word(line: &mut Line, word: u32)
-    requires { length line.old + 8 ≤ 256 }
+    requires { HasRoom 8 line.old }
     ensures text { line.new ≡ line.old ++ hex 8 word }
     ensures room { length line.new ≡ length line.old + 8 }
 {
@@ -141,7 +142,7 @@ pub fn put_word(line: &mut Line, word: u32)
 
 /// Adds each byte in two hexadecimal digits, with nothing between them. The line of 256 bytes asks room for them.
 pub fn put_hex_bytes(line: &mut Line, bytes: &[u8])
-    requires { length line.old + 2 * length bytes.now ≤ 256 }
+    requires { HasRoom (2 * length bytes.now) line.old }
     ensures text { line.new ≡ line.old ++ hex_bytes bytes.now }
     ensures room { length line.new ≡ length line.old + 2 * length bytes.now }
 {
@@ -153,9 +154,9 @@ pub fn put_hex_bytes(line: &mut Line, bytes: &[u8])
 /// Adds a label, as ` note=`, and a number in decimal digits. The line of 256 bytes asks room for the label and 20 digits.
 #[inline(always)]
 pub fn put_field(line: &mut Line, label: &str, number: u32)
-    requires { (length line.old + length label.now) + 20 ≤ 256 }
+    requires { HasRoom (length label.now + longest_number) line.old }
     ensures text { line.new ≡ line.old ++ label.now ++ decimal number }
-    ensures room { length line.new ≤ (length line.old + length label.now) + 20 }
+    ensures room { AddsAtMost (length label.now + longest_number) line.old line.new }
 {
     put_text(line, label);
     put_decimal(line, number as u64);
@@ -164,9 +165,9 @@ pub fn put_field(line: &mut Line, label: &str, number: u32)
 /// Adds a label, as ` form=`, and a word. The line of 256 bytes asks room for both.
 #[inline(always)]
 pub fn put_word_field(line: &mut Line, label: &str, word: &str)
-    requires { (length line.old + length label.now) + length word.now ≤ 256 }
+    requires { HasRoom (length label.now + length word.now) line.old }
     ensures text { line.new ≡ line.old ++ label.now ++ word.now }
-    ensures room { length line.new ≤ (length line.old + length label.now) + length word.now }
+    ensures room { AddsAtMost (length label.now + length word.now) line.old line.new }
 {
     put_text(line, label);
     put_text(line, word);
@@ -176,9 +177,9 @@ pub fn put_word_field(line: &mut Line, label: &str, word: &str)
 /// and `width` digits.
 #[inline(always)]
 pub fn put_hex_field(line: &mut Line, label: &str, width: usize, number: u32)
-    requires { (length line.old + length label.now) + width ≤ 256 }
+    requires { HasRoom (length label.now + width) line.old }
     ensures text { line.new ≡ line.old ++ label.now ++ hex width number }
-    ensures room { length line.new ≤ (length line.old + length label.now) + width }
+    ensures room { AddsAtMost (length label.now + width) line.old line.new }
 {
     put_text(line, label);
     put_hex(line, width, number);

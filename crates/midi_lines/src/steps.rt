@@ -4,6 +4,7 @@ ghost use Rattle.midi1_bytes.specs.Answers.{step_view};
 ghost use Rattle.midi_lines.specs.Fields.{field};
 ghost use Rattle.midi_lines.specs.StepLines.{HasBothEnds, step_text};
 ghost use Rattle.midi_lines.specs.Voice1Lines.{voice1_fields, system_fields};
+ghost use Rattle.midi_lines.specs.Room.{before_kind};
 
 use crate::line::Line;
 use crate::put::{put_decimal, put_text};
@@ -80,7 +81,7 @@ fn fill_exclusive_line(line: &mut Line, size: usize, offset: u64)
 // Makes the line its offset, in the place of another one.
 fn begin(line: &mut Line, offset: u64)
     ensures text { line.new ≡ decimal offset ++ codes " " }
-    ensures room { length line.new ≤ 21 }
+    ensures room { length line.new ≤ before_kind }
 {
     line.clear();
     put_decimal(line, offset);

@@ -2,6 +2,7 @@
 ghost use Rattle.std.specs.Prelude.{◌≡◌, ◌<◌, ◌≤◌, ◌+◌, ◌*◌, ◌++◌, length, codes, IfSome, Some, None, true, false, if◌then◌else◌};
 ghost use Rattle.system_stream.specs.Joined.{joined_view};
 ghost use Rattle.midi_lines.specs.TextLines.{IsWithinLimit, joined_text, spaced_bytes, text_kind_word};
+ghost use Rattle.midi_lines.specs.Room.{HasRoom, AddsAtMost, before_kind, longest_text, longest_word};
 
 use crate::line::Line;
 use crate::put::{put_hex_bytes, put_text};
@@ -39,7 +40,7 @@ pub fn fill_text_line(line: &mut Line, kind: TextKind, joined: &Joined<'_>) -> b
 }
 
 fn fill_whole_text(line: &mut Line, kind: TextKind, bytes: &[u8])
-    requires { length bytes.now ≤ 98 }
+    requires { length bytes.now ≤ longest_text }
     ensures text { line.new ≡ codes "text " ++ text_kind_word kind ++ spaced_bytes bytes.now ++ codes "\n" }
     ensures some { 0 < length line.new }
 {
@@ -59,7 +60,7 @@ fn fill_bad_text(line: &mut Line, kind: TextKind)
 // Makes the line the kind of a text, in the place of another one.
 fn begin(line: &mut Line, kind: TextKind)
     ensures text { line.new ≡ codes "text " ++ text_kind_word kind }
-    ensures room { length line.new ≤ 18 }
+    ensures room { length line.new ≤ before_kind }
 {
     line.clear();
     put_text(line, "text ");
@@ -68,9 +69,9 @@ fn begin(line: &mut Line, kind: TextKind)
 
 // Adds bytes with a space before them, or nothing where there are none.
 fn put_spaced_bytes(line: &mut Line, bytes: &[u8])
-    requires { length line.old + 1 + 2 * length bytes.now ≤ 256 }
+    requires { HasRoom (1 + 2 * length bytes.now) line.old }
     ensures text { line.new ≡ line.old ++ spaced_bytes bytes.now }
-    ensures room { length line.new ≤ length line.old + 1 + 2 * length bytes.now }
+    ensures room { AddsAtMost (1 + 2 * length bytes.now) line.old line.new }
 {
     if !bytes.is_empty() {
         put_text(line, " ");
@@ -81,7 +82,7 @@ fn put_spaced_bytes(line: &mut Line, bytes: &[u8])
 // The word of a kind.
 fn kind_name(kind: TextKind) -> &'static str
     ensures word { result.now ≡ text_kind_word kind }
-    ensures size { length result.now ≤ 13 }
+    ensures size { length result.now ≤ longest_word }
 {
     match kind {
         TextKind::EndpointName => "endpoint-name",

@@ -1,6 +1,8 @@
 // Parts that the lines of channel voice messages of both protocols share.
-ghost use Rattle.std.specs.Prelude.{◌≡◌, ◌≤◌, ◌+◌, ◌++◌, length, codes};
-ghost use Rattle.midi_lines.specs.Fields.{field, group_field, group_and_channel};
+ghost use Rattle.std.specs.Prelude.{◌≡◌, ◌≤◌, ◌+◌, ◌*◌, ◌++◌, length};
+ghost use Rattle.midi_lines.specs.Fields.{group_field, group_and_channel};
+ghost use Rattle.midi_lines.specs.VoiceLines.{channel_value, controller_value, note_value};
+ghost use Rattle.midi_lines.specs.Room.{AddsAtMost, HasRoom, HasRoomForEnd, before_fields, longest_field};
 
 use crate::line::Line;
 use crate::put::{put_field, put_text};
@@ -10,9 +12,9 @@ use voice_messages::{U4, U7};
 #[tactic(auto, unfolding(crate::specs::Fields::group_field))]
 #[inline(always)]
 pub fn put_group_field(line: &mut Line, group: Option<U4>)
-    requires { length line.old ≤ 220 }
+    requires { HasRoom longest_field line.old }
     ensures text { line.new ≡ line.old ++ group_field group }
-    ensures room { length line.new ≤ length line.old + 27 }
+    ensures room { AddsAtMost longest_field line.old line.new }
 {
     if let Some(group) = group {
         put_field(line, " group=", group.get() as u32);
@@ -23,9 +25,9 @@ pub fn put_group_field(line: &mut Line, group: Option<U4>)
 #[tactic(auto, unfolding(crate::specs::Fields::group_and_channel))]
 #[inline(always)]
 pub fn put_voice(line: &mut Line, kind: &str, group: Option<U4>, channel: U4)
-    requires { length line.old + length kind.now ≤ 200 }
+    requires { length line.old + length kind.now ≤ before_fields }
     ensures text { line.new ≡ line.old ++ kind.now ++ group_and_channel group channel }
-    ensures room { length line.new ≤ (length line.old + length kind.now) + 56 }
+    ensures room { AddsAtMost (length kind.now + 2 * longest_field) line.old line.new }
 {
     put_text(line, kind);
     put_group_field(line, group);
@@ -35,10 +37,9 @@ pub fn put_voice(line: &mut Line, kind: &str, group: Option<U4>, channel: U4)
 /// Adds a message with a value of its channel.
 #[inline(always)]
 pub fn put_value(line: &mut Line, kind: &str, group: Option<U4>, channel: U4, value: u32)
-    requires { length line.old + length kind.now ≤ 150 }
-    ensures text { line.new
-        ≡ line.old ++ kind.now ++ group_and_channel group channel ++ field (codes "value") value }
-    ensures room { length line.new ≤ 240 }
+    requires { length line.old + length kind.now ≤ before_fields }
+    ensures text { line.new ≡ line.old ++ channel_value kind.now group channel value }
+    ensures room { HasRoomForEnd line.new }
 {
     put_voice(line, kind, group, channel);
     put_field(line, " value=", value);
@@ -54,11 +55,9 @@ pub fn put_note_value(
     note: U7,
     value: u32,
 )
-    requires { length line.old + length kind.now ≤ 100 }
-    ensures text { line.new
-        ≡ line.old ++ kind.now ++ group_and_channel group channel
-        ++ field (codes "note") note ++ field (codes "value") value }
-    ensures room { length line.new ≤ 240 }
+    requires { length line.old + length kind.now ≤ before_fields }
+    ensures text { line.new ≡ line.old ++ note_value kind.now group channel note value }
+    ensures room { HasRoomForEnd line.new }
 {
     put_voice(line, kind, group, channel);
     put_field(line, " note=", note.get() as u32);
@@ -75,11 +74,9 @@ pub fn put_control(
     index: U7,
     value: u32,
 )
-    requires { length line.old + length kind.now ≤ 100 }
-    ensures text { line.new
-        ≡ line.old ++ kind.now ++ group_and_channel group channel
-        ++ field (codes "index") index ++ field (codes "value") value }
-    ensures room { length line.new ≤ 240 }
+    requires { length line.old + length kind.now ≤ before_fields }
+    ensures text { line.new ≡ line.old ++ controller_value kind.now group channel index value }
+    ensures room { HasRoomForEnd line.new }
 {
     put_voice(line, kind, group, channel);
     put_field(line, " index=", index.get() as u32);

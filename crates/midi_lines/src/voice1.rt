@@ -1,7 +1,9 @@
 // The lines of messages of the MIDI 1.0 protocol, from their kind on.
 ghost use Rattle.std.specs.Prelude.{◌≡◌, ◌≤◌, ◌+◌, ◌++◌, length, codes};
-ghost use Rattle.midi_lines.specs.Fields.{field, group_and_channel};
-ghost use Rattle.midi_lines.specs.Voice1Lines.{voice1_fields, system_fields, system_status, m1_poly, m1_control, m1_program, m1_pressure, m1_bend};
+ghost use Rattle.midi_lines.specs.Fields.{field};
+ghost use Rattle.midi_lines.specs.Voice1Lines.{voice1_fields, system_fields, system_status, m1_note, m1_program};
+ghost use Rattle.midi_lines.specs.VoiceLines.{channel_value, controller_value, note_value};
+ghost use Rattle.midi_lines.specs.Room.{HasRoomForEnd, before_fields, before_kind, behind_channel};
 
 use crate::line::Line;
 use crate::put::{put_field, put_hex_field, put_text};
@@ -10,9 +12,9 @@ use voice_messages::{System, U4, U7, U14, Voice1};
 
 /// Adds the kind and the fields of a channel voice message.
 pub fn put_voice1(line: &mut Line, group: Option<U4>, message: &Voice1)
-    requires { length line.old ≤ 60 }
+    requires { length line.old ≤ before_kind }
     ensures text { line.new ≡ line.old ++ voice1_fields group message.now }
-    ensures room { length line.new ≤ 240 }
+    ensures room { HasRoomForEnd line.new }
 {
     match message {
         Voice1::NoteOff {
@@ -42,11 +44,9 @@ pub fn put_voice1(line: &mut Line, group: Option<U4>, message: &Voice1)
 }
 
 fn put_note(line: &mut Line, kind: &str, group: Option<U4>, channel: U4, note: U7, velocity: U7)
-    requires { length line.old + length kind.now ≤ 100 }
-    ensures text { line.new
-        ≡ line.old ++ kind.now ++ group_and_channel group channel
-        ++ field (codes "note") note ++ field (codes "velocity") velocity }
-    ensures room { length line.new ≤ 240 }
+    requires { length line.old + length kind.now ≤ before_fields }
+    ensures text { line.new ≡ line.old ++ m1_note kind.now group channel note velocity }
+    ensures room { HasRoomForEnd line.new }
 {
     put_voice(line, kind, group, channel);
     put_field(line, " note=", note.get() as u32);
@@ -55,18 +55,18 @@ fn put_note(line: &mut Line, kind: &str, group: Option<U4>, channel: U4, note: U
 
 #[inline(always)]
 fn put_poly_pressure(line: &mut Line, group: Option<U4>, channel: U4, note: U7, value: U7)
-    requires { length line.old ≤ 60 }
-    ensures text { line.new ≡ line.old ++ m1_poly group channel note value }
-    ensures room { length line.new ≤ 240 }
+    requires { length line.old ≤ before_kind }
+    ensures text { line.new ≡ line.old ++ note_value (codes "m1-poly") group channel note value }
+    ensures room { HasRoomForEnd line.new }
 {
     put_note_value(line, "m1-poly", group, channel, note, value.get() as u32);
 }
 
 #[inline(always)]
 fn put_control_change(line: &mut Line, group: Option<U4>, channel: U4, index: U7, value: U7)
-    requires { length line.old ≤ 60 }
-    ensures text { line.new ≡ line.old ++ m1_control group channel index value }
-    ensures room { length line.new ≤ 240 }
+    requires { length line.old ≤ before_kind }
+    ensures text { line.new ≡ line.old ++ controller_value (codes "m1-control") group channel index value }
+    ensures room { HasRoomForEnd line.new }
 {
     put_control(
         line,
@@ -79,9 +79,9 @@ fn put_control_change(line: &mut Line, group: Option<U4>, channel: U4, index: U7
 }
 
 fn put_program(line: &mut Line, group: Option<U4>, channel: U4, program: U7)
-    requires { length line.old ≤ 60 }
+    requires { length line.old ≤ before_kind }
     ensures text { line.new ≡ line.old ++ m1_program group channel program }
-    ensures room { length line.new ≤ 240 }
+    ensures room { HasRoomForEnd line.new }
 {
     put_voice(line, "m1-program", group, channel);
     put_field(line, " program=", program.get() as u32);
@@ -89,27 +89,27 @@ fn put_program(line: &mut Line, group: Option<U4>, channel: U4, program: U7)
 
 #[inline(always)]
 fn put_pressure(line: &mut Line, group: Option<U4>, channel: U4, value: U7)
-    requires { length line.old ≤ 60 }
-    ensures text { line.new ≡ line.old ++ m1_pressure group channel value }
-    ensures room { length line.new ≤ 240 }
+    requires { length line.old ≤ before_kind }
+    ensures text { line.new ≡ line.old ++ channel_value (codes "m1-pressure") group channel value }
+    ensures room { HasRoomForEnd line.new }
 {
     put_value(line, "m1-pressure", group, channel, value.get() as u32);
 }
 
 #[inline(always)]
 fn put_bend(line: &mut Line, group: Option<U4>, channel: U4, value: U14)
-    requires { length line.old ≤ 60 }
-    ensures text { line.new ≡ line.old ++ m1_bend group channel value }
-    ensures room { length line.new ≤ 240 }
+    requires { length line.old ≤ before_kind }
+    ensures text { line.new ≡ line.old ++ channel_value (codes "m1-bend") group channel value }
+    ensures room { HasRoomForEnd line.new }
 {
     put_value(line, "m1-bend", group, channel, value.get() as u32);
 }
 
 /// Adds the kind and the fields of a system message.
 pub fn put_system(line: &mut Line, group: Option<U4>, message: &System)
-    requires { length line.old ≤ 60 }
+    requires { length line.old ≤ before_kind }
     ensures text { line.new ≡ line.old ++ system_fields group message.now }
-    ensures room { length line.new ≤ 240 }
+    ensures room { HasRoomForEnd line.new }
 {
     match message {
         System::Quarter(value) => put_common(line, group, 0xF1, value.get() as u32),
@@ -127,9 +127,9 @@ pub fn put_system(line: &mut Line, group: Option<U4>, message: &System)
 
 // A system common message with its value.
 fn put_common(line: &mut Line, group: Option<U4>, status: u8, value: u32)
-    requires { length line.old ≤ 60 }
+    requires { length line.old ≤ before_kind }
     ensures text { line.new ≡ line.old ++ system_status group status ++ field (codes "value") value }
-    ensures room { length line.new ≤ 240 }
+    ensures room { HasRoomForEnd line.new }
 {
     put_status(line, group, status);
     put_field(line, " value=", value);
@@ -137,9 +137,9 @@ fn put_common(line: &mut Line, group: Option<U4>, status: u8, value: u32)
 
 // A system message by its status byte.
 fn put_status(line: &mut Line, group: Option<U4>, status: u8)
-    requires { length line.old ≤ 60 }
+    requires { length line.old ≤ before_kind }
     ensures text { line.new ≡ line.old ++ system_status group status }
-    ensures room { length line.new ≤ 120 }
+    ensures room { length line.new ≤ behind_channel }
 {
     put_text(line, "system");
     put_group_field(line, group);

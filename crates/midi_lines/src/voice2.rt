@@ -1,8 +1,9 @@
 // The lines of messages of the MIDI 2.0 protocol, from their kind on.
-ghost use Rattle.std.specs.Prelude.{◌≡◌, ◌≤◌, ◌+◌, ◌++◌, length, codes};
+ghost use Rattle.std.specs.Prelude.{◌≡◌, ◌≤◌, ◌+◌, ◌*◌, ◌++◌, length, codes};
 ghost use Rattle.voice_messages.specs.Kinds.{IsNote, IsOfOneNote, IsOfChannel};
-ghost use Rattle.midi_lines.specs.Fields.{field, word_field, group_and_channel};
-ghost use Rattle.midi_lines.specs.Voice2Lines.{voice2_fields, kind_word, bank_field, param_fields, controller_fields, program, note_management};
+ghost use Rattle.midi_lines.specs.Fields.{field};
+ghost use Rattle.midi_lines.specs.Voice2Lines.{voice2_fields, kind_word, bank_field, param_fields, param_value, controller_fields, program, note_management};
+ghost use Rattle.midi_lines.specs.Room.{AddsAtMost, HasRoom, HasRoomForEnd, before_fields, before_kind, behind_channel, longest_field, longest_word};
 
 use crate::line::Line;
 use crate::put::{put_decimal, put_field, put_text, put_word_field};
@@ -11,9 +12,9 @@ use voice_messages::{Bank, Param, ParamKind, U4, U7, Voice2};
 
 /// Adds the kind and the fields of a channel voice message.
 pub fn put_voice2(line: &mut Line, group: Option<U4>, message: &Voice2)
-    requires { length line.old ≤ 60 }
+    requires { length line.old ≤ before_kind }
     ensures text { line.new ≡ line.old ++ voice2_fields group message.now }
-    ensures room { length line.new ≤ 240 }
+    ensures room { HasRoomForEnd line.new }
 {
     match message {
         Voice2::NoteOff { .. } | Voice2::NoteOn { .. } => put_note_message(line, group, message),
@@ -28,10 +29,10 @@ pub fn put_voice2(line: &mut Line, group: Option<U4>, message: &Voice2)
 // A note off or a note on.
 #[inline(always)]
 fn put_note_message(line: &mut Line, group: Option<U4>, message: &Voice2)
-    requires room { length line.old ≤ 60 }
+    requires room { length line.old ≤ before_kind }
     requires kind { IsNote message.now }
     ensures text { line.new ≡ line.old ++ voice2_fields group message.now }
-    ensures room { length line.new ≤ 240 }
+    ensures room { HasRoomForEnd line.new }
 {
     match message {
         Voice2::NoteOff {
@@ -61,10 +62,10 @@ fn put_note_message(line: &mut Line, group: Option<U4>, message: &Voice2)
 // Any other message of one note.
 #[inline(always)]
 fn put_per_note_message(line: &mut Line, group: Option<U4>, message: &Voice2)
-    requires room { length line.old ≤ 60 }
+    requires room { length line.old ≤ before_kind }
     requires kind { IsOfOneNote message.now }
     ensures text { line.new ≡ line.old ++ voice2_fields group message.now }
-    ensures room { length line.new ≤ 240 }
+    ensures room { HasRoomForEnd line.new }
 {
     match message {
         Voice2::PolyPressure {
@@ -100,10 +101,10 @@ fn put_per_note_message(line: &mut Line, group: Option<U4>, message: &Voice2)
 // A message of the whole channel.
 #[inline(always)]
 fn put_channel_message(line: &mut Line, group: Option<U4>, message: &Voice2)
-    requires room { length line.old ≤ 60 }
+    requires room { length line.old ≤ before_kind }
     requires kind { IsOfChannel message.now }
     ensures text { line.new ≡ line.old ++ voice2_fields group message.now }
-    ensures room { length line.new ≤ 240 }
+    ensures room { HasRoomForEnd line.new }
 {
     match message {
         Voice2::Control {
@@ -134,11 +135,11 @@ fn put_channel_message(line: &mut Line, group: Option<U4>, message: &Voice2)
 
 // The fields of a note off or note on behind its channel.
 fn put_note(line: &mut Line, note: U7, velocity: u16, attribute_type: u8, attribute: u16)
-    requires { length line.old ≤ 125 }
+    requires { length line.old ≤ behind_channel }
     ensures text { line.new
         ≡ line.old ++ field (codes "note") note ++ field (codes "velocity") velocity
         ++ field (codes "type") attribute_type ++ field (codes "attribute") attribute }
-    ensures room { length line.new ≤ 240 }
+    ensures room { HasRoomForEnd line.new }
 {
     put_field(line, " note=", note.get() as u32);
     put_field(line, " velocity=", velocity as u32);
@@ -149,7 +150,7 @@ fn put_note(line: &mut Line, note: U7, velocity: u16, attribute_type: u8, attrib
 // The word of a kind of parameter.
 fn kind_name(kind: ParamKind) -> &'static str
     ensures word { result.now ≡ kind_word kind }
-    ensures size { length result.now ≡ 10 }
+    ensures size { length (codes " kind=") + length result.now ≤ longest_word }
 {
     match kind {
         ParamKind::Registered => "registered",
@@ -160,9 +161,9 @@ fn kind_name(kind: ParamKind) -> &'static str
 // The kind and the number of a parameter.
 #[tactic(auto, unfolding(crate::specs::Voice2Lines::param_fields))]
 fn put_param_fields(line: &mut Line, param: Param)
-    requires { length line.old ≤ 160 }
+    requires { length line.old ≤ behind_channel }
     ensures text { line.new ≡ line.old ++ param_fields param }
-    ensures room { length line.new ≤ length line.old + 70 }
+    ensures room { AddsAtMost (longest_word + 2 * longest_field) line.old line.new }
 {
     put_word_field(line, " kind=", kind_name(param.kind));
     put_field(line, " bank=", param.bank.get() as u32);
@@ -171,11 +172,9 @@ fn put_param_fields(line: &mut Line, param: Param)
 
 // A value of a parameter, or a change of its value.
 fn put_param(line: &mut Line, kind: &str, group: Option<U4>, channel: U4, param: Param, value: u32)
-    requires { length line.old + length kind.now ≤ 80 }
-    ensures text { line.new
-        ≡ line.old ++ kind.now ++ group_and_channel group channel ++ param_fields param
-        ++ field (codes "value") value }
-    ensures room { length line.new ≤ 240 }
+    requires { length line.old + length kind.now ≤ before_fields }
+    ensures text { line.new ≡ line.old ++ param_value kind.now group channel param value }
+    ensures room { HasRoomForEnd line.new }
 {
     put_voice(line, kind, group, channel);
     put_param_fields(line, param);
@@ -183,9 +182,9 @@ fn put_param(line: &mut Line, kind: &str, group: Option<U4>, channel: U4, param:
 }
 
 fn put_program(line: &mut Line, group: Option<U4>, channel: U4, number: U7, bank: &Option<Bank>)
-    requires { length line.old ≤ 60 }
+    requires { length line.old ≤ before_kind }
     ensures text { line.new ≡ line.old ++ program group channel number bank.now }
-    ensures room { length line.new ≤ 240 }
+    ensures room { HasRoomForEnd line.new }
 {
     put_voice(line, "program", group, channel);
     put_field(line, " program=", number.get() as u32);
@@ -195,9 +194,9 @@ fn put_program(line: &mut Line, group: Option<U4>, channel: U4, number: U7, bank
 // The bank of a program.
 #[tactic(auto, unfolding(crate::specs::Voice2Lines::bank_field))]
 fn put_bank(line: &mut Line, bank: &Option<Bank>)
-    requires { length line.old ≤ 180 }
+    requires { HasRoom (2 * longest_field) line.old }
     ensures text { line.new ≡ line.old ++ bank_field bank.now }
-    ensures room { length line.new ≤ length line.old + 50 }
+    ensures room { AddsAtMost (2 * longest_field) line.old line.new }
 {
     match bank {
         None => put_text(line, " bank=none"),
@@ -213,9 +212,9 @@ fn put_bank(line: &mut Line, bank: &Option<Bank>)
 // The kind, the note and the index of a note controller.
 #[tactic(auto, unfolding(crate::specs::Voice2Lines::controller_fields))]
 fn put_controller_fields(line: &mut Line, kind: ParamKind, note: U7, index: u8)
-    requires { length line.old ≤ 160 }
+    requires { length line.old ≤ behind_channel }
     ensures text { line.new ≡ line.old ++ controller_fields kind note index }
-    ensures room { length line.new ≤ length line.old + 70 }
+    ensures room { AddsAtMost (longest_word + 2 * longest_field) line.old line.new }
 {
     put_word_field(line, " kind=", kind_name(kind));
     put_field(line, " note=", note.get() as u32);
@@ -223,9 +222,9 @@ fn put_controller_fields(line: &mut Line, kind: ParamKind, note: U7, index: u8)
 }
 
 fn put_note_management(line: &mut Line, group: Option<U4>, channel: U4, note: U7, flags: u8)
-    requires { length line.old ≤ 60 }
+    requires { length line.old ≤ before_kind }
     ensures text { line.new ≡ line.old ++ note_management group channel note flags }
-    ensures room { length line.new ≤ 240 }
+    ensures room { HasRoomForEnd line.new }
 {
     put_voice(line, "note-management", group, channel);
     put_field(line, " note=", note.get() as u32);

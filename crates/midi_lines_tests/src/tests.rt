@@ -1,8 +1,8 @@
 // A line of each kind.
 use function_blocks::{Place, Profile};
 use midi_lines::{
-    Name, block_line, byte_listing, endpoint_line, fact_line, listing_line, packet_line,
-    profile_line, protocol_line, step_line, text_line,
+    Name, block_line, byte_listing, endpoint_line, fact_line, fill_step_line, fill_text_line,
+    listing_line, packet_line, profile_line, protocol_line, step_line, text_line,
 };
 use midi1_bytes::Parser;
 use std::alloc::{AllocError, Global};
@@ -400,6 +400,17 @@ fn lines_of_texts(rt: HostRuntime) {
         Some(line) => assert_eq!(rt; line.as_slice().len(), 216),
         None => assert!(rt; false, "the longest name"),
     }
+}
+
+// A byte that completes no message, and a text that goes on, make no line: the last one stays.
+#[test]
+fn a_line_stays_where_none_is_made(rt: HostRuntime) {
+    let mut parser = Parser::new(rt.alloc(), 6).expect(&rt, "memory is ample");
+    let mut line = protocol_line(2);
+    assert!(rt; !fill_step_line(&mut line, &parser.byte(0x90, 0), 0));
+    assert_eq!(rt; line.as_slice(), b"protocol 2\n".as_slice());
+    assert!(rt; !fill_text_line(&mut line, TextKind::BlockName, &Joined::Held));
+    assert_eq!(rt; line.as_slice(), b"protocol 2\n".as_slice());
 }
 
 // Whether the line of what became of an exclusive or a stream packet is the text.

@@ -27,7 +27,7 @@ fn main(rt: HostRuntime) -> io::Result<ExitCode> {
                 &mut shelf,
             )
         }
-        Err(error) => unread_words(error.kind(), &mut lanes, &mut output, &mut notes),
+        Err(error) => unread_words(error.kind(), &mut notes),
     };
     let code = finish(status, &mut lanes, &mut output, &mut notes);
     Ok(ExitCode::from(code))

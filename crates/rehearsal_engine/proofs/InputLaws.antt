@@ -3,13 +3,13 @@ use Rattle.std.proofs.Common.{◌≡◌, ℕ, List, [], ◌∷◌, ◌++◌, Opt
 use Rattle.std.specs.Prelude.{IfSome, reverse}
 use Rattle.std.proofs.lemmas.List.Concat.{flat_map-append}
 use Rattle.function_blocks.specs.Setups.{Facts}
-use Rattle.midi_pass.specs.Pass.{ArePut, IsDone, Seen}
+use Rattle.midi_pass.specs.Pass.{ArePut}
 use Rattle.midi_pass.specs.Places.{Places, with_more}
 use Rattle.midi_pass.specs.Put.{Put, output_in, output_of}
 use Rattle.rehearsal_engine.specs.declared.event.CalledEvent.{CalledEvent}
 use Rattle.rehearsal_engine.specs.Events.{event_cutting}
-use Rattle.rehearsal_engine.specs.Laws.{DoneRehearsesTheInput, RehearsesTheInput, lines_of}
-use Rattle.rehearsal_engine.specs.Rehearse.{closing_lines, rehearsing, stage_at}
+use Rattle.rehearsal_engine.specs.Laws.{DoneRehearsesTheInput, lines_of}
+use Rattle.rehearsal_engine.specs.Rehearse.{rehearsing}
 
 output-is : (setup : Facts) (past : List (ℕ × CalledEvent)) (puts : List Put) → ArePut (rehearsing setup) past puts → output_in puts ≡ lines_of setup past
 output-is setup [] puts put = ap output_in put

@@ -1,12 +1,12 @@
 -- What a rehearsal that is done leaves, by the whole input.
-use Rattle.std.specs.Prelude.{◌≡◌, ℕ, Bool, List, [], ◌∷◌, ◌++◌, length, reverse, Option, Some, None, Result, Ok, Err}
+use Rattle.std.specs.Prelude.{◌≡◌, ℕ, List, [], ◌∷◌, ◌++◌, reverse, Some, None}
 use Rattle.function_blocks.specs.Setups.{Facts}
 use Rattle.midi_pass.specs.Pass.{IsDone, Seen}
 use Rattle.midi_pass.specs.Places.{with_more}
 use Rattle.midi_pass.specs.Put.{output_in}
 use Rattle.rehearsal_engine.specs.declared.event.CalledEvent.{CalledEvent}
 use Rattle.rehearsal_engine.specs.Events.{event_cutting}
-use Rattle.rehearsal_engine.specs.Rehearse.{HeldWasTold, called, closing_lines, event_puts, next_at, rehearsing, stage_at}
+use Rattle.rehearsal_engine.specs.Rehearse.{HeldWasTold, closing_lines, event_puts, next_at, rehearsing, stage_at}
 
 -- the lines of events, newest first, in the order in which they came
 abbrev pub lines_of : Facts → List (ℕ × CalledEvent) → List ℕ

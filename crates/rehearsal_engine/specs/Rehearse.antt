@@ -1,12 +1,8 @@
 -- A rehearsal that is run: the line of each event, and at the end what is held, and the profiles.
-use Rattle.std.specs.Prelude.{◌≡◌, ℕ, ◌+◌, Bool, true, false, List, [], ◌∷◌, ◌++◌, codes, decimal, slice_get, Option, Some, None, unwrap_or, Result, Ok, Err}
+use Rattle.std.specs.Prelude.{◌≡◌, ℕ, Bool, true, false, List, [], ◌∷◌, ◌++◌, codes, decimal, slice_get, Option, Some, None, Result, Ok, Err}
 use Rattle.std.specs.Option.{option_to_list}
-use Rattle.function_blocks.specs.declared.setup.Profile.{Profile}
 use Rattle.function_blocks.specs.Setups.{Facts}
-use Rattle.ci_responder.specs.declared.heard.Heard.{Heard}
-use Rattle.ci_responder.specs.declared.heard.Heard.TheVariants as heard
-use Rattle.ci_responder.specs.declared.keys.Key.{Key}
-use Rattle.ci_responder.specs.Keys.{key_of, state_in}
+use Rattle.ci_responder.specs.Keys.{state_in}
 use Rattle.ci_initiator.specs.declared.event.Event.{Event}
 use Rattle.ci_initiator.specs.declared.event.EventFault.{EventFault}
 use Rattle.ci_initiator.specs.declared.event.EventFault.TheVariants as fault
@@ -17,9 +13,10 @@ use Rattle.ci_initiator.specs.declared.noted.Noted.TheVariants as noted
 use Rattle.ci_initiator.specs.declared.watch.Watched.{Watched}
 use Rattle.ci_initiator.specs.Course.{Course, IsTold, course_of, stage_of}
 use Rattle.ci_initiator.specs.Stage.{Stage, event_of, next_by}
-use Rattle.midi_lines.specs.EndpointLines.{name_word, profile_text, state_word}
-use Rattle.midi_lines.specs.declared.endpoint.Name.{Name}
-use Rattle.midi_lines.specs.declared.endpoint.Name.TheVariants as names
+use Rattle.ci_lines.specs.Names.{name_of_heard}
+use Rattle.ci_lines.specs.Profiles.{profile_lines}
+use Rattle.ci_lines.specs.declared.profiles.LinePlace.TheVariants.{Output}
+use Rattle.midi_lines.specs.EndpointLines.{name_word, state_word}
 use Rattle.midi_pass.specs.Each.{for_each}
 use Rattle.midi_pass.specs.Pass.{Tail, Work}
 use Rattle.midi_pass.specs.Put.{Put, in_output}
@@ -29,21 +26,7 @@ use Rattle.rehearsal_engine.specs.declared.event.CalledEvent.{CalledEvent}
 
 -- ---- lines
 
--- what the line says of a message that the responder heard
-abbrev pub name_of_heard : Heard → Name
-name_of_heard heard.NoBlock = names.NoBlock
-name_of_heard heard.Silent = names.Silent
-name_of_heard heard.Collision = names.Collision
-name_of_heard heard.OldVersion = names.OldVersion
-name_of_heard heard.NotOurs = names.NotOurs
-name_of_heard heard.Moved = names.Moved
-name_of_heard heard.Report = names.Report
-name_of_heard heard.Broadcast = names.Broadcast
-name_of_heard heard.Answered = names.Answered
-name_of_heard heard.Passed = names.Passed
-name_of_heard heard.Nak = names.Nak
-
--- what it says of a message that the initiator heard
+-- what the line says of a message that the initiator heard
 abbrev pub noted_word : Noted → List ℕ
 noted_word noted.Other = codes "other"
 noted_word noted.Peer = codes "peer"
@@ -71,16 +54,11 @@ held_text number held = codes "held " ++ decimal number ++ codes " " ++ held_wor
 abbrev pub held_line : ℕ → Watched → List Put
 held_line number watched = in_output (held_text number watched.held) ∷ []
 
--- the line of a profile, by its key
-abbrev pub profile_line_of : (Key → Option Bool) → ℕ → Profile → List Put
-profile_line_of on number profile =
-    in_output (profile_text profile (unwrap_or (on (key_of profile)) profile.on)) ∷ []
-
 -- the lines at the end: what is held of each watch, and the responder's profiles
 abbrev pub closing_lines : Facts → Stage → List Put
 closing_lines setup stage =
     for_each held_line 0 stage.initiator.watched
-    ++ for_each (profile_line_of (state_in stage.responder.states)) 0 setup.profiles
+    ++ profile_lines Output (state_in stage.responder.states) setup.profiles
 
 -- ---- a run
 

@@ -1,25 +1,26 @@
 -- What is put for the events of a rehearsal goes to the output, and what is held at the end was told.
-use Rattle.std.proofs.Common.{◌≡◌, ℕ, ◌+◌, Bool, List, [], ◌∷◌, ◌++◌, Option, Some, None, refl, ap, sym, ◌∙◌, subst, zero, suc, slice_get, option_map, map, true}
-use Rattle.std.specs.Prelude.{Result, Ok, Err, unwrap_or}
-use Rattle.function_blocks.specs.declared.setup.Profile.{Profile}
+use Rattle.std.proofs.Common.{◌≡◌, ℕ, ◌+◌, Bool, List, [], ◌∷◌, Option, Some, None, refl, ap, sym, ◌∙◌, subst, zero, suc, slice_get, map, true}
+use Rattle.std.specs.Prelude.{Result, Ok, Err}
 use Rattle.function_blocks.specs.Profiles.{profiles_are_distinct}
 use Rattle.function_blocks.specs.Setups.{Facts}
-use Rattle.ci_responder.specs.declared.keys.Key.{Key}
 use Rattle.ci_responder.specs.Keys.{state_in}
 use Rattle.ci_initiator.specs.declared.event.EventFault.{EventFault}
 use Rattle.ci_initiator.specs.declared.event.Told.{Told}
 use Rattle.ci_initiator.specs.declared.watch.Watch.{Watch}
 use Rattle.ci_initiator.specs.declared.watch.Watched.{Watched}
-use Rattle.ci_initiator.specs.Course.{IsTold, held_in}
+use Rattle.ci_initiator.specs.Course.{held_in}
 use Rattle.ci_initiator.specs.Laws.{HeldIsTold, StageIsTheCourse}
 use Rattle.ci_initiator.specs.Stage.{Stage, first_stage, next_by}
 use Rattle.ci_initiator.specs.Watching.{HasIds, watches_of_setup}
+use Rattle.ci_lines.specs.ProfileLaws.{profiles_named}
+use Rattle.ci_lines.specs.Profiles.{profile_lines}
+use Rattle.ci_lines.specs.declared.profiles.LinePlace.TheVariants.{Output}
 use Rattle.midi_pass.specs.Named.{AreNamed, named-then}
 use Rattle.midi_pass.specs.Put.{Put}
 use Rattle.rehearsal_engine.specs.declared.event.CalledEvent.{CalledEvent}
 use Rattle.rehearsal_engine.specs.declared.rehearse.RehearseEngine.{RehearseEngine}
 use Rattle.midi_pass.specs.Each.{for_each}
-use Rattle.rehearsal_engine.specs.Rehearse.{HeldWasTold, called, closing_lines, course_at, event_puts, events_in, held_line, profile_line_of, rehearsing, stage_at}
+use Rattle.rehearsal_engine.specs.Rehearse.{HeldWasTold, called, course_at, event_puts, events_in, held_line, rehearsing, stage_at}
 
 -- the laws that a rehearsal stands on, and what its setup is
 pub record IsSound (setup : Facts) : Type 0 where
@@ -66,17 +67,13 @@ module _ (setup : Facts) where
   held-named number [] = tt
   held-named number (w ∷ ws) = (refl, held-named (number + 1) ws)
 
-  profiles-named : (on : Key → Option Bool) (number : ℕ) (profiles : List Profile) → Are (for_each (profile_line_of on) number profiles)
-  profiles-named on number [] = tt
-  profiles-named on number (p ∷ ps) = (refl, profiles-named on (number + 1) ps)
-
   pub closing_named : (past : List (ℕ × CalledEvent)) (puts : List Put) → (rehearsing setup).IsPutAtEnd past puts → Are puts
   closing_named past puts put =
       let A : List Put → Type 0 = λ ps. Are ps in
       let stage : Stage = stage_at setup past in
       subst A (sym put)
-      (named-then (rehearsing setup).names (for_each held_line 0 stage.initiator.watched) (for_each (profile_line_of (state_in stage.responder.states)) 0 setup.profiles)
-      (held-named 0 stage.initiator.watched) (profiles-named (state_in stage.responder.states) 0 setup.profiles))
+      (named-then (rehearsing setup).names (for_each held_line 0 stage.initiator.watched) (profile_lines Output (state_in stage.responder.states) setup.profiles)
+      (held-named 0 stage.initiator.watched) (profiles_named (rehearsing setup).names Output (λ text. refl) (state_in stage.responder.states) setup.profiles))
 
 -- ---- what is held was told
 

@@ -3,34 +3,14 @@ ghost use Rattle.std.specs.Prelude.{◌≡◌, ◌<◌, ◌≤◌, length};
 ghost use Rattle.rehearsal_engine.specs.Rehearse.{
   held_text,
   held_word,
-  name_of_heard as name_of,
   noted_word,
   told_text,
   told_word,
 };
 
 use ci_initiator::{Noted, Told};
-use ci_responder::Heard;
-use midi_lines::{Line, Name, put_decimal, put_text, word_of};
-
-// What the line says of a message that the responder heard.
-fn name_of_heard(heard: Heard) -> Name
-    ensures { result ≡ name_of heard }
-{
-    match heard {
-        Heard::NoBlock => Name::NoBlock,
-        Heard::Silent => Name::Silent,
-        Heard::Collision => Name::Collision,
-        Heard::OldVersion => Name::OldVersion,
-        Heard::NotOurs => Name::NotOurs,
-        Heard::Moved => Name::Moved,
-        Heard::Report => Name::Report,
-        Heard::Broadcast => Name::Broadcast,
-        Heard::Answered => Name::Answered,
-        Heard::Passed => Name::Passed,
-        Heard::Nak => Name::Nak,
-    }
-}
+use ci_lines::name_of_heard;
+use midi_lines::{Line, put_decimal, put_text, word_of};
 
 // What the line says of a message that the initiator heard.
 fn word_of_noted(noted: Noted) -> &'static str

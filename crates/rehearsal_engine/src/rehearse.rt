@@ -1,6 +1,6 @@
 // A rehearsal, event by event.
-ghost use Rattle.std.specs.Prelude.{◌≡◌, ◌∷◌, [], unwrap_or, IfOk};
-ghost use Rattle.ci_responder.specs.Keys.{key_of, state_in};
+ghost use Rattle.std.specs.Prelude.{◌≡◌, ◌∷◌, [], IfOk};
+ghost use Rattle.ci_responder.specs.Keys.{state_in};
 ghost use Rattle.midi_pass.specs.Pass.{Ends, IsDoneUnless, seen};
 ghost use Rattle.midi_pass.specs.Places.{Puts, places};
 ghost use Rattle.midi_pass.specs.Put.{in_output};
@@ -11,14 +11,12 @@ ghost use Rattle.rehearsal_engine.specs.Rehearse.{
   closing_lines,
   held_line as held_line_of,
   held_text,
-  profile_line_of,
   reason_of as reason_of_fault,
   rehearsing,
   told_text,
 };
 ghost use Rattle.rehearsal_engine.specs.RehearseMeans.{
   HoldsRehearsal,
-  IsFirstRehearsal,
   IsReadyRehearsal,
   closing_named,
   rehearsal_means,
@@ -31,10 +29,10 @@ use crate::laws::events_are_cut_once;
 use crate::lines::{held_line, told_line};
 use ci_initiator::laws::{stage_is_the_course, what_is_held_was_told};
 use ci_initiator::{EventFault, Rehearsal, Told};
-use ci_responder::{Key, ProfileId};
-use function_blocks::{Profile, Setup};
+use ci_lines::{LinePlace, ProfileStates, put_profiles};
+use ci_responder::Key;
+use function_blocks::Setup;
 use midi_edge::{Lanes, NoMemory, Sink, Source};
-use midi_lines::profile_line;
 use midi_pass::places::put_output;
 use midi_pass::{EachItems, Engine, Reason, RunEnd, drive};
 use std::alloc::Global;
@@ -167,34 +165,13 @@ fn put_held<L: Lanes, W: Sink, N: Sink>(
     put_output(line.as_slice(), lanes, output, notes)
 }
 
-// Whether a profile is on. The responder knows each profile of the setup.
-fn is_on(rehearsal: &Rehearsal, profile: &Profile) -> bool
-    ensures { result
-        ≡ unwrap_or (state_in rehearsal.now.responder.states (key_of profile.now)) profile.now.on }
-{
-    let id = profile.id;
-    let key = Key {
-        block: profile.block,
-        place: profile.place,
-        id: ProfileId { bytes: id },
-    };
-    rehearsal.profile_is_on(&key).unwrap_or(profile.on)
-}
+// The responder knows each profile of the setup.
+impl ProfileStates for RehearseEngine {
+    ghost states = { λ engine. state_in engine.rehearsal.responder.states };
 
-// Puts the line of a profile.
-fn put_profile<L: Lanes, W: Sink, N: Sink>(
-    rehearsal: &Rehearsal,
-    profile: &Profile,
-    lanes: &mut L,
-    output: &mut W,
-    notes: &mut N,
-) -> Result<(), RunEnd>
-    ensures { Puts (profile_line_of (state_in rehearsal.now.responder.states) 0 profile.now)
-        (places L.Lanes W.Sink N.Sink lanes.old output.old notes.old)
-        (places L.Lanes W.Sink N.Sink lanes.new output.new notes.new) result }
-{
-    let line = profile_line(profile, is_on(rehearsal, profile));
-    put_output(line.as_slice(), lanes, output, notes)
+    fn profile_is_on(&self, key: &Key) -> Option<bool> {
+        self.rehearsal.profile_is_on(key)
+    }
 }
 
 impl RehearseEngine {
@@ -218,32 +195,6 @@ impl RehearseEngine {
         Ok(())
     }
 
-    // Puts the line of each profile, on or off.
-    fn put_profiles<L: Lanes, W: Sink, N: Sink>(
-        &self,
-        lanes: &mut L,
-        output: &mut W,
-        notes: &mut N,
-    ) -> Result<(), RunEnd>
-        ensures { Puts (for_each (profile_line_of (state_in self.now.rehearsal.responder.states)) 0
-            self.now.setup.profiles)
-            (places L.Lanes W.Sink N.Sink lanes.old output.old notes.old)
-            (places L.Lanes W.Sink N.Sink lanes.new output.new notes.new) result }
-    {
-        for k in 0..self.setup.profile_count() {
-            match self.setup.profile(k) {
-                Some(profile) => {
-                    match put_profile(&self.rehearsal, profile, lanes, output, notes) {
-                        Ok(()) => {}
-                        Err(end) => return Err(end),
-                    }
-                }
-                None => unreachable!(),
-            }
-        }
-        Ok(())
-    }
-
     // Puts the lines of what is held, and those of the profiles.
     fn put_closing<L: Lanes, W: Sink, N: Sink>(
         &self,
@@ -256,7 +207,7 @@ impl RehearseEngine {
             (places L.Lanes W.Sink N.Sink lanes.new output.new notes.new) result }
     {
         match self.put_watches(lanes, output, notes) {
-            Ok(()) => self.put_profiles(lanes, output, notes),
+            Ok(()) => put_profiles(&self.setup, self, LinePlace::Output, lanes, output, notes),
             Err(end) => Err(end),
         }
     }
@@ -285,32 +236,10 @@ pub fn run_rehearse<S: Source, L: Lanes, W: Sink, N: Sink>(
         (seen S.Source L.Lanes W.Sink N.Sink input.old lanes.old output.old notes.old)
         (seen S.Source L.Lanes W.Sink N.Sink input.new lanes.new output.new notes.new) result }
 {
-    let RehearseRun { engine } = run;
-    rehearse(engine, input, lanes, output, notes)
-}
-
-// Runs a rehearsal that has taken no event.
-fn rehearse<S: Source, L: Lanes, W: Sink, N: Sink>(
-    engine: RehearseEngine,
-    input: &mut S,
-    lanes: &mut L,
-    output: &mut W,
-    notes: &mut N,
-) -> RunEnd
-    requires { IsFirstRehearsal engine }
-    ensures ends { Ends event_cutting (rehearsing engine.setup)
-        (seen S.Source L.Lanes W.Sink N.Sink input.old lanes.old output.old notes.old)
-        (seen S.Source L.Lanes W.Sink N.Sink input.new lanes.new output.new notes.new) result }
-    ensures complete { IsDoneUnless event_cutting (rehearsing engine.setup)
-        (seen S.Source L.Lanes W.Sink N.Sink input.old lanes.old output.old notes.old)
-        (seen S.Source L.Lanes W.Sink N.Sink input.new lanes.new output.new notes.new) result }
-    ensures refused { IsRefusedWhere event_cutting (rehearsing engine.setup)
-        (seen S.Source L.Lanes W.Sink N.Sink input.old lanes.old output.old notes.old)
-        (seen S.Source L.Lanes W.Sink N.Sink input.new lanes.new output.new notes.new) result }
-{
     events_are_cut_once();
     stage_is_the_course();
     what_is_held_was_told();
+    let RehearseRun { engine } = run;
     drive(
         EachItems::new(EachEvent),
         engine,

@@ -1,5 +1,5 @@
 // From packets to 8-bit exclusives.
-ghost use Rattle.std.specs.Prelude.{◌≡◌, ◌≤◌, IfOk, Some, None, true, [], ◌∷◌, length};
+ghost use Rattle.std.specs.Prelude.{◌≡◌, ◌≤◌, IfOk, Some, None, true};
 ghost use Rattle.ump_words.specs.Cut.{IsWhole};
 ghost use Rattle.ump_grammar.specs.Places.{type_of};
 ghost use Rattle.ump_grammar.specs.Ranges.{IsPacket};
@@ -9,7 +9,7 @@ ghost use Rattle.midi_pass.specs.Refused.{IsRefusedWhere};
 ghost use Rattle.packet_items.specs.Packets.{packet_cutting};
 ghost use Rattle.sysex8_streams.specs.Fed8.{fed8_view};
 ghost use Rattle.sysex8_streams.specs.History.{key_of};
-ghost use Rattle.sysex8_streams.specs.Table.{answer8_to, empty_table8};
+ghost use Rattle.sysex8_streams.specs.Table.{answer8_to};
 ghost use Rattle.sysex8_engine.specs.Held.{IsReady8, Holds8, data8_after, nothing_held, options8, packet_after, starts_in};
 ghost use Rattle.sysex8_engine.specs.Joining.{
   answer_puts,
@@ -165,39 +165,9 @@ pub fn run_sysex8<S: Source, L: Lanes, W: Sink, N: Sink>(
         (seen S.Source L.Lanes W.Sink N.Sink input.old lanes.old output.old notes.old)
         (seen S.Source L.Lanes W.Sink N.Sink input.new lanes.new output.new notes.new) result }
 {
-    let Sysex8Run { streams, order } = engine;
-    join(streams, order, input, lanes, output, notes)
-}
-
-// Joins the exclusives of a recording by streams that are all idle.
-#[inline(always)]
-fn join<S: Source, L: Lanes, W: Sink, N: Sink>(
-    streams: Streams,
-    order: Order,
-    input: &mut S,
-    lanes: &mut L,
-    output: &mut W,
-    notes: &mut N,
-) -> RunEnd
-    requires empty { streams ≡ empty_table8 (length streams.slots) streams.room }
-    requires some { 1 ≤ length streams.slots }
-    requires least { 13 ≤ streams.room }
-    requires begun { L.begun lanes.old ≡ true }
-    ensures ends { Ends (packet_cutting order)
-        (joining (record { slots = length streams.slots; order = order; room = streams.room }))
-        (seen S.Source L.Lanes W.Sink N.Sink input.old lanes.old output.old notes.old)
-        (seen S.Source L.Lanes W.Sink N.Sink input.new lanes.new output.new notes.new) result }
-    ensures complete { IsDoneUnless (packet_cutting order)
-        (joining (record { slots = length streams.slots; order = order; room = streams.room }))
-        (seen S.Source L.Lanes W.Sink N.Sink input.old lanes.old output.old notes.old)
-        (seen S.Source L.Lanes W.Sink N.Sink input.new lanes.new output.new notes.new) result }
-    ensures refused { IsRefusedWhere (packet_cutting order)
-        (joining (record { slots = length streams.slots; order = order; room = streams.room }))
-        (seen S.Source L.Lanes W.Sink N.Sink input.old lanes.old output.old notes.old)
-        (seen S.Source L.Lanes W.Sink N.Sink input.new lanes.new output.new notes.new) result }
-{
     recordings_are_cut_once();
     fed_streams_are_the_definition();
+    let Sysex8Run { streams, order } = engine;
     let reader = PacketReader::new(order);
     drive(
         reader,

@@ -3,6 +3,7 @@ ghost use Rattle.std.specs.Prelude.{◌≡◌, ◌<◌, ◌^◌};
 ghost use Rattle.ump_grammar.specs.Ranges.{IsPacket};
 ghost use Rattle.system_stream.specs.Layout.{FitsPlaces, IsStream};
 
+use std::test::Fail;
 use system_stream::*;
 use ump_grammar::{Packet, encode};
 use voice_messages::Form;
@@ -326,4 +327,14 @@ fn the_limit_counts_whole_packets(rt: HostRuntime) {
     assert_eq!(rt; id.part(Form::End, 0, b""), Joined::Bad);
     assert_eq!(rt; id.part(Form::Start, 0, &[b'a'; 43]), Joined::Bad);
     assert_eq!(rt; id.part(Form::Complete, 0, &[0; 43]), Joined::Bad);
+}
+
+#[test]
+fn a_bad_format_has_its_text(rt: HostRuntime) -> Result<(), Fail> {
+    let shown = format!(in rt.alloc(); "{}", BadFormat)?;
+    assert_eq!(rt;
+        shown.as_str(),
+        "a stream message of one packet has a format other than complete"
+    );
+    Ok(())
 }

@@ -4,6 +4,7 @@ ghost use Rattle.std.specs.Prelude.{◌≤◌, length, IfOk, IfSome};
 ghost use Rattle.ump_grammar.specs.Ranges.{IsPacket};
 
 use midi_edge::ShortList;
+use std::test::Fail;
 use ump_grammar::*;
 use ump_words::words::words_in_packet;
 use ump_words::{Framed, Words};
@@ -571,4 +572,27 @@ fn replies_stand_one_after_the_other(rt: HostRuntime) {
     assert!(rt; replies.words() == words.as_slice());
     replies.clear();
     assert!(rt; replies.words().is_empty());
+}
+
+#[test]
+fn words_are_shown_as_a_list(rt: HostRuntime) -> Result<(), Fail> {
+    let words = Words::from_slice(&[0x4090_3C00, 0xC924_0000]);
+    let shown = format!(in rt.alloc(); "{words:?}")?;
+    assert_eq!(rt; shown.as_str(), "[1083194368, 3374579712]");
+    Ok(())
+}
+
+#[test]
+fn each_refusal_has_its_text(rt: HostRuntime) -> Result<(), Fail> {
+    for (bad, text) in [
+        (
+            Bad::BadCount,
+            "an exclusive packet counts more than six bytes",
+        ),
+        (Bad::HighBit, "a data byte has its high bit set"),
+    ] {
+        let shown = format!(in rt.alloc(); "{bad}")?;
+        assert_eq!(rt; shown.as_str(), text);
+    }
+    Ok(())
 }

@@ -1,11 +1,10 @@
 -- A stream of MIDI 1.0 bytes that is packed: the events of each byte, and its lines; at the end the line of what is open.
-use Rattle.std.specs.Prelude.{◌≡◌, ℕ, false, true, ◌<◌, List, ◌++◌, map, reverse, None, Some}
+use Rattle.std.specs.Prelude.{◌≡◌, ℕ, false, true, ◌<◌, List, ◌++◌, map, reverse, Some}
 use Rattle.std.specs.List.{AllByRecursion, concat}
 use Rattle.midi1_bytes.specs.Steps.{Step, completed, completed_by, step_of}
 use Rattle.voice_state.specs.StepListing.{kinds_at_end, kinds_of_step, line_up, open_pair}
 use Rattle.voice_state.specs.UpRefusal.{AreStepsWithinRoom}
 use Rattle.voice_state.specs.declared.listed.Kind.{Kind}
-use Rattle.voice_state.specs.declared.listed.Listed.{Listed}
 use Rattle.midi_pass.specs.Bytes.{bytes_of}
 use Rattle.midi_pass.specs.Pass.{Work}
 use Rattle.midi_pass.specs.Put.{Put, in_output, output_in}

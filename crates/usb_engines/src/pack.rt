@@ -1,7 +1,7 @@
 // From a stream of MIDI 1.0 bytes to events.
-ghost use Rattle.std.specs.Prelude.{◌≡◌, ◌≤◌, ◌<◌, ◌∷◌, ◌++◌, [], IfOk, IfSome, length};
-ghost use Rattle.std.specs.Option.{option_map, option_to_list};
-ghost use Rattle.midi1_bytes.specs.Parsing.{idle, open_of};
+ghost use Rattle.std.specs.Prelude.{◌≡◌, ◌≤◌, ◌<◌, ◌++◌, [], IfOk, IfSome, length};
+ghost use Rattle.std.specs.Option.{option_map};
+ghost use Rattle.midi1_bytes.specs.Parsing.{open_of};
 ghost use Rattle.voice_state.specs.StepListing.{kinds_at_end};
 ghost use Rattle.midi_pass.specs.Bytes.{byte_cutting};
 ghost use Rattle.midi_pass.specs.Pass.{Ends, IsDoneUnless, Takes, seen};
@@ -16,7 +16,7 @@ ghost use Rattle.usb_engines.specs.Pack.{HoldsPacked, event_puts, open_lines, op
 ghost use Rattle.usb_engines.specs.PackMeans.{last_named, packs_mean, packs_named};
 
 use item_reader::ByteReader;
-use listing_puts::{put_both, put_listed, refused};
+use listing_puts::{put_listed, refused};
 use midi_edge::{Lanes, NoMemory, Sink, Source, U4};
 use midi_pass::laws::bytes_are_cut_once;
 use midi_pass::places::put_output;
@@ -124,6 +124,7 @@ impl Engine<u64, u8> for PackEngine {
 ///
 /// `Refused` comes for `InputTooLong` and `ExclusiveTooLong`, with the number of bytes before what is refused. `ReadFault`,
 /// `OutputFault` and `NoteFault` come only where the count of that object rose. The lanes stay as they are.
+#[inline(never)]
 pub fn run_pack<S: Source, L: Lanes, W: Sink, N: Sink>(
     engine: PackRun,
     input: &mut S,
@@ -141,34 +142,10 @@ pub fn run_pack<S: Source, L: Lanes, W: Sink, N: Sink>(
         (seen S.Source L.Lanes W.Sink N.Sink input.old lanes.old output.old notes.old)
         (seen S.Source L.Lanes W.Sink N.Sink input.new lanes.new output.new notes.new) result }
 {
-    let PackRun { packer } = engine;
-    pack(packer, input, lanes, output, notes)
-}
-
-// Packs a stream by a packer that has had no byte.
-#[inline(never)]
-fn pack<S: Source, L: Lanes, W: Sink, N: Sink>(
-    packer: Packer,
-    input: &mut S,
-    lanes: &mut L,
-    output: &mut W,
-    notes: &mut N,
-) -> RunEnd
-    requires empty { packer.parsing ≡ idle packer.parsing.room }
-    requires few { packer.cable < 16 }
-    ensures ends { Ends byte_cutting (packing (options_of packer))
-        (seen S.Source L.Lanes W.Sink N.Sink input.old lanes.old output.old notes.old)
-        (seen S.Source L.Lanes W.Sink N.Sink input.new lanes.new output.new notes.new) result }
-    ensures complete { IsDoneUnless byte_cutting (packing (options_of packer))
-        (seen S.Source L.Lanes W.Sink N.Sink input.old lanes.old output.old notes.old)
-        (seen S.Source L.Lanes W.Sink N.Sink input.new lanes.new output.new notes.new) result }
-    ensures refused { IsRefusedWhere byte_cutting (packing (options_of packer))
-        (seen S.Source L.Lanes W.Sink N.Sink input.old lanes.old output.old notes.old)
-        (seen S.Source L.Lanes W.Sink N.Sink input.new lanes.new output.new notes.new) result }
-{
     bytes_are_cut_once();
     packed_bytes_are_the_definition();
     split_events_mean_the_bytes();
+    let PackRun { packer } = engine;
     let engine = PackEngine { packer };
     drive(ByteReader::new(LIMIT), engine, input, lanes, output, notes)
 }
@@ -274,7 +251,10 @@ fn put_lines<L: Lanes, W: Sink, N: Sink>(
         (places L.Lanes W.Sink N.Sink lanes.old output.old notes.old)
         (places L.Lanes W.Sink N.Sink lanes.new output.new notes.new) result }
 {
-    put_both(packed.first(), packed.second(), lanes, output, notes)
+    match put_listed(packed.first(), lanes, output, notes) {
+        Ok(()) => put_listed(packed.second(), lanes, output, notes),
+        Err(end) => Err(end),
+    }
 }
 
 // Puts the line of what is still open at the end, if anything is.

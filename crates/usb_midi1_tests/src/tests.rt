@@ -267,3 +267,10 @@ fn a_failed_take_loses_no_event(rt: HostRuntime) -> Result<(), Fail> {
     }
     Ok(())
 }
+
+#[test]
+fn too_long_has_its_text(rt: HostRuntime) -> Result<(), Fail> {
+    let shown = format!(in rt.alloc(); "{}", TooLong)?;
+    assert_eq!(rt; shown.as_str(), "an exclusive is too long");
+    Ok(())
+}

@@ -5,7 +5,7 @@ use std::process::Abort;
 use std::test::Fail;
 use ump_grammar::Packet;
 use voice_messages::{Bank, Form, Param, ParamKind, System, U4, U7, U14, Voice1, Voice2};
-use voice_state::{ControlRole, Fact, Registers, VoiceState, is_null_param};
+use voice_state::{BadStep, ControlRole, Fact, Registers, VoiceState, is_null_param};
 
 fn u4(number: u32) -> U4 {
     U4::low_bits(number)
@@ -650,6 +650,21 @@ fn system_messages_are_counted(rt: HostRuntime) {
     tells(&rt, alloc, &state, &facts);
 }
 
+// No number of facts is too many.
+#[test]
+fn each_of_many_notes_is_told(rt: HostRuntime) -> Result<(), Fail> {
+    let alloc = rt.alloc();
+    let message = Voice1::NoteOn {
+        channel: u4(0),
+        note: u7(60),
+        velocity: u7(100),
+    };
+    let messages = vec![in alloc; message; 2000]?;
+    let facts = vec![in alloc; on(60, 100); 2000]?;
+    messages_tell(&rt, alloc, messages.as_slice(), facts.as_slice());
+    Ok(())
+}
+
 #[test]
 fn groups_and_channels_in_order(rt: HostRuntime) {
     let pressed = |group, channel, value| Packet::Voice2 {
@@ -778,4 +793,19 @@ fn the_null_parameter(rt: HostRuntime) {
         let param = param(ParamKind::Assignable, bank, index);
         assert_eq!(rt; is_null_param(&param), null, "{bank}/{index}");
     }
+}
+
+// ---- refusals
+
+#[test]
+fn each_refusal_has_its_text(rt: HostRuntime) -> Result<(), Fail> {
+    for (bad, text) in [
+        (BadStep::DataIncrement, "a data increment can't be carried"),
+        (BadStep::DataDecrement, "a data decrement can't be carried"),
+        (BadStep::ExclusiveTooLong, "an exclusive is too long"),
+    ] {
+        let shown = format!(in rt.alloc(); "{bad}")?;
+        assert_eq!(rt; shown.as_str(), text);
+    }
+    Ok(())
 }

@@ -1,145 +1,90 @@
-// Worked rows of translations down in compact style, on the whole program.
-use super::{Left, case_of, leaves};
-use midi_commands::Status;
-use std::alloc::Global;
-use std::process::Abort;
+// Worked rows of translations down in compact style.
+use super::rows_hold;
 use std::test::Fail;
 
-const COMPACT: [&str; 5] = ["translate", "down", "--folder", "F", "--compact"];
+const ROWS: &str = "\
+# what the receiver has is left out
+run translate down --folder F --compact
+input 40903C00 C9240000 40903E00 C9240000
+input 10F60000 40904000 C9240000 40200000
+input 04000000 40200000 04000000 40B07900
+input 00000000 40200000 04000000
+leaves Done
+lane 0 90 3C 64
+lane 0 3E 64
+lane 0 F6
+lane 0 90 40 64
+lane 0 B0 65 00 64 00 06 02 26 00
+lane 0 06 02 26 00
+lane 0 79 00
+lane 0 65 00 64 00 06 02 26 00
 
-// The pieces that a recording leaves in its lanes.
-fn carries(
-    rt: &impl Abort,
-    alloc: Global,
-    words: &[u32],
-    pieces: &[(u8, &[u8])],
-) -> Result<(), Fail> {
-    let left = Left {
-        status: Status::Done,
-        pieces,
-        output: "",
-        notes: "",
-    };
-    leaves(rt, alloc, case_of(alloc, &COMPACT, words)?, left)
-}
+# a bank is sent once
+run translate down --folder F --compact
+input 40C00001 05000102 40C00001 05000102
+leaves Done
+lane 0 B0 00 01 20 02 C0 05
+lane 0 05
 
-#[test]
-fn what_the_receiver_has_is_left_out(rt: HostRuntime) -> Result<(), Fail> {
-    let words = [
-        0x40903C00, 0xC9240000, 0x40903E00, 0xC9240000, 0x10F60000, 0x40904000, 0xC9240000,
-        0x40200000, 0x04000000, 0x40200000, 0x04000000, 0x40B07900, 0x00000000, 0x40200000,
-        0x04000000,
-    ];
-    carries(
-        &rt,
-        rt.alloc(),
-        &words,
-        &[
-            (0, &[0x90, 0x3C, 0x64]),
-            (0, &[0x3E, 0x64]),
-            (0, &[0xF6]),
-            (0, &[0x90, 0x40, 0x64]),
-            (0, &[0xB0, 0x65, 0x00, 0x64, 0x00, 0x06, 0x02, 0x26, 0x00]),
-            (0, &[0x06, 0x02, 0x26, 0x00]),
-            (0, &[0x79, 0x00]),
-            (0, &[0x65, 0x00, 0x64, 0x00, 0x06, 0x02, 0x26, 0x00]),
-        ],
-    )
-}
+# the LSB of the bank differs, and both halves come
+run translate down --folder F --compact
+input 40C00001 05000102 40C00001 05000103
+leaves Done
+lane 0 B0 00 01 20 02 C0 05
+lane 0 B0 00 01 20 03 C0 05
 
-#[test]
-fn a_bank_is_sent_once(rt: HostRuntime) -> Result<(), Fail> {
-    let alloc = rt.alloc();
-    let twice = [0x40C00001, 0x05000102, 0x40C00001, 0x05000102];
-    carries(
-        &rt,
-        alloc,
-        &twice,
-        &[
-            (0, &[0xB0, 0x00, 0x01, 0x20, 0x02, 0xC0, 0x05]),
-            (0, &[0x05]),
-        ],
-    )?;
-    // the LSB differs, and both halves come
-    let other = [0x40C00001, 0x05000102, 0x40C00001, 0x05000103];
-    carries(
-        &rt,
-        alloc,
-        &other,
-        &[
-            (0, &[0xB0, 0x00, 0x01, 0x20, 0x02, 0xC0, 0x05]),
-            (0, &[0xB0, 0x00, 0x01, 0x20, 0x03, 0xC0, 0x05]),
-        ],
-    )
-}
+# control changes of MIDI 1.0 packets are always written, and select what a parameter is set by
+run translate down --folder F --compact
+input 20B06500 20B06401 40200000 04000000
+input 20B00603
+leaves Done
+lane 0 B0 65 00
+lane 0 64 01
+lane 0 65 00 64 00 06 02 26 00
+lane 0 06 03
 
-// Control changes of MIDI 1.0 packets are always written, and select what a parameter is set by.
-#[test]
-fn both_protocols_share_the_registers(rt: HostRuntime) -> Result<(), Fail> {
-    let alloc = rt.alloc();
-    let other = [0x20B06500, 0x20B06401, 0x40200000, 0x04000000, 0x20B00603];
-    carries(
-        &rt,
-        alloc,
-        &other,
-        &[
-            (0, &[0xB0, 0x65, 0x00]),
-            (0, &[0x64, 0x01]),
-            (0, &[0x65, 0x00, 0x64, 0x00, 0x06, 0x02, 0x26, 0x00]),
-            (0, &[0x06, 0x03]),
-        ],
-    )?;
-    let same = [0x20B06500, 0x20B06400, 0x40200000, 0x04000000];
-    carries(
-        &rt,
-        alloc,
-        &same,
-        &[
-            (0, &[0xB0, 0x65, 0x00]),
-            (0, &[0x64, 0x00]),
-            (0, &[0x06, 0x02, 0x26, 0x00]),
-        ],
-    )
-}
+# the same parameter is not selected again
+run translate down --folder F --compact
+input 20B06500 20B06400 40200000 04000000
+leaves Done
+lane 0 B0 65 00
+lane 0 64 00
+lane 0 06 02 26 00
+
+# after a system reset a parameter is selected again
+run translate down --folder F --compact
+input 40200000 04000000 10FF0000 40200000
+input 04000000
+leaves Done
+lane 0 B0 65 00 64 00 06 02 26 00
+lane 0 FF
+lane 0 B0 65 00 64 00 06 02 26 00
+
+# after a system reset the status is sent again
+run translate down --folder F --compact
+input 40903C00 C9240000 10FF0000 40903E00
+input C9240000
+leaves Done
+lane 0 90 3C 64
+lane 0 FF
+lane 0 90 3E 64
+
+# Real Time leaves the running status, an exclusive ends it, and each lane has its own
+run translate down --folder F --compact
+input 40903C00 C9240000 10F80000 41903C00
+input C9240000 40903E00 C9240000 31010500
+input 00000000 41903E00 C9240000 40904000
+input C9240000
+leaves Done
+lane 0 90 3C 64
+lane 0 F8
+lane 1 90 3C 64
+lane 0 3E 64
+lane 1 F0 05 F7
+lane 1 90 3E 64
+lane 0 40 64";
 
 #[test]
-fn nothing_is_relied_on_across_a_system_reset(rt: HostRuntime) -> Result<(), Fail> {
-    let alloc = rt.alloc();
-    let set: (u8, &[u8]) = (0, &[0xB0, 0x65, 0x00, 0x64, 0x00, 0x06, 0x02, 0x26, 0x00]);
-    let sets = [0x40200000, 0x04000000, 0x10FF0000, 0x40200000, 0x04000000];
-    carries(&rt, alloc, &sets, &[set, (0, &[0xFF]), set])?;
-    let notes = [0x40903C00, 0xC9240000, 0x10FF0000, 0x40903E00, 0xC9240000];
-    carries(
-        &rt,
-        alloc,
-        &notes,
-        &[
-            (0, &[0x90, 0x3C, 0x64]),
-            (0, &[0xFF]),
-            (0, &[0x90, 0x3E, 0x64]),
-        ],
-    )
-}
-
-// Real Time leaves the running status, an exclusive ends it, and each lane has its own.
-#[test]
-fn running_status_of_two_lanes(rt: HostRuntime) -> Result<(), Fail> {
-    let words = [
-        0x40903C00, 0xC9240000, 0x10F80000, 0x41903C00, 0xC9240000, 0x40903E00, 0xC9240000,
-        0x31010500, 0x00000000, 0x41903E00, 0xC9240000, 0x40904000, 0xC9240000,
-    ];
-    carries(
-        &rt,
-        rt.alloc(),
-        &words,
-        &[
-            (0, &[0x90, 0x3C, 0x64]),
-            (0, &[0xF8]),
-            (1, &[0x90, 0x3C, 0x64]),
-            (0, &[0x3E, 0x64]),
-            (1, &[0xF0, 0x05, 0xF7]),
-            (1, &[0x90, 0x3E, 0x64]),
-            (0, &[0x40, 0x64]),
-        ],
-    )
+fn recordings_go_down_in_compact_style(rt: HostRuntime) -> Result<(), Fail> {
+    rows_hold(&rt, rt.alloc(), ROWS)
 }

@@ -1,114 +1,207 @@
 // Worked rows of the way down: each is a recording, and what it leaves.
-use super::{DOWN, Left, NOTE, carries, case_of, leaves, refused};
-use midi_commands::Status;
-use midi_pass::Reason;
+use super::rows_hold;
 use std::test::Fail;
 
-const NOTE_BYTES: [u8; 3] = [0x90, 0x3C, 0x64];
+const ROWS: &str = "\
+# a note goes down
+run translate down --folder F
+input 40903C00 C9240000
+leaves Done
+lane 0 90 3C 64
+
+# a velocity that rounds to none is the least one
+run translate down --folder F
+input 40903C00 01FF0000
+leaves Done
+lane 0 90 3C 01
+
+# a note off goes down
+run translate down --folder F
+input 40803C00 80000000
+leaves Done
+lane 0 80 3C 40
+
+# the attribute of a note is listed
+run translate down --folder F
+input 40903C01 C9240007
+leaves Done
+lane 0 90 3C 64
+note 0 0 note-attribute
+
+# nothing comes of nothing
+run translate down --folder F
+leaves Done
+
+# groups and exclusives go down
+run translate down --folder F
+input 30160102 03040506 31021112 00000000
+input 30310700 00000000 11F80000 40C00001
+input 05000102
+leaves Done
+lane 1 F0 11 12 F7
+lane 0 F0 01 02 03 04 05 06 07 F7
+lane 1 F8
+lane 0 B0 00 01 B0 20 02 C0 05
+
+# exclusives that are open at the end are listed
+run translate down --folder F
+input 33161112 13141516 30160102 03040506
+input 40403C00 00000001
+leaves Done
+note 16 0 relative-parameter
+note 8 0 open-exclusive
+note 0 3 open-exclusive
+
+# an exclusive of six bytes fits a room of six
+run translate down --folder F --room 6
+input 30160102 03040506 30300000 00000000
+leaves Done
+lane 0 F0 01 02 03 04 05 06 F7
+
+# one of seven does not
+run translate down --folder F --room 6
+input 30160102 03040506 30310700 00000000
+leaves Refused { reason: ExclusiveTooLong, offset: 8 }
+note refused ExclusiveTooLong at 8
+
+# a note that is read byte by byte
+run translate down --folder F
+input 40903C00 C9240000
+cuts-of-one 16
+leaves Done
+lane 0 90 3C 64
+
+# half a packet
+run translate down --folder F
+input 40903C00
+leaves Refused { reason: Truncated, offset: 0 }
+note refused Truncated at 0
+
+# an exclusive packet of seven bytes
+run translate down --folder F
+input 30070000 00000000
+leaves Refused { reason: BadCount, offset: 0 }
+note refused BadCount at 0
+
+# a data byte with its high bit set
+run translate down --folder F
+input 20903C80
+leaves Refused { reason: HighBit, offset: 0 }
+note refused HighBit at 0
+
+# a data increment
+run translate down --folder F
+input 20B06000
+leaves Refused { reason: DataIncrement, offset: 0 }
+note refused DataIncrement at 0
+
+# a data decrement
+run translate down --folder F
+input 40B06100 00000000
+leaves Refused { reason: DataDecrement, offset: 0 }
+note refused DataDecrement at 0
+
+# a high bit behind a note
+run translate down --folder F
+input 40903C00 C9240000 20903C80
+leaves Refused { reason: HighBit, offset: 8 }
+lane 0 90 3C 64
+note refused HighBit at 8
+
+# half a packet behind a note
+run translate down --folder F
+input 40903C00 C9240000 40903C00
+leaves Refused { reason: Truncated, offset: 8 }
+lane 0 90 3C 64
+note refused Truncated at 8
+
+# the second put in a lane fails
+run translate down --folder F
+input 40903C00 C9240000 40903C00 C9240000
+lane-fails 1 1
+leaves LaneFault
+lane 0 90 3C 64
+lane 0 90
+note lane write failed
+
+# the second read fails
+run translate down --folder F
+input 40903C00 C9240000 40903C00 C9240000
+cut 8
+read-fails 1
+leaves ReadFault
+lane 0 90 3C 64
+note read failed
+
+# the first line of the notes fails
+run translate down --folder F
+input 40903C01 C9240007 40903C00 C9240000
+note-fails 0 0
+leaves NoteFault
+lane 0 90 3C 64
+
+# a parameter is set by four controls
+run translate down --folder F
+input 40200000 04000000
+leaves Done
+lane 0 B0 65 00 B0 64 00 B0 06 02 B0 26 00
+
+# the MIDI 2.0 packet in the middle selects its own parameter, which the last data entry then sets
+run translate down --folder F
+input 20B06500 20B06401 40200000 04000000
+input 20B00603
+leaves Done
+lane 0 B0 65 00
+lane 0 B0 64 01
+lane 0 B0 65 00 B0 64 00 B0 06 02 B0 26 00
+lane 0 B0 06 03
+
+# a recording of a keyboard
+run translate down --folder F
+input 00200010 40903C00 C9240000 40E00000
+input A0000000 40803C00 80000000
+leaves Done
+lane 0 90 3C 64
+lane 0 E0 00 50
+lane 0 80 3C 40
+note 0 - utility
+
+# exclusives are cut, stray and left open
+run translate down --folder F
+input 30160102 03040506 30020708 00000000
+input 30210900 00000000 30110A00 00000000
+leaves Done
+lane 0 F0 07 08 F7
+note 0 0 cut-exclusive
+note 16 0 stray-exclusive
+note 24 0 open-exclusive
+
+# a null parameter is only listed
+run translate down --folder F
+input 40307F7F 00000000
+leaves Done
+note 0 0 null-parameter
+
+# a relative parameter is only listed
+run translate down --folder F
+input 40400000 00000001
+leaves Done
+note 0 0 relative-parameter
+
+# the input ends within a word
+run translate down --folder F
+input 40903C00 C9240000 40903C
+leaves Refused { reason: Truncated, offset: 8 }
+lane 0 90 3C 64
+note refused Truncated at 8
+
+# the only line of the notes fails
+run translate down --folder F
+input 40307F7F 00000000
+note-fails 0 0
+leaves NoteFault";
 
 #[test]
-fn a_parameter_is_set_by_four_controls(rt: HostRuntime) -> Result<(), Fail> {
-    let alloc = rt.alloc();
-    let bend_range: [u8; 12] = [
-        0xB0, 0x65, 0x00, 0xB0, 0x64, 0x00, 0xB0, 0x06, 0x02, 0xB0, 0x26, 0x00,
-    ];
-    carries(
-        &rt,
-        alloc,
-        &[0x40200000, 0x04000000],
-        Status::Done,
-        &[(0, &bend_range)],
-        "",
-    )?;
-    // The MIDI 2.0 packet in the middle selects its own parameter, which the last data entry then sets.
-    let mixed = [0x20B06500, 0x20B06401, 0x40200000, 0x04000000, 0x20B00603];
-    carries(
-        &rt,
-        alloc,
-        &mixed,
-        Status::Done,
-        &[
-            (0, &[0xB0, 0x65, 0x00]),
-            (0, &[0xB0, 0x64, 0x01]),
-            (0, &bend_range),
-            (0, &[0xB0, 0x06, 0x03]),
-        ],
-        "",
-    )
-}
-
-#[test]
-fn a_recording_of_a_keyboard(rt: HostRuntime) -> Result<(), Fail> {
-    let keyboard = [
-        0x00200010, 0x40903C00, 0xC9240000, 0x40E00000, 0xA0000000, 0x40803C00, 0x80000000,
-    ];
-    carries(
-        &rt,
-        rt.alloc(),
-        &keyboard,
-        Status::Done,
-        &[
-            (0, &NOTE_BYTES),
-            (0, &[0xE0, 0x00, 0x50]),
-            (0, &[0x80, 0x3C, 0x40]),
-        ],
-        "0 - utility\n",
-    )
-}
-
-#[test]
-fn exclusives_are_cut_stray_and_left_open(rt: HostRuntime) -> Result<(), Fail> {
-    let words = [
-        0x30160102, 0x03040506, 0x30020708, 0x00000000, 0x30210900, 0x00000000, 0x30110A00,
-        0x00000000,
-    ];
-    carries(
-        &rt,
-        rt.alloc(),
-        &words,
-        Status::Done,
-        &[(0, &[0xF0, 0x07, 0x08, 0xF7])],
-        "0 0 cut-exclusive\n16 0 stray-exclusive\n24 0 open-exclusive\n",
-    )
-}
-
-#[test]
-fn null_and_relative_parameters_are_only_listed(rt: HostRuntime) -> Result<(), Fail> {
-    let alloc = rt.alloc();
-    let rows: [([u32; 2], &str); 2] = [
-        ([0x40307F7F, 0x00000000], "0 0 null-parameter\n"),
-        ([0x40400000, 0x00000001], "0 0 relative-parameter\n"),
-    ];
-    for (words, notes) in rows {
-        carries(&rt, alloc, &words, Status::Done, &[], notes)?;
-    }
-    Ok(())
-}
-
-#[test]
-fn the_input_ends_within_a_word(rt: HostRuntime) -> Result<(), Fail> {
-    let alloc = rt.alloc();
-    let mut given = case_of(alloc, &DOWN, &NOTE)?;
-    given.input.extend_from_slice(&[0x40, 0x90, 0x3C])?;
-    let left = Left {
-        status: refused(Reason::Truncated, 8),
-        pieces: &[(0, &NOTE_BYTES)],
-        output: "",
-        notes: "refused Truncated at 8\n",
-    };
-    leaves(&rt, alloc, given, left)
-}
-
-#[test]
-fn the_first_line_of_the_notes_fails(rt: HostRuntime) -> Result<(), Fail> {
-    let alloc = rt.alloc();
-    let mut given = case_of(alloc, &DOWN, &[0x40307F7F, 0x00000000])?;
-    given.note_puts = vec![in alloc; (0, 0)]?;
-    let left = Left {
-        status: Status::NoteFault,
-        pieces: &[],
-        output: "",
-        notes: "",
-    };
-    leaves(&rt, alloc, given, left)
+fn recordings_go_down(rt: HostRuntime) -> Result<(), Fail> {
+    rows_hold(&rt, rt.alloc(), ROWS)
 }

@@ -1,676 +1,494 @@
 // The replies of `endpoint`, its lines, and what stands after each end.
-use super::{bytes_of, refused, words_of};
-use midi_commands::{Status, run};
-use midi_edge::{MemLanes, MemShelf, MemSink, MemSource};
-use midi_pass::Reason;
-use std::alloc::{AllocError, Global};
-use std::process::Abort;
+use super::fault_rows::all_fail_in_turn;
+use super::rows_hold;
 use std::test::Fail;
 
-// `examples/endpoint.toml` without its comments.
-const SETUP: &str =
-    "[endpoint]\nname = \"Demo Endpoint X\"\nid = \"SN-0001\"\nmanufacturer = [125, 0, 0]\nfamily = 1\nmodel = 2\nrevision = [1, 0, 0, 0]\nmidi1 = true\nmidi2 = true\nprotocol = 2\nstatic = true\n\n[[block]]\nactive = true\nname = \"Main\"\nhint = 3\nmidi1 = 0\ndirection = 3\nfirst = 0\ncount = 1\nci = 2\nsysex8 = 0\nmuids = [19088743, 300]\n\n[[profile]]\nblock = 0\nplace = \"channel\"\ngroup = 0\nchannel = 2\nid = [126, 0, 1, 1, 0]\non = false\n";
+// Stream messages, and setups.
+const STREAM_ROWS: &str = "\
+# the discovery of the endpoint
+run endpoint a.toml
+input F0000101 0000001F 00000000 00000000
+demo-setup
+leaves Done
+output F0010101 81000300 00000000 00000000
+output F0020000 007D0000 01000200 01000000
+output F4034465 6D6F2045 6E64706F 696E7420
+output FC035800 00000000 00000000 00000000
+output F004534E 2D303030 31000000 00000000
+output F0060200 00000000 00000000 00000000
+note 0 - answered
+note protocol 2
+note block 0 muid 19088743
+note profile 0 channel 0 2 7E00010100 off
 
-const DISCOVERY: [u32; 4] = [0xF0000101, 0x0000001F, 0, 0];
+# the inquiry of all blocks
+run endpoint a.toml
+input F010FF03 00000000 00000000 00000000
+demo-setup
+leaves Done
+output F0118033 00010200 00000000 00000000
+output F012004D 61696E00 00000000 00000000
+note 0 - answered
+note protocol 2
+note block 0 muid 19088743
+note profile 0 channel 0 2 7E00010100 off
 
-const DISCOVERY_REPLIES: [u32; 24] = [
-    0xF0010101, 0x81000300, 0, 0, 0xF0020000, 0x007D0000, 0x01000200, 0x01000000, 0xF4034465,
-    0x6D6F2045, 0x6E64706F, 0x696E7420, 0xFC035800, 0, 0, 0, 0xF004534E, 0x2D303030, 0x31000000, 0,
-    0xF0060200, 0, 0, 0,
-];
+# the request of the protocol of MIDI 1.0
+run endpoint a.toml
+input F0050100 00000000 00000000 00000000
+demo-setup
+leaves Done
+output F0060100 00000000 00000000 00000000
+note 0 - answered
+note protocol 1
+note block 0 muid 19088743
+note profile 0 channel 0 2 7E00010100 off
 
-// What the program is given, and where its objects cut or fail.
-#[derive(Drop)]
-pub(super) struct Given<'a> {
-    words: &'a [&'a str],
-    setup: Vec<u8>,
-    pub(super) fetches: Vec<u64>,
-    pub(super) input: Vec<u8>,
-    cuts: Vec<usize>,
-    reads: Vec<u64>,
-    pub(super) output_puts: Vec<(u64, usize)>,
-    note_puts: Vec<(u64, usize)>,
-}
+# no message
+run endpoint a.toml
+demo-setup
+leaves Done
+note protocol 2
+note block 0 muid 19088743
+note profile 0 channel 0 2 7E00010100 off
 
-fn given_of<'a>(alloc: Global, packets: &[u32]) -> Result<Given<'a>, AllocError> {
-    given_with(alloc, &["endpoint", "a.toml"], packets)
-}
+# the example is answered
+run endpoint a.toml
+input F0000101 0000001F 00000000 00000000
+input F0050100 00000000 00000000 00000000
+demo-setup
+leaves Done
+output F0010101 81000300 00000000 00000000
+output F0020000 007D0000 01000200 01000000
+output F4034465 6D6F2045 6E64706F 696E7420
+output FC035800 00000000 00000000 00000000
+output F004534E 2D303030 31000000 00000000
+output F0060200 00000000 00000000 00000000
+output F0060100 00000000 00000000 00000000
+note 0 - answered
+note 16 - answered
+note protocol 1
+note block 0 muid 19088743
+note profile 0 channel 0 2 7E00010100 off
 
-pub(super) fn given_with<'a>(
-    alloc: Global,
-    words: &'a [&'a str],
-    packets: &[u32],
-) -> Result<Given<'a>, AllocError> {
-    let mut setup = Vec::new(alloc);
-    setup.extend_from_slice(SETUP.as_bytes())?;
-    Ok(Given {
-        words,
-        setup,
-        fetches: Vec::new(alloc),
-        input: bytes_of(alloc, packets)?,
-        cuts: Vec::new(alloc),
-        reads: Vec::new(alloc),
-        output_puts: Vec::new(alloc),
-        note_puts: Vec::new(alloc),
-    })
-}
+# each stream packet has a line
+run endpoint a.toml
+input 40903C00 C9240000 F0060100 00000000
+input 00000000 00000000 F4000101 0000001F
+input 00000000 00000000 F0050300 00000000
+input 00000000 00000000 F0050100 00000000
+input 00000000 00000000 F0100103 00000000
+input 00000000 00000000 F0000101 00000010
+input 00000000 00000000 F0000101 000000E0
+input 00000000 00000000
+demo-setup
+leaves Done
+output F0060200 00000000 00000000 00000000
+output F0060100 00000000 00000000 00000000
+output F0060100 00000000 00000000 00000000
+note 8 - no-answer
+note 24 - bad-format
+note 40 - answered
+note 56 - answered
+note 72 - no-answer
+note 88 - answered
+note 104 - no-answer
+note protocol 1
+note block 0 muid 19088743
+note profile 0 channel 0 2 7E00010100 off
 
-// What a run leaves: its status, the output and the notes; no lane is opened.
-pub(super) fn leaves(
-    rt: &impl Abort,
-    alloc: Global,
-    given: Given<'_>,
-    status: Status,
-    output: &[u8],
-    notes: &str,
-) -> Result<(), Fail> {
-    let Given {
-        words,
-        setup,
-        fetches,
-        input,
-        cuts,
-        reads,
-        output_puts,
-        note_puts,
-    } = given;
-    let words = words_of(alloc, words)?;
-    let mut texts = Vec::new(alloc);
-    texts.push((String::from_str(alloc, "a.toml")?, setup))?;
-    let mut input = MemSource::new(input, cuts, reads);
-    let mut lanes = MemLanes::new(alloc, 0, 0, Vec::new(alloc))?;
-    let mut held = MemSink::new(alloc, 512, output_puts)?;
-    let mut noted = MemSink::new(alloc, 512, note_puts)?;
-    let mut shelf = MemShelf::new(texts, fetches);
-    let answer = run(
-        alloc, &words, &mut input, &mut lanes, &mut held, &mut noted, &mut shelf,
-    );
-    assert_eq!(rt; answer, status);
-    assert_eq!(rt; held.held(), output);
-    assert_eq!(rt; noted.held(), notes.as_bytes());
-    Ok(())
-}
+# an exclusive packet of seven bytes is refused behind a request
+run endpoint a.toml
+input F0050100 00000000 00000000 00000000
+input 30170102 03040506
+demo-setup
+leaves Refused { reason: BadCount, offset: 16 }
+output F0060100 00000000 00000000 00000000
+note 0 - answered
+note refused BadCount at 16
 
-// What the packets of a peer are answered with.
-fn answers(
-    rt: &impl Abort,
-    alloc: Global,
-    packets: &[u32],
-    status: Status,
-    replies: &[u32],
-    notes: &str,
-) -> Result<(), Fail> {
-    let output = bytes_of(alloc, replies)?;
-    leaves(
-        rt,
-        alloc,
-        given_of(alloc, packets)?,
-        status,
-        output.as_slice(),
-        notes,
-    )
-}
+# a high bit is refused behind a request
+run endpoint a.toml
+input F0050100 00000000 00000000 00000000
+input 30168102 03040506
+demo-setup
+leaves Refused { reason: HighBit, offset: 16 }
+output F0060100 00000000 00000000 00000000
+note 0 - answered
+note refused HighBit at 16
 
-#[test]
-fn messages_are_answered(rt: HostRuntime) -> Result<(), Fail> {
-    let alloc = rt.alloc();
-    answers(
-        &rt,
-        alloc,
-        &DISCOVERY,
-        Status::Done,
-        &DISCOVERY_REPLIES,
-        "0 - answered\nprotocol 2\nblock 0 muid 19088743\nprofile 0 channel 0 2 7E00010100 off\n",
-    )?;
-    answers(
-        &rt,
-        alloc,
-        &[0xF010FF03, 0, 0, 0],
-        Status::Done,
-        &[0xF0118033, 0x00010200, 0, 0, 0xF012004D, 0x61696E00, 0, 0],
-        "0 - answered\nprotocol 2\nblock 0 muid 19088743\nprofile 0 channel 0 2 7E00010100 off\n",
-    )?;
-    answers(
-        &rt,
-        alloc,
-        &[0xF0050100, 0, 0, 0],
-        Status::Done,
-        &[0xF0060100, 0, 0, 0],
-        "0 - answered\nprotocol 1\nblock 0 muid 19088743\nprofile 0 channel 0 2 7E00010100 off\n",
-    )?;
-    answers(
-        &rt,
-        alloc,
-        &[],
-        Status::Done,
-        &[],
-        "protocol 2\nblock 0 muid 19088743\nprofile 0 channel 0 2 7E00010100 off\n",
-    )
-}
+# three words of four are refused behind a request
+run endpoint a.toml
+input F0050100 00000000 00000000 00000000
+input F0050200 00000000 00000000
+demo-setup
+leaves Refused { reason: Truncated, offset: 16 }
+output F0060100 00000000 00000000 00000000
+note 0 - answered
+note refused Truncated at 16
 
-// The README's example: `examples/peer.ump`.
-#[test]
-fn the_example_is_answered(rt: HostRuntime) -> Result<(), Fail> {
-    let alloc = rt.alloc();
-    let mut packets = [0; 8];
-    packets[..4].copy_from_slice(&DISCOVERY);
-    packets[4] = 0xF0050100;
-    let mut replies = [0; 28];
-    replies[..24].copy_from_slice(&DISCOVERY_REPLIES);
-    replies[24] = 0xF0060100;
-    answers(
-        &rt,
-        alloc,
-        &packets,
-        Status::Done,
-        &replies,
-        "0 - answered\n16 - answered\nprotocol 1\nblock 0 muid 19088743\nprofile 0 channel 0 2 7E00010100 off\n",
-    )
-}
+# replies with the least significant byte first
+run endpoint --room 6 --little a.toml
+input 000105F0 00000000 00000000 00000000
+demo-setup
+leaves Done
+output 000106F0 00000000 00000000 00000000
+note 0 - answered
+note protocol 1
+note block 0 muid 19088743
+note profile 0 channel 0 2 7E00010100 off
 
-// A note has no line. A notice has no reply, and so have a block that isn't there and a filter that asks for nothing. A message of one
-// packet that says it is the first of several has a bad format. A protocol that isn't there stays out of force, and one that is there
-// stays in force.
-#[test]
-fn each_stream_packet_has_a_line(rt: HostRuntime) -> Result<(), Fail> {
-    let alloc = rt.alloc();
-    let packets = [
-        0x40903C00, 0xC9240000, 0xF0060100, 0, 0, 0, 0xF4000101, 0x0000001F, 0, 0, 0xF0050300, 0,
-        0, 0, 0xF0050100, 0, 0, 0, 0xF0100103, 0, 0, 0, 0xF0000101, 0x00000010, 0, 0, 0xF0000101,
-        0x000000E0, 0, 0,
-    ];
-    answers(
-        &rt,
-        alloc,
-        &packets,
-        Status::Done,
-        &[
-            0xF0060200, 0, 0, 0, 0xF0060100, 0, 0, 0, 0xF0060100, 0, 0, 0,
-        ],
-        "8 - no-answer\n24 - bad-format\n40 - answered\n56 - answered\n72 - no-answer\n88 - answered\n104 - no-answer\nprotocol 1\nblock 0 muid 19088743\nprofile 0 channel 0 2 7E00010100 off\n",
-    )
-}
+# a setup that is no TOML
+run endpoint a.toml
+input F0000101 0000001F 00000000 00000000
+setup-line [endpoint]
+setup-line name =
+leaves SetupSyntax
+note setup is not TOML
 
-#[test]
-fn bad_packets_are_refused(rt: HostRuntime) -> Result<(), Fail> {
-    let alloc = rt.alloc();
-    let request = [0xF0050100, 0, 0, 0];
-    let reply = [0xF0060100, 0, 0, 0];
-    let rows: [(&[u32], Reason, &str); 3] = [
-        (
-            &[0x30170102, 0x03040506],
-            Reason::BadCount,
-            "0 - answered\nrefused BadCount at 16\n",
-        ),
-        (
-            &[0x30168102, 0x03040506],
-            Reason::HighBit,
-            "0 - answered\nrefused HighBit at 16\n",
-        ),
-        (
-            &[0xF0050200, 0, 0],
-            Reason::Truncated,
-            "0 - answered\nrefused Truncated at 16\n",
-        ),
-    ];
-    for (last, reason, notes) in rows {
-        let mut given = given_of(alloc, &request)?;
-        let more = bytes_of(alloc, last)?;
-        given.input.extend_from_slice(more.as_slice())?;
-        let output = bytes_of(alloc, &reply)?;
-        leaves(
-            &rt,
-            alloc,
-            given,
-            refused(reason, 16),
-            output.as_slice(),
-            notes,
-        )?;
-    }
-    Ok(())
-}
+# a setup that is no UTF-8
+run endpoint a.toml
+input F0000101 0000001F 00000000 00000000
+setup-bytes 23 20 FF 0A
+leaves SetupSyntax
+note setup is not TOML
+
+# an empty setup
+run endpoint a.toml
+input F0000101 0000001F 00000000 00000000
+leaves SetupField(1)
+note setup field 1
+
+# an empty name
+run endpoint a.toml
+input F0000101 0000001F 00000000 00000000
+setup-line [endpoint]
+setup-line name = \"\"
+leaves SetupField(2)
+note setup field 2
+
+# the longest setup
+run endpoint a.toml
+demo-setup
+setup-filled 65536
+leaves Done
+note protocol 2
+note block 0 muid 19088743
+note profile 0 channel 0 2 7E00010100 off
+
+# a setup that is one byte longer than the longest
+run endpoint a.toml
+input F0000101 0000001F 00000000 00000000
+setup-filled 65537
+leaves SetupField(0)
+note setup field 0
+
+# a setup that the shelf has not
+run endpoint b.toml
+input F0000101 0000001F 00000000 00000000
+demo-setup
+leaves ShelfFault
+note setup read failed
+
+# a setup with no name
+run endpoint ''
+input F0000101 0000001F 00000000 00000000
+demo-setup
+leaves ShelfFault
+note setup read failed
+
+# a setup from the input
+run endpoint -
+input F0000101 0000001F 00000000 00000000
+demo-setup
+leaves ShelfFault
+note setup read failed
+
+# a setup that cannot be read
+run endpoint a.toml
+input F0000101 0000001F 00000000 00000000
+demo-setup
+fetch-fails 0
+leaves ShelfFault
+note setup read failed";
 
 #[test]
-fn replies_with_the_least_byte_first(rt: HostRuntime) -> Result<(), Fail> {
-    let alloc = rt.alloc();
-    let words = &["endpoint", "--room", "6", "--little", "a.toml"];
-    let mut given = given_with(alloc, words, &[])?;
-    given
-        .input
-        .extend_from_slice(&[0, 1, 5, 0xF0, 0, 0, 0, 0, 0, 0, 0, 0, 0, 0, 0, 0])?;
-    let reply = [0, 1, 6, 0xF0, 0, 0, 0, 0, 0, 0, 0, 0, 0, 0, 0, 0];
-    leaves(
-        &rt,
-        alloc,
-        given,
-        Status::Done,
-        &reply,
-        "0 - answered\nprotocol 1\nblock 0 muid 19088743\nprofile 0 channel 0 2 7E00010100 off\n",
-    )
+fn stream_messages_are_answered(rt: HostRuntime) -> Result<(), Fail> {
+    rows_hold(&rt, rt.alloc(), STREAM_ROWS)
 }
 
-// What a run with this text as the setup leaves, of which nothing is put but the last line.
-fn has_no_setup(
-    rt: &impl Abort,
-    alloc: Global,
-    text: &[u8],
-    status: Status,
-    line: &str,
-) -> Result<(), Fail> {
-    let mut given = given_of(alloc, &DISCOVERY)?;
-    given.setup.clear();
-    given.setup.extend_from_slice(text)?;
-    leaves(rt, alloc, given, status, &[], line)
-}
+// MIDI-CI messages.
+const CI_ROWS: &str = "\
+# a MIDI-CI Discovery from MUID 5
+run endpoint a.toml
+input 30167E7F 0D700205 30260000 007F7F7F
+input 30267F7D 00000100 30260200 01000000
+input 30360400 02000000
+demo-setup
+leaves Done
+output 30167E7F 0D710267 30260A0D 09050000
+output 3026007D 00000100 30260200 01000000
+output 30260400 00400000 30310000 00000000
+note 32 0 answered
+note protocol 2
+note block 0 muid 19088743
+note profile 0 channel 0 2 7E00010100 off
+
+# an inquiry of the endpoint
+run endpoint a.toml
+input 30167E7F 0D720205 30260000 00670A0D
+input 30320900 00000000
+demo-setup
+leaves Done
+output 30167E7F 0D730267 30260A0D 09050000
+output 30260000 0700534E 30352D30 30303100
+note 16 0 answered
+note protocol 2
+note block 0 muid 19088743
+note profile 0 channel 0 2 7E00010100 off
+
+# an inquiry that has no answer of its own
+run endpoint a.toml
+input 30167E7F 0D400205 30260000 00670A0D
+input 30310900 00000000
+demo-setup
+leaves Done
+output 30167E7F 0D7F0267 30260A0D 09050000
+output 30260040 00000000 30350000 00000000
+note 16 0 nak
+note protocol 2
+note block 0 muid 19088743
+note profile 0 channel 0 2 7E00010100 off
+
+# an inquiry of the profiles of a channel
+run endpoint a.toml
+input 30167E02 0D200205 30260000 00670A0D
+input 30310900 00000000
+demo-setup
+leaves Done
+output 30167E02 0D210267 30260A0D 09050000
+output 30260000 0001007E 30340001 01000000
+note 16 0 answered
+note protocol 2
+note block 0 muid 19088743
+note profile 0 channel 0 2 7E00010100 off
+
+# the example of the README: a profile is switched on
+run endpoint a.toml
+input 30167E02 0D220205 30260000 00670A0D
+input 3026097E 00010100 30320100 00000000
+demo-setup
+leaves Done
+output 30167E02 0D240267 30260A0D 097F7F7F
+output 30267F7E 00010100 30320100 00000000
+note 24 0 answered
+note protocol 2
+note block 0 muid 19088743
+note profile 0 channel 0 2 7E00010100 on
+
+# a Discovery and a switch in the short forms of version 01 are answered in version 01
+run endpoint a.toml
+input 30167E7F 0D700105 30260000 007F7F7F
+input 30267F7D 00000100 30260200 01000000
+input 30350400 02000000 30167E02 0D220105
+input 30260000 00670A0D 3036097E 00010100
+demo-setup
+leaves Done
+output 30167E7F 0D710167 30260A0D 09050000
+output 3026007D 00000100 30260200 01000000
+output 30350400 00400000 30167E02 0D240167
+output 30260A0D 097F7F7F 30367F7E 00010100
+note 32 0 answered
+note 56 0 answered
+note protocol 2
+note block 0 muid 19088743
+note profile 0 channel 0 2 7E00010100 on
+
+# after a collision the block has its next MUID: a switch to the old one is not for it, and one to the new one is
+run endpoint a.toml
+input 30167E7F 0D700267 30260A0D 097F7F7F
+input 30267F7D 00000100 30260200 01000000
+input 30360400 02000000 30167E02 0D220205
+input 30260000 00670A0D 3026097E 00010100
+input 30320100 00000000 30167E02 0D220205
+input 30260000 002C0200 3026007E 00010100
+input 30320100 00000000
+demo-setup
+leaves Done
+output 30167E7F 0D7E0267 30260A0D 097F7F7F
+output 30357F67 0A0D0900 30167E02 0D24022C
+output 30260200 007F7F7F 30267F7E 00010100
+output 30320100 00000000
+note 32 0 collision
+note 64 0 not-ours
+note 96 0 answered
+note protocol 2
+note block 0 muid 300
+note profile 0 channel 0 2 7E00010100 on
+
+# a block whose MUIDs are used up hears nothing more
+run endpoint a.toml
+input 30167E7F 0D700267 30260A0D 097F7F7F
+input 30267F7D 00000100 30260200 01000000
+input 30360400 02000000 30167E7F 0D70022C
+input 30260200 007F7F7F 30267F7D 00000100
+input 30260200 01000000 30360400 02000000
+input 30167E7F 0D700205 30260000 007F7F7F
+input 30267F7D 00000100 30260200 01000000
+input 30360400 02000000
+demo-setup
+leaves Done
+output 30167E7F 0D7E0267 30260A0D 097F7F7F
+output 30357F67 0A0D0900 30167E7F 0D7E022C
+output 30260200 007F7F7F 30357F2C 02000000
+note 32 0 collision
+note 72 0 collision
+note 112 0 silent
+note protocol 2
+note block 0 silent
+note profile 0 channel 0 2 7E00010100 off
+
+# hostile messages have no reply
+run endpoint a.toml
+input 30000000 00000000 30047E7F 0D700000
+input 30167E10 0D200205 30260000 007F7F7F
+input 30317F00 00000000 30167E7F 0D200200
+input 30267E7F 7F7F7F7F 30317F00 00000000
+demo-setup
+leaves Done
+note 0 0 not-ci
+note 8 0 short
+note 32 0 bad-address
+note 56 0 reserved-muid
+note protocol 2
+note block 0 muid 19088743
+note profile 0 channel 0 2 7E00010100 off
+
+# a Discovery in a group without a block
+run endpoint a.toml
+input 31167E7F 0D700205 31260000 007F7F7F
+input 31267F7D 00000100 31260200 01000000
+input 31360400 02000000
+demo-setup
+leaves Done
+note 32 1 no-block
+note protocol 2
+note block 0 muid 19088743
+note profile 0 channel 0 2 7E00010100 off
+
+# a stray part, an exclusive that another one cuts, one that a whole one cuts, whose line comes before that of the cut, and an open one
+run endpoint a.toml
+input 30310900 00000000 30167E7F 0D700205
+input 30167E7F 0D700205 30000000 00000000
+input 33160102 03040506
+demo-setup
+leaves Done
+note 0 0 stray-exclusive
+note 8 0 cut-exclusive
+note 24 0 not-ci
+note 16 0 cut-exclusive
+note 32 3 open-exclusive
+note protocol 2
+note block 0 muid 19088743
+note profile 0 channel 0 2 7E00010100 off
+
+# an exclusive of seven bytes does not fit a room of six
+run endpoint a.toml --room 6
+input 30160102 03040506 30310700 00000000
+demo-setup
+leaves Refused { reason: ExclusiveTooLong, offset: 8 }
+note refused ExclusiveTooLong at 8
+
+# it fits the usual room
+run endpoint a.toml
+input 30160102 03040506 30310700 00000000
+demo-setup
+leaves Done
+note 8 0 not-ci
+note protocol 2
+note block 0 muid 19088743
+note profile 0 channel 0 2 7E00010100 off
+
+# all sixteen groups begin an exclusive, and end it in the opposite order
+run endpoint a.toml
+input 30160102 03040506 31160102 03040506
+input 32160102 03040506 33160102 03040506
+input 34160102 03040506 35160102 03040506
+input 36160102 03040506 37160102 03040506
+input 38160102 03040506 39160102 03040506
+input 3A160102 03040506 3B160102 03040506
+input 3C160102 03040506 3D160102 03040506
+input 3E160102 03040506 3F160102 03040506
+input 3F310700 00000000 3E310700 00000000
+input 3D310700 00000000 3C310700 00000000
+input 3B310700 00000000 3A310700 00000000
+input 39310700 00000000 38310700 00000000
+input 37310700 00000000 36310700 00000000
+input 35310700 00000000 34310700 00000000
+input 33310700 00000000 32310700 00000000
+input 31310700 00000000 30310700 00000000
+demo-setup
+leaves Done
+note 128 15 not-ci
+note 136 14 not-ci
+note 144 13 not-ci
+note 152 12 not-ci
+note 160 11 not-ci
+note 168 10 not-ci
+note 176 9 not-ci
+note 184 8 not-ci
+note 192 7 not-ci
+note 200 6 not-ci
+note 208 5 not-ci
+note 216 4 not-ci
+note 224 3 not-ci
+note 232 2 not-ci
+note 240 1 not-ci
+note 248 0 not-ci
+note protocol 2
+note block 0 muid 19088743
+note profile 0 channel 0 2 7E00010100 off";
 
 #[test]
-fn texts_that_are_no_setup(rt: HostRuntime) -> Result<(), Fail> {
-    let alloc = rt.alloc();
-    let texts: [(&[u8], Status, &str); 4] = [
-        (
-            b"[endpoint]\nname =\n",
-            Status::SetupSyntax,
-            "setup is not TOML\n",
-        ),
-        (b"# \xFF\n", Status::SetupSyntax, "setup is not TOML\n"),
-        (b"", Status::SetupField(1), "setup field 1\n"),
-        (
-            b"[endpoint]\nname = \"\"\n",
-            Status::SetupField(2),
-            "setup field 2\n",
-        ),
-    ];
-    for (text, status, line) in texts {
-        has_no_setup(&rt, alloc, text, status, line)?;
-    }
-    Ok(())
+fn midi_ci_messages_are_answered(rt: HostRuntime) -> Result<(), Fail> {
+    rows_hold(&rt, rt.alloc(), CI_ROWS)
 }
 
+const DISCOVERY: &str = "\
+# the discovery of the endpoint
+run endpoint a.toml
+input F0000101 0000001F 00000000 00000000
+demo-setup";
+
+const DISCOVERY_STEPS: &str = "\
+16 output F0 / output F0010101 81000300 00000000 00000000
+16 output F0 / output F0020000 007D0000 01000200 01000000
+16 output F4 / output F4034465 6D6F2045 6E64706F 696E7420
+16 output FC / output FC035800 00000000 00000000 00000000
+16 output F0 / output F004534E 2D303030 31000000 00000000
+16 output F0 / output F0060200 00000000 00000000 00000000
+16 note-cut |0| / note 0 - answered
+17 note-cut |p| / note protocol 2
+17 note-cut |b| / note block 0 muid 19088743
+17 note-cut |p| / note profile 0 channel 0 2 7E00010100 off";
+
+const REQUEST: &str = "\
+# the request of the protocol of MIDI 1.0
+run endpoint a.toml
+input F0050100 00000000 00000000 00000000
+demo-setup";
+
+const REQUEST_STEPS: &str = "\
+16 output F0 / output F0060100 00000000 00000000 00000000
+16 note-cut |0| / note 0 - answered
+17 note-cut |p| / note protocol 1
+17 note-cut |b| / note block 0 muid 19088743
+17 note-cut |p| / note profile 0 channel 0 2 7E00010100 off";
+
+// The six replies, the line, and the lines at the end.
 #[test]
-fn the_longest_setup(rt: HostRuntime) -> Result<(), Fail> {
+fn each_read_and_put_fails_in_turn(rt: HostRuntime) -> Result<(), Fail> {
     let alloc = rt.alloc();
-    let mut given = given_of(alloc, &[])?;
-    let more = 65_536usize.saturating_sub(given.setup.len());
-    let comment = vec![in alloc; b'#'; more]?;
-    given.setup.extend_from_slice(comment.as_slice())?;
-    leaves(
-        &rt,
-        alloc,
-        given,
-        Status::Done,
-        &[],
-        "protocol 2\nblock 0 muid 19088743\nprofile 0 channel 0 2 7E00010100 off\n",
-    )?;
-    let text = vec![in alloc; b'#'; 65_537]?;
-    has_no_setup(
-        &rt,
-        alloc,
-        text.as_slice(),
-        Status::SetupField(0),
-        "setup field 0\n",
-    )
-}
-
-#[test]
-fn setups_that_cannot_be_read(rt: HostRuntime) -> Result<(), Fail> {
-    let alloc = rt.alloc();
-    let names: [&[&str]; 3] = [
-        &["endpoint", "b.toml"],
-        &["endpoint", ""],
-        &["endpoint", "-"],
-    ];
-    for words in names {
-        let given = given_with(alloc, words, &DISCOVERY)?;
-        leaves(
-            &rt,
-            alloc,
-            given,
-            Status::ShelfFault,
-            &[],
-            "setup read failed\n",
-        )?;
-    }
-    let mut given = given_of(alloc, &DISCOVERY)?;
-    given.fetches = vec![in alloc; 0]?;
-    leaves(
-        &rt,
-        alloc,
-        given,
-        Status::ShelfFault,
-        &[],
-        "setup read failed\n",
-    )
-}
-
-// Each read fails in turn, the input coming byte by byte.
-#[test]
-fn each_read_fails_in_turn(rt: HostRuntime) -> Result<(), Fail> {
-    let alloc = rt.alloc();
-    for n in 0..17usize {
-        let mut given = given_of(alloc, &[0xF0050100, 0, 0, 0])?;
-        given.cuts = vec![in alloc; 1; 16]?;
-        given.reads = vec![in alloc; n as u64]?;
-        if n < 16 {
-            leaves(&rt, alloc, given, Status::ReadFault, &[], "read failed\n")?;
-        } else {
-            let output = bytes_of(alloc, &[0xF0060100, 0, 0, 0])?;
-            let notes = "0 - answered\nread failed\n";
-            leaves(
-                &rt,
-                alloc,
-                given,
-                Status::ReadFault,
-                output.as_slice(),
-                notes,
-            )?;
-        }
-    }
-    Ok(())
-}
-
-// Each put fails in turn, keeping no byte, and then one: the six replies, the line, and the lines at the end.
-#[test]
-fn each_put_fails_in_turn(rt: HostRuntime) -> Result<(), Fail> {
-    let alloc = rt.alloc();
-    let all = bytes_of(alloc, &DISCOVERY_REPLIES)?;
-    for kept in 0..2usize {
-        for n in 0..6usize {
-            let mut given = given_of(alloc, &DISCOVERY)?;
-            given.output_puts = vec![in alloc; (n as u64, kept)]?;
-            let output = &all[..(16 * n + kept).min(all.len())];
-            leaves(
-                &rt,
-                alloc,
-                given,
-                Status::OutputFault,
-                output,
-                "output write failed\n",
-            )?;
-        }
-        let lines: [(&str, &str); 4] = [
-            ("", "0"),
-            ("0 - answered\n", "p"),
-            ("0 - answered\nprotocol 2\n", "b"),
-            ("0 - answered\nprotocol 2\nblock 0 muid 19088743\n", "p"),
-        ];
-        for (n, (before, first)) in lines.into_iter().enumerate() {
-            let part = if kept > 0 { first } else { "" };
-            let notes = format!(in alloc; "{before}{part}")?;
-            let mut given = given_of(alloc, &DISCOVERY)?;
-            given.note_puts = vec![in alloc; (n as u64, kept)]?;
-            leaves(
-                &rt,
-                alloc,
-                given,
-                Status::NoteFault,
-                all.as_slice(),
-                notes.as_str(),
-            )?;
-        }
-    }
-    Ok(())
-}
-
-// The lines at the end of a run in which no MIDI-CI message changes anything.
-const END: &str = "protocol 2\nblock 0 muid 19088743\nprofile 0 channel 0 2 7E00010100 off\n";
-
-// The words of a MIDI-CI Discovery from MUID 5 in group 0.
-const CI_DISCOVERY: [u32; 10] = [
-    0x30167E7F, 0x0D700205, 0x30260000, 0x007F7F7F, 0x30267F7D, 0x00000100, 0x30260200, 0x01000000,
-    0x30360400, 0x02000000,
-];
-
-// The same from the MUID of the block, 19088743, and its answer: that MUID is invalidated.
-const COLLIDING: [u32; 10] = [
-    0x30167E7F, 0x0D700267, 0x30260A0D, 0x097F7F7F, 0x30267F7D, 0x00000100, 0x30260200, 0x01000000,
-    0x30360400, 0x02000000,
-];
-
-const INVALIDATED: [u32; 6] = [
-    0x30167E7F, 0x0D7E0267, 0x30260A0D, 0x097F7F7F, 0x30357F67, 0x0A0D0900,
-];
-
-// What a message is answered with, whose line and the lines at the end are the notes.
-fn hears(
-    rt: &impl Abort,
-    alloc: Global,
-    packets: &[u32],
-    replies: &[u32],
-    line: &str,
-) -> Result<(), Fail> {
-    let notes = format!(in alloc; "{line}{END}")?;
-    answers(rt, alloc, packets, Status::Done, replies, notes.as_str())
-}
-
-#[test]
-fn inquiries_are_answered(rt: HostRuntime) -> Result<(), Fail> {
-    let alloc = rt.alloc();
-    hears(
-        &rt,
-        alloc,
-        &CI_DISCOVERY,
-        &[
-            0x30167E7F, 0x0D710267, 0x30260A0D, 0x09050000, 0x3026007D, 0x00000100, 0x30260200,
-            0x01000000, 0x30260400, 0x00400000, 0x30310000, 0x00000000,
-        ],
-        "32 0 answered\n",
-    )?;
-    hears(
-        &rt,
-        alloc,
-        &[
-            0x30167E7F, 0x0D720205, 0x30260000, 0x00670A0D, 0x30320900, 0x00000000,
-        ],
-        &[
-            0x30167E7F, 0x0D730267, 0x30260A0D, 0x09050000, 0x30260000, 0x0700534E, 0x30352D30,
-            0x30303100,
-        ],
-        "16 0 answered\n",
-    )?;
-    hears(
-        &rt,
-        alloc,
-        &[
-            0x30167E7F, 0x0D400205, 0x30260000, 0x00670A0D, 0x30310900, 0x00000000,
-        ],
-        &[
-            0x30167E7F, 0x0D7F0267, 0x30260A0D, 0x09050000, 0x30260040, 0x00000000, 0x30350000,
-            0x00000000,
-        ],
-        "16 0 nak\n",
-    )?;
-    hears(
-        &rt,
-        alloc,
-        &[
-            0x30167E02, 0x0D200205, 0x30260000, 0x00670A0D, 0x30310900, 0x00000000,
-        ],
-        &[
-            0x30167E02, 0x0D210267, 0x30260A0D, 0x09050000, 0x30260000, 0x0001007E, 0x30340001,
-            0x01000000,
-        ],
-        "16 0 answered\n",
-    )
-}
-
-// The README's example: `examples/profile.ump`.
-#[test]
-fn a_profile_is_switched(rt: HostRuntime) -> Result<(), Fail> {
-    let alloc = rt.alloc();
-    answers(
-        &rt,
-        alloc,
-        &[
-            0x30167E02, 0x0D220205, 0x30260000, 0x00670A0D, 0x3026097E, 0x00010100, 0x30320100,
-            0x00000000,
-        ],
-        Status::Done,
-        &[
-            0x30167E02, 0x0D240267, 0x30260A0D, 0x097F7F7F, 0x30267F7E, 0x00010100, 0x30320100,
-            0x00000000,
-        ],
-        "24 0 answered\nprotocol 2\nblock 0 muid 19088743\nprofile 0 channel 0 2 7E00010100 on\n",
-    )
-}
-
-// After a collision the block has its next MUID: a switch to the old one isn't for it, and one to the new one is.
-// A Discovery and a switch in the short forms of version 01, answered in version 01.
-#[test]
-fn a_peer_of_version_01_is_answered(rt: HostRuntime) -> Result<(), Fail> {
-    let alloc = rt.alloc();
-    answers(
-        &rt,
-        alloc,
-        &[
-            0x30167E7F, 0x0D700105, 0x30260000, 0x007F7F7F, 0x30267F7D, 0x00000100, 0x30260200,
-            0x01000000, 0x30350400, 0x02000000, 0x30167E02, 0x0D220105, 0x30260000, 0x00670A0D,
-            0x3036097E, 0x00010100,
-        ],
-        Status::Done,
-        &[
-            0x30167E7F, 0x0D710167, 0x30260A0D, 0x09050000, 0x3026007D, 0x00000100, 0x30260200,
-            0x01000000, 0x30350400, 0x00400000, 0x30167E02, 0x0D240167, 0x30260A0D, 0x097F7F7F,
-            0x30367F7E, 0x00010100,
-        ],
-        "32 0 answered\n56 0 answered\nprotocol 2\nblock 0 muid 19088743\nprofile 0 channel 0 2 7E00010100 on\n",
-    )
-}
-
-#[test]
-fn a_profile_is_switched_after_a_collision(rt: HostRuntime) -> Result<(), Fail> {
-    let alloc = rt.alloc();
-    let mut given = given_of(alloc, &COLLIDING)?;
-    let switches = bytes_of(
-        alloc,
-        &[
-            0x30167E02, 0x0D220205, 0x30260000, 0x00670A0D, 0x3026097E, 0x00010100, 0x30320100,
-            0x00000000, 0x30167E02, 0x0D220205, 0x30260000, 0x002C0200, 0x3026007E, 0x00010100,
-            0x30320100, 0x00000000,
-        ],
-    )?;
-    given.input.extend_from_slice(switches.as_slice())?;
-    let output = bytes_of(
-        alloc,
-        &[
-            0x30167E7F, 0x0D7E0267, 0x30260A0D, 0x097F7F7F, 0x30357F67, 0x0A0D0900, 0x30167E02,
-            0x0D24022C, 0x30260200, 0x007F7F7F, 0x30267F7E, 0x00010100, 0x30320100, 0x00000000,
-        ],
-    )?;
-    leaves(
-        &rt,
-        alloc,
-        given,
-        Status::Done,
-        output.as_slice(),
-        "32 0 collision\n64 0 not-ours\n96 0 answered\nprotocol 2\nblock 0 muid 300\nprofile 0 channel 0 2 7E00010100 on\n",
-    )
-}
-
-// A block whose MUIDs are used up hears nothing more.
-#[test]
-fn a_block_becomes_silent(rt: HostRuntime) -> Result<(), Fail> {
-    let alloc = rt.alloc();
-    let mut given = given_of(alloc, &COLLIDING)?;
-    let more = bytes_of(
-        alloc,
-        &[
-            0x30167E7F, 0x0D70022C, 0x30260200, 0x007F7F7F, 0x30267F7D, 0x00000100, 0x30260200,
-            0x01000000, 0x30360400, 0x02000000,
-        ],
-    )?;
-    given.input.extend_from_slice(more.as_slice())?;
-    let last = bytes_of(alloc, &CI_DISCOVERY)?;
-    given.input.extend_from_slice(last.as_slice())?;
-    let mut output = bytes_of(alloc, &INVALIDATED)?;
-    let second = bytes_of(
-        alloc,
-        &[
-            0x30167E7F, 0x0D7E022C, 0x30260200, 0x007F7F7F, 0x30357F2C, 0x02000000,
-        ],
-    )?;
-    output.extend_from_slice(second.as_slice())?;
-    leaves(
-        &rt,
-        alloc,
-        given,
-        Status::Done,
-        output.as_slice(),
-        "32 0 collision\n72 0 collision\n112 0 silent\nprotocol 2\nblock 0 silent\nprofile 0 channel 0 2 7E00010100 off\n",
-    )
-}
-
-#[test]
-fn hostile_messages_have_no_reply(rt: HostRuntime) -> Result<(), Fail> {
-    let alloc = rt.alloc();
-    hears(
-        &rt,
-        alloc,
-        &[
-            0x30000000, 0x00000000, 0x30047E7F, 0x0D700000, 0x30167E10, 0x0D200205, 0x30260000,
-            0x007F7F7F, 0x30317F00, 0x00000000, 0x30167E7F, 0x0D200200, 0x30267E7F, 0x7F7F7F7F,
-            0x30317F00, 0x00000000,
-        ],
-        &[],
-        "0 0 not-ci\n8 0 short\n32 0 bad-address\n56 0 reserved-muid\n",
-    )?;
-    let mut elsewhere = CI_DISCOVERY;
-    for word in [0usize, 2, 4, 6, 8] {
-        elsewhere[word] |= 0x01000000;
-    }
-    hears(&rt, alloc, &elsewhere, &[], "32 1 no-block\n")
-}
-
-// A stray part, an exclusive that another one cuts, one that a whole one cuts, whose line comes before that of the cut, and one
-// that is open at the end.
-#[test]
-fn lost_exclusives_are_listed(rt: HostRuntime) -> Result<(), Fail> {
-    let alloc = rt.alloc();
-    hears(
-        &rt,
-        alloc,
-        &[
-            0x30310900, 0x00000000, 0x30167E7F, 0x0D700205, 0x30167E7F, 0x0D700205, 0x30000000,
-            0x00000000, 0x33160102, 0x03040506,
-        ],
-        &[],
-        "0 0 stray-exclusive\n8 0 cut-exclusive\n24 0 not-ci\n16 0 cut-exclusive\n32 3 open-exclusive\n",
-    )
-}
-
-#[test]
-fn an_exclusive_fits_the_room(rt: HostRuntime) -> Result<(), Fail> {
-    let alloc = rt.alloc();
-    let seven = [0x30160102, 0x03040506, 0x30310700, 0x00000000];
-    let given = given_with(alloc, &["endpoint", "a.toml", "--room", "6"], &seven)?;
-    leaves(
-        &rt,
-        alloc,
-        given,
-        refused(Reason::ExclusiveTooLong, 8),
-        &[],
-        "refused ExclusiveTooLong at 8\n",
-    )?;
-    hears(&rt, alloc, &seven, &[], "8 0 not-ci\n")
-}
-
-// All sixteen groups begin an exclusive, and end it in the opposite order.
-#[test]
-fn groups_end_in_the_opposite_order(rt: HostRuntime) -> Result<(), Fail> {
-    let alloc = rt.alloc();
-    let mut given = given_of(alloc, &[])?;
-    let mut lines = String::new(alloc);
-    for group in 0..16u32 {
-        let first = bytes_of(alloc, &[0x30160102 + group * 0x01000000, 0x03040506])?;
-        given.input.extend_from_slice(first.as_slice())?;
-    }
-    for k in 0..16u32 {
-        let group = 15 - k;
-        let last = bytes_of(alloc, &[0x30310700 + group * 0x01000000, 0x00000000])?;
-        given.input.extend_from_slice(last.as_slice())?;
-        let offset = 128 + 8 * k;
-        let line = format!(in alloc; "{offset} {group} not-ci\n")?;
-        lines.push_str(line.as_str())?;
-    }
-    lines.push_str(END)?;
-    leaves(&rt, alloc, given, Status::Done, &[], lines.as_str())
+    all_fail_in_turn(&rt, alloc, DISCOVERY, DISCOVERY_STEPS)?;
+    all_fail_in_turn(&rt, alloc, REQUEST, REQUEST_STEPS)
 }

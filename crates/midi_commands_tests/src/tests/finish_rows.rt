@@ -171,7 +171,7 @@ fn words_that_cannot_be_read_are_told(rt: HostRuntime) -> Result<(), Fail> {
         let mut lanes = FolderLanes::new(rt.clone()?);
         let mut output = WriteSink::new(fs::File::create(&rt, "/dev/null")?);
         let mut notes = WriteSink::new(fs::File::create(&rt, told.as_str())?);
-        let status = unread_words(kind, &mut lanes, &mut output, &mut notes);
+        let status = unread_words(kind, &mut notes);
         assert_eq!(rt; finish(status, &mut lanes, &mut output, &mut notes), code);
         assert_eq!(rt; fs::read(&rt, told.as_str())?.as_slice(), line);
     }

@@ -1,272 +1,234 @@
-// What the README shows, on `run`: its worked examples, and what it compares with other translators.
-use super::state_rows::shows_stream;
-use super::word_rows::gives;
-use super::{Left, carries, case_of, leaves, refused};
-use midi_commands::Status;
-use midi_pass::Reason;
+// What the README shows: its worked examples, and what it compares with other translators.
+use super::rows_hold;
 use std::test::Fail;
 
-// `examples/mixed.ump`.
-const MIXED: [u32; 14] = [
-    0x40903C00, 0xC9240000, 0x41904000, 0x01FF0000, 0x40200000, 0x04000000, 0x30160102, 0x03040506,
-    0x30310700, 0x00000000, 0x40903C01, 0xC9240007, 0x40C00001, 0x05000102,
-];
+// Its worked examples.
+const EXAMPLES: &str = "\
+# examples/mixed.ump goes down
+run translate down --folder F
+input 40903C00 C9240000 41904000 01FF0000
+input 40200000 04000000 30160102 03040506
+input 30310700 00000000 40903C01 C9240007
+input 40C00001 05000102
+leaves Done
+lane 0 90 3C 64
+lane 1 90 40 01
+lane 0 B0 65 00 B0 64 00 B0 06 02 B0 26 00
+lane 0 F0 01 02 03 04 05 06 07 F7
+lane 0 90 3C 64
+lane 0 B0 00 01 B0 20 02 C0 05
+note 40 0 note-attribute
 
-// `examples/old-keyboard.bytes`.
-const KEYBOARD: [u8; 26] = [
-    0x90, 0x3C, 0x64, 0x3E, 0xF8, 0x64, 0xB0, 0x65, 0x00, 0x64, 0x00, 0x06, 0x02, 0x26, 0x05, 0xC0,
-    0x05, 0xF0, 0x01, 0x02, 0x03, 0xF7, 0x90, 0x3C, 0x00, 0x06,
-];
+# what compact style is compared with; the rows of that style have the same recording
+run translate down --folder F
+input 40903C00 C9240000 40903E00 C9240000
+input 10F60000 40904000 C9240000 40200000
+input 04000000 40200000 04000000 40B07900
+input 00000000 40200000 04000000
+leaves Done
+lane 0 90 3C 64
+lane 0 90 3E 64
+lane 0 F6
+lane 0 90 40 64
+lane 0 B0 65 00 B0 64 00 B0 06 02 B0 26 00
+lane 0 B0 65 00 B0 64 00 B0 06 02 B0 26 00
+lane 0 B0 79 00
+lane 0 B0 65 00 B0 64 00 B0 06 02 B0 26 00
+
+# examples/old-keyboard.bytes goes up
+run translate up
+input 90 3C 64 3E F8 64 B0 65 00 64 00 06 02 26 05 C0
+input 05 F0 01 02 03 F7 90 3C 00 06
+leaves Done
+output 40903C00 C9240000 10F80000 40903E00
+output C9240000 40200000 04000000 40200000
+output 04140000 40C00000 05000000 30030102
+output 03000000 40803C00 80000000
+note 25 0 open-message
+
+# examples/old-keyboard.bytes comes back
+run translate back
+input 90 3C 64 3E F8 64 B0 65 00 64 00 06 02 26 05 C0
+input 05 F0 01 02 03 F7 90 3C 00 06
+leaves Done
+output 90 3C 64 F8 90 3E 64 B0 65 00 B0 64 00 B0 06 02
+output B0 26 00 B0 65 00 B0 64 00 B0 06 02 B0 26 05 C0
+output 05 F0 01 02 03 F7 80 3C 40
+note 25 0 open-message
+
+# the first packets of examples/mixed.ump are shown
+run show
+input 40903C00 C9240000 41904000 01FF0000
+leaves Done
+output 0 40903C00 C9240000 note-on group=0 channel=0 note=60 velocity=51492 type=0 attribute=0
+output 8 41904000 01FF0000 note-on group=1 channel=0 note=64 velocity=511 type=0 attribute=0
+
+# examples/old-keyboard.bytes is shown
+run show --bytes
+input 90 3C 64 3E F8 64 B0 65 00 64 00 06 02 26 05 C0
+input 05 F0 01 02 03 F7 90 3C 00 06
+leaves Done
+output 2 m1-note-on channel=0 note=60 velocity=100
+output 4 system status=F8
+output 5 m1-note-on channel=0 note=62 velocity=100
+output 8 m1-control channel=0 index=101 value=0
+output 10 m1-control channel=0 index=100 value=0
+output 12 m1-control channel=0 index=6 value=2
+output 14 m1-control channel=0 index=38 value=5
+output 16 m1-program channel=0 program=5
+output 21 exclusive length=3
+output 24 m1-note-on channel=0 note=60 velocity=0
+output 25 open-message
+
+# examples/old-keyboard.bytes leaves a state
+run show --bytes --state
+input 90 3C 64 3E F8 64 B0 65 00 64 00 06 02 26 05 C0
+input 05 F0 01 02 03 F7 90 3C 00 06
+leaves Done
+output 2 m1-note-on channel=0 note=60 velocity=100
+output 4 system status=F8
+output 5 m1-note-on channel=0 note=62 velocity=100
+output 8 m1-control channel=0 index=101 value=0
+output 10 m1-control channel=0 index=100 value=0
+output 12 m1-control channel=0 index=6 value=2
+output 14 m1-control channel=0 index=38 value=5
+output 16 m1-program channel=0 program=5
+output 21 exclusive length=3
+output 24 m1-note-on channel=0 note=60 velocity=0
+output 25 open-message
+output state 0 0 on 60 100
+output state 0 0 on 62 100
+output state 0 0 off 60 64
+output state 0 0 program 5 bank none
+output state 0 0 registered 0 0 261
+output state 0 system 1
+output state 0 real-time 1";
 
 #[test]
-fn the_example_goes_down(rt: HostRuntime) -> Result<(), Fail> {
-    carries(
-        &rt,
-        rt.alloc(),
-        &MIXED,
-        Status::Done,
-        &[
-            (0, &[0x90, 0x3C, 0x64]),
-            (1, &[0x90, 0x40, 0x01]),
-            (
-                0,
-                &[
-                    0xB0, 0x65, 0x00, 0xB0, 0x64, 0x00, 0xB0, 0x06, 0x02, 0xB0, 0x26, 0x00,
-                ],
-            ),
-            (0, &[0xF0, 1, 2, 3, 4, 5, 6, 7, 0xF7]),
-            (0, &[0x90, 0x3C, 0x64]),
-            (0, &[0xB0, 0x00, 0x01, 0xB0, 0x20, 0x02, 0xC0, 0x05]),
-        ],
-        "40 0 note-attribute\n",
-    )
+fn the_examples_of_the_readme(rt: HostRuntime) -> Result<(), Fail> {
+    rows_hold(&rt, rt.alloc(), EXAMPLES)
 }
 
-// What compact style is compared with; the rows of that style have the same recording.
-#[test]
-fn the_compared_recording_goes_down_in_plain_style(rt: HostRuntime) -> Result<(), Fail> {
-    let words = [
-        0x40903C00, 0xC9240000, 0x40903E00, 0xC9240000, 0x10F60000, 0x40904000, 0xC9240000,
-        0x40200000, 0x04000000, 0x40200000, 0x04000000, 0x40B07900, 0x00000000, 0x40200000,
-        0x04000000,
-    ];
-    let set: (u8, &[u8]) = (
-        0,
-        &[
-            0xB0, 0x65, 0x00, 0xB0, 0x64, 0x00, 0xB0, 0x06, 0x02, 0xB0, 0x26, 0x00,
-        ],
-    );
-    carries(
-        &rt,
-        rt.alloc(),
-        &words,
-        Status::Done,
-        &[
-            (0, &[0x90, 0x3C, 0x64]),
-            (0, &[0x90, 0x3E, 0x64]),
-            (0, &[0xF6]),
-            (0, &[0x90, 0x40, 0x64]),
-            set,
-            set,
-            (0, &[0xB0, 0x79, 0x00]),
-            set,
-        ],
-        "",
-    )
-}
+// What it compares.
+const COMPARED: &str = "\
+# a song position
+run translate down --folder F
+input 10F21234
+leaves Done
+lane 0 F2 12 34
+
+# an exclusive of another group comes between
+run translate down --folder F
+input 30160102 03040506 31010900 00000000
+input 30310700 00000000
+leaves Done
+lane 1 F0 09 F7
+lane 0 F0 01 02 03 04 05 06 07 F7
+
+# parts of an exclusive that nothing began
+run translate down --folder F
+input 30260102 03040506 30310700 00000000
+leaves Done
+note 0 0 stray-exclusive
+note 8 0 stray-exclusive
+
+# a start cuts an exclusive
+run translate down --folder F
+input 30160102 03040506 30110900 00000000
+input 30310700 00000000
+leaves Done
+lane 0 F0 09 07 F7
+note 0 0 cut-exclusive
+
+# a note between the parts of an exclusive
+run translate down --folder F
+input 30160102 03040506 20903C64 30310700
+input 00000000
+leaves Done
+lane 0 90 3C 64
+lane 0 F0 01 02 03 04 05 06 07 F7
+
+# the null parameter
+run translate down --folder F
+input 40207F7F 80000000
+leaves Done
+note 0 0 null-parameter
+
+# a high bit in MIDI 1.0
+run translate down --folder F
+input 20903C80
+leaves Refused { reason: HighBit, offset: 0 }
+note refused HighBit at 0
+
+# a high bit in MIDI 2.0
+run translate down --folder F
+input 4090BC00 C9240000
+leaves Refused { reason: HighBit, offset: 0 }
+note refused HighBit at 0
+
+# an end of an exclusive within a note
+run translate up
+input 90 3C F7 64
+leaves Done
+note 0 0 cut-message
+note 2 0 stray
+note 3 0 stray
+
+# an end of an exclusive ends running status
+run translate up
+input 90 3C 64 F7 3E 64
+leaves Done
+output 40903C00 C9240000
+note 3 0 stray
+note 4 0 stray
+note 5 0 stray
+
+# a tune request ends running status
+run translate up
+input 90 3C 64 F6 3E 64
+leaves Done
+output 40903C00 C9240000 10F60000
+note 4 0 stray
+note 5 0 stray
+
+# an exclusive cuts an exclusive
+run translate up
+input F0 01 02 F0 03 F7
+leaves Done
+output 30010300 00000000
+note 0 0 cut-exclusive
+
+# a parameter of the other kind is selected last
+run translate up
+input B0 65 00 64 00 63 01 62 02 06 10 26 00
+leaves Done
+output 40300102 20000000 40300102 20000000
+
+# a data entry without its LSB
+run translate up
+input B0 65 00 64 00 06 02
+leaves Done
+output 40200000 04000000
+
+# the bank stays for the next program
+run translate up
+input B0 00 01 20 02 C0 05 06
+leaves Done
+output 40C00001 05000102 40C00001 06000102
+
+# an exclusive of six bytes in one packet
+run translate up
+input F0 01 02 03 04 05 06 F7
+leaves Done
+output 30060102 03040506
+
+# a data entry behind the null parameter
+run translate up
+input B0 65 00 64 00 65 7F 64 7F 06 02
+leaves Done
+note 10 0 ignored-data-entry";
 
 #[test]
-fn the_example_goes_up_and_comes_back(rt: HostRuntime) -> Result<(), Fail> {
-    let alloc = rt.alloc();
-    let words = [
-        0x40, 0x90, 0x3C, 0x00, 0xC9, 0x24, 0x00, 0x00, 0x10, 0xF8, 0x00, 0x00, 0x40, 0x90, 0x3E,
-        0x00, 0xC9, 0x24, 0x00, 0x00, 0x40, 0x20, 0x00, 0x00, 0x04, 0x00, 0x00, 0x00, 0x40, 0x20,
-        0x00, 0x00, 0x04, 0x14, 0x00, 0x00, 0x40, 0xC0, 0x00, 0x00, 0x05, 0x00, 0x00, 0x00, 0x30,
-        0x03, 0x01, 0x02, 0x03, 0x00, 0x00, 0x00, 0x40, 0x80, 0x3C, 0x00, 0x80, 0x00, 0x00, 0x00,
-    ];
-    let up = ["translate", "up"];
-    gives(
-        &rt,
-        alloc,
-        &up,
-        &KEYBOARD,
-        Status::Done,
-        &words,
-        "25 0 open-message\n",
-    )?;
-    let bytes = [
-        0x90, 0x3C, 0x64, 0xF8, 0x90, 0x3E, 0x64, 0xB0, 0x65, 0x00, 0xB0, 0x64, 0x00, 0xB0, 0x06,
-        0x02, 0xB0, 0x26, 0x00, 0xB0, 0x65, 0x00, 0xB0, 0x64, 0x00, 0xB0, 0x06, 0x02, 0xB0, 0x26,
-        0x05, 0xC0, 0x05, 0xF0, 0x01, 0x02, 0x03, 0xF7, 0x80, 0x3C, 0x40,
-    ];
-    let back = ["translate", "back"];
-    gives(
-        &rt,
-        alloc,
-        &back,
-        &KEYBOARD,
-        Status::Done,
-        &bytes,
-        "25 0 open-message\n",
-    )
-}
-
-#[test]
-fn the_examples_are_shown(rt: HostRuntime) -> Result<(), Fail> {
-    let alloc = rt.alloc();
-    let two = Left {
-        status: Status::Done,
-        pieces: &[],
-        output: "0 40903C00 C9240000 note-on group=0 channel=0 note=60 velocity=51492 type=0 attribute=0\n8 41904000 01FF0000 note-on group=1 channel=0 note=64 velocity=511 type=0 attribute=0\n",
-        notes: "",
-    };
-    leaves(&rt, alloc, case_of(alloc, &["show"], &MIXED[..4])?, two)?;
-    let stream = Left {
-        status: Status::Done,
-        pieces: &[],
-        output: "2 m1-note-on channel=0 note=60 velocity=100\n4 system status=F8\n5 m1-note-on channel=0 note=62 velocity=100\n8 m1-control channel=0 index=101 value=0\n10 m1-control channel=0 index=100 value=0\n12 m1-control channel=0 index=6 value=2\n14 m1-control channel=0 index=38 value=5\n16 m1-program channel=0 program=5\n21 exclusive length=3\n24 m1-note-on channel=0 note=60 velocity=0\n25 open-message\n",
-        notes: "",
-    };
-    let mut given = case_of(alloc, &["show", "--bytes"], &[])?;
-    given.input.extend_from_slice(&KEYBOARD)?;
-    leaves(&rt, alloc, given, stream)
-}
-
-#[test]
-fn the_example_leaves_a_state(rt: HostRuntime) -> Result<(), Fail> {
-    let alloc = rt.alloc();
-    shows_stream(
-        &rt,
-        alloc,
-        &KEYBOARD,
-        "2 m1-note-on channel=0 note=60 velocity=100\n\
-         4 system status=F8\n\
-         5 m1-note-on channel=0 note=62 velocity=100\n\
-         8 m1-control channel=0 index=101 value=0\n\
-         10 m1-control channel=0 index=100 value=0\n\
-         12 m1-control channel=0 index=6 value=2\n\
-         14 m1-control channel=0 index=38 value=5\n\
-         16 m1-program channel=0 program=5\n\
-         21 exclusive length=3\n\
-         24 m1-note-on channel=0 note=60 velocity=0\n\
-         25 open-message\n\
-         state 0 0 on 60 100\n\
-         state 0 0 on 62 100\n\
-         state 0 0 off 60 64\n\
-         state 0 0 program 5 bank none\n\
-         state 0 0 registered 0 0 261\n\
-         state 0 system 1\n\
-         state 0 real-time 1\n",
-    )
-}
-
-const WHOLE: [u8; 9] = [0xF0, 1, 2, 3, 4, 5, 6, 7, 0xF7];
-
-// Packets, the pieces that come of them, and the listing.
-type DownRow = (&'static [u32], &'static [(u8, &'static [u8])], &'static str);
-
-const DOWN_ROWS: [DownRow; 6] = [
-    (&[0x10F21234], &[(0, &[0xF2, 0x12, 0x34])], ""),
-    (
-        &[0x30160102, 0x03040506, 0x31010900, 0, 0x30310700, 0],
-        &[(1, &[0xF0, 0x09, 0xF7]), (0, &WHOLE)],
-        "",
-    ),
-    (
-        &[0x30260102, 0x03040506, 0x30310700, 0],
-        &[],
-        "0 0 stray-exclusive\n8 0 stray-exclusive\n",
-    ),
-    (
-        &[0x30160102, 0x03040506, 0x30110900, 0, 0x30310700, 0],
-        &[(0, &[0xF0, 0x09, 0x07, 0xF7])],
-        "0 0 cut-exclusive\n",
-    ),
-    (
-        &[0x30160102, 0x03040506, 0x20903C64, 0x30310700, 0],
-        &[(0, &[0x90, 0x3C, 0x64]), (0, &WHOLE)],
-        "",
-    ),
-    (&[0x40207F7F, 0x80000000], &[], "0 0 null-parameter\n"),
-];
-
-#[test]
-fn compared_on_the_way_down(rt: HostRuntime) -> Result<(), Fail> {
-    let alloc = rt.alloc();
-    for (words, pieces, notes) in DOWN_ROWS {
-        carries(&rt, alloc, words, Status::Done, pieces, notes)?;
-    }
-    let status = refused(Reason::HighBit, 0);
-    let line = "refused HighBit at 0\n";
-    carries(&rt, alloc, &[0x20903C80], status, &[], line)?;
-    carries(&rt, alloc, &[0x4090BC00, 0xC9240000], status, &[], line)
-}
-
-#[test]
-fn compared_on_the_way_up(rt: HostRuntime) -> Result<(), Fail> {
-    let alloc = rt.alloc();
-    let rows: [(&[u8], &[u8], &str); 9] = [
-        (
-            &[0x90, 0x3C, 0xF7, 0x64],
-            &[],
-            "0 0 cut-message\n2 0 stray\n3 0 stray\n",
-        ),
-        (
-            &[0x90, 0x3C, 0x64, 0xF7, 0x3E, 0x64],
-            &[0x40, 0x90, 0x3C, 0x00, 0xC9, 0x24, 0x00, 0x00],
-            "3 0 stray\n4 0 stray\n5 0 stray\n",
-        ),
-        (
-            &[0x90, 0x3C, 0x64, 0xF6, 0x3E, 0x64],
-            &[
-                0x40, 0x90, 0x3C, 0x00, 0xC9, 0x24, 0x00, 0x00, 0x10, 0xF6, 0x00, 0x00,
-            ],
-            "4 0 stray\n5 0 stray\n",
-        ),
-        (
-            &[0xF0, 0x01, 0x02, 0xF0, 0x03, 0xF7],
-            &[0x30, 0x01, 0x03, 0x00, 0x00, 0x00, 0x00, 0x00],
-            "0 0 cut-exclusive\n",
-        ),
-        (
-            &[
-                0xB0, 0x65, 0x00, 0x64, 0x00, 0x63, 0x01, 0x62, 0x02, 0x06, 0x10, 0x26, 0x00,
-            ],
-            &[
-                0x40, 0x30, 0x01, 0x02, 0x20, 0x00, 0x00, 0x00, 0x40, 0x30, 0x01, 0x02, 0x20, 0x00,
-                0x00, 0x00,
-            ],
-            "",
-        ),
-        (
-            &[0xB0, 0x65, 0x00, 0x64, 0x00, 0x06, 0x02],
-            &[0x40, 0x20, 0x00, 0x00, 0x04, 0x00, 0x00, 0x00],
-            "",
-        ),
-        (
-            &[0xB0, 0x00, 0x01, 0x20, 0x02, 0xC0, 0x05, 0x06],
-            &[
-                0x40, 0xC0, 0x00, 0x01, 0x05, 0x00, 0x01, 0x02, 0x40, 0xC0, 0x00, 0x01, 0x06, 0x00,
-                0x01, 0x02,
-            ],
-            "",
-        ),
-        (
-            &[0xF0, 1, 2, 3, 4, 5, 6, 0xF7],
-            &[0x30, 0x06, 1, 2, 3, 4, 5, 6],
-            "",
-        ),
-        (
-            &[
-                0xB0, 0x65, 0x00, 0x64, 0x00, 0x65, 0x7F, 0x64, 0x7F, 0x06, 0x02,
-            ],
-            &[],
-            "10 0 ignored-data-entry\n",
-        ),
-    ];
-    for (bytes, words, notes) in rows {
-        let up = ["translate", "up"];
-        gives(&rt, alloc, &up, bytes, Status::Done, words, notes)?;
-    }
-    Ok(())
+fn what_the_readme_compares(rt: HostRuntime) -> Result<(), Fail> {
+    rows_hold(&rt, rt.alloc(), COMPARED)
 }

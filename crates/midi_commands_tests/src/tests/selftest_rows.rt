@@ -1,97 +1,88 @@
 // Rows of the self test, and the two translators over the packets that it draws.
-use super::{Case, Left, case_of, leaves, words_of};
-use midi_commands::{Status, run};
-use midi_edge::{MemLanes, MemShelf, MemSink, MemSource};
+use super::{Left, given_of, left_by, rows_hold};
+use midi_commands::Status;
+use midi_edge::MemLanes;
 use std::alloc::{AllocError, Global};
 use std::process::Abort;
 use std::test::Fail;
 
-// What a run leaves that puts this line.
-fn puts<'a>(line: &'a str) -> Left<'a> {
-    Left {
-        status: Status::Done,
-        pieces: &[],
-        output: line,
-        notes: "",
-    }
-}
-
 // The input would fail at its first read.
-fn unread<'a>(alloc: Global, words: &'a [&'a str]) -> Result<Case<'a>, AllocError> {
-    let mut given = case_of(alloc, words, &[0x40903C00, 0xC9240000])?;
-    given.reads.push(0)?;
-    Ok(given)
-}
+const ROWS: &str = "\
+# the line of one packet; the input would fail at its first read
+run selftest 0 --packets 1
+input 40903C00 C9240000
+read-fails 0
+leaves Done
+output selftest 0 packets 1 carried 1 listed 0 bytes 3 again 3
+
+# the line where no number of packets is given
+run selftest 7
+input 40903C00 C9240000
+read-fails 0
+leaves Done
+output selftest 7 packets 10000 carried 9961 listed 39 bytes 42382 again 61012
+
+# the line of 100,000 packets
+run selftest 7 --packets 100000
+input 40903C00 C9240000
+read-fails 0
+leaves Done
+output selftest 7 packets 100000 carried 99618 listed 382 bytes 423052 again 609454
+
+# the same line again
+run selftest 7 --packets 100000
+input 40903C00 C9240000
+read-fails 0
+leaves Done
+output selftest 7 packets 100000 carried 99618 listed 382 bytes 423052 again 609454
+
+# a line that is put in part
+run selftest 0 --packets 1
+input 40903C00 C9240000
+read-fails 0
+output-fails 0 5
+leaves OutputFault
+output-cut |selft|
+note output write failed
+
+# a self test without a seed
+run selftest
+input 40903C00 C9240000
+read-fails 0
+leaves Usage
+note usage: translate, show, endpoint or selftest
+
+# a seed that is too large
+run selftest 4294967296
+input 40903C00 C9240000
+read-fails 0
+leaves Usage
+note usage: translate, show, endpoint or selftest
+
+# no packets
+run selftest 0 --packets 0
+input 40903C00 C9240000
+read-fails 0
+leaves Usage
+note usage: translate, show, endpoint or selftest
+
+# too many packets
+run selftest 0 --packets 1000001
+input 40903C00 C9240000
+read-fails 0
+leaves Usage
+note usage: translate, show, endpoint or selftest
+
+# a self test has no room
+run selftest 0 --room 6
+input 40903C00 C9240000
+read-fails 0
+leaves Usage
+note usage: translate, show, endpoint or selftest";
 
 #[test]
-fn the_line_of_one_packet(rt: HostRuntime) -> Result<(), Fail> {
-    let alloc = rt.alloc();
-    let given = unread(alloc, &["selftest", "0", "--packets", "1"])?;
-    leaves(
-        &rt,
-        alloc,
-        given,
-        puts("selftest 0 packets 1 carried 1 listed 0 bytes 3 again 3\n"),
-    )
-}
-
-// The counts are those of a slow model of the same rules in another language.
-#[test]
-fn the_line_of_the_packets_at_first(rt: HostRuntime) -> Result<(), Fail> {
-    let alloc = rt.alloc();
-    leaves(
-        &rt,
-        alloc,
-        unread(alloc, &["selftest", "7"])?,
-        puts("selftest 7 packets 10000 carried 9961 listed 39 bytes 42382 again 61012\n"),
-    )
-}
-
-#[test]
-fn the_same_line_twice(rt: HostRuntime) -> Result<(), Fail> {
-    let alloc = rt.alloc();
-    let words = ["selftest", "7", "--packets", "100000"];
-    let line = puts(
-        "selftest 7 packets 100000 carried 99618 listed 382 bytes 423052 again 609454\n",
-    );
-    leaves(&rt, alloc, unread(alloc, &words)?, line)?;
-    leaves(&rt, alloc, unread(alloc, &words)?, line)
-}
-
-#[test]
-fn a_line_that_is_not_written(rt: HostRuntime) -> Result<(), Fail> {
-    let alloc = rt.alloc();
-    let mut given = unread(alloc, &["selftest", "0", "--packets", "1"])?;
-    given.output_puts.push((0, 5))?;
-    let left = Left {
-        status: Status::OutputFault,
-        pieces: &[],
-        output: "selft",
-        notes: "output write failed\n",
-    };
-    leaves(&rt, alloc, given, left)
-}
-
-#[test]
-fn words_that_are_no_self_test(rt: HostRuntime) -> Result<(), Fail> {
-    let alloc = rt.alloc();
-    let usage = Left {
-        status: Status::Usage,
-        pieces: &[],
-        output: "",
-        notes: "usage: translate, show, endpoint or selftest\n",
-    };
-    let rows: [&[&str]; 5] = [
-        &["selftest"],
-        &["selftest", "4294967296"],
-        &["selftest", "0", "--packets", "0"],
-        &["selftest", "0", "--packets", "1000001"],
-        &["selftest", "0", "--room", "6"],
-    ];
-    for words in rows {
-        leaves(&rt, alloc, unread(alloc, words)?, usage)?;
-    }
-    Ok(())
+fn the_lines_of_self_tests(rt: HostRuntime) -> Result<(), Fail> {
+    rows_hold(&rt, rt.alloc(), ROWS)
 }
 
 // One draw of sixteen bits.
@@ -154,44 +145,36 @@ fn lane_of(alloc: Global, lanes: &MemLanes) -> Result<(usize, Vec<u8>), AllocErr
     Ok((16384, bytes))
 }
 
-// What a run over an input leaves in the lanes, the output and the notes.
-fn run_over(
-    rt: &impl Abort,
-    alloc: Global,
-    words: &[&str],
-    input: Vec<u8>,
-) -> Result<(MemLanes, MemSink, MemSink), Fail> {
-    let words = words_of(alloc, words)?;
-    let mut input = MemSource::new(input, Vec::new(alloc), Vec::new(alloc));
-    let mut lanes = MemLanes::new(alloc, 65536, 16384, Vec::new(alloc))?;
-    let mut output = MemSink::new(alloc, 65536, Vec::new(alloc))?;
-    let mut notes = MemSink::new(alloc, 65536, Vec::new(alloc))?;
-    let mut shelf = MemShelf::new(Vec::new(alloc), Vec::new(alloc));
-    let status = run(
-        alloc,
-        &words,
-        &mut input,
-        &mut lanes,
-        &mut output,
-        &mut notes,
-        &mut shelf,
-    );
-    assert_eq!(rt; status, Status::Done);
-    Ok((lanes, output, notes))
+// What a run with these words leaves of an input.
+fn run_over(rt: &impl Abort, alloc: Global, words: &str, input: Vec<u8>) -> Result<Left, Fail> {
+    let mut given = given_of(alloc, words)?;
+    given.input = input;
+    let left = left_by(alloc, given)?;
+    assert_eq!(rt; left.status, Status::Done);
+    Ok(left)
 }
 
 // `translate down` and `translate back` over the packets of seed 7 count what `selftest 7 --packets 10000` tells.
 #[test]
 fn the_translators_count_the_same(rt: HostRuntime) -> Result<(), Fail> {
     let alloc = rt.alloc();
-    let down = ["translate", "down", "--folder", "F"];
-    let (lanes, _, listing) = run_over(&rt, alloc, &down, recording(alloc)?)?;
-    let (carried, bytes) = lane_of(alloc, &lanes)?;
+    let down = run_over(
+        &rt,
+        alloc,
+        "run translate down --folder F",
+        recording(alloc)?,
+    )?;
+    let (carried, bytes) = lane_of(alloc, &down.lanes)?;
     assert_eq!(rt; carried, 9961);
-    let lines = listing.held().iter().filter(|byte| **byte == b'\n').count();
+    let lines = down
+        .notes
+        .held()
+        .iter()
+        .filter(|byte| **byte == b'\n')
+        .count();
     assert_eq!(rt; lines, 39);
     assert_eq!(rt; bytes.len(), 42382);
-    let (_, output, _) = run_over(&rt, alloc, &["translate", "back"], bytes)?;
-    assert_eq!(rt; output.held().len(), 61012);
+    let back = run_over(&rt, alloc, "run translate back", bytes)?;
+    assert_eq!(rt; back.output.held().len(), 61012);
     Ok(())
 }

@@ -1,250 +1,165 @@
 // Worked rows of streams of MIDI 1.0 bytes that are raised to packets.
-use super::bytes_of;
-use midi_edge::{MemLanes, MemSink, MemSource, U4};
-use midi_engines::{UpRun, run_up};
-use midi_pass::{Reason, RunEnd};
-use std::alloc::{AllocError, Global};
-use std::process::Abort;
+use super::rows_hold;
 use std::test::Fail;
-use ump_words::Order;
 
-// The bytes, and where the puts fail.
-#[derive(Drop)]
-struct Stream {
-    bytes: Vec<u8>,
-    room: u32,
-    output_puts: Vec<(u64, usize)>,
-    note_puts: Vec<(u64, usize)>,
-}
+const ROWS: &str = "\
+# running status across a Real Time message
+run translate up --room 9
+input 90 3C 64 3E F8 64
+leaves Done
+output 40903C00 C9240000 10F80000 40903E00
+output C9240000
 
-fn stream_of(alloc: Global, room: u32, bytes: &[u8]) -> Result<Stream, AllocError> {
-    let mut all = Vec::new(alloc);
-    all.extend_from_slice(bytes)?;
-    Ok(Stream {
-        bytes: all,
-        room,
-        output_puts: Vec::new(alloc),
-        note_puts: Vec::new(alloc),
-    })
-}
+# a note on of velocity 0 is raised to a note off
+run translate up --room 9
+input 90 3C 00
+leaves Done
+output 40803C00 80000000
 
-// What a translation into this group leaves.
-fn leaves(
-    rt: &impl Abort,
-    alloc: Global,
-    given: Stream,
-    group: u32,
-    order: Order,
-    end: RunEnd,
-    output: &[u8],
-    notes: &str,
-) -> Result<(), Fail> {
-    let Stream {
-        bytes,
-        room,
-        output_puts,
-        note_puts,
-    } = given;
-    let engine = UpRun::new(
-        alloc,
-        U4::low_bits(group),
-        order,
-        room.clamp(6, 1_048_576),
-        false,
-    )?;
-    let mut input = MemSource::new(bytes, Vec::new(alloc), Vec::new(alloc));
-    let mut lanes = MemLanes::new(alloc, 0, 0, Vec::new(alloc))?;
-    let mut held = MemSink::new(alloc, 256, output_puts)?;
-    let mut noted = MemSink::new(alloc, 256, note_puts)?;
-    assert_eq!(rt;
-        run_up(engine, &mut input, &mut lanes, &mut held, &mut noted),
-        end
-    );
-    assert_eq!(rt; held.held(), output);
-    assert_eq!(rt; noted.held(), notes.as_bytes());
-    Ok(())
-}
+# a controller
+run translate up --room 9
+input B0 07 64
+leaves Done
+output 40B00700 C9249249
 
-// What a translation into group 0 leaves with a room of nine, in big endian.
-fn raises(
-    rt: &impl Abort,
-    alloc: Global,
-    bytes: &[u8],
-    end: RunEnd,
-    words: &[u32],
-    notes: &str,
-) -> Result<(), Fail> {
-    let output = bytes_of(alloc, words)?;
-    let given = stream_of(alloc, 9, bytes)?;
-    leaves(rt, alloc, given, 0, Order::Big, end, &output, notes)
-}
+# a bend
+run translate up --room 9
+input E0 10 4E
+leaves Done
+output 40E00000 9C40E207
+
+# a program
+run translate up --room 9
+input C0 05
+leaves Done
+output 40C00000 05000000
+
+# a bank and a program
+run translate up --room 9
+input B0 00 01 20 02 C0 05
+leaves Done
+output 40C00001 05000102
+
+# a data entry of two halves
+run translate up --room 9
+input B0 65 00 64 00 06 02 26 05
+leaves Done
+output 40200000 04000000 40200000 04140000
+
+# three parameters, of which the first is selected again
+run translate up --room 9
+input B0 65 00 64 00 06 02 26 05 65 00 64 01 06 40 65
+input 00 64 00 26 07
+leaves Done
+output 40200000 04000000 40200000 04140000
+output 40200001 80000000 40200000 041C0000
+
+# no bytes
+run translate up --room 9
+leaves Done
+
+# after a reset no parameter is selected
+run translate up --room 9
+input B0 65 00 64 00 79 00 06 02
+leaves Done
+output 40B07900 00000000
+note 8 0 ignored-data-entry
+
+# stray bytes, and messages that others cut
+run translate up --room 9
+input 05 90 3C F0 01 F6 F7
+leaves Done
+output 10F60000
+note 0 0 stray
+note 1 0 cut-message
+note 3 0 cut-exclusive
+note 6 0 stray
+
+# an undefined status cuts an exclusive
+run translate up --room 9
+input F0 01 F4
+leaves Done
+note 0 0 cut-exclusive
+note 2 0 undefined
+
+# a message that is open at the end
+run translate up --room 9
+input F8 90 3C
+leaves Done
+output 10F80000
+note 1 0 open-message
+
+# an exclusive that is open at the end
+run translate up --room 9
+input F0 F8 01
+leaves Done
+output 10F80000
+note 0 0 open-exclusive
+
+# a data increment ends the raising
+run translate up --room 9
+input B0 60 00
+leaves Refused { reason: DataIncrement, offset: 2 }
+note refused DataIncrement at 2
+
+# a data decrement ends the raising
+run translate up --room 9
+input F8 07 B0 61 00 F8
+leaves Refused { reason: DataDecrement, offset: 4 }
+output 10F80000
+note 1 0 stray
+note refused DataDecrement at 4
+
+# an exclusive of seven bytes fits a room of nine
+run translate up --room 9
+input F0 01 02 03 04 05 06 07 F7
+leaves Done
+output 30160102 03040506 30310700 00000000
+
+# an empty exclusive
+run translate up --room 9
+input F0 F7
+leaves Done
+output 30000000 00000000
+
+# it does not fit a room of six
+run translate up --room 6
+input F0 01 02 03 04 05 06 07 F7
+leaves Refused { reason: ExclusiveTooLong, offset: 7 }
+note refused ExclusiveTooLong at 7
+
+# words come in the order and the group
+run translate up --group 5 --room 6 --little
+input 07 90 3C 64
+leaves Done
+output 003C9045 000024C9
+note 0 5 stray
+
+# the second put of the output fails
+run translate up --room 6
+input 07 90 3C 64 F8 F4 F8
+output-fails 1 3
+leaves OutputFault
+output 40903C00 C9240000 10F800
+note 0 0 stray
+note output write failed
+
+# the second line of the notes fails
+run translate up --room 6
+input 07 90 3C 64 F8 F4 F8
+note-fails 1 2
+leaves NoteFault
+output 40903C00 C9240000 10F80000
+note 0 0 stray
+note-cut |5 |
+
+# the line of an open message fails
+run translate up --room 6
+input 90
+note-fails 0 0
+leaves NoteFault";
 
 #[test]
 fn streams_are_raised(rt: HostRuntime) -> Result<(), Fail> {
-    let alloc = rt.alloc();
-    let rows: [(&[u8], &[u32]); 8] = [
-        (
-            &[0x90, 0x3C, 0x64, 0x3E, 0xF8, 0x64],
-            &[0x40903C00, 0xC9240000, 0x10F80000, 0x40903E00, 0xC9240000],
-        ),
-        (&[0x90, 0x3C, 0x00], &[0x40803C00, 0x80000000]),
-        (&[0xB0, 0x07, 0x64], &[0x40B00700, 0xC9249249]),
-        (&[0xE0, 0x10, 0x4E], &[0x40E00000, 0x9C40E207]),
-        (&[0xC0, 0x05], &[0x40C00000, 0x05000000]),
-        (
-            &[0xB0, 0x00, 0x01, 0x20, 0x02, 0xC0, 0x05],
-            &[0x40C00001, 0x05000102],
-        ),
-        (
-            &[0xB0, 0x65, 0x00, 0x64, 0x00, 0x06, 0x02, 0x26, 0x05],
-            &[0x40200000, 0x04000000, 0x40200000, 0x04140000],
-        ),
-        (
-            &[
-                0xB0, 0x65, 0x00, 0x64, 0x00, 0x06, 0x02, 0x26, 0x05, 0x65, 0x00, 0x64, 0x01, 0x06,
-                0x40, 0x65, 0x00, 0x64, 0x00, 0x26, 0x07,
-            ],
-            &[
-                0x40200000, 0x04000000, 0x40200000, 0x04140000, 0x40200001, 0x80000000, 0x40200000,
-                0x041C0000,
-            ],
-        ),
-    ];
-    for (bytes, words) in rows {
-        raises(&rt, alloc, bytes, RunEnd::Done, words, "")?;
-    }
-    raises(&rt, alloc, &[], RunEnd::Done, &[], "")
-}
-
-#[test]
-fn raised_streams_are_listed(rt: HostRuntime) -> Result<(), Fail> {
-    let alloc = rt.alloc();
-    raises(
-        &rt,
-        alloc,
-        &[0xB0, 0x65, 0x00, 0x64, 0x00, 0x79, 0x00, 0x06, 0x02],
-        RunEnd::Done,
-        &[0x40B07900, 0x00000000],
-        "8 0 ignored-data-entry\n",
-    )?;
-    raises(
-        &rt,
-        alloc,
-        &[0x05, 0x90, 0x3C, 0xF0, 0x01, 0xF6, 0xF7],
-        RunEnd::Done,
-        &[0x10F60000],
-        "0 0 stray\n1 0 cut-message\n3 0 cut-exclusive\n6 0 stray\n",
-    )?;
-    raises(
-        &rt,
-        alloc,
-        &[0xF0, 0x01, 0xF4],
-        RunEnd::Done,
-        &[],
-        "0 0 cut-exclusive\n2 0 undefined\n",
-    )?;
-    raises(
-        &rt,
-        alloc,
-        &[0xF8, 0x90, 0x3C],
-        RunEnd::Done,
-        &[0x10F80000],
-        "1 0 open-message\n",
-    )?;
-    raises(
-        &rt,
-        alloc,
-        &[0xF0, 0xF8, 0x01],
-        RunEnd::Done,
-        &[0x10F80000],
-        "0 0 open-exclusive\n",
-    )
-}
-
-fn refused(reason: Reason, offset: u64) -> RunEnd {
-    RunEnd::Refused { reason, offset }
-}
-
-#[test]
-fn a_refused_byte_ends_the_raising(rt: HostRuntime) -> Result<(), Fail> {
-    let alloc = rt.alloc();
-    let bytes = [0xB0, 0x60, 0x00];
-    let end = refused(Reason::DataIncrement, 2);
-    raises(&rt, alloc, &bytes, end, &[], "")?;
-    let bytes = [0xF8, 0x07, 0xB0, 0x61, 0x00, 0xF8];
-    let end = refused(Reason::DataDecrement, 4);
-    raises(&rt, alloc, &bytes, end, &[0x10F80000], "1 0 stray\n")
-}
-
-#[test]
-fn a_raised_exclusive_fits_the_room(rt: HostRuntime) -> Result<(), Fail> {
-    let alloc = rt.alloc();
-    let bytes = [0xF0, 1, 2, 3, 4, 5, 6, 7, 0xF7];
-    let words = [0x30160102, 0x03040506, 0x30310700, 0x00000000];
-    raises(&rt, alloc, &bytes, RunEnd::Done, &words, "")?;
-    raises(
-        &rt,
-        alloc,
-        &[0xF0, 0xF7],
-        RunEnd::Done,
-        &[0x30000000, 0],
-        "",
-    )?;
-    let given = stream_of(alloc, 6, &bytes)?;
-    let end = refused(Reason::ExclusiveTooLong, 7);
-    leaves(&rt, alloc, given, 0, Order::Big, end, &[], "")
-}
-
-#[test]
-fn words_come_in_the_order_and_the_group(rt: HostRuntime) -> Result<(), Fail> {
-    let alloc = rt.alloc();
-    let given = stream_of(alloc, 6, &[0x07, 0x90, 0x3C, 0x64])?;
-    let output = [0x00, 0x3C, 0x90, 0x45, 0x00, 0x00, 0x24, 0xC9];
-    leaves(
-        &rt,
-        alloc,
-        given,
-        5,
-        Order::Little,
-        RunEnd::Done,
-        &output,
-        "0 5 stray\n",
-    )
-}
-
-#[test]
-fn a_failing_put_ends_the_raising(rt: HostRuntime) -> Result<(), Fail> {
-    let alloc = rt.alloc();
-    let bytes = [0x07, 0x90, 0x3C, 0x64, 0xF8, 0xF4, 0xF8];
-    let mut given = stream_of(alloc, 6, &bytes)?;
-    given.output_puts = vec![in alloc; (1, 3)]?;
-    let output = [
-        0x40, 0x90, 0x3C, 0x00, 0xC9, 0x24, 0x00, 0x00, 0x10, 0xF8, 0x00,
-    ];
-    leaves(
-        &rt,
-        alloc,
-        given,
-        0,
-        Order::Big,
-        RunEnd::OutputFault,
-        &output,
-        "0 0 stray\n",
-    )?;
-    let mut given = stream_of(alloc, 6, &bytes)?;
-    given.note_puts = vec![in alloc; (1, 2)]?;
-    let output = bytes_of(alloc, &[0x40903C00, 0xC9240000, 0x10F80000])?;
-    leaves(
-        &rt,
-        alloc,
-        given,
-        0,
-        Order::Big,
-        RunEnd::NoteFault,
-        &output,
-        "0 0 stray\n5 ",
-    )?;
-    let mut given = stream_of(alloc, 6, &[0x90])?;
-    given.note_puts = vec![in alloc; (0, 0)]?;
-    leaves(&rt, alloc, given, 0, Order::Big, RunEnd::NoteFault, &[], "")
+    rows_hold(&rt, rt.alloc(), ROWS)
 }

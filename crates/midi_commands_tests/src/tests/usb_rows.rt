@@ -1,164 +1,67 @@
-// Worked rows of USB-MIDI 1.0 events, on `run`.
-use super::{Left, case_of, leaves, refused, words_of};
-use midi_commands::{Status, run};
-use midi_edge::{MemLanes, MemShelf, MemSink, MemSource};
-use midi_pass::Reason;
-use std::alloc::Global;
-use std::process::Abort;
+// Worked rows of USB-MIDI 1.0 events.
+use super::rows_hold;
 use std::test::Fail;
 
-const SPLIT: [&str; 4] = ["usb", "split", "--folder", "F"];
+const ROWS: &str = "\
+# events are split
+run usb split --folder F
+input 29903C64 0FF80000 24F00102 2603F700
+input 00000000
+leaves Done
+lane 2 90 3C 64
+lane 0 F8
+lane 2 F0 01 02
+lane 2 03 F7
+note 16 0 reserved-event
 
-// What a split of these events leaves.
-fn splits(
-    rt: &impl Abort,
-    alloc: Global,
-    events: &[u8],
-    status: Status,
-    pieces: &[(u8, &[u8])],
-    notes: &str,
-) -> Result<(), Fail> {
-    let mut given = case_of(alloc, &SPLIT, &[])?;
-    given.input.extend_from_slice(events)?;
-    let left = Left {
-        status,
-        pieces,
-        output: "",
-        notes,
-    };
-    leaves(rt, alloc, given, left)
-}
+# the last event is not whole
+run usb split --folder F
+input 09903C64 09
+leaves Refused { reason: Truncated, offset: 4 }
+lane 0 90 3C 64
+note refused Truncated at 4
 
-// What a packing of these bytes leaves, with these words.
-fn packs(
-    rt: &impl Abort,
-    alloc: Global,
-    words: &[&str],
-    bytes: &[u8],
-    status: Status,
-    events: &[u8],
-    notes: &str,
-) -> Result<(), Fail> {
-    let words = words_of(alloc, words)?;
-    let mut all = Vec::new(alloc);
-    all.extend_from_slice(bytes)?;
-    let mut input = MemSource::new(all, Vec::new(alloc), Vec::new(alloc));
-    let mut lanes = MemLanes::new(alloc, 0, 0, Vec::new(alloc))?;
-    let mut output = MemSink::new(alloc, 128, Vec::new(alloc))?;
-    let mut noted = MemSink::new(alloc, 128, Vec::new(alloc))?;
-    let mut shelf = MemShelf::new(Vec::new(alloc), Vec::new(alloc));
-    let answer = run(
-        alloc,
-        &words,
-        &mut input,
-        &mut lanes,
-        &mut output,
-        &mut noted,
-        &mut shelf,
-    );
-    assert_eq!(rt; answer, status);
-    assert_eq!(rt; output.held(), events);
-    assert_eq!(rt; noted.held(), notes.as_bytes());
-    Ok(())
-}
+# a stream is packed
+run usb pack
+input 90 3C 64 3E F8 64
+leaves Done
+output 09903C64 0FF80000 09903E64
 
-#[test]
-fn events_are_split(rt: HostRuntime) -> Result<(), Fail> {
-    let alloc = rt.alloc();
-    splits(
-        &rt,
-        alloc,
-        &[
-            0x29, 0x90, 0x3C, 0x64, 0x0F, 0xF8, 0x00, 0x00, 0x24, 0xF0, 0x01, 0x02, 0x26, 0x03,
-            0xF7, 0x00, 0x00, 0x00, 0x00, 0x00,
-        ],
-        Status::Done,
-        &[
-            (2, &[0x90, 0x3C, 0x64]),
-            (0, &[0xF8]),
-            (2, &[0xF0, 0x01, 0x02]),
-            (2, &[0x03, 0xF7]),
-        ],
-        "16 0 reserved-event\n",
-    )?;
-    splits(
-        &rt,
-        alloc,
-        &[0x09, 0x90, 0x3C, 0x64, 0x09],
-        refused(Reason::Truncated, 4),
-        &[(0, &[0x90, 0x3C, 0x64])],
-        "refused Truncated at 4\n",
-    )
-}
+# an exclusive on cable 2
+run usb pack --cable 2
+input F0 01 02 03 F7
+leaves Done
+output 24F00102 2603F700
+
+# an exclusive of seven bytes does not fit a room of six
+run usb pack --room 6
+input F8 F0 01 02 03 04 05 06 07
+leaves Refused { reason: ExclusiveTooLong, offset: 8 }
+output 0FF80000
+note refused ExclusiveTooLong at 8
+
+# what the README shows: the events of a device with two cables
+run usb split --folder F
+input 09903C64 19914050 04F07E7F 0FF80000
+input 070601F7 1CC10500 00000000
+leaves Done
+lane 0 90 3C 64
+lane 1 91 40 50
+lane 0 F0 7E 7F
+lane 0 F8
+lane 0 06 01 F7
+lane 1 C1 05
+note 24 0 reserved-event
+
+# what the README shows: a stream that is packed
+run usb pack
+input 90 3C 64 F0 7E 7F F8 06 01 F7 3E 90 3E
+leaves Done
+output 09903C64 0FF80000 04F07E7F 070601F7
+note 10 0 stray
+note 11 0 open-message";
 
 #[test]
-fn streams_are_packed(rt: HostRuntime) -> Result<(), Fail> {
-    let alloc = rt.alloc();
-    packs(
-        &rt,
-        alloc,
-        &["usb", "pack"],
-        &[0x90, 0x3C, 0x64, 0x3E, 0xF8, 0x64],
-        Status::Done,
-        &[
-            0x09, 0x90, 0x3C, 0x64, 0x0F, 0xF8, 0x00, 0x00, 0x09, 0x90, 0x3E, 0x64,
-        ],
-        "",
-    )?;
-    packs(
-        &rt,
-        alloc,
-        &["usb", "pack", "--cable", "2"],
-        &[0xF0, 0x01, 0x02, 0x03, 0xF7],
-        Status::Done,
-        &[0x24, 0xF0, 0x01, 0x02, 0x26, 0x03, 0xF7, 0x00],
-        "",
-    )?;
-    packs(
-        &rt,
-        alloc,
-        &["usb", "pack", "--room", "6"],
-        &[0xF8, 0xF0, 1, 2, 3, 4, 5, 6, 7],
-        refused(Reason::ExclusiveTooLong, 8),
-        &[0x0F, 0xF8, 0x00, 0x00],
-        "refused ExclusiveTooLong at 8\n",
-    )
-}
-
-// What the README shows: the events of a device with two cables, and a stream that is packed.
-#[test]
-fn the_capture_of_the_readme(rt: HostRuntime) -> Result<(), Fail> {
-    let alloc = rt.alloc();
-    splits(
-        &rt,
-        alloc,
-        &[
-            0x09, 0x90, 0x3C, 0x64, 0x19, 0x91, 0x40, 0x50, 0x04, 0xF0, 0x7E, 0x7F, 0x0F, 0xF8,
-            0x00, 0x00, 0x07, 0x06, 0x01, 0xF7, 0x1C, 0xC1, 0x05, 0x00, 0x00, 0x00, 0x00, 0x00,
-        ],
-        Status::Done,
-        &[
-            (0, &[0x90, 0x3C, 0x64]),
-            (1, &[0x91, 0x40, 0x50]),
-            (0, &[0xF0, 0x7E, 0x7F]),
-            (0, &[0xF8]),
-            (0, &[0x06, 0x01, 0xF7]),
-            (1, &[0xC1, 0x05]),
-        ],
-        "24 0 reserved-event\n",
-    )?;
-    packs(
-        &rt,
-        alloc,
-        &["usb", "pack"],
-        &[
-            0x90, 0x3C, 0x64, 0xF0, 0x7E, 0x7F, 0xF8, 0x06, 0x01, 0xF7, 0x3E, 0x90, 0x3E,
-        ],
-        Status::Done,
-        &[
-            0x09, 0x90, 0x3C, 0x64, 0x0F, 0xF8, 0x00, 0x00, 0x04, 0xF0, 0x7E, 0x7F, 0x07, 0x06,
-            0x01, 0xF7,
-        ],
-        "10 0 stray\n11 0 open-message\n",
-    )
+fn events_are_split_and_packed(rt: HostRuntime) -> Result<(), Fail> {
+    rows_hold(&rt, rt.alloc(), ROWS)
 }

@@ -140,6 +140,7 @@ fn stream(alloc: Global) -> Result<Vec<u8>, AllocError> {
 }
 
 // Nothing fails; each put fails in turn, and keeps no byte or one; each read of one byte fails in turn, the last of them at the end.
+// A read after the end would fail too, and isn't made.
 fn each_fault(rt: &impl Abort, alloc: Global, pass: Pass, puts: &[Put<'_>]) -> Result<(), Fail> {
     let faults = Faults {
         output: Vec::new(alloc),
@@ -178,7 +179,12 @@ fn each_fault(rt: &impl Abort, alloc: Global, pass: Pass, puts: &[Put<'_>]) -> R
             leaves(rt, alloc, pass, &mut input, faults, end, puts, failed, kept)?;
         }
     }
-    for given in 0..29usize {
+    for given in 0..30usize {
+        let end = if given < 29 {
+            RunEnd::ReadFault
+        } else {
+            RunEnd::Done
+        };
         let faults = Faults {
             output: Vec::new(alloc),
             notes: Vec::new(alloc),
@@ -187,17 +193,7 @@ fn each_fault(rt: &impl Abort, alloc: Global, pass: Pass, puts: &[Put<'_>]) -> R
         let reads = vec![in alloc; given as u64]?;
         let mut input = MemSource::new(stream(alloc)?, cuts, reads);
         let whole = count_before(puts, given);
-        leaves(
-            rt,
-            alloc,
-            pass,
-            &mut input,
-            faults,
-            RunEnd::ReadFault,
-            puts,
-            whole,
-            0,
-        )?;
+        leaves(rt, alloc, pass, &mut input, faults, end, puts, whole, 0)?;
     }
     Ok(())
 }

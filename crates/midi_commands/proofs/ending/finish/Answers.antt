@@ -1,10 +1,16 @@
-use Rattle.std.proofs.Common.{◌≡◌, ◌∙◌, ap, sym}
-use Rattle.midi_commands.specs.ExitCode.{exit_code_of}
+use Rattle.midi_edge.specs.Adapters.{accepted}
+use Rattle.midi_commands.proofs.EndingLaws.{ends_as}
 use Rattle.midi_commands.proofs.ending.finish.Goals as goal
 
-pub returns-clause-cause : goal.returns-clause-cause
-returns-clause-cause g c not-done =
-    let one : c.after_writing.result ≡ c.args.status = c.after_writing.ensures.cause not-done in
-    let two : c.after_writing-written.result ≡ c.args.status = c.after_writing-written.ensures.cause (λ e. not-done (sym one ∙ e)) ∙ one in
-    let three : c.after_writing-2.result ≡ c.args.status = c.after_writing-2.ensures.cause (λ e. not-done (sym two ∙ e)) ∙ two in
-    c.exit_code.ensures ∙ ap exit_code_of three
+pub returns-clause-ends : goal.returns-clause-ends
+returns-clause-ends g c is = (
+  c.after_writing.result,
+  c.exit_code.ensures,
+  ends_as c.write_out-written.result c.after_writing.result c.flush.result
+      (record { lanes = c.args.lanes.now.faults; output = c.args.output.now.faults; notes = c.args.notes.now.faults })
+      (record { lanes = c.write_out-written.new.lanes.faults; output = c.write_out-written.new.output.faults; notes = c.flush.new.self.faults })
+      c.tell_fault.new.notes.faults
+      (accepted g.N.Write.contents c.args.notes.now) (accepted g.N.Write.contents c.tell_fault.new.notes) (accepted g.N.Write.contents c.flush.new.self)
+      (c.write_out-written.ensures.done is) (c.tell_fault.ensures.done is) c.flush.ensures.cause c.flush.ensures.bytes
+      c.after_writing.ensures.written c.after_writing.ensures.fault c.after_writing.ensures.cause,
+)

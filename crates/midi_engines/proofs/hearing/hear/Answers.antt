@@ -1,6 +1,7 @@
 use Rattle.std.proofs.Common.{ap, sym, ◌∙◌, subst}
 use Rattle.ci_responder.specs.Messages.{told_of}
-use Rattle.midi_engines.specs.Endpoint.{Said, name_of_heard}
+use Rattle.ci_lines.specs.Names.{name_of_heard}
+use Rattle.midi_engines.specs.Endpoint.{Said}
 use Rattle.midi_engines.specs.EndpointHeld.{AreWordsOf, after_said, said_name_in, said_replies}
 use Rattle.midi_engines.proofs.EndpointLaws.{said_is_told, two_words}
 use Rattle.midi_engines.proofs.hearing.hear.Goals as goal

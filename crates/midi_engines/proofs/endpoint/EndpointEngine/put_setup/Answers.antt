@@ -1,20 +1,22 @@
 use Rattle.ci_responder.specs.Held.{muid_in}
 use Rattle.ci_responder.specs.Keys.{state_in}
+use Rattle.ci_lines.specs.Profiles.{profile_lines}
+use Rattle.ci_lines.specs.declared.profiles.LinePlace.TheVariants.{Notes}
 use Rattle.midi_pass.specs.Each.{for_each}
-use Rattle.midi_engines.specs.Endpoint.{block_line_of, profile_line_of}
+use Rattle.midi_engines.specs.Endpoint.{block_line_of}
 use Rattle.midi_pass.specs.Places.{places}
 use Rattle.midi_pass.specs.PutLaws.{stops_more, then_puts}
 use Rattle.midi_engines.proofs.endpoint.EndpointEngine.put_setup.Goals as goal
 
 pub returns-in-Ok : goal.returns-in-Ok
 returns-in-Ok g c =
-    then_puts (for_each (block_line_of (muid_in c.args.self.now.listener.responder.blocks)) 0 c.args.self.now.setup.blocks) (for_each (profile_line_of (state_in c.args.self.now.listener.responder.states)) 0 c.args.self.now.setup.profiles)
+    then_puts (for_each (block_line_of (muid_in c.args.self.now.listener.responder.blocks)) 0 c.args.self.now.setup.blocks) (profile_lines Notes (state_in c.args.self.now.listener.responder.states) c.args.self.now.setup.profiles)
     (places g.L.Lanes g.W.Sink g.N.Sink c.args.lanes.now c.args.output.now c.args.notes.now)
     (places g.L.Lanes g.W.Sink g.N.Sink c.put_blocks.new.lanes c.put_blocks.new.output c.put_blocks.new.notes)
     (places g.L.Lanes g.W.Sink g.N.Sink c.put_profiles.new.lanes c.put_profiles.new.output c.put_profiles.new.notes) c.put_profiles.result c.in-Ok.ensures c.put_profiles.ensures
 
 pub returns-in-Err : goal.returns-in-Err
 returns-in-Err g c =
-    stops_more (for_each (block_line_of (muid_in c.args.self.now.listener.responder.blocks)) 0 c.args.self.now.setup.blocks) (for_each (profile_line_of (state_in c.args.self.now.listener.responder.states)) 0 c.args.self.now.setup.profiles) c.in-Err.end
+    stops_more (for_each (block_line_of (muid_in c.args.self.now.listener.responder.blocks)) 0 c.args.self.now.setup.blocks) (profile_lines Notes (state_in c.args.self.now.listener.responder.states) c.args.self.now.setup.profiles) c.in-Err.end
     (places g.L.Lanes g.W.Sink g.N.Sink c.args.lanes.now c.args.output.now c.args.notes.now)
     (places g.L.Lanes g.W.Sink g.N.Sink c.put_blocks.new.lanes c.put_blocks.new.output c.put_blocks.new.notes) c.in-Err.ensures

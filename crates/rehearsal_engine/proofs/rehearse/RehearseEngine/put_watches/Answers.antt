@@ -1,4 +1,4 @@
-use Rattle.std.proofs.Common.{◌≡◌, ◌++◌, ◌+◌, ◌∷◌, [], ℕ, List, take, drop, suc, ap, sym, refl, ◌∙◌, subst, arith, Option, Some, None, Bool, slice_get, option_map}
+use Rattle.std.proofs.Common.{◌≡◌, ◌++◌, ◌+◌, ◌∷◌, [], ℕ, List, take, drop, suc, sym, refl, subst, Option, Some, None, Bool, slice_get, option_map}
 use Rattle.ci_initiator.specs.declared.watch.Watched.{Watched}
 use Rattle.midi_pass.specs.Places.{FailsAt, after_puts, places}
 use Rattle.midi_pass.specs.Put.{Put, in_output}

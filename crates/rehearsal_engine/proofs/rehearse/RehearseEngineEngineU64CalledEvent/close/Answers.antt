@@ -1,7 +1,6 @@
-use Rattle.std.proofs.Common.{◌≡◌, ap, ◌∙◌}
+use Rattle.std.proofs.Common.{ap, ◌∙◌}
 use Rattle.function_blocks.specs.Setups.{Facts}
-use Rattle.ci_initiator.specs.Stage.{Stage}
-use Rattle.rehearsal_engine.specs.Rehearse.{closing_lines, stage_at}
+use Rattle.rehearsal_engine.specs.Rehearse.{closing_lines}
 use Rattle.rehearsal_engine.proofs.rehearse.RehearseEngineEngineU64CalledEvent.close.Goals as goal
 
 pub returns : goal.returns

@@ -1,0 +1,41 @@
+use Rattle.std.proofs.Common.{◌≡◌, ◌++◌, ◌+◌, ℕ, List, take, drop, suc, ap, sym, ◌∙◌, subst, arith}
+use Rattle.std.specs.Option.{option_map}
+use Rattle.midi_pass.specs.Places.{FailsAt, after_puts, places}
+use Rattle.midi_pass.specs.Put.{Put}
+use Rattle.midi_pass.specs.PutLaws.{stops_more, then_put, then_stops}
+use Rattle.midi_pass.specs.Each.{for_each}
+use Rattle.midi_pass.specs.EachLaws.{all_each, next_each, not_past}
+use Rattle.ci_lines.specs.Profiles.{profile_line_of}
+use Rattle.ci_lines.proofs.profiles.put_profiles.Goals as goal
+
+pub unreachable-requires : goal.unreachable-requires
+unreachable-requires g c =
+    not_past c.loop-k.k c.args.setup.now.profiles (sym (ap (option_map (λ b. b.now)) (sym c.in-None.is) ∙ c.profile.ensures.value)) (omega (arith, c.loop-k-test.true, c.profile_count-k-end.ensures.value))
+
+pub loop-k-preserved : goal.loop-k-preserved
+loop-k-preserved g c =
+    let old = places g.L.Lanes g.W.Sink g.N.Sink c.args.lanes.now c.args.output.now c.args.notes.now in
+    let mid = places g.L.Lanes g.W.Sink g.N.Sink c.loop-k.lanes c.loop-k.output c.loop-k.notes in
+    let new = places g.L.Lanes g.W.Sink g.N.Sink c.put_profile.new.lanes c.put_profile.new.output c.put_profile.new.notes in
+    let n : ℕ = c.loop-k.k in
+    let all = c.args.setup.now.profiles in
+    let one = c.in-Some.profile.now in
+    let put = profile_line_of c.args.place (g.P.ProfileStates.states c.args.known.now) in
+    let D : List Put → Type 0 = λ puts. new ≡ after_puts puts old in
+    subst D (sym (next_each put all n one (sym c.in-Some.ensures.value)))
+    (then_put (for_each put 0 (take n all)) (put n one) old mid new c.loop-k.invariant c.in-Ok.ensures)
+
+pub returns-in-Err : goal.returns-in-Err
+returns-in-Err g c =
+    let old = places g.L.Lanes g.W.Sink g.N.Sink c.args.lanes.now c.args.output.now c.args.notes.now in
+    let mid = places g.L.Lanes g.W.Sink g.N.Sink c.loop-k.lanes c.loop-k.output c.loop-k.notes in
+    let new = places g.L.Lanes g.W.Sink g.N.Sink c.put_profile.new.lanes c.put_profile.new.output c.put_profile.new.notes in
+    let n : ℕ = c.loop-k.k in
+    let all = c.args.setup.now.profiles in
+    let one = c.in-Some.profile.now in
+    let put = profile_line_of c.args.place (g.P.ProfileStates.states c.args.known.now) in
+    let F : List Put → Type 0 = λ puts. FailsAt puts c.in-Err.end old new in
+    let rest : List Put = for_each put (n + 1) (drop (suc n) all) in
+    subst F (sym (all_each put all n one (sym c.in-Some.ensures.value)))
+    (then_stops (for_each put 0 (take n all)) (put n one ++ rest) c.in-Err.end old mid new c.loop-k.invariant
+    (stops_more (put n one) rest c.in-Err.end mid new c.in-Err.ensures))

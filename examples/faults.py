@@ -1,0 +1,136 @@
+#!/usr/bin/env python3
+"""faults.py PROGRAM: runs each command with each of its allocations, openings, reads and writes failing in turn, and each read and write
+cut to one byte, interrupted, or taking nothing, by a library that is loaded before the program (faults.c, built by `cc`). What the run leaves is
+compared with the table of ends in the README: the exit code, the last line, and files that begin as those of the run without a fault, or
+are the same. It isn't part of the gate. The exit code is the number of commands in which something differs."""
+import os
+import subprocess
+import sys
+import tempfile
+
+HERE = os.path.dirname(os.path.abspath(__file__))
+EXIT_CODES = {"read": 2, "lane": 3, "output": 4, "note": 5, "setup": 6, "memory": 10}
+LAST_LINES = {2: "read failed\n", 3: "lane write failed\n", 4: "output write failed\n", 6: "setup read failed\n", 10: "no memory\n"}
+
+
+def example(name):
+    with open(f"{HERE}/{name}", "rb") as it:
+        return it.read()
+
+
+def words(text):
+    return bytes.fromhex(text)
+
+
+RECORDING = example("mixed.ump") * 400
+STREAM = example("old-keyboard.bytes") * 500
+SETUP = f"{HERE}/endpoint.toml"
+CLIP = b"SMF2CLIP" + words("00300060 F0200000 00000000 00000000 00000000") + words("00400030 40903C00 C9240000") * 300 \
+    + words("F0210000 00000000 00000000 00000000")
+DATA8 = words("50120000 B0B1A0A1 AABB0000 00000000") * 300
+COMMANDS = [
+    (["translate", "down", "--folder", "F"], RECORDING),
+    (["translate", "down", "--folder", "F", "--compact", "--paired"], RECORDING),
+    (["translate", "up"], STREAM),
+    (["translate", "back"], STREAM),
+    (["show"], RECORDING),
+    (["show", "--state"], RECORDING),
+    (["show", "--bytes"], STREAM),
+    (["show", "--bytes", "--state"], STREAM),
+    (["endpoint", SETUP], example("peer.ump") * 300),
+    (["usb", "split", "--folder", "F"], words("09903C64 19914050 04F07E7F 0FF80000 070601F7 1CC10500 00000000") * 400),
+    (["usb", "pack"], STREAM),
+    (["sysex8", "--folder", "F"], DATA8),
+    (["rehearse", SETUP], words("000000 010000 020000 000002 010001 020001 000003 010002 020001")),
+    (["clip"], CLIP),
+    (["selftest", "7", "--packets", "50"], b""),
+]
+
+
+class Left:
+    """What a run leaves: the exit code, the bytes of each lane, of standard output and of standard error."""
+
+    def __init__(self, room, program, library, arguments, given, fault):
+        folder, counts = f"{room}/F", f"{room}/counts"
+        subprocess.run(["rm", "-rf", folder, counts], check=True)
+        os.mkdir(folder)
+        with open(f"{room}/given", "wb") as it:
+            it.write(given)
+        env = {"LD_PRELOAD": library, "FAULT": fault, "COUNTS": counts}
+        with open(f"{room}/given", "rb") as source, open(f"{room}/output", "wb") as output, open(f"{room}/notes", "wb") as notes:
+            ran = subprocess.run([program, *arguments], cwd=room, env=env, stdin=source, stdout=output, stderr=notes, check=False)
+        self.code = ran.returncode
+        with open(counts, encoding="ascii") as it:
+            self.calls, self.met = map(int, it.read().split())
+        self.files = {}
+        for at in sorted(os.listdir(folder)):
+            with open(f"{folder}/{at}", "rb") as it:
+                self.files[at] = it.read()
+        for at in ("output", "notes"):
+            with open(f"{room}/{at}", "rb") as it:
+                self.files[at] = it.read()
+
+
+def object_of(call, met):
+    """The object whose call failed."""
+    if call == "write":
+        return {1: "output", 2: "note"}.get(met, "lane")
+    return {"alloc": "memory", "read": "read", "open": "lane"}[call]
+
+
+def differs(whole, left, call, becomes, arguments):
+    """What differs from the table of ends, or None. A vector that gets no memory to grow by half asks for less, and may get it."""
+    is_same = (left.code, left.files) == (whole.code, whole.files)
+    if becomes in ("short", "again"):
+        return None if is_same else "not as without a fault"
+    if call == "alloc" and is_same:
+        return None
+    wanted = EXIT_CODES[object_of(call, left.met)]
+    if call in ("open", "read") and "F" not in arguments and left.code == EXIT_CODES["setup"]:
+        wanted = EXIT_CODES["setup"]
+    if left.code != wanted:
+        return f"exit code {left.code} for {wanted}"
+    last = LAST_LINES.get(wanted, "").encode()
+    notes = left.files["notes"]
+    if not notes.endswith(last):
+        return f"last line {notes[-40:]!r}"
+    kept = {**left.files, "notes": notes[: len(notes) - len(last)]}
+    for name, held in kept.items():
+        if not whole.files.get(name, b"").startswith(held):
+            return f"{name} holds other bytes"
+    if call == "alloc" and "--state" not in arguments and any(kept.values()):
+        return "something was put, though there was no memory"
+    return None
+
+
+def check(room, program, library, arguments, given):
+    """Tries each fault of a command; says how many there were, and what differs."""
+    whole = Left(room, program, library, arguments, given, "none:0:none")
+    tried, wrong = {}, []
+    for call, ends in (("alloc", ["fail"]), ("open", ["fail"]), ("read", ["fail", "short", "again"]), ("write", ["fail", "none", "short", "again"])):
+        for becomes in ends:
+            for number in range(1, 100000):
+                left = Left(room, program, library, arguments, given, f"{call}:{number}:{becomes}")
+                if left.met < 0:
+                    break
+                tried[call] = tried.get(call, 0) + 1
+                if why := differs(whole, left, call, becomes, arguments):
+                    wrong.append(f"{call} {number} {becomes}: {why}")
+    return tried, wrong
+
+
+def main(program):
+    differ = 0
+    with tempfile.TemporaryDirectory() as room:
+        library = f"{room}/faults.so"
+        subprocess.run(["cc", "-shared", "-fPIC", "-O1", "-o", library, f"{HERE}/faults.c", "-ldl"], check=True)
+        for arguments, given in COMMANDS:
+            tried, wrong = check(room, program, library, arguments, given)
+            told = ", ".join(f"{count} of {call}" for call, count in tried.items())
+            print(" ".join(os.path.basename(it) for it in arguments) + f": {told}", *wrong, sep="\n  ", flush=True)
+            differ += bool(wrong)
+    return differ
+
+
+if __name__ == "__main__":
+    sys.exit(main(os.path.abspath(sys.argv[1])))
