@@ -5,7 +5,7 @@ use std::process::Abort;
 use std::test::Fail;
 use ump_grammar::Packet;
 use voice_messages::{Bank, Form, Param, ParamKind, System, U4, U7, U14, Voice1, Voice2};
-use voice_state::{BadStep, ControlRole, Fact, Registers, VoiceState, is_null_param};
+use voice_state::{ControlRole, Fact, Registers, VoiceState, is_null_param};
 
 fn u4(number: u32) -> U4 {
     U4::low_bits(number)
@@ -793,19 +793,4 @@ fn the_null_parameter(rt: HostRuntime) {
         let param = param(ParamKind::Assignable, bank, index);
         assert_eq!(rt; is_null_param(&param), null, "{bank}/{index}");
     }
-}
-
-// ---- refusals
-
-#[test]
-fn each_refusal_has_its_text(rt: HostRuntime) -> Result<(), Fail> {
-    for (bad, text) in [
-        (BadStep::DataIncrement, "a data increment can't be carried"),
-        (BadStep::DataDecrement, "a data decrement can't be carried"),
-        (BadStep::ExclusiveTooLong, "an exclusive is too long"),
-    ] {
-        let shown = format!(in rt.alloc(); "{bad}")?;
-        assert_eq!(rt; shown.as_str(), text);
-    }
-    Ok(())
 }
