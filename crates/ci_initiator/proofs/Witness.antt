@@ -1,5 +1,5 @@
 -- What is held was told.
-use Rattle.std.proofs.Common.{arith, ◌≡◌, ◌∙◌, ◌%◌, length-append, ap, sym, refl, subst, ℕ, suc, Bool, true, false, not, cond, if◌then◌else◌, ◌==◌, ◌&&◌, ◌||◌, List, [], ◌∷◌, ◌++◌, length, map, Option, Some, None, is_some, option_map, option_and_then, unwrap_or, replicate, true≢false}
+use Rattle.std.proofs.Common.{arith, ◌≡◌, ◌∙◌, ◌%◌, length-append, ap, sym, refl, subst, ℕ, suc, Bool, true, false, not, cond, if◌then◌else◌, ◌==◌, ◌&&◌, ◌||◌, List, [], ◌∷◌, ◌++◌, length, Option, Some, None, is_some, option_map, option_and_then, unwrap_or, replicate, true≢false}
 use Rattle.std.proofs.lemmas.Bool.{eqb-true}
 use Rattle.std.proofs.lemmas.Slice.Eq.{bytes_eq-Decides}
 use Rattle.std.specs.List.{list_any}
@@ -24,6 +24,7 @@ use Rattle.ci_responder.specs.SameKeys.{key-is, key-itself, left, right}
 use Rattle.ci_responder.specs.Messages as said
 use Rattle.ci_responder.specs.Messages.{Said, Told, key_at, place_at}
 use Rattle.ci_responder.specs.Replies.{Sender, payload as reply-bytes, answer_to, channels_of, ids_of, is_listed, listed, message_of_payload, reply_by, reply_to}
+use Rattle.ci_responder.proofs.Histories.{on-same, states_with}
 use Rattle.ci_responder.specs.Rows.{broadcast, heard_by, is_answered, is_discovery, is_for, is_invalidate, is_of_another, is_property, is_report, names, row_of}
 use Rattle.ci_initiator.specs.declared.watch.Watch.{Watch}
 use Rattle.ci_initiator.specs.Incoming.{lists}
@@ -96,9 +97,6 @@ named-id key (p ∷ ps) five named =
     by false same named rest = rest named
 
 -- a profile that is found is one of the profiles
-abbrev states_with : (Key → Option Bool) → List Profile → List (Key × Bool)
-states_with last ps = map (λ p. (key_of p, unwrap_or (last (key_of p)) p.on)) ps
-
 found : (last : Key → Option Bool) (ps : List Profile) (key : Key) (x : Bool) → state_in (states_with last ps) key ≡ Some x → list_any (λ q. same_key key (key_of q)) ps ≡ true
 found last [] key x is = absurd (no-some x is)
 found last (p ∷ ps) key x is = by (same_key key (key_of p)) is (found last ps key x)
@@ -179,16 +177,6 @@ fives last (p ∷ ps) b n place five =
     by : (c : Bool) → length (ids_of b n place (states_with last ps)) % 5 ≡ 0 → length ((if c then p.id else []) ++ ids_of b n place (states_with last ps)) % 5 ≡ 0
     by false later = later
     by true later = omega (arith, later, five 0 p (omega arith), length-append p.id (ids_of b n place (states_with last ps)))
-
--- what is held of a profile is its last switch, or the setup's
-on-by : (last : Key → Option Bool) (key here : Key) (on : Bool) (b : Bool) → same_key key here ≡ b → (some before : Option Bool) → some ≡ option_map (unwrap_or (last key)) before →
-    cond b (Some (unwrap_or (last here) on)) some ≡ option_map (unwrap_or (last key)) (cond b (Some on) before)
-on-by last key here on true same some before rest = ap (λ k. Some (unwrap_or (last k) on)) (sym (key-is key here same))
-on-by last key here on false same some before rest = rest
-
-on-same : (last : Key → Option Bool) (ps : List Profile) (key : Key) → state_in (states_with last ps) key ≡ option_map (unwrap_or (last key)) (state_in (first_states ps) key)
-on-same last [] key = refl
-on-same last (p ∷ ps) key = on-by last key (key_of p) p.on (same_key key (key_of p)) refl (state_in (states_with last ps) key) (state_in (first_states ps) key) (on-same last ps key)
 
 -- ---- addresses
 

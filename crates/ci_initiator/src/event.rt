@@ -30,9 +30,9 @@ pub enum Told {
 #[derive(Clone, Copy, Debug, PartialEq, Eq, Error)]
 pub enum EventFault {
     /// It is of no kind, or there is no such message or watch, or the initiator asks a peer and knows none.
-    #[error("the event asks for what isn't there")]
+    #[error("the event is of no kind, or asks for what is not there")]
     BadEvent,
     /// There are 1,024 messages already where its message would be kept.
-    #[error("there are 1,024 messages already")]
+    #[error("the side that would send has sent 1,024 messages already")]
     TooMany,
 }

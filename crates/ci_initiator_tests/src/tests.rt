@@ -1,89 +1,28 @@
 // Messages by hand from the tables of M2-101-UM, and rehearsals with a responder of one block and one profile.
-ghost use Rattle.std.specs.Prelude.{IfSome};
-ghost use Rattle.ci_messages.specs.Reading.{IsExclusive};
-
 use ci_initiator::{Ask, EventFault, Initiator, Noted, Rehearsal, Told, Watch};
 use ci_messages::laws::views_that_are_read_fit;
-use ci_messages::{Address, ProfileId, read};
+use ci_messages::{Address, read};
 use ci_responder::{Heard, Key};
+use endpoint_fixtures::{
+    BROADCAST, CiMessage, DEMO_SETUP, DISCOVERY_REPLY, Muid, OTHER_PROFILE, PROFILE, SECOND_MUID,
+    profile_id,
+};
 use function_blocks::{Place, Setup};
 use midi_edge::ShortList;
-use std::alloc::{AllocError, Global};
+use std::alloc::Global;
 use std::test::Fail;
-use voice_messages::{U4, U7};
-
-// A block with MIDI-CI on group 0, and a profile of it.
-const LINES: [&str; 29] = [
-    "[endpoint]",
-    "name = \"Demo Endpoint X\"",
-    "id = \"SN-0001\"",
-    "manufacturer = [125, 0, 0]",
-    "family = 1",
-    "model = 2",
-    "revision = [1, 0, 0, 0]",
-    "midi1 = true",
-    "midi2 = true",
-    "protocol = 2",
-    "static = true",
-    "[[block]]",
-    "active = true",
-    "name = \"Main\"",
-    "hint = 3",
-    "midi1 = 0",
-    "direction = 3",
-    "first = 0",
-    "count = 1",
-    "ci = 2",
-    "sysex8 = 0",
-    "muids = [19088743, 300]",
-    "[[profile]]",
-    "block = 0",
-    "place = \"channel\"",
-    "group = 0",
-    "channel = 2",
-    "id = [126, 0, 1, 1, 0]",
-    "on = false",
-];
-
-fn text(alloc: Global) -> Result<Vec<u8>, AllocError> {
-    let mut text = Vec::new(alloc);
-    for line in LINES.iter() {
-        text.extend_from_slice(line.as_bytes())?;
-        text.push(b'\n')?;
-    }
-    Ok(text)
-}
+use voice_messages::U4;
 
 fn opened(alloc: Global) -> Option<Rehearsal> {
-    let Ok(text) = text(alloc) else {
-        return None;
-    };
-    let Ok(setup) = Setup::read(alloc, text.as_slice()) else {
-        return None;
-    };
-    match Rehearsal::new(alloc, &setup) {
-        Ok(rehearsal) => Some(rehearsal),
-        Err(_) => None,
-    }
-}
-
-fn id_of_profile() -> ProfileId {
-    ProfileId {
-        bytes: [
-            U7::low_bits(0x7E),
-            U7::low_bits(0x00),
-            U7::low_bits(0x01),
-            U7::low_bits(0x01),
-            U7::low_bits(0x00),
-        ],
-    }
+    let setup = Setup::read(alloc, DEMO_SETUP.as_bytes()).ok()?;
+    Rehearsal::new(alloc, &setup).ok()
 }
 
 fn profile_key() -> Key {
     Key {
         block: 0,
         place: Place::Channel(U4::low_bits(0), U4::low_bits(2)),
-        id: id_of_profile(),
+        id: profile_id(),
     }
 }
 
@@ -95,6 +34,15 @@ fn are_told(rehearsal: &mut Rehearsal, events: &[(u8, u16, Told)]) -> bool {
         }
     }
     true
+}
+
+// What a rehearsal holds of a watch; `None` too where there is no such watch.
+fn holds(rehearsal: &Rehearsal, k: usize) -> Option<bool> {
+    if k < rehearsal.watches() {
+        rehearsal.holds(k)
+    } else {
+        None
+    }
 }
 
 const SWITCHED_ON: [(u8, u16, Told); 6] = [
@@ -113,15 +61,6 @@ fn a_profile_is_switched_on(rt: HostRuntime) {
     assert!(rt; are_told(&mut rehearsal, &SWITCHED_ON));
     assert_eq!(rt; holds(&rehearsal, 0), Some(true));
     assert_eq!(rt; rehearsal.profile_is_on(&profile_key()), Some(true));
-}
-
-// What is held of a watch; `None` too where there is no such watch.
-fn holds(rehearsal: &Rehearsal, k: usize) -> Option<bool> {
-    if k < rehearsal.watches() {
-        rehearsal.holds(k)
-    } else {
-        None
-    }
 }
 
 // The report of the first switch comes again, after the second one: it is believed, and the responder's profile is off.
@@ -195,25 +134,12 @@ fn too_many_messages(rt: HostRuntime) {
 
 // ---- the initiator alone
 
-type Muid = [u8; 4];
-
 // 1, the initiator's own; 300, the peer's; and 77.
 const OWN: Muid = [0x01, 0x00, 0x00, 0x00];
 
-const PEER: Muid = [0x2C, 0x02, 0x00, 0x00];
+const PEER: Muid = SECOND_MUID;
 
 const OTHER: Muid = [0x4D, 0x00, 0x00, 0x00];
-
-const ALL: Muid = [0x7F, 0x7F, 0x7F, 0x7F];
-
-const DEVICE: [u8; 18] = [
-    0x7D, 0x00, 0x00, 0x01, 0x00, 0x02, 0x00, 0x01, 0x00, 0x00, 0x00, 0x04, 0x00, 0x02, 0x00, 0x00,
-    0x00, 0x00,
-];
-
-const PROFILE: [u8; 7] = [0x7E, 0x00, 0x01, 0x01, 0x00, 0x01, 0x00];
-
-const OTHER_PROFILE: [u8; 7] = [0x7E, 0x00, 0x01, 0x02, 0x00, 0x01, 0x00];
 
 // One profile on and two off; and the same the other way round.
 const ON_OFF: [u8; 19] = [
@@ -225,21 +151,15 @@ const OFF: [u8; 14] = [
     0x01, 0x00, 0x7E, 0x00, 0x01, 0x02, 0x00, 0x01, 0x00, 0x7E, 0x00, 0x01, 0x01, 0x00,
 ];
 
-#[derive(Drop)]
-struct Delivery {
-    group: u8,
+// A message of version 02.
+fn came<'a>(
     address: u8,
     sub: u8,
-    version: u8,
     source: Muid,
     destination: Muid,
-    body: &'static [u8],
-}
-
-// A message of version 02 on group 0.
-fn came(address: u8, sub: u8, source: Muid, destination: Muid, body: &'static [u8]) -> Delivery {
-    Delivery {
-        group: 0,
+    body: &'a [u8],
+) -> CiMessage<'a> {
+    CiMessage {
         address,
         sub,
         version: 2,
@@ -249,39 +169,18 @@ fn came(address: u8, sub: u8, source: Muid, destination: Muid, body: &'static [u
     }
 }
 
-// The exclusive of a message; `None` where a byte isn't a data byte, or there are too many.
-fn framed(came: &Delivery) -> Option<ShortList<u8, 512>>
-    ensures { IfSome result IsExclusive }
-{
-    let mut payload = ShortList::<u8, 510>::new();
-    if came.body.len() > 400 {
-        return None;
-    }
-    payload.extend(&[0x7E, came.address, 0x0D]);
-    payload.extend(&[came.sub, came.version]);
-    payload.extend(&came.source);
-    payload.extend(&came.destination);
-    payload.extend(came.body);
-    if payload.as_slice().iter().any(|byte| *byte >= 128) {
-        return None;
-    }
-    let mut message = ShortList::new();
-    message.push(0xF0);
-    message.extend(payload.as_slice());
-    message.push(0xF7);
-    Some(message)
-}
-
-// What is noted of a message; `None` where it isn't one.
-fn noted(initiator: &mut Initiator, came: &Delivery) -> Option<Noted> {
-    let Some(message) = framed(came) else {
-        return None;
-    };
+// What is noted of a message on this group; `None` where it isn't one.
+fn noted_on(initiator: &mut Initiator, group: u32, came: &CiMessage<'_>) -> Option<Noted> {
+    let message = came.exclusive()?;
     views_that_are_read_fit();
     match read(message.as_slice()) {
-        Ok(view) => Some(initiator.hear(U4::low_bits(u32::from(came.group)), &view)),
+        Ok(view) => Some(initiator.hear(U4::low_bits(group), &view)),
         Err(_) => None,
     }
+}
+
+fn noted(initiator: &mut Initiator, came: &CiMessage<'_>) -> Option<Noted> {
+    noted_on(initiator, 0, came)
 }
 
 // An initiator of the MUID 1 that watches one profile of channel 2 on group 0, and the same of that group.
@@ -289,19 +188,17 @@ fn watching(alloc: Global) -> Option<Initiator> {
     let channel = Watch {
         group: U4::low_bits(0),
         address: Address::Channel(U4::low_bits(2)),
-        id: id_of_profile(),
+        id: profile_id(),
     };
     let group = Watch {
         group: U4::low_bits(0),
         address: Address::Group,
-        id: id_of_profile(),
+        id: profile_id(),
     };
-    match Initiator::new(alloc, 1, &[channel, group]) {
-        Ok(initiator) => Some(initiator),
-        Err(_) => None,
-    }
+    Initiator::new(alloc, 1, &[channel, group]).ok()
 }
 
+// The same of an initiator.
 fn held(initiator: &Initiator, k: usize) -> Option<bool> {
     if k < initiator.watches() {
         initiator.holds(k)
@@ -313,16 +210,16 @@ fn held(initiator: &Initiator, k: usize) -> Option<bool> {
 #[test]
 fn the_first_device_that_replies_is_the_peer(rt: HostRuntime) {
     let mut initiator = watching(rt.alloc()).expect(&rt, "no memory");
-    let report = came(0x02, 0x24, PEER, ALL, &PROFILE);
+    let report = came(0x02, 0x24, PEER, BROADCAST, &PROFILE);
     assert_eq!(rt; noted(&mut initiator, &report), Some(Noted::Other));
-    let own = came(0x7F, 0x71, OWN, OWN, &DEVICE);
+    let own = came(0x7F, 0x71, OWN, OWN, &DISCOVERY_REPLY);
     assert_eq!(rt; noted(&mut initiator, &own), Some(Noted::Other));
-    let elsewhere = came(0x7F, 0x71, PEER, OTHER, &DEVICE);
+    let elsewhere = came(0x7F, 0x71, PEER, OTHER, &DISCOVERY_REPLY);
     assert_eq!(rt; noted(&mut initiator, &elsewhere), Some(Noted::Other));
     assert_eq!(rt; initiator.peer(), None);
-    let peer = came(0x7F, 0x71, PEER, OWN, &DEVICE);
+    let peer = came(0x7F, 0x71, PEER, OWN, &DISCOVERY_REPLY);
     assert_eq!(rt; noted(&mut initiator, &peer), Some(Noted::Peer));
-    let other = came(0x7F, 0x71, OTHER, OWN, &DEVICE);
+    let other = came(0x7F, 0x71, OTHER, OWN, &DISCOVERY_REPLY);
     assert_eq!(rt; noted(&mut initiator, &other), Some(Noted::Other));
     assert_eq!(rt; noted(&mut initiator, &peer), Some(Noted::Peer));
     assert_eq!(rt; initiator.peer(), Some(300));
@@ -331,29 +228,27 @@ fn the_first_device_that_replies_is_the_peer(rt: HostRuntime) {
 #[test]
 fn what_the_peer_reports_is_held(rt: HostRuntime) {
     let mut initiator = watching(rt.alloc()).expect(&rt, "no memory");
-    let peer = came(0x7F, 0x71, PEER, OWN, &DEVICE);
+    let peer = came(0x7F, 0x71, PEER, OWN, &DISCOVERY_REPLY);
     assert_eq!(rt; noted(&mut initiator, &peer), Some(Noted::Peer));
-    let mut on = came(0x02, 0x24, PEER, ALL, &PROFILE);
+    let mut on = came(0x02, 0x24, PEER, BROADCAST, &PROFILE);
     on.version = 0;
     assert_eq!(rt; noted(&mut initiator, &on), Some(Noted::Other));
     on.version = 2;
-    on.group = 1;
-    assert_eq!(rt; noted(&mut initiator, &on), Some(Noted::Other));
-    on.group = 0;
+    assert_eq!(rt; noted_on(&mut initiator, 1, &on), Some(Noted::Other));
     assert_eq!(rt; held(&initiator, 0), None);
     assert_eq!(rt; noted(&mut initiator, &on), Some(Noted::Told(0)));
     assert_eq!(rt; held(&initiator, 0), Some(true));
     assert_eq!(rt; held(&initiator, 1), None);
     for unheard in [
-        came(0x02, 0x25, OTHER, ALL, &PROFILE),
-        came(0x02, 0x25, PEER, ALL, &OTHER_PROFILE),
-        came(0x03, 0x25, PEER, ALL, &PROFILE),
+        came(0x02, 0x25, OTHER, BROADCAST, &PROFILE),
+        came(0x02, 0x25, PEER, BROADCAST, &OTHER_PROFILE),
+        came(0x03, 0x25, PEER, BROADCAST, &PROFILE),
         came(0x02, 0x22, PEER, OWN, &PROFILE),
     ] {
         assert_eq!(rt; noted(&mut initiator, &unheard), Some(Noted::Other));
     }
     assert_eq!(rt; held(&initiator, 0), Some(true));
-    let off = came(0x7E, 0x25, PEER, ALL, &PROFILE);
+    let off = came(0x7E, 0x25, PEER, BROADCAST, &PROFILE);
     assert_eq!(rt; noted(&mut initiator, &off), Some(Noted::Told(1)));
     assert_eq!(rt; held(&initiator, 0), Some(true));
     assert_eq!(rt; held(&initiator, 1), Some(false));
@@ -363,7 +258,7 @@ fn what_the_peer_reports_is_held(rt: HostRuntime) {
 #[test]
 fn inventories_are_of_a_place(rt: HostRuntime) {
     let mut initiator = watching(rt.alloc()).expect(&rt, "no memory");
-    let peer = came(0x7F, 0x71, PEER, OWN, &DEVICE);
+    let peer = came(0x7F, 0x71, PEER, OWN, &DISCOVERY_REPLY);
     assert_eq!(rt; noted(&mut initiator, &peer), Some(Noted::Peer));
     let both = came(0x02, 0x21, PEER, OWN, &ON_OFF);
     assert_eq!(rt; noted(&mut initiator, &both), Some(Noted::Inventory));
@@ -380,14 +275,14 @@ fn inventories_are_of_a_place(rt: HostRuntime) {
 #[test]
 fn nothing_is_held_of_a_peer_that_is_gone(rt: HostRuntime) {
     let mut initiator = watching(rt.alloc()).expect(&rt, "no memory");
-    let peer = came(0x7F, 0x71, PEER, OWN, &DEVICE);
+    let peer = came(0x7F, 0x71, PEER, OWN, &DISCOVERY_REPLY);
     assert_eq!(rt; noted(&mut initiator, &peer), Some(Noted::Peer));
-    let on = came(0x02, 0x24, PEER, ALL, &PROFILE);
+    let on = came(0x02, 0x24, PEER, BROADCAST, &PROFILE);
     assert_eq!(rt; noted(&mut initiator, &on), Some(Noted::Told(0)));
-    let another = came(0x7F, 0x7E, PEER, ALL, &OTHER);
+    let another = came(0x7F, 0x7E, PEER, BROADCAST, &OTHER);
     assert_eq!(rt; noted(&mut initiator, &another), Some(Noted::Other));
     assert_eq!(rt; held(&initiator, 0), Some(true));
-    let gone = came(0x7F, 0x7E, OTHER, ALL, &PEER);
+    let gone = came(0x7F, 0x7E, OTHER, BROADCAST, &PEER);
     assert_eq!(rt; noted(&mut initiator, &gone), Some(Noted::Gone));
     assert_eq!(rt; initiator.peer(), None);
     assert_eq!(rt; held(&initiator, 0), None);
@@ -414,7 +309,7 @@ fn the_messages_that_ask(rt: HostRuntime) {
     ];
     assert!(rt; is_asked(&initiator, Ask::Discover, &discovery));
     assert!(rt; !initiator.can_ask(Ask::On(0)));
-    let peer = came(0x7F, 0x71, PEER, OWN, &DEVICE);
+    let peer = came(0x7F, 0x71, PEER, OWN, &DISCOVERY_REPLY);
     assert_eq!(rt; noted(&mut initiator, &peer), Some(Noted::Peer));
     let inquiry = [
         0xF0, 0x7E, 0x02, 0x0D, 0x20, 0x02, 0x01, 0x00, 0x00, 0x00, 0x2C, 0x02, 0x00, 0x00, 0xF7,
@@ -441,8 +336,14 @@ fn the_messages_that_ask(rt: HostRuntime) {
 #[test]
 fn each_fault_has_its_text(rt: HostRuntime) -> Result<(), Fail> {
     for (fault, text) in [
-        (EventFault::BadEvent, "the event asks for what isn't there"),
-        (EventFault::TooMany, "there are 1,024 messages already"),
+        (
+            EventFault::BadEvent,
+            "the event is of no kind, or asks for what is not there",
+        ),
+        (
+            EventFault::TooMany,
+            "the side that would send has sent 1,024 messages already",
+        ),
     ] {
         let shown = format!(in rt.alloc(); "{fault}")?;
         assert_eq!(rt; shown.as_str(), text);

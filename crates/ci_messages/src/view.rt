@@ -163,12 +163,12 @@ pub enum CiFault {
     #[error("the exclusive is not MIDI-CI")]
     NotCi,
     /// It ends before its destination does, or before a field of its body does.
-    #[error("the message is shorter than its fields")]
+    #[error("the message ends before its fields do")]
     Short,
     /// Its address is none of 00 to 0F, 7E and 7F.
     #[error("the address is neither a channel, the group nor the function block")]
     BadAddress,
     /// Its source is 0FFFFF00 or above: reserved, or broadcast.
-    #[error("the source is a reserved MUID")]
+    #[error("the source is a reserved or broadcast MUID")]
     ReservedMuid,
 }

@@ -1,45 +1,25 @@
 // Messages by hand from the tables of M2-101-UM: read and written, cut short, and refused.
-ghost use Rattle.std.specs.Prelude.{◌≤◌, length, IfSome};
+ghost use Rattle.std.specs.Prelude.{◌≤◌, length};
 ghost use Rattle.ci_messages.specs.Fields.{IsData};
-ghost use Rattle.ci_messages.specs.Reading.{IsExclusive};
 ghost use Rattle.ci_messages.specs.Writing.{IsView, message_bytes};
 
 use ci_messages::*;
+use endpoint_fixtures::{CiMessage, FIRST_MUID, PEER, framed, profile_id};
 use midi_edge::ShortList;
 use std::test::Fail;
 use voice_messages::{U4, U7};
 
-// What comes before the sub-id and after the version: from MUID 5 to 19088743, at channel 2.
-const BEFORE_SUB: [u8; 3] = [0x7E, 0x02, 0x0D];
-
-const AFTER_VERSION: [u8; 8] = [0x05, 0x00, 0x00, 0x00, 0x67, 0x0A, 0x0D, 0x09];
-
-// The exclusive with these bytes between F0 and F7; `None` where they aren't data bytes, or more than 510.
-fn framed(payload: &[u8]) -> Option<ShortList<u8, 512>>
-    ensures { IfSome result IsExclusive }
-{
-    if payload.len() > 510 || payload.iter().any(|byte| *byte >= 128) {
-        return None;
-    }
-    let mut message = ShortList::new();
-    message.push(0xF0);
-    message.extend(payload);
-    message.push(0xF7);
-    Some(message)
-}
-
-// The bytes between F0 and F7 of a message with a body; `None` where there are more than 510.
+// The bytes between F0 and F7 of a message with a body, from MUID 5 to 19088743 at channel 2; `None` where there are more than 510.
 fn payload(sub: u8, version: u8, body: &[u8]) -> Option<ShortList<u8, 510>> {
-    if body.len() > 497 {
-        return None;
-    }
-    let mut payload = ShortList::new();
-    payload.extend(&BEFORE_SUB);
-    payload.push(sub);
-    payload.push(version);
-    payload.extend(&AFTER_VERSION);
-    payload.extend(body);
-    Some(payload)
+    let message = CiMessage {
+        address: 0x02,
+        sub,
+        version,
+        source: PEER,
+        destination: FIRST_MUID,
+        body,
+    };
+    message.payload()
 }
 
 // A view of a message with a body, of version 02 unless another is given.
@@ -250,15 +230,7 @@ fn worked_messages(rt: HostRuntime) {
     };
     assert!(rt; is_read(&DISCOVERY, &discovery));
     assert!(rt; is_written(&discovery, &DISCOVERY));
-    let id = ProfileId {
-        bytes: [
-            U7::low_bits(126),
-            U7::low_bits(0),
-            U7::low_bits(1),
-            U7::low_bits(1),
-            U7::low_bits(0),
-        ],
-    };
+    let id = profile_id();
     let set_on = view_of!(0x22, Body::SetOn { id, channels: 1 });
     assert!(rt; is_read(&SET_ON, &set_on));
     assert!(rt; is_written(&set_on, &SET_ON));
@@ -594,12 +566,15 @@ fn the_first_fault(rt: HostRuntime) {
 fn each_fault_has_its_text(rt: HostRuntime) -> Result<(), Fail> {
     for (fault, text) in [
         (CiFault::NotCi, "the exclusive is not MIDI-CI"),
-        (CiFault::Short, "the message is shorter than its fields"),
+        (CiFault::Short, "the message ends before its fields do"),
         (
             CiFault::BadAddress,
             "the address is neither a channel, the group nor the function block",
         ),
-        (CiFault::ReservedMuid, "the source is a reserved MUID"),
+        (
+            CiFault::ReservedMuid,
+            "the source is a reserved or broadcast MUID",
+        ),
     ] {
         let shown = format!(in rt.alloc(); "{fault}")?;
         assert_eq!(rt; shown.as_str(), text);

@@ -84,7 +84,7 @@ blocks-by true spent k bs =
 blocks-by false spent k bs = kept-same spent (λ m. if (k == m) && false then spent m + 1 else spent m) 0 bs (λ m later. none-at (k == m) (spent m))
 
 -- profiles
-abbrev states_with : (Key → Option Bool) → List Profile → List (Key × Bool)
+abbrev pub states_with : (Key → Option Bool) → List Profile → List (Key × Bool)
 states_with last ps = map (λ p. (key_of p, unwrap_or (last (key_of p)) p.on)) ps
 
 named-by : (b one two : Bool) (some before : Option Bool) → is_some some ≡ is_some before → is_some (cond b (Some one) some) ≡ is_some (cond b (Some two) before)
@@ -109,7 +109,8 @@ on-by : (last : Key → Option Bool) (key here : Key) (on : Bool) (b : Bool) →
 on-by last key here on true same some before rest = ap (λ k. Some (unwrap_or (last k) on)) (sym (key-is key here same))
 on-by last key here on false same some before rest = rest
 
-on-same : (last : Key → Option Bool) (ps : List Profile) (key : Key) → state_in (states_with last ps) key ≡ option_map (unwrap_or (last key)) (state_in (first_states ps) key)
+-- what is held of a profile is its last switch, or the setup's
+pub on-same : (last : Key → Option Bool) (ps : List Profile) (key : Key) → state_in (states_with last ps) key ≡ option_map (unwrap_or (last key)) (state_in (first_states ps) key)
 on-same last [] key = refl
 on-same last (p ∷ ps) key = on-by last key (key_of p) p.on (same_key key (key_of p)) refl (state_in (states_with last ps) key) (state_in (first_states ps) key) (on-same last ps key)
 

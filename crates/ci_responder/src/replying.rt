@@ -170,8 +170,8 @@ impl Responder {
             Body::Discovery { path, .. } => self.tell_device(owner, view, *path, reply),
             Body::EndpointInquiry { .. } => self.tell_product_id(owner, view, reply),
             Body::ProfileInquiry => self.tell_profiles(owner, view, reply),
-            Body::SetOn { id, .. } => self.report_on(owner, view, *id, reply),
-            Body::SetOff { id } => self.report_off(owner, view, *id, reply),
+            Body::SetOn { id, .. } => self.report(owner, view, *id, true, reply),
+            Body::SetOff { id } => self.report(owner, view, *id, false, reply),
             _ => {}
         }
     }
@@ -274,12 +274,13 @@ impl Responder {
         put_message(&message, reply);
     }
 
-    // Reports for all that a profile is on.
-    fn report_on(
+    // Reports for all that a profile is on, or that it is off.
+    fn report(
         &self,
         owner: &Owner,
         view: &CiView<'_>,
         id: ProfileId,
+        on: bool,
         reply: &mut ShortList<u8, 512>,
     )
         requires view { IsView view.now }
@@ -288,49 +289,31 @@ impl Responder {
         requires empty { reply.old ≡ [] }
         ensures message { reply.new ≡ message_of_reply
             (answer_to (sender_of self.now owner.now.block owner.now.muid)
-            (told_of owner.now.group view.now) (switch id true)) }
+            (told_of owner.now.group view.now) (switch id on)) }
         ensures reply { IsReply reply.new }
     {
         let version = reply_version(view);
         let channels = channels_of(version, view.address);
-        let message = CiView {
-            address: view.address,
-            sub: 0x24,
-            version,
-            source: owner.muid,
-            destination: BROADCAST,
-            body: Body::EnabledReport { id, channels },
-        };
-        put_message(&message, reply);
-    }
-
-    // Reports for all that a profile is off.
-    fn report_off(
-        &self,
-        owner: &Owner,
-        view: &CiView<'_>,
-        id: ProfileId,
-        reply: &mut ShortList<u8, 512>,
-    )
-        requires view { IsView view.now }
-        requires muid { owner.now.muid < 0x0FFFFF00 }
-        requires id { (length id.bytes ≡ 5) × IsData id.bytes }
-        requires empty { reply.old ≡ [] }
-        ensures message { reply.new ≡ message_of_reply
-            (answer_to (sender_of self.now owner.now.block owner.now.muid)
-            (told_of owner.now.group view.now) (switch id false)) }
-        ensures reply { IsReply reply.new }
-    {
-        let version = reply_version(view);
-        let channels = channels_of(version, view.address);
-        let message = CiView {
-            address: view.address,
-            sub: 0x25,
-            version,
-            source: owner.muid,
-            destination: BROADCAST,
-            body: Body::DisabledReport { id, channels },
-        };
-        put_message(&message, reply);
+        if on {
+            let message = CiView {
+                address: view.address,
+                sub: 0x24,
+                version,
+                source: owner.muid,
+                destination: BROADCAST,
+                body: Body::EnabledReport { id, channels },
+            };
+            put_message(&message, reply);
+        } else {
+            let message = CiView {
+                address: view.address,
+                sub: 0x25,
+                version,
+                source: owner.muid,
+                destination: BROADCAST,
+                body: Body::DisabledReport { id, channels },
+            };
+            put_message(&message, reply);
+        }
     }
 }

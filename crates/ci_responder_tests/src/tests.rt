@@ -1,124 +1,42 @@
 // Messages by hand from the tables of M2-101-UM, heard by a responder of one block with two MUIDs and one profile.
-ghost use Rattle.std.specs.Prelude.{IfSome};
-ghost use Rattle.ci_messages.specs.Reading.{IsExclusive};
-
 use ci_messages::laws::views_that_are_read_fit;
 use ci_messages::read;
 use ci_responder::*;
+use endpoint_fixtures::{
+    BROADCAST, CiMessage, DEMO_SETUP, DISCOVERY_REPLY, FIRST_MUID, Muid, OTHER_PROFILE, PEER,
+    PROFILE, SECOND_MUID, profile_id,
+};
 use function_blocks::Setup;
-use midi_edge::{ShortList, U4};
-use std::alloc::{AllocError, Global};
+use midi_edge::U4;
+use std::alloc::Global;
 use ump_grammar::Replies;
-use voice_messages::U7;
 
-// A block with MIDI-CI on group 0, an inactive one on group 1, and a profile of the first.
-const LINES: [&str; 40] = [
-    "[endpoint]",
-    "name = \"Demo Endpoint X\"",
-    "id = \"SN-0001\"",
-    "manufacturer = [125, 0, 0]",
-    "family = 1",
-    "model = 2",
-    "revision = [1, 0, 0, 0]",
-    "midi1 = true",
-    "midi2 = true",
-    "protocol = 2",
-    "static = true",
-    "[[block]]",
-    "active = true",
-    "name = \"Main\"",
-    "hint = 3",
-    "midi1 = 0",
-    "direction = 3",
-    "first = 0",
-    "count = 1",
-    "ci = 2",
-    "sysex8 = 0",
-    "muids = [19088743, 300]",
-    "[[block]]",
-    "active = false",
-    "name = \"Spare\"",
-    "hint = 3",
-    "midi1 = 0",
-    "direction = 3",
-    "first = 1",
-    "count = 1",
-    "ci = 2",
-    "sysex8 = 0",
-    "muids = [77]",
-    "[[profile]]",
-    "block = 0",
-    "place = \"channel\"",
-    "group = 0",
-    "channel = 2",
-    "id = [126, 0, 1, 1, 0]",
-    "on = false",
-];
+// A second block, which is inactive and on group 1.
+const SPARE_BLOCK: &str = "\
+[[block]]
+active = false
+name = \"Spare\"
+hint = 3
+midi1 = 0
+direction = 3
+first = 1
+count = 1
+ci = 2
+sysex8 = 0
+muids = [77]
+";
 
 const ROOM: u32 = 1_048_576;
-
-type Muid = [u8; 4];
-
-const PEER: Muid = [0x05, 0x00, 0x00, 0x00];
-
-// 19088743 and 300, the block's own.
-const FIRST: Muid = [0x67, 0x0A, 0x0D, 0x09];
-
-const SECOND: Muid = [0x2C, 0x02, 0x00, 0x00];
-
-const ALL: Muid = [0x7F, 0x7F, 0x7F, 0x7F];
-
-const DISCOVERY: [u8; 17] = [
-    0x7D, 0x00, 0x00, 0x01, 0x00, 0x02, 0x00, 0x01, 0x00, 0x00, 0x00, 0x04, 0x00, 0x02, 0x00, 0x00,
-    0x00,
-];
-
-const PROFILE: [u8; 7] = [0x7E, 0x00, 0x01, 0x01, 0x00, 0x01, 0x00];
-
-const OTHER_PROFILE: [u8; 7] = [0x7E, 0x00, 0x01, 0x02, 0x00, 0x01, 0x00];
-
-#[derive(Drop)]
-struct Sent {
-    address: u8,
-    sub: u8,
-    version: u8,
-    source: Muid,
-    destination: Muid,
-    body: &'static [u8],
-}
-
-// The exclusive of a message; `None` where a byte isn't a data byte, or there are too many.
-fn framed(sent: &Sent) -> Option<ShortList<u8, 512>>
-    ensures { IfSome result IsExclusive }
-{
-    let mut payload = ShortList::<u8, 510>::new();
-    if sent.body.len() > 400 {
-        return None;
-    }
-    payload.extend(&[0x7E, sent.address, 0x0D]);
-    payload.extend(&[sent.sub, sent.version]);
-    payload.extend(&sent.source);
-    payload.extend(&sent.destination);
-    payload.extend(sent.body);
-    if payload.as_slice().iter().any(|byte| *byte >= 128) {
-        return None;
-    }
-    let mut message = ShortList::new();
-    message.push(0xF0);
-    message.extend(payload.as_slice());
-    message.push(0xF7);
-    Some(message)
-}
 
 // Whether a message is heard so, and answered by these words.
 fn is_heard(
     responder: &mut Responder,
     group: u8,
-    sent: &Sent,
+    sent: &CiMessage<'_>,
     expected: Heard,
     words: &[u32],
 ) -> bool {
-    let Some(message) = framed(sent) else {
+    let Some(message) = sent.exclusive() else {
         return false;
     };
     views_that_are_read_fit();
@@ -133,20 +51,20 @@ fn is_heard(
 }
 
 // Discovery to all.
-fn discovery(source: Muid) -> Sent {
-    Sent {
+fn discovery(source: Muid) -> CiMessage<'static> {
+    CiMessage {
         address: 0x7F,
         sub: 0x70,
         version: 0x02,
         source,
-        destination: ALL,
-        body: &DISCOVERY,
+        destination: BROADCAST,
+        body: &DISCOVERY_REPLY[..17],
     }
 }
 
 // A message of version 02 from the peer.
-fn from_peer(address: u8, sub: u8, destination: Muid, body: &'static [u8]) -> Sent {
-    Sent {
+fn from_peer<'a>(address: u8, sub: u8, destination: Muid, body: &'a [u8]) -> CiMessage<'a> {
+    CiMessage {
         address,
         sub,
         version: 0x02,
@@ -156,41 +74,17 @@ fn from_peer(address: u8, sub: u8, destination: Muid, body: &'static [u8]) -> Se
     }
 }
 
-fn text(alloc: Global) -> Result<Vec<u8>, AllocError> {
-    let mut text = Vec::new(alloc);
-    for line in LINES.iter() {
-        text.extend_from_slice(line.as_bytes())?;
-        text.push(b'\n')?;
-    }
-    Ok(text)
-}
-
 fn opened(alloc: Global) -> Option<Responder> {
-    let Ok(text) = text(alloc) else {
-        return None;
-    };
-    let Ok(setup) = Setup::read(alloc, text.as_slice()) else {
-        return None;
-    };
-    match Responder::new(alloc, &setup, ROOM) {
-        Ok(responder) => Some(responder),
-        Err(_) => None,
-    }
+    let text = format!(in alloc; "{DEMO_SETUP}{SPARE_BLOCK}").ok()?;
+    let setup = Setup::read(alloc, text.as_bytes()).ok()?;
+    Responder::new(alloc, &setup, ROOM).ok()
 }
 
 fn profile_key(channel: u32) -> Key {
     Key {
         block: 0,
         place: Place::Channel(U4::low_bits(0), U4::low_bits(channel)),
-        id: ProfileId {
-            bytes: [
-                U7::low_bits(0x7E),
-                U7::low_bits(0x00),
-                U7::low_bits(0x01),
-                U7::low_bits(0x01),
-                U7::low_bits(0x00),
-            ],
-        },
+        id: profile_id(),
     }
 }
 
@@ -212,19 +106,19 @@ fn inquiries_are_answered(rt: HostRuntime) {
         0x30167E7F, 0x0D730267, 0x30260A0D, 0x09050000, 0x30260000, 0x0700534E, 0x30352D30,
         0x30303100,
     ];
-    let endpoint = from_peer(0x7F, 0x72, FIRST, &[0]);
+    let endpoint = from_peer(0x7F, 0x72, FIRST_MUID, &[0]);
     assert!(rt; is_heard(&mut responder, 0, &endpoint, Heard::Answered, &product_id));
     let refused = [
         0x30167E7F, 0x0D7F0267, 0x30260A0D, 0x09050000, 0x30260040, 0x00000000, 0x30350000,
         0x00000000,
     ];
-    let process = from_peer(0x7F, 0x40, FIRST, &[]);
+    let process = from_peer(0x7F, 0x40, FIRST_MUID, &[]);
     assert!(rt; is_heard(&mut responder, 0, &process, Heard::Nak, &refused));
     let profiles = [
         0x30167E02, 0x0D210267, 0x30260A0D, 0x09050000, 0x30260000, 0x0001007E, 0x30340001,
         0x01000000,
     ];
-    let inquiry = from_peer(0x02, 0x20, FIRST, &[]);
+    let inquiry = from_peer(0x02, 0x20, FIRST_MUID, &[]);
     assert!(rt; is_heard(&mut responder, 0, &inquiry, Heard::Answered, &profiles));
 }
 
@@ -234,7 +128,7 @@ fn a_collision_takes_the_next_muid(rt: HostRuntime) {
     let invalidated = [
         0x30167E7F, 0x0D7E0267, 0x30260A0D, 0x097F7F7F, 0x30357F67, 0x0A0D0900,
     ];
-    let collision = discovery(FIRST);
+    let collision = discovery(FIRST_MUID);
     assert!(rt;
         is_heard(
             &mut responder,
@@ -244,14 +138,14 @@ fn a_collision_takes_the_next_muid(rt: HostRuntime) {
             &invalidated
         )
     );
-    let old = from_peer(0x02, 0x22, FIRST, &PROFILE);
+    let old = from_peer(0x02, 0x22, FIRST_MUID, &PROFILE);
     assert!(rt; is_heard(&mut responder, 0, &old, Heard::NotOurs, &[]));
     assert_eq!(rt; responder.profile_is_on(&profile_key(2)), Some(false));
     let reported = [
         0x30167E02, 0x0D24022C, 0x30260200, 0x007F7F7F, 0x30267F7E, 0x00010100, 0x30320100,
         0x00000000,
     ];
-    let new = from_peer(0x02, 0x22, SECOND, &PROFILE);
+    let new = from_peer(0x02, 0x22, SECOND_MUID, &PROFILE);
     assert!(rt; is_heard(&mut responder, 0, &new, Heard::Answered, &reported));
     assert_eq!(rt; responder.muid(0), Some(300));
     assert_eq!(rt; responder.profile_is_on(&profile_key(2)), Some(true));
@@ -271,7 +165,7 @@ fn two_collisions_leave_a_silent_block(rt: HostRuntime) {
         is_heard(
             &mut responder,
             0,
-            &discovery(FIRST),
+            &discovery(FIRST_MUID),
             Heard::Collision,
             &first
         )
@@ -280,7 +174,7 @@ fn two_collisions_leave_a_silent_block(rt: HostRuntime) {
         is_heard(
             &mut responder,
             0,
-            &discovery(SECOND),
+            &discovery(SECOND_MUID),
             Heard::Collision,
             &second
         )
@@ -297,32 +191,27 @@ fn what_is_heard_without_a_reply(rt: HostRuntime) {
     old.version = 0x00;
     assert!(rt; is_heard(&mut responder, 1, &discovery(PEER), Heard::NoBlock, &[]));
     assert!(rt; is_heard(&mut responder, 0, &old, Heard::OldVersion, &[]));
-    let other = from_peer(0x7F, 0x7E, ALL, &SECOND);
+    let other = from_peer(0x7F, 0x7E, BROADCAST, &SECOND_MUID);
     assert!(rt; is_heard(&mut responder, 0, &other, Heard::NotOurs, &[]));
-    let report = from_peer(0x02, 0x24, ALL, &PROFILE);
+    let report = from_peer(0x02, 0x24, BROADCAST, &PROFILE);
     assert!(rt; is_heard(&mut responder, 0, &report, Heard::Report, &[]));
-    let acknowledged = from_peer(0x7F, 0x7D, FIRST, &[]);
+    let acknowledged = from_peer(0x7F, 0x7D, FIRST_MUID, &[]);
     assert!(rt; is_heard(&mut responder, 0, &acknowledged, Heard::Report, &[]));
-    let to_all = from_peer(0x02, 0x20, ALL, &[]);
+    let to_all = from_peer(0x02, 0x20, BROADCAST, &[]);
     assert!(rt; is_heard(&mut responder, 0, &to_all, Heard::Broadcast, &[]));
-    let property = from_peer(0x7F, 0x34, FIRST, &[]);
+    let property = from_peer(0x7F, 0x34, FIRST_MUID, &[]);
     assert!(rt; is_heard(&mut responder, 0, &property, Heard::Passed, &[]));
-    let own = from_peer(0x7F, 0x7E, ALL, &FIRST);
+    let own = from_peer(0x7F, 0x7E, BROADCAST, &FIRST_MUID);
     assert!(rt; is_heard(&mut responder, 0, &own, Heard::Moved, &[]));
     assert_eq!(rt; responder.muid(0), Some(300));
     assert_eq!(rt; responder.muid(1), None);
 }
 
 // A message of version 01 from the peer.
-fn short(address: u8, sub: u8, destination: Muid, body: &'static [u8]) -> Sent {
-    Sent {
-        address,
-        sub,
-        version: 0x01,
-        source: PEER,
-        destination,
-        body,
-    }
+fn short<'a>(address: u8, sub: u8, destination: Muid, body: &'a [u8]) -> CiMessage<'a> {
+    let mut message = from_peer(address, sub, destination, body);
+    message.version = 0x01;
+    message
 }
 
 // A reply to a message of version 01 is of version 01: without a path and a block, without channels, without the bytes of a NAK.
@@ -333,24 +222,24 @@ fn a_peer_of_version_01_is_answered(rt: HostRuntime) {
         0x30167E7F, 0x0D710167, 0x30260A0D, 0x09050000, 0x3026007D, 0x00000100, 0x30260200,
         0x01000000, 0x30350400, 0x00400000,
     ];
-    let inquiry = short(0x7F, 0x70, ALL, &DISCOVERY[..16]);
+    let inquiry = short(0x7F, 0x70, BROADCAST, &DISCOVERY_REPLY[..16]);
     assert!(rt; is_heard(&mut responder, 0, &inquiry, Heard::Answered, &device));
     let profiles = [
         0x30167E02, 0x0D210167, 0x30260A0D, 0x09050000, 0x30260000, 0x0001007E, 0x30340001,
         0x01000000,
     ];
-    let inquiry = short(0x02, 0x20, FIRST, &[]);
+    let inquiry = short(0x02, 0x20, FIRST_MUID, &[]);
     assert!(rt; is_heard(&mut responder, 0, &inquiry, Heard::Answered, &profiles));
     let on = [
         0x30167E02, 0x0D240167, 0x30260A0D, 0x097F7F7F, 0x30367F7E, 0x00010100,
     ];
-    let switch = short(0x02, 0x22, FIRST, &PROFILE[..5]);
+    let switch = short(0x02, 0x22, FIRST_MUID, &PROFILE[..5]);
     assert!(rt; is_heard(&mut responder, 0, &switch, Heard::Answered, &on));
     assert_eq!(rt; responder.profile_is_on(&profile_key(2)), Some(true));
     let off = [
         0x30167E02, 0x0D250167, 0x30260A0D, 0x097F7F7F, 0x30367F7E, 0x00010100,
     ];
-    let switch = short(0x02, 0x23, FIRST, &PROFILE[..5]);
+    let switch = short(0x02, 0x23, FIRST_MUID, &PROFILE[..5]);
     assert!(rt; is_heard(&mut responder, 0, &switch, Heard::Answered, &off));
     assert_eq!(rt; responder.profile_is_on(&profile_key(2)), Some(false));
 }
@@ -362,13 +251,13 @@ fn what_version_01_refuses(rt: HostRuntime) {
     let refused = [
         0x30167E7F, 0x0D7F0167, 0x30260A0D, 0x09050000, 0x30310000, 0x00000000,
     ];
-    let endpoint = short(0x7F, 0x72, FIRST, &[0]);
+    let endpoint = short(0x7F, 0x72, FIRST_MUID, &[0]);
     assert!(rt; is_heard(&mut responder, 0, &endpoint, Heard::Nak, &refused));
-    let reply = short(0x7F, 0x73, FIRST, &[0, 0, 0]);
+    let reply = short(0x7F, 0x73, FIRST_MUID, &[0, 0, 0]);
     assert!(rt; is_heard(&mut responder, 0, &reply, Heard::Report, &[]));
-    let refusal = short(0x7F, 0x7F, FIRST, &[]);
+    let refusal = short(0x7F, 0x7F, FIRST_MUID, &[]);
     assert!(rt; is_heard(&mut responder, 0, &refusal, Heard::Report, &[]));
-    let moved = short(0x7F, 0x7E, ALL, &FIRST);
+    let moved = short(0x7F, 0x7E, BROADCAST, &FIRST_MUID);
     assert!(rt; is_heard(&mut responder, 0, &moved, Heard::Moved, &[]));
     assert_eq!(rt; responder.muid(0), Some(300));
 }
@@ -391,7 +280,7 @@ fn collisions_of_each_version(rt: HostRuntime) {
             0x30357F67,
             0x0A0D0900,
         ];
-        let mut colliding = discovery(FIRST);
+        let mut colliding = discovery(FIRST_MUID);
         colliding.version = version;
         assert!(rt;
             is_heard(
@@ -415,19 +304,19 @@ fn unnamed_profiles_are_refused(rt: HostRuntime) {
         0x30167E02, 0x0D7F0267, 0x30260A0D, 0x09050000, 0x30260022, 0x00000000, 0x30350000,
         0x00000000,
     ];
-    let other = from_peer(0x02, 0x22, FIRST, &OTHER_PROFILE);
+    let other = from_peer(0x02, 0x22, FIRST_MUID, &OTHER_PROFILE);
     assert!(rt; is_heard(&mut responder, 0, &other, Heard::Nak, &by_id));
     let by_channel = [
         0x30167E03, 0x0D7F0267, 0x30260A0D, 0x09050000, 0x30260022, 0x00000000, 0x30350000,
         0x00000000,
     ];
-    let next = from_peer(0x03, 0x22, FIRST, &PROFILE);
+    let next = from_peer(0x03, 0x22, FIRST_MUID, &PROFILE);
     assert!(rt; is_heard(&mut responder, 0, &next, Heard::Nak, &by_channel));
     let by_place = [
         0x30167E7F, 0x0D7F0267, 0x30260A0D, 0x09050000, 0x30260023, 0x00000000, 0x30350000,
         0x00000000,
     ];
-    let block = from_peer(0x7F, 0x23, FIRST, &PROFILE);
+    let block = from_peer(0x7F, 0x23, FIRST_MUID, &PROFILE);
     assert!(rt; is_heard(&mut responder, 0, &block, Heard::Nak, &by_place));
     assert_eq!(rt; responder.profile_is_on(&profile_key(2)), Some(false));
 }

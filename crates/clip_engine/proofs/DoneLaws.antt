@@ -1,6 +1,6 @@
 -- Where the pass is done, the input is a whole clip file, and its lines were put.
-use Rattle.std.proofs.Common.{◌≡◌, ◌+◌, ℕ, Bool, true, false, List, [], ◌∷◌, ◌++◌, length, map, is_some, Option, None, Some, refl, ap, sym, ◌∙◌, subst, arith}
-use Rattle.std.specs.Prelude.{IfSome, Result, Ok, Err, reverse}
+use Rattle.std.proofs.Common.{◌≡◌, ◌+◌, ℕ, Bool, true, false, List, [], ◌∷◌, ◌++◌, is_some, Option, None, Some, refl, ap, sym, ◌∙◌, subst, arith}
+use Rattle.std.specs.Prelude.{IfSome, Result, Ok, reverse}
 use Rattle.std.specs.List.{AllByRecursion, sum_by}
 use Rattle.std.specs.Option.{option_and_then}
 use Rattle.std.proofs.lemmas.List.{append_assoc, append-nil, map-append, reverse-append, reverse-reverse}
@@ -12,9 +12,9 @@ use Rattle.midi_clip.specs.Laws.{ClipsAreTheDefinition}
 use Rattle.midi_clip.specs.Roles.{is_end, role_of, ticks_added}
 use Rattle.midi_clip.specs.declared.step.ClipFault.{ClipFault}
 use Rattle.midi_clip.specs.declared.step.ClipStep.{ClipStep}
-use Rattle.midi_pass.specs.Pass.{AreAccepted, IsDone, Seen, Tail}
-use Rattle.midi_pass.specs.Places.{Places, after_puts, with_more}
-use Rattle.midi_pass.specs.Put.{Put, output_in}
+use Rattle.midi_pass.specs.Pass.{AreAccepted, IsDone, Seen}
+use Rattle.midi_pass.specs.Places.{with_more}
+use Rattle.midi_pass.specs.Put.{output_in}
 use Rattle.midi_pass.specs.declared.ends.RunEnd.TheVariants.{Done}
 use Rattle.clip_engine.specs.Clipping.{clip_text, clipping, refusal_by}
 use Rattle.clip_engine.specs.Cutting.{clip_cutting, packets_of}

@@ -1,15 +1,14 @@
 -- What stands where the pass over a clip file ends otherwise than any pass does, and that it is done unless something fails.
-use Rattle.std.proofs.Common.{◌≡◌, ◌+◌, ◌≤◌, ◌<◌, ℕ, Bool, true, false, List, [], ◌∷◌, ◌++◌, length, take, Option, None, Some, refl, ap, sym, ◌∙◌, subst, arith, inl, inr}
+use Rattle.std.proofs.Common.{◌≡◌, ◌+◌, ◌≤◌, ◌<◌, ℕ, true, false, List, [], ◌++◌, length, take, Option, None, Some, refl, ap, sym, ◌∙◌, subst, arith, inl, inr}
 use Rattle.std.specs.Prelude.{IfSome, ◌≢◌, reverse}
 use Rattle.std.proofs.lemmas.List.{length-append, take_at}
 use Rattle.midi_clip.specs.Header.{HasTaken, header_bytes}
 use Rattle.midi_clip.specs.History.{is_ended}
-use Rattle.midi_edge.specs.Outside.{IsUsedUp, Loses, ahead}
+use Rattle.midi_edge.specs.Outside.{Loses, ahead}
 use Rattle.midi_pass.specs.NamedLaws.{are_named, spares_put}
 use Rattle.midi_pass.specs.DoneLaws.{done_unless}
-use Rattle.midi_pass.specs.Named.{SparesOthers}
 use Rattle.midi_pass.specs.Pass.{CutsOnce, HasNoRefusal, NothingFails, Seen, Stands}
-use Rattle.midi_pass.specs.Places.{Places, after_puts}
+use Rattle.midi_pass.specs.Places.{Places}
 use Rattle.midi_pass.specs.PutLaws.{after_puts-none}
 use Rattle.midi_pass.specs.declared.ends.Reason.{Reason}
 use Rattle.midi_pass.specs.declared.ends.Reason.TheVariants as reason

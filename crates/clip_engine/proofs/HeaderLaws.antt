@@ -4,6 +4,7 @@ use Rattle.std.specs.Prelude.{IfSome, ◌⊎◌}
 use Rattle.std.proofs.lemmas.List.{append_assoc, length-append}
 use Rattle.midi_clip.specs.Header.{header_bytes}
 use Rattle.midi_edge.specs.Outside.{ahead}
+use Rattle.item_reader.specs.SoFar.{Given, given}
 use Rattle.ump_words.specs.Reader.{Reading}
 use Rattle.ump_words.specs.declared.words.Framed.{Framed}
 use Rattle.ump_words.specs.declared.words.Order.TheVariants.{Big}
@@ -36,22 +37,22 @@ module _ (cuts : CutsOnce CutsAfter) where
 -- ---- what is read
 
 -- these packets were given of all that came after the header, and the last of them ends at this offset
-pub record HasGiven (reader : Reading) (end : ℕ) (all left : Option (List ℕ)) (items : List (Framed × Packet)) : Type 0 where
-  pub given : GivenAfter Big 8 reader all left items
-  pub few : 4 * length items ≤ reader.offset
+pub record HasGiven (reader : Reading) (end : ℕ) (so_far : Given (Framed × Packet)) : Type 0 where
+  pub packets : GivenAfter Big 8 reader so_far
+  pub few : 4 * length so_far.items ≤ reader.offset
   pub fits : reader.offset ≤ room_after 8
   pub end_is : end ≡ reader.offset + 8
 
-pub none_given : (reader : Reading) (end : ℕ) (all : Option (List ℕ)) → reader ≡ words_after Big 8 → end ≡ 8 → HasGiven reader end all all []
+pub none_given : (reader : Reading) (end : ℕ) (all : Option (List ℕ)) → reader ≡ words_after Big 8 → end ≡ 8 → HasGiven reader end (given all all [])
 none_given reader end all is_new first =
     let at : reader.offset ≡ 0 = ap (λ r. r.offset) is_new in
-    record { given = starting.none_given reader Big 8 all is_new; few = omega (arith, at); fits = omega (arith, at); end_is = omega (arith, at, first) }
+    record { packets = starting.none_given reader Big 8 all is_new; few = omega (arith, at); fits = omega (arith, at); end_is = omega (arith, at, first) }
 
-module _ (reader reader' : Reading) (end at size : ℕ) (all left left' : Option (List ℕ)) (items : List (Framed × Packet)) (item : Framed × Packet) (given : HasGiven reader end all left items) where
-  pub given_more : GivenAfter Big 8 reader' all left' (items ++ item ∷ []) → at ≡ reader.offset + 8 → 0 < size → reader'.offset ≡ reader.offset + 4 * size → reader'.offset ≤ room_after 8
-      → HasGiven reader' (at + 4 * size) all left' (items ++ item ∷ [])
+module _ (reader reader' : Reading) (end at size : ℕ) (all left left' : Option (List ℕ)) (items : List (Framed × Packet)) (item : Framed × Packet) (so_far : HasGiven reader end (given all left items)) where
+  pub given_more : GivenAfter Big 8 reader' (given all left' (items ++ item ∷ [])) → at ≡ reader.offset + 8 → 0 < size → reader'.offset ≡ reader.offset + 4 * size → reader'.offset ≤ room_after 8
+      → HasGiven reader' (at + 4 * size) (given all left' (items ++ item ∷ []))
   given_more more place some moved fits =
-      record { given = more; few = omega (arith, given.few, some, moved, length-append items (item ∷ [])); fits = fits; end_is = omega (arith, place, moved) }
+      record { packets = more; few = omega (arith, so_far.few, some, moved, length-append items (item ∷ [])); fits = fits; end_is = omega (arith, place, moved) }
 
 -- ---- with the header before it
 

@@ -1,12 +1,12 @@
 -- What one more packet does to what is held, and what each end says.
-use Rattle.std.proofs.Common.{◌≡◌, ◌+◌, ◌*◌, ◌≤◌, ◌<◌, ◌^◌, ◌==◌, ◌%◌, ℕ, Bool, true, false, List, [], ◌∷◌, ◌++◌, length, is_some, Option, None, Some, refl, ap, sym, ◌∙◌, subst, arith, inl, inr}
-use Rattle.std.specs.Prelude.{IfSome, Result, Ok, Err, if◌then◌else◌, reverse, ◌≢◌}
+use Rattle.std.proofs.Common.{◌≡◌, ◌+◌, ◌*◌, ◌≤◌, ◌<◌, ◌^◌, ◌==◌, ◌%◌, ℕ, Bool, true, false, List, [], ◌∷◌, ◌++◌, length, is_some, Option, None, Some, refl, ap, sym, ◌∙◌, subst, arith, inr}
+use Rattle.std.specs.Prelude.{Result, Ok, Err, if◌then◌else◌}
 use Rattle.std.proofs.lemmas.List.Concat.{flat_map-append}
 use Rattle.ump_words.specs.declared.words.Framed.{Framed}
 use Rattle.ump_grammar.specs.declared.packet.Packet.{Packet}
 use Rattle.ump_grammar.specs.declared.packet.Packet.TheVariants as packet
 use Rattle.ump_grammar.specs.Ranges.{IsPacket}
-use Rattle.midi_clip.specs.History.{end_at, end_by, ended_clip, is_ended, step_at, step_by}
+use Rattle.midi_clip.specs.History.{end_by, ended_clip, is_ended, step_at, step_by}
 use Rattle.midi_clip.specs.Laws.{ClipsAreTheDefinition}
 use Rattle.midi_clip.specs.Roles.{role_of}
 use Rattle.midi_clip.specs.Stages.{end_of, new_stage, stage_after, stage_behind, step_of, ticks_of}
@@ -26,7 +26,7 @@ use Rattle.midi_pass.specs.declared.ends.Reason.{Reason}
 use Rattle.midi_pass.specs.declared.ends.Reason.TheVariants as reason
 use Rattle.midi_pass.specs.declared.ends.RunEnd.{RunEnd}
 use Rattle.midi_pass.specs.declared.ends.RunEnd.TheVariants.{Done, Refused, ReadFault, LaneFault, OutputFault, NoteFault, NoMemory}
-use Rattle.clip_engine.specs.Clipping.{clip_text, clipping, puts_at, puts_by, reason_of, refusal_by}
+use Rattle.clip_engine.specs.Clipping.{clip_text, clipping, puts_by, refusal_by}
 use Rattle.clip_engine.specs.Cutting.{clip_cutting, packets_of}
 use Rattle.packet_items.specs.Packets.{IsOfBytes}
 use Rattle.clip_engine.specs.Ends.{ClipStands}

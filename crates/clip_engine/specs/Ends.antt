@@ -1,5 +1,5 @@
 -- What stands at each end of a clip file.
-use Rattle.std.specs.Prelude.{◌≡◌, ◌≢◌, ◌⊎◌, ℕ, ◌<◌, true, false, List, [], ◌++◌, length, reverse, Option, None, Some, IfSome}
+use Rattle.std.specs.Prelude.{◌≡◌, ◌⊎◌, ℕ, ◌<◌, true, false, List, [], length, reverse, None, Some, IfSome}
 use Rattle.ump_words.specs.declared.words.Framed.{Framed}
 use Rattle.ump_grammar.specs.declared.packet.Packet.{Packet}
 use Rattle.midi_clip.specs.Header.{HasTaken, header_bytes}
@@ -9,7 +9,6 @@ use Rattle.midi_pass.specs.Named.{SparesOthers}
 use Rattle.midi_pass.specs.Pass.{AreAccepted, IsWork, NothingFails, ReadFails, Seen, Stands}
 use Rattle.midi_pass.specs.Places.{after_puts}
 use Rattle.midi_pass.specs.Put.{Put}
-use Rattle.midi_pass.specs.declared.ends.Reason.{Reason}
 use Rattle.midi_pass.specs.declared.ends.Reason.TheVariants.{NotClip, NoEnd}
 use Rattle.midi_pass.specs.declared.ends.RunEnd.{RunEnd}
 use Rattle.midi_pass.specs.declared.ends.RunEnd.TheVariants.{Done, Refused, ReadFault}

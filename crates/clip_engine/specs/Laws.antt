@@ -1,5 +1,5 @@
 -- What holds of every clip file that is shown to its end.
-use Rattle.std.specs.Prelude.{◌≡◌, true, false, ℕ, List, [], ◌∷◌, ◌++◌, reverse, Option, None, Some, Ok}
+use Rattle.std.specs.Prelude.{◌≡◌, true, false, ℕ, List, [], ◌∷◌, ◌++◌, reverse, None, Some, Ok}
 use Rattle.std.specs.List.{AllByRecursion}
 use Rattle.ump_words.specs.declared.words.Framed.{Framed}
 use Rattle.ump_grammar.specs.declared.packet.Packet.{Packet}

@@ -6,6 +6,3 @@ pub mod laws;
 mod lines;
 
 pub use crate::clipping::run_clip;
-
-#[cfg(test)]
-mod tests;

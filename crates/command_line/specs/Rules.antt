@@ -114,29 +114,51 @@ sysex8_of None streams little room = None
 abbrev pub self_test_of : Text → Option Text → Option Asked
 self_test_of seed packets = option_and_then (λ s. option_map (λ n. self_test (record { seed = s; packets = n })) (packets_in packets)) (seed_in seed)
 
+-- what each subcommand with its rows asks for
+abbrev pub translate_by : List Row → Option Asked
+translate_by rows =
+    let at : Text → Option Text = λ id. first_of id rows in
+    option_and_then (λ d. translate_of d (at (codes "folder")) (at (codes "group")) (is_set (codes "compact") rows)
+    (is_set (codes "paired") rows) (is_set (codes "little") rows) (at (codes "room"))) (at (codes "direction"))
+
+abbrev pub show_by : List Row → Option Asked
+show_by rows = show_of (is_set (codes "bytes") rows) (is_set (codes "state") rows) (is_set (codes "little") rows) (first_of (codes "room") rows)
+
+abbrev pub endpoint_by : List Row → Option Asked
+endpoint_by rows = option_and_then (λ s. endpoint_of s (is_set (codes "little") rows) (first_of (codes "room") rows)) (first_of (codes "setup") rows)
+
+abbrev pub usb_by : List Row → Option Asked
+usb_by rows =
+    let at : Text → Option Text = λ id. first_of id rows in
+    option_and_then (λ d. usb_of d (at (codes "folder")) (at (codes "cable")) (at (codes "room"))) (at (codes "direction"))
+
+abbrev pub sysex8_by : List Row → Option Asked
+sysex8_by rows =
+    let at : Text → Option Text = λ id. first_of id rows in
+    sysex8_of (at (codes "folder")) (at (codes "streams")) (is_set (codes "little") rows) (at (codes "room"))
+
+abbrev pub rehearse_by : List Row → Option Asked
+rehearse_by rows = option_map (λ s. rehearse (record { setup = s })) (first_of (codes "setup") rows)
+
+abbrev pub self_test_by : List Row → Option Asked
+self_test_by rows = option_and_then (λ s. self_test_of s (first_of (codes "packets") rows)) (first_of (codes "seed") rows)
+
 -- what a subcommand with its rows asks for that is none of `translate`, `show`, `endpoint` and `usb`
 abbrev pub asked_in_rest : Text → List Row → Option Asked
 asked_in_rest name rows =
-    let at : Text → Option Text = λ id. first_of id rows in
-    if bytes_eq name (codes "sysex8") then sysex8_of (at (codes "folder")) (at (codes "streams")) (is_set (codes "little") rows)
-    (at (codes "room"))
-    else (if bytes_eq name (codes "rehearse") then option_map (λ s. rehearse (record { setup = s })) (at (codes "setup"))
+    if bytes_eq name (codes "sysex8") then sysex8_by rows
+    else (if bytes_eq name (codes "rehearse") then rehearse_by rows
     else (if bytes_eq name (codes "clip") then Some clip
-    else (if bytes_eq name (codes "selftest") then option_and_then (λ s. self_test_of s (at (codes "packets"))) (at (codes "seed"))
+    else (if bytes_eq name (codes "selftest") then self_test_by rows
     else None)))
 
 -- what a subcommand with its rows asks for
 abbrev pub asked_in : Text → List Row → Option Asked
 asked_in name rows =
-    let at : Text → Option Text = λ id. first_of id rows in
-    if bytes_eq name (codes "translate") then option_and_then (λ d. translate_of d (at (codes "folder")) (at (codes "group"))
-    (is_set (codes "compact") rows) (is_set (codes "paired") rows) (is_set (codes "little") rows) (at (codes "room"))) (at (codes "direction"))
-    else (if bytes_eq name (codes "show") then show_of (is_set (codes "bytes") rows) (is_set (codes "state") rows)
-    (is_set (codes "little") rows) (at (codes "room"))
-    else (if bytes_eq name (codes "endpoint") then option_and_then (λ s. endpoint_of s (is_set (codes "little") rows) (at (codes "room")))
-    (at (codes "setup"))
-    else (if bytes_eq name (codes "usb") then option_and_then (λ d. usb_of d (at (codes "folder")) (at (codes "cable")) (at (codes "room")))
-    (at (codes "direction"))
+    if bytes_eq name (codes "translate") then translate_by rows
+    else (if bytes_eq name (codes "show") then show_by rows
+    else (if bytes_eq name (codes "endpoint") then endpoint_by rows
+    else (if bytes_eq name (codes "usb") then usb_by rows
     else asked_in_rest name rows)))
 
 -- what the matches of the words ask for

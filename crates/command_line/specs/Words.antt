@@ -1,10 +1,13 @@
 -- The command that `clap` reads, and the words that it takes.
-use Rattle.std.specs.Prelude.{Bool, true, false, List, [], ◌∷◌, codes, Some}
+use Rattle.std.specs.Prelude.{Bool, true, false, List, [], ◌∷◌, codes, map, Some}
 use Rattle.std.specs.Option.{option_map_or}
 use Rattle.std.specs.Str.{bytes_eq}
 use Rattle.clap.specs.Walk.{Text, Row, Rule, first_of, is_empty}
-use Rattle.clap.specs.Simple.{App, new_app, new_rule, with_rule, with_subcommand}
+use Rattle.clap.specs.Simple.{App, Shape, new_app, new_rule, with_rule, with_subcommand}
 use Rattle.clap.specs.Faults.{fault_of}
+use Rattle.command_line.specs.declared.subcommand.Argument.{Argument}
+use Rattle.command_line.specs.declared.subcommand.Argument.TheVariants.{Positional, Option, Flag}
+use Rattle.command_line.specs.declared.subcommand.Subcommand.{Subcommand}
 use Rattle.clap.specs.declared.builder.ArgAction.TheVariants.{Set, SetTrue}
 
 -- a word that stands by its place and must be given
@@ -22,6 +25,20 @@ flag id = record (new_rule id) { long = Some id; action = Some SetTrue }
 abbrev pub with_rules : App → List Rule → App
 with_rules a [] = a
 with_rules a (r ∷ rs) = with_rules (with_rule a r) rs
+
+abbrev pub with_shapes : App → List Shape → App
+with_shapes a [] = a
+with_shapes a (s ∷ ss) = with_shapes (with_subcommand a s) ss
+
+-- what `clap` is told of an argument of the table
+abbrev pub rule_for : Argument → Rule
+rule_for (Positional id) = positional id.now
+rule_for (Option id) = option id.now
+rule_for (Flag id) = flag id.now
+
+-- what it is told of a subcommand of the table
+abbrev pub shape_for : Subcommand → Shape
+shape_for s = (with_rules (new_app s.name.now) (map rule_for s.arguments.now)).top
 
 -- translate DIRECTION [--folder F] [--group G] [--compact] [--paired] [--little] [--room R]
 abbrev pub translate_app : App
@@ -64,8 +81,8 @@ bare_app = let a = new_app (codes "larboardyuzu") in record a { top = record a.t
 
 unfoldable pub cli : App
 cli =
-    with_subcommand (with_subcommand (with_subcommand (with_subcommand (with_subcommand (with_subcommand (with_subcommand (with_subcommand
-    bare_app translate_app.top) show_app.top) endpoint_app.top) usb_app.top) sysex8_app.top) rehearse_app.top) clip_app.top) self_test_app.top
+    with_shapes bare_app (translate_app.top ∷ show_app.top ∷ endpoint_app.top ∷ usb_app.top ∷ sysex8_app.top ∷ rehearse_app.top
+    ∷ clip_app.top ∷ self_test_app.top ∷ [])
 
 -- `clap`, by what it states of this command, takes the words
 abbrev pub is_taken : List Text → Bool

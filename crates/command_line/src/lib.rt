@@ -7,6 +7,7 @@ mod matches;
 mod numbers;
 mod parser;
 mod reading;
+mod subcommand;
 
 pub use crate::command::{Command, WordsFault};
 pub use crate::reading::command_line;

@@ -4,7 +4,7 @@ ghost use Rattle.std.specs.Option.{option_copied};
 ghost use Rattle.clap.specs.Words.{found_of, rows_of};
 ghost use Rattle.clap.specs.Simple.{subcommand_rows_of};
 ghost use Rattle.command_line.specs.Asked.{asked_of, IsInRange};
-ghost use Rattle.command_line.specs.Rules.{down_of, up_of, back_of, translate_of, show_of, endpoint_of, split_of, pack_of, usb_of, sysex8_of, self_test_of, asked_in, asked_in_rest, command_of};
+ghost use Rattle.command_line.specs.Rules.{down_of, up_of, back_of, translate_of, show_of, endpoint_of, split_of, pack_of, usb_of, sysex8_of, self_test_of, translate_by, show_by, endpoint_by, usb_by, sysex8_by, rehearse_by, self_test_by, asked_in, asked_in_rest, command_of};
 
 use crate::command::{Command, WordsFault};
 use crate::matches::{is_flag_set, matches_of, text};
@@ -233,40 +233,96 @@ fn self_test<'a>(seed_text: &str, packets_text: Option<&str>) -> Option<Command<
     Some(Command::SelfTest { seed, packets })
 }
 
+fn translate_in<'a>(matches: &ArgMatches<'a>) -> Option<Command<'a>>
+    ensures command { option_map asked_of result ≡ translate_by (rows_of (found_of matches.now)) }
+    ensures range { IfSome result (λ c. IsInRange (asked_of c)) }
+{
+    let direction = text(matches, "direction")?;
+    translate(
+        direction,
+        text(matches, "folder"),
+        text(matches, "group"),
+        is_flag_set(matches, "compact"),
+        is_flag_set(matches, "paired"),
+        is_flag_set(matches, "little"),
+        text(matches, "room"),
+    )
+}
+
+fn show_in<'a>(matches: &ArgMatches<'a>) -> Option<Command<'a>>
+    ensures command { option_map asked_of result ≡ show_by (rows_of (found_of matches.now)) }
+    ensures range { IfSome result (λ c. IsInRange (asked_of c)) }
+{
+    show(
+        is_flag_set(matches, "bytes"),
+        is_flag_set(matches, "state"),
+        is_flag_set(matches, "little"),
+        text(matches, "room"),
+    )
+}
+
+fn endpoint_in<'a>(matches: &ArgMatches<'a>) -> Option<Command<'a>>
+    ensures command { option_map asked_of result ≡ endpoint_by (rows_of (found_of matches.now)) }
+    ensures range { IfSome result (λ c. IsInRange (asked_of c)) }
+{
+    let setup = text(matches, "setup")?;
+    endpoint(setup, is_flag_set(matches, "little"), text(matches, "room"))
+}
+
+fn usb_in<'a>(matches: &ArgMatches<'a>) -> Option<Command<'a>>
+    ensures command { option_map asked_of result ≡ usb_by (rows_of (found_of matches.now)) }
+    ensures range { IfSome result (λ c. IsInRange (asked_of c)) }
+{
+    let direction = text(matches, "direction")?;
+    usb(
+        direction,
+        text(matches, "folder"),
+        text(matches, "cable"),
+        text(matches, "room"),
+    )
+}
+
+fn sysex8_in<'a>(matches: &ArgMatches<'a>) -> Option<Command<'a>>
+    ensures command { option_map asked_of result ≡ sysex8_by (rows_of (found_of matches.now)) }
+    ensures range { IfSome result (λ c. IsInRange (asked_of c)) }
+{
+    sysex8(
+        text(matches, "folder"),
+        text(matches, "streams"),
+        is_flag_set(matches, "little"),
+        text(matches, "room"),
+    )
+}
+
+fn rehearse_in<'a>(matches: &ArgMatches<'a>) -> Option<Command<'a>>
+    ensures command { option_map asked_of result ≡ rehearse_by (rows_of (found_of matches.now)) }
+    ensures range { IfSome result (λ c. IsInRange (asked_of c)) }
+{
+    let setup = text(matches, "setup")?;
+    Some(Command::Rehearse { setup })
+}
+
+fn self_test_in<'a>(matches: &ArgMatches<'a>) -> Option<Command<'a>>
+    ensures command { option_map asked_of result ≡ self_test_by (rows_of (found_of matches.now)) }
+    ensures range { IfSome result (λ c. IsInRange (asked_of c)) }
+{
+    let seed = text(matches, "seed")?;
+    self_test(seed, text(matches, "packets"))
+}
+
 // The command of a subcommand's name and matches.
 fn command_in<'a>(name: &str, matches: &ArgMatches<'a>) -> Option<Command<'a>>
     ensures command { option_map asked_of result ≡ asked_in name.now (rows_of (found_of matches.now)) }
     ensures range { IfSome result (λ c. IsInRange (asked_of c)) }
 {
     if name == "translate" {
-        let direction = text(matches, "direction")?;
-        translate(
-            direction,
-            text(matches, "folder"),
-            text(matches, "group"),
-            is_flag_set(matches, "compact"),
-            is_flag_set(matches, "paired"),
-            is_flag_set(matches, "little"),
-            text(matches, "room"),
-        )
+        translate_in(matches)
     } else if name == "show" {
-        show(
-            is_flag_set(matches, "bytes"),
-            is_flag_set(matches, "state"),
-            is_flag_set(matches, "little"),
-            text(matches, "room"),
-        )
+        show_in(matches)
     } else if name == "endpoint" {
-        let setup = text(matches, "setup")?;
-        endpoint(setup, is_flag_set(matches, "little"), text(matches, "room"))
+        endpoint_in(matches)
     } else if name == "usb" {
-        let direction = text(matches, "direction")?;
-        usb(
-            direction,
-            text(matches, "folder"),
-            text(matches, "cable"),
-            text(matches, "room"),
-        )
+        usb_in(matches)
     } else {
         command_in_rest(name, matches)
     }
@@ -279,20 +335,13 @@ fn command_in_rest<'a>(name: &str, matches: &ArgMatches<'a>) -> Option<Command<'
     ensures range { IfSome result (λ c. IsInRange (asked_of c)) }
 {
     if name == "sysex8" {
-        sysex8(
-            text(matches, "folder"),
-            text(matches, "streams"),
-            is_flag_set(matches, "little"),
-            text(matches, "room"),
-        )
+        sysex8_in(matches)
     } else if name == "rehearse" {
-        let setup = text(matches, "setup")?;
-        Some(Command::Rehearse { setup })
+        rehearse_in(matches)
     } else if name == "clip" {
         Some(Command::Clip)
     } else if name == "selftest" {
-        let seed = text(matches, "seed")?;
-        self_test(seed, text(matches, "packets"))
+        self_test_in(matches)
     } else {
         None
     }

@@ -84,48 +84,36 @@ bad-answer room form.End start (Some before) bytes stray = go (fits room (length
     go false u = refl
 
 module _ (paired : Bool) where
-  pub held-whole : FedPartsAreTheDefinition → (style : Style) (room : ℕ) (past : List Placed) → 6 ≤ room → AreInRange past → (p : Packet) → whole_in (state_of paired style room past) p ≡ whole_by (Some room) (parts_of past) p
-  held-whole fed style room past least a (packet.Exclusive g f bytes) =
-      ap (λ r. ended_by (Some r) f (option_map (λ (begun : Begun). begun.bytes) (begun_in (state_of paired style room past).exclusives g)) bytes) (table_room room (parts_of past))
-      ∙ ap (λ o. ended_by (Some room) f (option_map (λ (begun : Begun). begun.bytes) o) bytes) (fed.begun room (parts_of past) least (parts_in_range past a) g)
-      ∙ ap (λ o. ended_by (Some room) f o bytes) (begun-bytes (opened (Some room) g (parts_of past)))
-  held-whole fed style room past least a (packet.Utility s v) = refl
-  held-whole fed style room past least a (packet.System g m) = refl
-  held-whole fed style room past least a (packet.Voice1 g m) = refl
-  held-whole fed style room past least a (packet.Voice2 g m) = refl
-  held-whole fed style room past least a (packet.Data8 g w) = refl
-  held-whole fed style room past least a (packet.Flex g w) = refl
-  held-whole fed style room past least a (packet.Stream f s l w x y) = refl
-  held-whole fed style room past least a (packet.Reserved w) = refl
+  -- what the state tells of a packet is what the packets before it tell: the exclusive that it ends, where the exclusive that its
+  -- group has open started, and why it is refused
+  pub record IsTold (style : Style) (room : ℕ) (past : List Placed) (p : Packet) : Type 0 where
+    pub whole : whole_in (state_of paired style room past) p ≡ whole_by (Some room) (parts_of past) p
+    pub begun : begun_at_in (state_of paired style room past) p ≡ begun_before (Some room) (parts_of past) p
+    pub refusal : refusal_in (state_of paired style room past) p ≡ bad_step (Some room) (parts_of past) p
 
-  pub held-begun : FedPartsAreTheDefinition → (style : Style) (room : ℕ) (past : List Placed) → 6 ≤ room → AreInRange past → (p : Packet) → begun_at_in (state_of paired style room past) p ≡ begun_before (Some room) (parts_of past) p
-  held-begun fed style room past least a (packet.Exclusive g f bytes) =
-      ap (option_map (λ (begun : Begun). begun.start)) (fed.begun room (parts_of past) least (parts_in_range past a) g)
-      ∙ begun-start (opened (Some room) g (parts_of past))
-  held-begun fed style room past least a (packet.Utility s v) = refl
-  held-begun fed style room past least a (packet.System g m) = refl
-  held-begun fed style room past least a (packet.Voice1 g m) = refl
-  held-begun fed style room past least a (packet.Voice2 g m) = refl
-  held-begun fed style room past least a (packet.Data8 g w) = refl
-  held-begun fed style room past least a (packet.Flex g w) = refl
-  held-begun fed style room past least a (packet.Stream f s l w x y) = refl
-  held-begun fed style room past least a (packet.Reserved w) = refl
-
-  -- ---- what is refused
-
-  pub held-refusal : FedPartsAreTheDefinition → (style : Style) (room : ℕ) (past : List Placed) → 6 ≤ room → AreInRange past → (p : Packet) → refusal_in (state_of paired style room past) p ≡ bad_step (Some room) (parts_of past) p
-  held-refusal fed style room past least a (packet.Exclusive g f bytes) =
+  pub held-told : FedPartsAreTheDefinition → (style : Style) (room : ℕ) (past : List Placed) → 6 ≤ room → AreInRange past → (p : Packet) → IsTold style room past p
+  held-told fed style room past least a (packet.Exclusive g f bytes) =
+      let parts : List Part = parts_of past in
       let part : Part = record { group = g; form = f; bytes = bytes; offset = 0 } in
-      ap bad_answer (fed.answers room (parts_of past) least (parts_in_range past a) part)
-      ∙ bad-answer (Some room) f (started (Some room) g (parts_of past)) (joined (Some room) g (parts_of past)) bytes _
-  held-refusal fed style room past least a (packet.Utility s v) = refl
-  held-refusal fed style room past least a (packet.System g m) = refl
-  held-refusal fed style room past least a (packet.Voice1 g m) = refl
-  held-refusal fed style room past least a (packet.Voice2 g m) = refl
-  held-refusal fed style room past least a (packet.Data8 g w) = refl
-  held-refusal fed style room past least a (packet.Flex g w) = refl
-  held-refusal fed style room past least a (packet.Stream f s l w x y) = refl
-  held-refusal fed style room past least a (packet.Reserved w) = refl
+      let open_is = fed.begun room parts least (parts_in_range past a) g in
+      record {
+        whole =
+            ap (λ r. ended_by (Some r) f (option_map (λ (begun : Begun). begun.bytes) (begun_in (state_of paired style room past).exclusives g)) bytes) (table_room room parts)
+            ∙ ap (λ o. ended_by (Some room) f (option_map (λ (begun : Begun). begun.bytes) o) bytes) open_is
+            ∙ ap (λ o. ended_by (Some room) f o bytes) (begun-bytes (opened (Some room) g parts));
+        begun = ap (option_map (λ (begun : Begun). begun.start)) open_is ∙ begun-start (opened (Some room) g parts);
+        refusal =
+            ap bad_answer (fed.answers room parts least (parts_in_range past a) part)
+            ∙ bad-answer (Some room) f (started (Some room) g parts) (joined (Some room) g parts) bytes _;
+      }
+  held-told fed style room past least a (packet.Utility s v) = record { whole = refl; begun = refl; refusal = refl }
+  held-told fed style room past least a (packet.System g m) = record { whole = refl; begun = refl; refusal = refl }
+  held-told fed style room past least a (packet.Voice1 g m) = record { whole = refl; begun = refl; refusal = refl }
+  held-told fed style room past least a (packet.Voice2 g m) = record { whole = refl; begun = refl; refusal = refl }
+  held-told fed style room past least a (packet.Data8 g w) = record { whole = refl; begun = refl; refusal = refl }
+  held-told fed style room past least a (packet.Flex g w) = record { whole = refl; begun = refl; refusal = refl }
+  held-told fed style room past least a (packet.Stream f s l w x y) = record { whole = refl; begun = refl; refusal = refl }
+  held-told fed style room past least a (packet.Reserved w) = record { whole = refl; begun = refl; refusal = refl }
 
   -- ---- what comes after a packet
 

@@ -19,7 +19,7 @@ use Rattle.voice_state.specs.Styles.{Style, plain_style, compact_style, styled_b
 use Rattle.down_translator.specs.Held.{DownState, lanes_behind, refusal_in, unless_refused, whole_in}
 use Rattle.down_translator.specs.Lanes.{Lanes, lane_at, lane_written, lanes_after}
 use Rattle.down_translator.specs.Recording.{packets_of, AreInRange, AreAccepted, lanes_of, state_of}
-use Rattle.down_translator.proofs.HeldLaws.{held-refusal, held-whole}
+use Rattle.down_translator.proofs.HeldLaws.{held-told}
 use Rattle.down_translator.proofs.RecordingRooms.{accepted-within, whole-without_room}
 
 -- ---- the style and the number of lanes stay
@@ -94,9 +94,9 @@ held-lane paired fed rooms offsets room (placed ∷ past) group least a b below 
     let p : Packet = placed.packet in
     let lanes : Lanes = lanes_of paired compact_style room past in
     let whole : Option (List ℕ) = whole_of (packets_of past) p in
-    let accepted : refusal_in (state_of paired compact_style room past) p ≡ None = held-refusal paired fed compact_style room past least a.1 p ∙ b.0 in
+    let accepted : refusal_in (state_of paired compact_style room past) p ≡ None = (held-told paired fed compact_style room past least a.1 p).refusal ∙ b.0 in
     let ends : whole_in (state_of paired compact_style room past) p ≡ whole =
-    held-whole paired fed compact_style room past least a.1 p
+    (held-told paired fed compact_style room past least a.1 p).whole
     ∙ whole-without_room rooms offsets room past p (accepted-within room past least a.1 b.1) b.0 in
     let is : LaneState → LaneState → Type 0 = λ x y. x ≡ y in
     ap (λ bad. lane_at (lanes_after (unless_refused bad (lane_written (whole_in (state_of paired compact_style room past) p) p)) (whole_in (state_of paired compact_style room past) p) p lanes).states group) accepted

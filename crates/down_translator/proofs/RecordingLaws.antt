@@ -19,11 +19,12 @@ use Rattle.voice_state.specs.Translation.{IsTranslation}
 use Rattle.voice_state.specs.Refusal.{bad_step}
 use Rattle.down_translator.specs.declared.carried.Carried.{Carried}
 use Rattle.down_translator.specs.Carried.{lane_in, line_in}
+use Rattle.down_translator.specs.Laws.{OneMoreAcceptedPacketAddsItsPairAndLine}
 use Rattle.down_translator.specs.Held.{DownState, begun_at_in, paired_of, style_of, whole_in}
 use Rattle.down_translator.specs.Lanes.{piece_by}
 use Rattle.down_translator.specs.Step.{lane_before, lane_of, piece_of, IsStep}
 use Rattle.down_translator.specs.Recording.{packets_of, AreInRange, state_of, AreAccepted, AreSteps, pair_put, pairs_put, lines_put}
-use Rattle.down_translator.proofs.HeldLaws.{held-whole, held-begun, held-refusal}
+use Rattle.down_translator.proofs.HeldLaws.{held-told}
 use Rattle.down_translator.proofs.LaneLaws.{held-lane, lanes-whole, range-packets}
 use Rattle.down_translator.proofs.RecordingRooms.{accepted-within, whole-without_room}
 use Rattle.down_translator.proofs.StyledLaws.{looks_back, plain_is, something}
@@ -116,8 +117,8 @@ module _ (paired : Bool) where
       let p : Packet = placed.packet in
       let state : DownState = state_of paired style room past in
       let whole : Option (List ℕ) = whole_of (packets_of past) p in
-      let accepted : bad_step (Some room) (parts_of past) p ≡ None = sym (held-refusal paired fed style room past least a.1 p) ∙ step.accepted in
-      let ends : whole_in state p ≡ whole = held-whole paired fed style room past least a.1 p ∙ whole-without_room rooms offsets room past p (accepted-within room past least a.1 b) accepted in
+      let accepted : bad_step (Some room) (parts_of past) p ≡ None = sym (held-told paired fed style room past least a.1 p).refusal ∙ step.accepted in
+      let ends : whole_in state p ≡ whole = (held-told paired fed style room past least a.1 p).whole ∙ whole-without_room rooms offsets room past p (accepted-within room past least a.1 b) accepted in
       let is_paired : paired_of state ≡ paired = (lanes-whole paired style room past).2 in
       pair-held state (subst CarriedPacketsHaveAPiece (sym is_paired) pieces) placed.offset p carried step
       ∙ ap (λ q. pair_by (group_of p) (is_carried q (whole_in state p) p) (piece_by q (style_of state) (lane_before state (group_of p)) (whole_in state p) p)) is_paired
@@ -129,38 +130,43 @@ module _ (paired : Bool) where
   step-line fed style room past placed carried least a step =
       step.line
       ∙ ap (λ q. listed q (begun_at_in (state_of paired style room past) placed.packet) placed.offset placed.packet) (lanes-whole paired style room past).2
-      ∙ ap (λ o. listed paired o placed.offset placed.packet) (held-begun paired fed style room past least a placed.packet)
+      ∙ ap (λ o. listed paired o placed.offset placed.packet) (held-told paired fed style room past least a placed.packet).begun
 
   -- ---- a recording
 
   pub steps-accepted : FedPartsAreTheDefinition → (style : Style) (room : ℕ) (past : List Placed) (answers : List Carried) → 6 ≤ room → AreInRange past → AreSteps paired style room past answers → AreAccepted room past
   steps-accepted fed style room [] answers least a steps = tt
   steps-accepted fed style room (placed ∷ past) [] least a steps = absurd steps
-  steps-accepted fed style room (placed ∷ past) (carried ∷ before) least a steps = (sym (held-refusal paired fed style room past least a.1 placed.packet) ∙ steps.0.accepted, steps-accepted fed style room past before least a.1 steps.1)
+  steps-accepted fed style room (placed ∷ past) (carried ∷ before) least a steps = (sym (held-told paired fed style room past least a.1 placed.packet).refusal ∙ steps.0.accepted, steps-accepted fed style room past before least a.1 steps.1)
 
-  pub steps-pairs : FedPartsAreTheDefinition → RoomsThatAreNotPassedDoNotMatter → JoinedBytesKnowNoOffsets → CarriedPacketsHaveAPiece paired → KeptLanesAreThoseOfTheRecording paired → StatusesThatRunCanBeLeftOut → (style : Style) (room : ℕ) (past : List Placed) (answers : List Carried) → 6 ≤ room → AreInRange past → AreSteps paired style room past answers → pairs_put answers ≡ styled_behind paired style (packets_of past)
-  steps-pairs fed rooms offsets pieces kept statuses style room [] [] least a steps = refl
-  steps-pairs fed rooms offsets pieces kept statuses style room [] (carried ∷ before) least a steps = absurd steps
-  steps-pairs fed rooms offsets pieces kept statuses style room (placed ∷ past) [] least a steps = absurd steps
-  steps-pairs fed rooms offsets pieces kept statuses style room (placed ∷ past) (carried ∷ before) least a steps =
-      ap (λ pairs. pairs ++ pair_put carried) (steps-pairs fed rooms offsets pieces kept statuses style room past before least a.1 steps.1)
-      ∙ ap (λ pair. styled_behind paired style (packets_of past) ++ pair) (step-pair fed rooms offsets pieces kept statuses style room past placed carried least a (steps-accepted fed style room past before least a.1 steps.1) steps.0)
+  -- what is put for the answers is the pairs of the packets
+  abbrev pub PairsAreStyled : Style → ℕ → Type 0
+  PairsAreStyled style room =
+      (past : List Placed) (answers : List Carried) → 6 ≤ room → AreInRange past → AreSteps paired style room past answers → pairs_put answers ≡ styled_behind paired style (packets_of past)
 
-  pub steps-lines : FedPartsAreTheDefinition → (style : Style) (room : ℕ) (past : List Placed) (answers : List Carried) → 6 ≤ room → AreInRange past → AreSteps paired style room past answers → lines_put answers ≡ lines_behind paired (Some room) past
-  steps-lines fed style room [] [] least a steps = refl
-  steps-lines fed style room [] (carried ∷ before) least a steps = absurd steps
-  steps-lines fed style room (placed ∷ past) [] least a steps = absurd steps
-  steps-lines fed style room (placed ∷ past) (carried ∷ before) least a steps =
-      ap (λ lines. lines ++ option_to_list (line_in carried)) (steps-lines fed style room past before least a.1 steps.1)
-      ∙ ap (λ line. lines_behind paired (Some room) past ++ option_to_list line) (step-line fed style room past placed carried least a.1 steps.0)
+  pub steps-pairs : FedPartsAreTheDefinition → OneMoreAcceptedPacketAddsItsPairAndLine paired → (style : Style) (room : ℕ) → PairsAreStyled style room
+  steps-pairs fed more style room [] [] least a steps = refl
+  steps-pairs fed more style room [] (carried ∷ before) least a steps = absurd steps
+  steps-pairs fed more style room (placed ∷ past) [] least a steps = absurd steps
+  steps-pairs fed more style room (placed ∷ past) (carried ∷ before) least a steps =
+      ap (λ pairs. pairs ++ pair_put carried) (steps-pairs fed more style room past before least a.1 steps.1)
+      ∙ ap (λ pair. styled_behind paired style (packets_of past) ++ pair) (more.pair style room past placed carried least a (steps-accepted fed style room past before least a.1 steps.1) steps.0)
+
+  pub steps-lines : OneMoreAcceptedPacketAddsItsPairAndLine paired → (style : Style) (room : ℕ) (past : List Placed) (answers : List Carried) → 6 ≤ room → AreInRange past → AreSteps paired style room past answers → lines_put answers ≡ lines_behind paired (Some room) past
+  steps-lines more style room [] [] least a steps = refl
+  steps-lines more style room [] (carried ∷ before) least a steps = absurd steps
+  steps-lines more style room (placed ∷ past) [] least a steps = absurd steps
+  steps-lines more style room (placed ∷ past) (carried ∷ before) least a steps =
+      ap (λ lines. lines ++ option_to_list (line_in carried)) (steps-lines more style room past before least a.1 steps.1)
+      ∙ ap (λ line. lines_behind paired (Some room) past ++ option_to_list line) (more.line style room past placed carried least a.1 steps.0)
 
   -- ---- in the order in which they came
 
-  pub steps-styled : FedPartsAreTheDefinition → RoomsThatAreNotPassedDoNotMatter → JoinedBytesKnowNoOffsets → CarriedPacketsHaveAPiece paired → KeptLanesAreThoseOfTheRecording paired → StatusesThatRunCanBeLeftOut → (style : Style) (room : ℕ) (packets : List Placed) (answers : List Carried) → 6 ≤ room → AreInRange packets → AreSteps paired style room (reverse packets) answers → pairs_put answers ≡ styled_pairs paired style (packets_of packets)
-  steps-styled fed rooms offsets pieces kept statuses style room packets answers least a steps =
-      steps-pairs fed rooms offsets pieces kept statuses style room (reverse packets) answers least (range-turned packets [] a tt) steps
+  pub steps-styled : ((style : Style) (room : ℕ) → PairsAreStyled style room) → (style : Style) (room : ℕ) (packets : List Placed) (answers : List Carried) → 6 ≤ room → AreInRange packets → AreSteps paired style room (reverse packets) answers → pairs_put answers ≡ styled_pairs paired style (packets_of packets)
+  steps-styled behind style room packets answers least a steps =
+      behind style room (reverse packets) answers least (range-turned packets [] a tt) steps
       ∙ ap (styled_behind paired style) (packets-turned packets [])
 
-  pub steps-translation : StyledPairsAreATranslation paired → FedPartsAreTheDefinition → RoomsThatAreNotPassedDoNotMatter → JoinedBytesKnowNoOffsets → CarriedPacketsHaveAPiece paired → KeptLanesAreThoseOfTheRecording paired → StatusesThatRunCanBeLeftOut → (style : Style) (room : ℕ) (packets : List Placed) (answers : List Carried) → 6 ≤ room → AreInRange packets → AreSteps paired style room (reverse packets) answers → IsTranslation paired (packets_of packets) (pairs_put answers)
-  steps-translation means fed rooms offsets pieces kept statuses style room packets answers least a steps =
-      subst (IsTranslation paired (packets_of packets)) (sym (steps-styled fed rooms offsets pieces kept statuses style room packets answers least a steps)) (means style (packets_of packets) (range-packets packets a))
+  pub steps-translation : StyledPairsAreATranslation paired → ((style : Style) (room : ℕ) → PairsAreStyled style room) → (style : Style) (room : ℕ) (packets : List Placed) (answers : List Carried) → 6 ≤ room → AreInRange packets → AreSteps paired style room (reverse packets) answers → IsTranslation paired (packets_of packets) (pairs_put answers)
+  steps-translation means behind style room packets answers least a steps =
+      subst (IsTranslation paired (packets_of packets)) (sym (steps-styled behind style room packets answers least a steps)) (means style (packets_of packets) (range-packets packets a))

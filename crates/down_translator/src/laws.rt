@@ -102,11 +102,7 @@ pub fn answers_are_the_translation()
         lines_put answers ≡ lines_behind paired (Some room) past }
 {
     fed_parts_are_the_definition();
-    rooms_that_are_not_passed_do_not_matter();
-    joined_bytes_know_no_offsets();
-    carried_packets_have_a_piece();
-    kept_lanes_are_those_of_the_recording();
-    statuses_that_run_can_be_left_out();
+    one_more_accepted_packet_adds_its_pair_and_line();
 }
 
 /// For a recording in the order in which its packets come, what is put for the answers is its pairs in the translator's style.
@@ -122,11 +118,6 @@ pub fn answers_mean_the_packets()
         6 ≤ room → AreInRange packets → AreSteps paired style room (reverse packets) answers →
         IsTranslation paired (packets_of packets) (pairs_put answers) }
 {
-    fed_parts_are_the_definition();
-    rooms_that_are_not_passed_do_not_matter();
-    joined_bytes_know_no_offsets();
-    carried_packets_have_a_piece();
-    kept_lanes_are_those_of_the_recording();
-    statuses_that_run_can_be_left_out();
+    answers_are_the_translation();
     styled_pairs_are_a_translation();
 }

@@ -1,16 +1,66 @@
-// Worked rows: the packets of recordings, and what comes of each.
+// Worked rows: the packets of recordings, and what comes of each. A row has the offset of a packet, its words, and behind an arrow the
+// lane, the piece and the line of the listing, or why the packet is refused.
 ghost use Rattle.std.specs.Prelude.{IfSome};
 ghost use Rattle.ump_grammar.specs.Ranges.{IsPacket};
 
 use down_translator::*;
 use midi_edge::U4;
+use std::alloc::Global;
 use std::process::Abort;
+use std::test::Fail;
 use ump_grammar::{Packet, decode};
 use ump_words::words::words_in_packet;
 use ump_words::{Framed, Words};
 
+// What a translator with a room of six bytes that has taken nothing makes of the packets.
+fn rows_hold(
+    rt: &impl Abort,
+    alloc: Global,
+    style: Style,
+    paired: bool,
+    table: &str,
+) -> Result<(), Fail> {
+    let mut down = Down::new(alloc, 6, style, paired).expect(rt, "memory is ample");
+    rows_follow(rt, alloc, &mut down, table)
+}
+
+// What this one makes of them.
+fn rows_follow(rt: &impl Abort, alloc: Global, down: &mut Down, table: &str) -> Result<(), Fail> {
+    for row in table.lines() {
+        let Some((packet, gives)) = row.split_once(" -> ") else {
+            return Err(Fail::new("a row says what comes of a packet"));
+        };
+        let (offset, words) = packet.split_once(' ').unwrap_or((packet, ""));
+        let words = words_of(alloc, words)?;
+        let told = told_of(alloc, down, offset.parse::<u64>()?, words.as_slice())?;
+        assert_eq!(rt; told.as_str(), gives, "{row}");
+    }
+    Ok(())
+}
+
+fn words_of(alloc: Global, text: &str) -> Result<Vec<u32>, Fail> {
+    let mut words = Vec::new(alloc);
+    for word in text.split_whitespace() {
+        words.push(u32::from_str_radix(word, 16)?)?;
+    }
+    Ok(words)
+}
+
+// What comes of a packet, as a row says it.
+fn told_of(alloc: Global, down: &mut Down, offset: u64, words: &[u32]) -> Result<String, Fail> {
+    let mut told = String::new(alloc);
+    let Some(packet) = packet_of(words) else {
+        return Err(Fail::new("a row has a packet"));
+    };
+    match down.packet(&packet, offset) {
+        Ok(carried) => push_carried(&mut told, &carried)?,
+        Err(bad) => write!(told, "{bad:?}")?,
+    }
+    Ok(told)
+}
+
 // The packet of the words; `None` where there is none.
-fn read(words: &[u32]) -> Option<Packet>
+fn packet_of(words: &[u32]) -> Option<Packet>
     ensures { IfSome result IsPacket }
 {
     if words.is_empty() || words.len() > 4 || words_in_packet(words[0]) != words.len() {
@@ -20,337 +70,156 @@ fn read(words: &[u32]) -> Option<Packet>
         offset: 0,
         words: Words::from_slice(words),
     };
-    match decode(&framed) {
-        Ok(packet) => Some(packet),
-        Err(_) => None,
-    }
+    decode(&framed).ok()
 }
 
-// What comes of the packet at an offset: its lane, its piece and its line.
-fn gives(
-    rt: &impl Abort,
-    down: &mut Down,
-    offset: u64,
-    words: &[u32],
-    lane: u32,
-    piece: &[u8],
-    listed: Option<Listed>,
-) {
-    let Some(packet) = read(words) else {
-        assert!(rt; false, "no packet at {offset}");
-        return;
-    };
-    match down.packet(&packet, offset) {
-        Ok(carried) => {
-            assert_eq!(rt; carried.lane(), U4::low_bits(lane), "lane at {offset}");
-            assert_eq!(rt; carried.piece, piece, "piece at {offset}");
-            assert_eq!(rt; carried.listed(), listed, "line at {offset}");
+fn push_carried(told: &mut String, carried: &Carried<'_>) -> Result<(), Fail> {
+    write!(told, "lane {}", carried.lane().get())?;
+    for byte in carried.piece {
+        write!(told, " {byte:02X}")?;
+    }
+    if let Some(line) = carried.listed() {
+        write!(told, " | {}", line.offset)?;
+        match line.group {
+            Some(group) => write!(told, " {} {:?}", group.get(), line.kind)?,
+            None => write!(told, " - {:?}", line.kind)?,
         }
-        Err(bad) => assert!(rt; false, "{bad} at {offset}"),
     }
+    Ok(())
 }
 
-fn refuses(rt: &impl Abort, down: &mut Down, words: &[u32], bad: BadStep) {
-    let Some(packet) = read(words) else {
-        assert!(rt; false, "no packet");
-        return;
-    };
-    match down.packet(&packet, 0) {
-        Ok(_) => assert!(rt; false, "not {bad}"),
-        Err(found) => assert_eq!(rt; found, bad),
-    }
-}
-
-fn at(offset: u64, group: u32, kind: Kind) -> Option<Listed> {
-    Some(Listed {
-        offset,
-        group: Some(U4::low_bits(group)),
-        kind,
-    })
-}
+const VOICE_ROWS: &str = "\
+0 40903C00 01FF0000 -> lane 0 90 3C 01
+8 40C00001 05000102 -> lane 0 B0 00 01 B0 20 02 C0 05
+16 40200000 04000000 -> lane 0 B0 65 00 B0 64 00 B0 06 02 B0 26 00
+24 40307F7F 00000000 -> lane 0 | 24 0 NullParameter
+32 40400000 00000001 -> lane 0 | 32 0 RelativeParameter
+40 42903C03 C9240000 -> lane 2 90 3C 64 | 40 2 NoteAttribute";
 
 #[test]
-fn voice_messages_of_midi_2(rt: HostRuntime) {
-    let Ok(mut down) = Down::new(rt.alloc(), 6, Style::Plain, false) else {
-        assert!(rt; false, "memory is ample");
-        return;
-    };
-    let down = &mut down;
-    gives(
-        &rt,
-        down,
-        0,
-        &[0x4090_3C00, 0x01FF_0000],
-        0,
-        &[0x90, 0x3C, 0x01],
-        None,
-    );
-    gives(
-        &rt,
-        down,
-        8,
-        &[0x40C0_0001, 0x0500_0102],
-        0,
-        &[0xB0, 0x00, 0x01, 0xB0, 0x20, 0x02, 0xC0, 0x05],
-        None,
-    );
-    gives(
-        &rt,
-        down,
-        16,
-        &[0x4020_0000, 0x0400_0000],
-        0,
-        &[
-            0xB0, 0x65, 0x00, 0xB0, 0x64, 0x00, 0xB0, 0x06, 0x02, 0xB0, 0x26, 0x00,
-        ],
-        None,
-    );
-    let null = at(24, 0, Kind::NullParameter);
-    gives(&rt, down, 24, &[0x4030_7F7F, 0x0000_0000], 0, &[], null);
-    let relative = at(32, 0, Kind::RelativeParameter);
-    gives(&rt, down, 32, &[0x4040_0000, 0x0000_0001], 0, &[], relative);
-    let attribute = at(40, 2, Kind::NoteAttribute);
-    gives(
-        &rt,
-        down,
-        40,
-        &[0x4290_3C03, 0xC924_0000],
-        2,
-        &[0x90, 0x3C, 0x64],
-        attribute,
-    );
+fn voice_messages_of_midi_2(rt: HostRuntime) -> Result<(), Fail> {
+    rows_hold(&rt, rt.alloc(), Style::Plain, false, VOICE_ROWS)
 }
 
+const TWO_GROUPS: &str = "\
+0 30160102 03040506 -> lane 0
+8 31021112 00000000 -> lane 1 F0 11 12 F7
+16 30310700 00000000 -> lane 0 F0 01 02 03 04 05 06 07 F7";
+
 #[test]
-fn exclusives_of_two_groups(rt: HostRuntime) {
-    let Ok(mut down) = Down::new(rt.alloc(), 1_048_576, Style::Plain, false) else {
-        assert!(rt; false, "memory is ample");
-        return;
-    };
-    let down = &mut down;
-    gives(&rt, down, 0, &[0x3016_0102, 0x0304_0506], 0, &[], None);
-    gives(
-        &rt,
-        down,
-        8,
-        &[0x3102_1112, 0x0000_0000],
-        1,
-        &[0xF0, 0x11, 0x12, 0xF7],
-        None,
-    );
-    gives(
-        &rt,
-        down,
-        16,
-        &[0x3031_0700, 0x0000_0000],
-        0,
-        &[0xF0, 1, 2, 3, 4, 5, 6, 7, 0xF7],
-        None,
-    );
+fn exclusives_of_two_groups(rt: HostRuntime) -> Result<(), Fail> {
+    let alloc = rt.alloc();
+    let mut down = Down::new(alloc, 1_048_576, Style::Plain, false).expect(&rt, "memory is ample");
+    rows_follow(&rt, alloc, &mut down, TWO_GROUPS)?;
     assert_eq!(rt; down.begun_at(U4::low_bits(0)), None);
+    Ok(())
 }
 
+const CUT_STRAY_OPEN: &str = "\
+0 30160102 03040506 -> lane 0
+8 30020708 00000000 -> lane 0 F0 07 08 F7 | 0 0 CutExclusive
+16 30210900 00000000 -> lane 0 | 16 0 StrayExclusive
+24 30110A00 00000000 -> lane 0";
+
 #[test]
-fn cut_stray_and_open_exclusives(rt: HostRuntime) {
-    let Ok(mut down) = Down::new(rt.alloc(), 1_048_576, Style::Plain, false) else {
-        assert!(rt; false, "memory is ample");
-        return;
-    };
-    let down = &mut down;
-    gives(&rt, down, 0, &[0x3016_0102, 0x0304_0506], 0, &[], None);
-    let cut = at(0, 0, Kind::CutExclusive);
-    gives(
-        &rt,
-        down,
-        8,
-        &[0x3002_0708, 0x0000_0000],
-        0,
-        &[0xF0, 7, 8, 0xF7],
-        cut,
-    );
-    let stray = at(16, 0, Kind::StrayExclusive);
-    gives(&rt, down, 16, &[0x3021_0900, 0x0000_0000], 0, &[], stray);
-    gives(&rt, down, 24, &[0x3011_0A00, 0x0000_0000], 0, &[], None);
+fn cut_stray_and_open_exclusives(rt: HostRuntime) -> Result<(), Fail> {
+    let alloc = rt.alloc();
+    let mut down = Down::new(alloc, 1_048_576, Style::Plain, false).expect(&rt, "memory is ample");
+    rows_follow(&rt, alloc, &mut down, CUT_STRAY_OPEN)?;
     assert_eq!(rt; down.begun_at(U4::low_bits(0)), Some(24));
+    Ok(())
 }
 
-#[test]
-fn a_keyboard_and_a_clock(rt: HostRuntime) {
-    let Ok(mut down) = Down::new(rt.alloc(), 6, Style::Plain, false) else {
-        assert!(rt; false, "memory is ample");
-        return;
-    };
-    let down = &mut down;
-    let utility = Some(Listed {
-        offset: 0,
-        group: None,
-        kind: Kind::Utility,
-    });
-    gives(&rt, down, 0, &[0x0020_0010], 0, &[], utility);
-    gives(
-        &rt,
-        down,
-        4,
-        &[0x4090_3C00, 0xC924_0000],
-        0,
-        &[0x90, 0x3C, 0x64],
-        None,
-    );
-    gives(
-        &rt,
-        down,
-        12,
-        &[0x40E0_0000, 0xA000_0000],
-        0,
-        &[0xE0, 0x00, 0x50],
-        None,
-    );
-    gives(
-        &rt,
-        down,
-        20,
-        &[0x4080_3C00, 0x8000_0000],
-        0,
-        &[0x80, 0x3C, 0x40],
-        None,
-    );
-    gives(&rt, down, 28, &[0x15F8_0000], 5, &[0xF8], None);
-}
+const KEYBOARD_AND_CLOCK: &str = "\
+0 00200010 -> lane 0 | 0 - Utility
+4 40903C00 C9240000 -> lane 0 90 3C 64
+12 40E00000 A0000000 -> lane 0 E0 00 50
+20 40803C00 80000000 -> lane 0 80 3C 40
+28 15F80000 -> lane 5 F8";
 
 #[test]
-fn parameters_of_both_protocols(rt: HostRuntime) {
-    let Ok(mut down) = Down::new(rt.alloc(), 6, Style::Plain, false) else {
-        assert!(rt; false, "memory is ample");
-        return;
-    };
-    let down = &mut down;
-    gives(&rt, down, 0, &[0x20B0_6500], 0, &[0xB0, 0x65, 0x00], None);
-    gives(&rt, down, 4, &[0x20B0_6401], 0, &[0xB0, 0x64, 0x01], None);
-    gives(
-        &rt,
-        down,
-        8,
-        &[0x4020_0000, 0x0400_0000],
-        0,
-        &[
-            0xB0, 0x65, 0x00, 0xB0, 0x64, 0x00, 0xB0, 0x06, 0x02, 0xB0, 0x26, 0x00,
-        ],
-        None,
-    );
-    gives(&rt, down, 16, &[0x20B0_0603], 0, &[0xB0, 0x06, 0x03], None);
+fn a_keyboard_and_a_clock(rt: HostRuntime) -> Result<(), Fail> {
+    rows_hold(&rt, rt.alloc(), Style::Plain, false, KEYBOARD_AND_CLOCK)
 }
 
+const PARAMETERS: &str = "\
+0 20B06500 -> lane 0 B0 65 00
+4 20B06401 -> lane 0 B0 64 01
+8 40200000 04000000 -> lane 0 B0 65 00 B0 64 00 B0 06 02 B0 26 00
+16 20B00603 -> lane 0 B0 06 03";
+
 #[test]
-fn refusals_and_what_stands_after_them(rt: HostRuntime) {
-    let Ok(mut down) = Down::new(rt.alloc(), 6, Style::Plain, false) else {
-        assert!(rt; false, "memory is ample");
-        return;
-    };
-    let down = &mut down;
-    let whole = [0xF0, 1, 2, 3, 4, 5, 6, 0xF7];
-    gives(&rt, down, 0, &[0x3006_0102, 0x0304_0506], 0, &whole, None);
-    gives(&rt, down, 8, &[0x3016_0102, 0x0304_0506], 0, &[], None);
-    gives(&rt, down, 16, &[0x3111_0700, 0x0000_0000], 0, &[], None);
-    refuses(&rt, down, &[0x20B0_6000], BadStep::DataIncrement);
-    refuses(
-        &rt,
-        down,
-        &[0x40B0_6100, 0x0000_0000],
-        BadStep::DataDecrement,
-    );
+fn parameters_of_both_protocols(rt: HostRuntime) -> Result<(), Fail> {
+    rows_hold(&rt, rt.alloc(), Style::Plain, false, PARAMETERS)
+}
+
+const OPEN_AFTER_REFUSALS: &str = "\
+0 30060102 03040506 -> lane 0 F0 01 02 03 04 05 06 F7
+8 30160102 03040506 -> lane 0
+16 31110700 00000000 -> lane 0
+20 20B06000 -> DataIncrement
+24 40B06100 00000000 -> DataDecrement";
+
+#[test]
+fn refusals_and_what_stands_after_them(rt: HostRuntime) -> Result<(), Fail> {
+    let alloc = rt.alloc();
+    let mut down = Down::new(alloc, 6, Style::Plain, false).expect(&rt, "memory is ample");
+    rows_follow(&rt, alloc, &mut down, OPEN_AFTER_REFUSALS)?;
     assert_eq!(rt; down.begun_at(U4::low_bits(0)), Some(8));
-    refuses(
-        &rt,
-        down,
-        &[0x3031_0700, 0x0000_0000],
-        BadStep::ExclusiveTooLong,
-    );
+    let too_long = "32 30310700 00000000 -> ExclusiveTooLong";
+    rows_follow(&rt, alloc, &mut down, too_long)?;
     assert_eq!(rt; down.begun_at(U4::low_bits(0)), None);
     assert_eq!(rt; down.begun_at(U4::low_bits(1)), Some(16));
+    Ok(())
 }
+
+const COMPACT: &str = "\
+0 40903C00 C9240000 -> lane 0 90 3C 64
+8 40903C00 C9240000 -> lane 0 3C 64
+16 40200000 04000000 -> lane 0 B0 65 00 64 00 06 02 26 00
+24 40200000 04000000 -> lane 0 06 02 26 00
+32 20B06000 -> DataIncrement
+36 20B00603 -> lane 0 06 03
+40 10FF0000 -> lane 0 FF
+44 40200000 04000000 -> lane 0 B0 65 00 64 00 06 02 26 00";
 
 #[test]
-fn what_a_receiver_has_in_compact_style(rt: HostRuntime) {
-    let Ok(mut down) = Down::new(rt.alloc(), 6, Style::Compact, false) else {
-        assert!(rt; false, "memory is ample");
-        return;
-    };
-    let down = &mut down;
-    let note = [0x4090_3C00, 0xC924_0000];
-    gives(&rt, down, 0, &note, 0, &[0x90, 0x3C, 0x64], None);
-    gives(&rt, down, 8, &note, 0, &[0x3C, 0x64], None);
-    let set = [0x4020_0000, 0x0400_0000];
-    let whole = [0xB0, 0x65, 0x00, 0x64, 0x00, 0x06, 0x02, 0x26, 0x00];
-    gives(&rt, down, 16, &set, 0, &whole, None);
-    gives(&rt, down, 24, &set, 0, &[0x06, 0x02, 0x26, 0x00], None);
-    refuses(&rt, down, &[0x20B0_6000], BadStep::DataIncrement);
-    gives(&rt, down, 32, &[0x20B0_0603], 0, &[0x06, 0x03], None);
-    gives(&rt, down, 36, &[0x10FF_0000], 0, &[0xFF], None);
-    gives(&rt, down, 40, &set, 0, &whole, None);
+fn what_a_receiver_has_in_compact_style(rt: HostRuntime) -> Result<(), Fail> {
+    rows_hold(&rt, rt.alloc(), Style::Compact, false, COMPACT)
 }
 
-// Controllers 7 and 39 in packets of both protocols, by a translator in this style in which they are paired.
-fn gives_pairs(rt: &impl Abort, down: &mut Down, pieces: [&[u8]; 4]) {
-    let volume = [0x40B0_0700, 0xC924_0000];
-    gives(rt, down, 0, &volume, 0, pieces[0], None);
-    let lsb = [0x40B0_2700, 0xC924_0000];
-    gives(rt, down, 8, &lsb, 0, &[], at(8, 0, Kind::FineController));
-    gives(rt, down, 16, &[0x20B0_2705], 0, pieces[1], None);
-    gives(rt, down, 20, &volume, 0, pieces[2], None);
-    gives(rt, down, 28, &[0x40B0_7900, 0], 0, pieces[3], None);
-    let entry = at(36, 0, Kind::MisplacedController);
-    gives(rt, down, 36, &[0x40B0_2600, 0], 0, &[], entry);
-}
+// Controllers 7 and 39 in packets of both protocols.
+const PAIRED: &str = "\
+0 40B00700 C9240000 -> lane 0 B0 07 64 B0 27 49
+8 40B02700 C9240000 -> lane 0 | 8 0 FineController
+16 20B02705 -> lane 0 B0 27 05
+20 40B00700 C9240000 -> lane 0 B0 07 64 B0 27 49
+28 40B07900 00000000 -> lane 0 B0 79 00
+36 40B02600 00000000 -> lane 0 | 36 0 MisplacedController";
 
 #[test]
-fn paired_controllers(rt: HostRuntime) {
-    let Ok(mut down) = Down::new(rt.alloc(), 6, Style::Plain, true) else {
-        assert!(rt; false, "memory is ample");
-        return;
-    };
-    let both = [0xB0, 0x07, 0x64, 0xB0, 0x27, 0x49];
-    let pieces: [&[u8]; 4] = [&both, &[0xB0, 0x27, 0x05], &both, &[0xB0, 0x79, 0x00]];
-    gives_pairs(&rt, &mut down, pieces);
+fn paired_controllers(rt: HostRuntime) -> Result<(), Fail> {
+    rows_hold(&rt, rt.alloc(), Style::Plain, true, PAIRED)
 }
 
-#[test]
-fn paired_controllers_in_compact_style(rt: HostRuntime) {
-    let Ok(mut down) = Down::new(rt.alloc(), 6, Style::Compact, true) else {
-        assert!(rt; false, "memory is ample");
-        return;
-    };
-    let pieces: [&[u8]; 4] = [
-        &[0xB0, 0x07, 0x64, 0x27, 0x49],
-        &[0x27, 0x05],
-        &[0x07, 0x64, 0x27, 0x49],
-        &[0x79, 0x00],
-    ];
-    gives_pairs(&rt, &mut down, pieces);
-}
+const PAIRED_AND_COMPACT: &str = "\
+0 40B00700 C9240000 -> lane 0 B0 07 64 27 49
+8 40B02700 C9240000 -> lane 0 | 8 0 FineController
+16 20B02705 -> lane 0 27 05
+20 40B00700 C9240000 -> lane 0 07 64 27 49
+28 40B07900 00000000 -> lane 0 79 00
+36 40B02600 00000000 -> lane 0 | 36 0 MisplacedController";
 
 #[test]
-fn controllers_that_are_not_paired(rt: HostRuntime) {
-    let Ok(mut down) = Down::new(rt.alloc(), 6, Style::Plain, false) else {
-        assert!(rt; false, "memory is ample");
-        return;
-    };
-    let down = &mut down;
-    gives(
-        &rt,
-        down,
-        0,
-        &[0x40B0_0700, 0xC924_0000],
-        0,
-        &[0xB0, 0x07, 0x64],
-        None,
-    );
-    gives(
-        &rt,
-        down,
-        8,
-        &[0x40B0_2700, 0xC924_0000],
-        0,
-        &[0xB0, 0x27, 0x64],
-        None,
-    );
+fn paired_controllers_in_compact_style(rt: HostRuntime) -> Result<(), Fail> {
+    rows_hold(&rt, rt.alloc(), Style::Compact, true, PAIRED_AND_COMPACT)
+}
+
+const NOT_PAIRED: &str = "\
+0 40B00700 C9240000 -> lane 0 B0 07 64
+8 40B02700 C9240000 -> lane 0 B0 27 64";
+
+#[test]
+fn controllers_that_are_not_paired(rt: HostRuntime) -> Result<(), Fail> {
+    rows_hold(&rt, rt.alloc(), Style::Plain, false, NOT_PAIRED)
 }

@@ -1,72 +1,55 @@
 // Each rule by the smallest front of a setup that breaks it, values past each border, and worked rows of replies.
+use endpoint_fixtures::DEMO_SETUP;
 use function_blocks::*;
 use midi_edge::U4;
 use std::alloc::{AllocError, Global};
+use std::process::Abort;
 use std::test::Fail;
 use system_stream::StreamMessage;
 use ump_grammar::Replies;
 
-// A setup that keeps all rules. Its first lines alone are a text too.
-const LINES: [&str; 29] = [
-    "[endpoint]",
-    "name = \"Demo Endpoint X\"",
-    "id = \"SN-0001\"",
-    "manufacturer = [125, 0, 0]",
-    "family = 1",
-    "model = 2",
-    "revision = [1, 0, 0, 0]",
-    "midi1 = true",
-    "midi2 = true",
-    "protocol = 2",
-    "static = true",
-    "[[block]]",
-    "active = true",
-    "name = \"Main\"",
-    "hint = 3",
-    "midi1 = 0",
-    "direction = 3",
-    "first = 0",
-    "count = 1",
-    "ci = 2",
-    "sysex8 = 0",
-    "muids = [19088743, 300]",
-    "[[profile]]",
-    "block = 0",
-    "place = \"channel\"",
-    "group = 0",
-    "channel = 2",
-    "id = [126, 0, 1, 1, 0]",
-    "on = false",
-];
+// The number of lines of `DEMO_SETUP`.
+const LINES: usize = 29;
 
-fn add_line(text: &mut Vec<u8>, line: &str) -> Result<(), AllocError> {
-    text.extend_from_slice(line.as_bytes())?;
-    text.push(b'\n')?;
-    Ok(())
-}
-
-// The text of the first `count` lines, with one of them replaced, and of more lines.
+// The text of the first `count` lines of `DEMO_SETUP`, with one of them replaced, and of more lines.
 fn text_of(
     alloc: Global,
     count: usize,
     index: usize,
     line: &str,
     more: &[&str],
-) -> Result<Vec<u8>, AllocError> {
-    let mut text = Vec::new(alloc);
-    for (k, own) in LINES.iter().enumerate() {
+) -> Result<String, AllocError> {
+    let mut text = String::new(alloc);
+    for (k, own) in DEMO_SETUP.lines().enumerate() {
         if k < count {
-            add_line(&mut text, if k == index { line } else { *own })?;
+            add_lines(&mut text, if k == index { line } else { own })?;
         }
     }
     for line in more {
-        add_line(&mut text, line)?;
+        add_lines(&mut text, line)?;
     }
     Ok(text)
 }
 
-fn read_only(alloc: Global, text: &[u8]) -> Result<(), SetupFault> {
-    match Setup::read(alloc, text) {
+// Adds lines, which a slash parts.
+fn add_lines(text: &mut String, lines: &str) -> Result<(), AllocError> {
+    for line in lines.split(" / ") {
+        text.push_str(line)?;
+        text.push('\n')?;
+    }
+    Ok(())
+}
+
+fn setup_of(alloc: Global, text: Result<String, AllocError>) -> Result<Setup, SetupFault> {
+    match text {
+        Ok(text) => Setup::read(alloc, text.as_bytes()),
+        Err(_) => Err(SetupFault::NoMemory),
+    }
+}
+
+// Whether there is a setup, or why not.
+fn fault_of(read: Result<Setup, SetupFault>) -> Result<(), SetupFault> {
+    match read {
         Ok(_) => Ok(()),
         Err(fault) => Err(fault),
     }
@@ -74,26 +57,17 @@ fn read_only(alloc: Global, text: &[u8]) -> Result<(), SetupFault> {
 
 // What the first `count` lines are read as.
 fn front(alloc: Global, count: usize) -> Result<(), SetupFault> {
-    match text_of(alloc, count, LINES.len(), "", &[]) {
-        Ok(text) => read_only(alloc, text.as_slice()),
-        Err(_) => Err(SetupFault::NoMemory),
-    }
+    fault_of(setup_of(alloc, text_of(alloc, count, LINES, "", &[])))
 }
 
 // What the whole setup is read as, where one line is replaced.
 fn with_line(alloc: Global, index: usize, line: &str) -> Result<(), SetupFault> {
-    match text_of(alloc, LINES.len(), index, line, &[]) {
-        Ok(text) => read_only(alloc, text.as_slice()),
-        Err(_) => Err(SetupFault::NoMemory),
-    }
+    fault_of(setup_of(alloc, text_of(alloc, LINES, index, line, &[])))
 }
 
 // What the whole setup is read as with more lines after it.
 fn with_more(alloc: Global, more: &[&str]) -> Result<(), SetupFault> {
-    match text_of(alloc, LINES.len(), LINES.len(), "", more) {
-        Ok(text) => read_only(alloc, text.as_slice()),
-        Err(_) => Err(SetupFault::NoMemory),
-    }
+    fault_of(setup_of(alloc, text_of(alloc, LINES, LINES, "", more)))
 }
 
 // Each front lacks all that comes after it, so it breaks all later rules too: the first is reported.
@@ -114,157 +88,138 @@ fn the_first_missing_key_is_told(rt: HostRuntime) {
     assert_eq!(rt; front(rt.alloc(), 29), Ok(()));
 }
 
-#[test]
-fn the_endpoint_past_each_border(rt: HostRuntime) {
-    let name =
-        "name = \"123456789 123456789 123456789 123456789 123456789 123456789 123456789 123456789 123456789 12345678\"";
-    let long_name =
-        "name = \"123456789 123456789 123456789 123456789 123456789 123456789 123456789 123456789 123456789 123456789\"";
-    let rows: [(usize, &str, u8); 37] = [
-        (0, "endpoint = 1", 1),
-        (1, "name = \"\"", 2),
-        (1, "name = 1", 2),
-        (1, name, 99),
-        (1, long_name, 2),
-        (2, "id = \"\"", 3),
-        (2, "id = \"123456789 123456789 123456789 123456789 12\"", 99),
-        (2, "id = \"123456789 123456789 123456789 123456789 123\"", 3),
-        (2, "id = \"SN\\u001F\"", 3),
-        (2, "id = \"SN\\u007F\"", 3),
-        (2, "id = \" ~\"", 99),
-        (2, "id = \"\\u00E9\"", 3),
-        (3, "manufacturer = [125, 0]", 4),
-        (3, "manufacturer = [125, 0, 0, 0]", 4),
-        (3, "manufacturer = [125, 0, 128]", 4),
-        (3, "manufacturer = [125, 0, -1]", 4),
-        (3, "manufacturer = 125", 4),
-        (4, "family = 16383", 99),
-        (4, "family = 16384", 5),
-        (4, "family = -1", 5),
-        (4, "family = 1.0", 5),
-        (5, "model = 16384", 6),
-        (5, "model = \"2\"", 6),
-        (6, "revision = [1, 0, 0]", 7),
-        (6, "revision = [1, 0, 0, 128]", 7),
-        (6, "revision = [1, 0, 0, true]", 7),
-        (7, "midi1 = 1", 8),
-        (7, "midi1 = false", 99),
-        (8, "midi2 = 1", 8),
-        (8, "midi2 = false", 9),
-        (9, "protocol = 0", 9),
-        (9, "protocol = 1", 99),
-        (9, "protocol = 3", 9),
-        (9, "protocol = true", 9),
-        (10, "static = 1", 10),
-        (10, "static = false", 99),
-        (10, "static = \"true\"", 10),
-    ];
-    for (index, line, rule) in rows {
-        let expected = if rule == 99 {
-            Ok(())
-        } else {
-            Err(SetupFault::Field(rule))
+// Each row of a table has the index of a line of `DEMO_SETUP`, the number of the rule that is broken where the line is replaced, or
+// `kept`, and the lines in its place, which a slash parts.
+fn lines_break(rt: &impl Abort, alloc: Global, table: &str) -> Result<(), Fail> {
+    for row in table.lines() {
+        let mut cells = row.splitn(3, ' ');
+        let (Some(index), Some(rule)) = (cells.next(), cells.next()) else {
+            return Err(Fail::new("a row has an index and a rule"));
         };
-        assert_eq!(rt; with_line(rt.alloc(), index, line), expected, "{line}");
+        let expected = match rule {
+            "kept" => Ok(()),
+            number => Err(SetupFault::Field(number.parse::<u8>()?)),
+        };
+        let line = cells.next().unwrap_or("");
+        assert_eq!(rt;
+            with_line(alloc, index.parse::<usize>()?, line),
+            expected,
+            "{row}"
+        );
     }
+    Ok(())
 }
 
-#[test]
-fn blocks_past_each_border(rt: HostRuntime) {
-    let name =
-        "name = \"123456789 123456789 123456789 123456789 123456789 123456789 123456789 123456789 123456789 1\"";
-    let long_name =
-        "name = \"123456789 123456789 123456789 123456789 123456789 123456789 123456789 123456789 123456789 12\"";
-    let rows: [(usize, &str, u8); 32] = [
-        (12, "active = 1", 12),
-        (12, "active = false", 99),
-        (13, "name = \"\"", 13),
-        (13, name, 99),
-        (13, long_name, 13),
-        (14, "hint = 4", 14),
-        (14, "hint = -1", 14),
-        (15, "midi1 = 2", 99),
-        (15, "midi1 = 3", 15),
-        (16, "direction = 0", 16),
-        (16, "direction = 1", 99),
-        (16, "direction = 4", 16),
-        (17, "first = 16", 17),
-        (17, "first = 15", 27),
-        (18, "count = 0", 18),
-        (18, "count = 16", 99),
-        (18, "count = 17", 18),
-        (17, "first = 15\ncount = 2\n[[block.more]]", 18),
-        (17, "first = 15\ncount = 1\n[[block.more]]", 19),
-        (19, "ci = 3", 19),
-        (19, "ci = 0", 25),
-        (20, "sysex8 = 255", 99),
-        (20, "sysex8 = 256", 20),
-        (21, "muids = []", 21),
-        (21, "muids = [268435199]", 99),
-        (21, "muids = [268435200]", 21),
-        (
-            21,
-            "muids = [1, 2, 3, 4, 5, 6, 7, 8, 9, 10, 11, 12, 13, 14, 15, 16]",
-            99,
-        ),
-        (
-            21,
-            "muids = [1, 2, 3, 4, 5, 6, 7, 8, 9, 10, 11, 12, 13, 14, 15, 16, 17]",
-            21,
-        ),
-        (21, "muids = [1, \"2\"]", 21),
-        (21, "muids = [300, 300]", 23),
-        (11, "[block]", 11),
-        (11, "[[blocks]]", 25),
-    ];
-    for (index, line, rule) in rows {
-        let expected = if rule == 99 {
-            Ok(())
-        } else {
-            Err(SetupFault::Field(rule))
-        };
-        assert_eq!(rt; with_line(rt.alloc(), index, line), expected, "{line}");
-    }
-}
+const ENDPOINT_LINES: &str = "\
+0 1 endpoint = 1
+1 2 name = \"\"
+1 2 name = 1
+1 kept name = \"123456789 123456789 123456789 123456789 123456789 123456789 123456789 123456789 123456789 12345678\"
+1 2 name = \"123456789 123456789 123456789 123456789 123456789 123456789 123456789 123456789 123456789 123456789\"
+2 3 id = \"\"
+2 kept id = \"123456789 123456789 123456789 123456789 12\"
+2 3 id = \"123456789 123456789 123456789 123456789 123\"
+2 3 id = \"SN\\u001F\"
+2 3 id = \"SN\\u007F\"
+2 kept id = \" ~\"
+2 3 id = \"\\u00E9\"
+3 4 manufacturer = [125, 0]
+3 4 manufacturer = [125, 0, 0, 0]
+3 4 manufacturer = [125, 0, 128]
+3 4 manufacturer = [125, 0, -1]
+3 4 manufacturer = 125
+4 kept family = 16383
+4 5 family = 16384
+4 5 family = -1
+4 5 family = 1.0
+5 6 model = 16384
+5 6 model = \"2\"
+6 7 revision = [1, 0, 0]
+6 7 revision = [1, 0, 0, 128]
+6 7 revision = [1, 0, 0, true]
+7 8 midi1 = 1
+7 kept midi1 = false
+8 8 midi2 = 1
+8 9 midi2 = false
+9 9 protocol = 0
+9 kept protocol = 1
+9 9 protocol = 3
+9 9 protocol = true
+10 10 static = 1
+10 kept static = false
+10 10 static = \"true\"";
 
 #[test]
-fn profiles_past_each_border(rt: HostRuntime) {
-    let rows: [(usize, &str, u8); 22] = [
-        (22, "[profile]", 24),
-        (23, "block = 1", 25),
-        (23, "block = -1", 25),
-        (24, "place = \"block\"", 26),
-        (24, "place = 1", 26),
-        (24, "place = \"\"", 26),
-        (24, "place = \"function\"", 99),
-        (24, "place = \"group\"", 99),
-        (25, "group = 1", 27),
-        (25, "group = -1", 27),
-        (26, "channel = 15", 99),
-        (26, "channel = 16", 28),
-        (27, "id = [126, 0, 1, 1]", 29),
-        (27, "id = [126, 0, 1, 1, 0, 0]", 29),
-        (27, "id = [126, 0, 1, 1, 128]", 29),
-        (28, "on = 1", 30),
-        (28, "on = true", 99),
-        (28, "on = true\nunknown = 1", 99),
-        (25, "", 27),
-        (26, "", 28),
-        (24, "place = \"group\"\ngroup = 0\n[ignored]", 29),
-        (
-            24,
-            "place = \"function\"\nid = [1, 2, 3, 4, 5]\non = true\n[ignored]",
-            99,
-        ),
-    ];
-    for (index, line, rule) in rows {
-        let expected = if rule == 99 {
-            Ok(())
-        } else {
-            Err(SetupFault::Field(rule))
-        };
-        assert_eq!(rt; with_line(rt.alloc(), index, line), expected, "{line}");
-    }
+fn the_endpoint_past_each_border(rt: HostRuntime) -> Result<(), Fail> {
+    lines_break(&rt, rt.alloc(), ENDPOINT_LINES)
+}
+
+const BLOCK_LINES: &str = "\
+12 12 active = 1
+12 kept active = false
+13 13 name = \"\"
+13 kept name = \"123456789 123456789 123456789 123456789 123456789 123456789 123456789 123456789 123456789 1\"
+13 13 name = \"123456789 123456789 123456789 123456789 123456789 123456789 123456789 123456789 123456789 12\"
+14 14 hint = 4
+14 14 hint = -1
+15 kept midi1 = 2
+15 15 midi1 = 3
+16 16 direction = 0
+16 kept direction = 1
+16 16 direction = 4
+17 17 first = 16
+17 27 first = 15
+18 18 count = 0
+18 kept count = 16
+18 18 count = 17
+17 18 first = 15 / count = 2 / [[block.more]]
+17 19 first = 15 / count = 1 / [[block.more]]
+19 19 ci = 3
+19 25 ci = 0
+20 kept sysex8 = 255
+20 20 sysex8 = 256
+21 21 muids = []
+21 kept muids = [268435199]
+21 21 muids = [268435200]
+21 kept muids = [1, 2, 3, 4, 5, 6, 7, 8, 9, 10, 11, 12, 13, 14, 15, 16]
+21 21 muids = [1, 2, 3, 4, 5, 6, 7, 8, 9, 10, 11, 12, 13, 14, 15, 16, 17]
+21 21 muids = [1, \"2\"]
+21 23 muids = [300, 300]
+11 11 [block]
+11 25 [[blocks]]";
+
+#[test]
+fn blocks_past_each_border(rt: HostRuntime) -> Result<(), Fail> {
+    lines_break(&rt, rt.alloc(), BLOCK_LINES)
+}
+
+const PROFILE_LINES: &str = "\
+22 24 [profile]
+23 25 block = 1
+23 25 block = -1
+24 26 place = \"block\"
+24 26 place = 1
+24 26 place = \"\"
+24 kept place = \"function\"
+24 kept place = \"group\"
+25 27 group = 1
+25 27 group = -1
+26 kept channel = 15
+26 28 channel = 16
+27 29 id = [126, 0, 1, 1]
+27 29 id = [126, 0, 1, 1, 0, 0]
+27 29 id = [126, 0, 1, 1, 128]
+28 30 on = 1
+28 kept on = true
+28 kept on = true / unknown = 1
+25 27
+26 28
+24 29 place = \"group\" / group = 0 / [ignored]
+24 kept place = \"function\" / id = [1, 2, 3, 4, 5] / on = true / [ignored]";
+
+#[test]
+fn profiles_past_each_border(rt: HostRuntime) -> Result<(), Fail> {
+    lines_break(&rt, rt.alloc(), PROFILE_LINES)
 }
 
 // The keys of a block after `active` and before `first`.
@@ -316,31 +271,31 @@ fn blocks_and_profiles_together(rt: HostRuntime) {
 }
 
 // The endpoint of the setup and this many blocks without MIDI-CI, each with a name of 91 bytes, and profiles that aren't read.
-fn many_blocks(alloc: Global, blocks: usize) -> Result<Vec<u8>, AllocError> {
-    let mut text = text_of(alloc, 11, LINES.len(), "", &[])?;
+fn many_blocks(alloc: Global, blocks: usize) -> Result<String, AllocError> {
+    let mut text = text_of(alloc, 11, LINES, "", &[])?;
     for _ in 0..blocks {
-        add_line(&mut text, "[[block]]")?;
-        add_line(
+        add_lines(&mut text, "[[block]]")?;
+        add_lines(
             &mut text,
             "active = false\nfirst = 0\ncount = 1\nci = 0\nmuids = []",
         )?;
-        add_line(&mut text, "hint = 0\nmidi1 = 0\ndirection = 1\nsysex8 = 0")?;
+        add_lines(&mut text, "hint = 0\nmidi1 = 0\ndirection = 1\nsysex8 = 0")?;
         let name =
             "name = \"123456789 123456789 123456789 123456789 123456789 123456789 123456789 123456789 123456789 1\"";
-        add_line(&mut text, name)?;
+        add_lines(&mut text, name)?;
     }
     Ok(text)
 }
 
-fn many_profiles(alloc: Global, profiles: usize) -> Result<Vec<u8>, AllocError> {
-    let mut text = text_of(alloc, 22, LINES.len(), "", &[])?;
+fn many_profiles(alloc: Global, profiles: usize) -> Result<String, AllocError> {
+    let mut text = text_of(alloc, 22, LINES, "", &[])?;
     for k in 0..profiles {
-        add_line(
+        add_lines(
             &mut text,
             "[[profile]]\nblock = 0\nplace = \"function\"\non = true",
         )?;
         let line = format!(in alloc; "id = [0, 0, 0, 0, {k}]")?;
-        add_line(&mut text, line.as_str())?;
+        add_lines(&mut text, line.as_str())?;
     }
     Ok(text)
 }
@@ -348,20 +303,14 @@ fn many_profiles(alloc: Global, profiles: usize) -> Result<Vec<u8>, AllocError> 
 #[test]
 fn no_more_blocks_and_profiles_than_fit(rt: HostRuntime) -> Result<(), Fail> {
     let alloc = rt.alloc();
+    assert_eq!(rt; fault_of(setup_of(alloc, many_blocks(alloc, 32))), Ok(()));
     assert_eq!(rt;
-        read_only(alloc, many_blocks(alloc, 32)?.as_slice()),
-        Ok(())
-    );
-    assert_eq!(rt;
-        read_only(alloc, many_blocks(alloc, 33)?.as_slice()),
+        fault_of(setup_of(alloc, many_blocks(alloc, 33))),
         Err(SetupFault::Field(11))
     );
+    assert_eq!(rt; fault_of(setup_of(alloc, many_profiles(alloc, 64))), Ok(()));
     assert_eq!(rt;
-        read_only(alloc, many_profiles(alloc, 64)?.as_slice()),
-        Ok(())
-    );
-    assert_eq!(rt;
-        read_only(alloc, many_profiles(alloc, 65)?.as_slice()),
+        fault_of(setup_of(alloc, many_profiles(alloc, 65))),
         Err(SetupFault::Field(24))
     );
     Ok(())
@@ -384,32 +333,25 @@ fn texts_that_are_no_toml(rt: HostRuntime) -> Result<(), Fail> {
         Err(SetupFault::Field(14))
     );
     assert_eq!(rt;
-        read_only(alloc, b"[endpoint]\nname = \"\xFF\""),
+        fault_of(Setup::read(alloc, b"[endpoint]\nname = \"\xFF\"")),
         Err(SetupFault::Syntax)
     );
     let blank = vec![in alloc; b' '; 65_536]?;
     assert_eq!(rt;
-        read_only(alloc, blank.as_slice()),
+        fault_of(Setup::read(alloc, blank.as_slice())),
         Err(SetupFault::Field(1))
     );
     let too_long = vec![in alloc; 0xFF; 65_537]?;
     assert_eq!(rt;
-        read_only(alloc, too_long.as_slice()),
+        fault_of(Setup::read(alloc, too_long.as_slice())),
         Err(SetupFault::Field(0))
     );
     Ok(())
 }
 
-fn setup_of(alloc: Global, text: Result<Vec<u8>, AllocError>) -> Result<Setup, SetupFault> {
-    match text {
-        Ok(text) => Setup::read(alloc, text.as_slice()),
-        Err(_) => Err(SetupFault::NoMemory),
-    }
-}
-
 #[test]
 fn what_the_setup_says(rt: HostRuntime) {
-    let Ok(setup) = setup_of(rt.alloc(), text_of(rt.alloc(), 29, 29, "", &[])) else {
+    let Ok(setup) = Setup::read(rt.alloc(), DEMO_SETUP.as_bytes()) else {
         assert!(rt; false, "the setup is read");
         return;
     };
@@ -473,7 +415,7 @@ fn is_answered(setup: &Setup, config: &mut Config, message: &StreamMessage, word
 
 #[test]
 fn discoveries_are_answered(rt: HostRuntime) {
-    let Ok(setup) = setup_of(rt.alloc(), text_of(rt.alloc(), 29, 29, "", &[])) else {
+    let Ok(setup) = Setup::read(rt.alloc(), DEMO_SETUP.as_bytes()) else {
         assert!(rt; false, "the setup is read");
         return;
     };
@@ -558,7 +500,7 @@ fn discoveries_are_answered(rt: HostRuntime) {
 
 #[test]
 fn requests_put_a_supported_protocol_in_force(rt: HostRuntime) {
-    let Ok(setup) = setup_of(rt.alloc(), text_of(rt.alloc(), 29, 29, "", &[])) else {
+    let Ok(setup) = Setup::read(rt.alloc(), DEMO_SETUP.as_bytes()) else {
         assert!(rt; false, "the setup is read");
         return;
     };

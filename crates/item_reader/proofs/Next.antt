@@ -5,7 +5,7 @@ use Rattle.std.specs.Prelude.{MatchOption}
 use Rattle.item_reader.specs.Cut.{IsItem, IsLength}
 use Rattle.item_reader.specs.Front.{Sees}
 use Rattle.midi_edge.specs.Outside.{Loses, ahead}
-use Rattle.item_reader.specs.Reading.{Reading, Gives}
+use Rattle.item_reader.specs.Reading.{Reading, Gives, cursor}
 use Rattle.item_reader.specs.declared.cutting.Tail.{Tail}
 use Rattle.item_reader.specs.declared.reader.Front.TheVariants.{Item as FrontItem, TooLong as FrontTooLong}
 use Rattle.item_reader.proofs.CutLaws.{few-front, item_taken}
@@ -35,7 +35,7 @@ still_going asked lengths window at limit stop size (Some tail) stops sees = abs
 module _ {How : Type 0} (asked : How → List ℕ → ℕ) (how : How) (at limit : ℕ) (end : Option Tail) (pending window : List ℕ) (left now : Option (List ℕ)) (same : ahead window now ≡ ahead pending left) where
   module _ {Item : Type 0} (lengths : IsLength (asked how)) (item_of : How → ℕ → List ℕ → Item) where
     gives_item : (size : ℕ) → Sees (asked how) window (limit - at) (FrontItem size) → at ≤ limit
-        → Gives (asked how) (record { how = how; pending = pending; offset = at; limit = limit; end = end }) (record { how = how; pending = drop size window; offset = at + size; limit = limit; end = end }) (ahead pending left) (ahead (drop size window) now) (item_of how) (item_of how at (take size window))
+        → Gives (asked how) (cursor (record { how = how; pending = pending; offset = at; limit = limit; end = end }) left) (cursor (record { how = how; pending = drop size window; offset = at + size; limit = limit; end = end }) now) (item_of how) (item_of how at (take size window))
     gives_item size sees within =
         let len : length (take size window) ≡ size = length-take-le size window sees.1 in
         record {
@@ -52,11 +52,11 @@ module _ {How : Type 0} (asked : How → List ℕ → ℕ) (how : How) (at limit
         → record { how = how; pending = pending; offset = at; limit = limit; end = end } ≡ old
         → new ≡ record { how = how; pending = drop size window; offset = at + size; limit = limit; end = end }
         → item ≡ item_of how at (take size window)
-        → Gives (asked old.how) old new (ahead old.pending left) (ahead new.pending now) (item_of old.how) item
+        → Gives (asked old.how) (cursor old left) (cursor new now) (item_of old.how) item
     gives_out size old new item sees within is_old is_new is_item =
         let given = gives_item size sees within in
         let after : Reading How = record { how = how; pending = drop size window; offset = at + size; limit = limit; end = end } in
-        let P : Reading How → Type 0 = λ r. Gives (asked r.how) r after (ahead r.pending left) (ahead after.pending now) (item_of r.how) (item_of how at (take size window)) in
-        let Q : Reading How → Type 0 = λ r. Gives (asked old.how) old r (ahead old.pending left) (ahead r.pending now) (item_of old.how) (item_of how at (take size window)) in
-        let R : Item → Type 0 = λ i. Gives (asked old.how) old new (ahead old.pending left) (ahead new.pending now) (item_of old.how) i in
+        let P : Reading How → Type 0 = λ r. Gives (asked r.how) (cursor r left) (cursor after now) (item_of r.how) (item_of how at (take size window)) in
+        let Q : Reading How → Type 0 = λ r. Gives (asked old.how) (cursor old left) (cursor r now) (item_of old.how) (item_of how at (take size window)) in
+        let R : Item → Type 0 = λ i. Gives (asked old.how) (cursor old left) (cursor new now) (item_of old.how) i in
         subst R (sym is_item) (subst Q (sym is_new) (subst P is_old given))

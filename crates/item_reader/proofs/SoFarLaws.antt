@@ -6,9 +6,9 @@ use Rattle.std.proofs.lemmas.List.{append_assoc, append-nil, length-append, nil_
 use Rattle.item_reader.specs.Cut.{IsItem, IsCutInto, IsLength, items_from, Ends}
 use Rattle.item_reader.specs.CutLaws.{ItemsAreReadInOrder}
 use Rattle.midi_edge.specs.Outside.{Loses, ahead}
-use Rattle.item_reader.specs.Reading.{Reading, Gives, Finishes}
+use Rattle.item_reader.specs.Reading.{Reading, Gives, Finishes, cursor}
 use Rattle.midi_edge.specs.Runs.{runs_are_lost}
-use Rattle.item_reader.specs.SoFar.{ReadSoFar, StandsBehind}
+use Rattle.item_reader.specs.SoFar.{ReadSoFar, StandsBehind, given}
 use Rattle.item_reader.specs.declared.cutting.Tail.{Tail}
 use Rattle.item_reader.specs.declared.cutting.Tail.TheVariants.{End}
 use Rattle.item_reader.proofs.CutLaws.{some_cutting, cuts_behind}
@@ -28,7 +28,7 @@ items_from-append item_of at (c ∷ cs) ds =
     (items_from-append item_of (at + length c) cs ds ∙ ap (λ n. items_from item_of (at + length c) cs ++ items_from item_of n ds) (omega (arith, length-append c (concat cs))))
 
 module _ {How Item : Type 0} (asked : List ℕ → ℕ) (lengths : IsLength asked) (item_of : ℕ → List ℕ → Item) (how : How) (limit : ℕ) (reader : Reading How) (before now : Option (List ℕ)) (read : List Item)
-    (so_far : ReadSoFar asked item_of how limit reader before now read) where
+    (so_far : ReadSoFar asked item_of how limit reader (given before now read)) where
   -- the reader stands after its items
   offset-is : reader.offset ≡ length (concat so_far.chunks)
   offset-is = ap (λ r. r.offset) so_far.place
@@ -37,7 +37,7 @@ module _ {How Item : Type 0} (asked : List ℕ → ℕ) (lengths : IsLength aske
   limit-is = ap (λ r. r.limit) so_far.place
 
   abbrev GivesOut : (reader' : Reading How) (now' : Option (List ℕ)) (item : Item) → Type 0
-  GivesOut reader' now' item = Gives asked reader reader' (ahead reader.pending now) (ahead reader'.pending now') item_of item
+  GivesOut reader' now' item = Gives asked (cursor reader now) (cursor reader' now') item_of item
 
   -- the items with the one that is given out
   with_item : (reader' : Reading How) (now' : Option (List ℕ)) (item : Item) (gives : GivesOut reader' now' item)
@@ -50,7 +50,7 @@ module _ {How Item : Type 0} (asked : List ℕ → ℕ) (lengths : IsLength aske
       ∙ sym (items_from-append item_of 0 so_far.chunks (gives.chunk ∷ []))
 
   -- one more item
-  step : (reader' : Reading How) (now' : Option (List ℕ)) (item : Item) → GivesOut reader' now' item → ReadSoFar asked item_of how limit reader' before now' (read ++ item ∷ [])
+  step : (reader' : Reading How) (now' : Option (List ℕ)) (item : Item) → GivesOut reader' now' item → ReadSoFar asked item_of how limit reader' (given before now' (read ++ item ∷ []))
   step reader' now' item gives =
       let p = so_far in
       let chunk : List ℕ = gives.chunk in
@@ -88,7 +88,7 @@ module _ {How Item : Type 0} (asked : List ℕ → ℕ) (lengths : IsLength aske
           (left, f, subst Q e (subst P f so_far.lost))
 
   abbrev EndsHere : (reader' : Reading How) (now' : Option (List ℕ)) (tail : Tail) → Type 0
-  EndsHere reader' now' tail = Finishes asked reader reader' (ahead reader.pending now) (ahead reader'.pending now') tail
+  EndsHere reader' now' tail = Finishes asked (cursor reader now) (cursor reader' now') tail
 
   -- the whole stream, where it ends here
   cut_here : (bytes rest : List ℕ) (tail : Tail) → bytes ≡ concat so_far.chunks ++ rest → Ends asked reader.limit reader.offset rest tail → IsCutInto asked item_of limit bytes read tail
@@ -184,22 +184,22 @@ module _ {How Item : Type 0} (asked : List ℕ → ℕ) (lengths : IsLength aske
 
 -- however a reader cuts, it goes on as it began
 module _ {How Item : Type 0} (asked : How → List ℕ → ℕ) (lengths : (how : How) → IsLength (asked how)) (item_of : How → ℕ → List ℕ → Item) where
-  how-is : (how : How) (limit : ℕ) (reader : Reading How) (before now : Option (List ℕ)) (read : List Item) → ReadSoFar (asked how) (item_of how) how limit reader before now read → reader.how ≡ how
+  how-is : (how : How) (limit : ℕ) (reader : Reading How) (before now : Option (List ℕ)) (read : List Item) → ReadSoFar (asked how) (item_of how) how limit reader (given before now read) → reader.how ≡ how
   how-is how limit reader before now read so_far = ap (λ r. r.how) so_far.place
 
   pub in_order : ItemsAreReadInOrder asked item_of
   in_order =
       record {
         step = λ how limit reader before now read so_far reader' now' item gives.
-            let G : How → Type 0 = λ h. Gives (asked h) reader reader' (ahead reader.pending now) (ahead reader'.pending now') (item_of h) item in
+            let G : How → Type 0 = λ h. Gives (asked h) (cursor reader now) (cursor reader' now') (item_of h) item in
             step (asked how) (lengths how) (item_of how) how limit reader before now read so_far reader' now' item (subst G (how-is how limit reader before now read so_far) gives);
         stands_behind = λ how limit reader before now read so_far reader' now' item gives.
-            let G : How → Type 0 = λ h. Gives (asked h) reader reader' (ahead reader.pending now) (ahead reader'.pending now') (item_of h) item in
+            let G : How → Type 0 = λ h. Gives (asked h) (cursor reader now) (cursor reader' now') (item_of h) item in
             stands_behind (asked how) (lengths how) (item_of how) how limit reader before now read so_far reader' now' item (subst G (how-is how limit reader before now read so_far) gives);
         finishes = λ how limit reader before now read so_far reader' now' tail ends.
-            let F : How → Type 0 = λ h. Finishes (asked h) reader reader' (ahead reader.pending now) (ahead reader'.pending now') tail in
+            let F : How → Type 0 = λ h. Finishes (asked h) (cursor reader now) (cursor reader' now') tail in
             finishes (asked how) (lengths how) (item_of how) how limit reader before now read so_far reader' now' tail (subst F (how-is how limit reader before now read so_far) ends);
         nothing_left = λ how limit reader before now read so_far reader' now' ends.
-            let F : How → Type 0 = λ h. Finishes (asked h) reader reader' (ahead reader.pending now) (ahead reader'.pending now') End in
+            let F : How → Type 0 = λ h. Finishes (asked h) (cursor reader now) (cursor reader' now') End in
             nothing_left (asked how) (lengths how) (item_of how) how limit reader before now read so_far reader' now' (subst F (how-is how limit reader before now read so_far) ends);
       }

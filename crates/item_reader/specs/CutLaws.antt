@@ -1,9 +1,8 @@
 -- What holds of all streams, however they are cut into items.
 use Rattle.std.specs.Prelude.{◌≡◌, ℕ, List, [], ◌∷◌, ◌++◌, Option, Some, IfSome}
 use Rattle.item_reader.specs.Cut.{Cuts, IsCutInto}
-use Rattle.midi_edge.specs.Outside.{ahead}
-use Rattle.item_reader.specs.Reading.{Reading, Gives, Finishes}
-use Rattle.item_reader.specs.SoFar.{ReadSoFar, StandsBehind}
+use Rattle.item_reader.specs.Reading.{Reading, Gives, Finishes, cursor}
+use Rattle.item_reader.specs.SoFar.{ReadSoFar, StandsBehind, given}
 use Rattle.item_reader.specs.declared.cutting.Tail.{Tail}
 use Rattle.item_reader.specs.declared.cutting.Tail.TheVariants.{End}
 
@@ -33,22 +32,22 @@ pub record CutsStreams (asked : List ℕ → ℕ) : Type 0 where
 -- where it ends with the last of them nothing is left.
 pub record ItemsAreReadInOrder {How Item : Type 0} (asked : How → List ℕ → ℕ) (item_of : How → ℕ → List ℕ → Item) : Type 0 where
   pub step : (how : How) (limit : ℕ) (reader : Reading How) (before now : Option (List ℕ)) (read : List Item) →
-      ReadSoFar (asked how) (item_of how) how limit reader before now read →
+      ReadSoFar (asked how) (item_of how) how limit reader (given before now read) →
       (reader' : Reading How) (now' : Option (List ℕ)) (item : Item) →
-      Gives (asked reader.how) reader reader' (ahead reader.pending now) (ahead reader'.pending now') (item_of reader.how) item →
-      ReadSoFar (asked how) (item_of how) how limit reader' before now' (read ++ item ∷ [])
+      Gives (asked reader.how) (cursor reader now) (cursor reader' now') (item_of reader.how) item →
+      ReadSoFar (asked how) (item_of how) how limit reader' (given before now' (read ++ item ∷ []))
   pub stands_behind : (how : How) (limit : ℕ) (reader : Reading How) (before now : Option (List ℕ)) (read : List Item) →
-      ReadSoFar (asked how) (item_of how) how limit reader before now read →
+      ReadSoFar (asked how) (item_of how) how limit reader (given before now read) →
       (reader' : Reading How) (now' : Option (List ℕ)) (item : Item) →
-      Gives (asked reader.how) reader reader' (ahead reader.pending now) (ahead reader'.pending now') (item_of reader.how) item →
+      Gives (asked reader.how) (cursor reader now) (cursor reader' now') (item_of reader.how) item →
       IfSome before (λ bytes. StandsBehind (asked how) (item_of how) limit bytes read item)
   pub finishes : (how : How) (limit : ℕ) (reader : Reading How) (before now : Option (List ℕ)) (read : List Item) →
-      ReadSoFar (asked how) (item_of how) how limit reader before now read →
+      ReadSoFar (asked how) (item_of how) how limit reader (given before now read) →
       (reader' : Reading How) (now' : Option (List ℕ)) (tail : Tail) →
-      Finishes (asked reader.how) reader reader' (ahead reader.pending now) (ahead reader'.pending now') tail →
+      Finishes (asked reader.how) (cursor reader now) (cursor reader' now') tail →
       IfSome before (λ bytes. IsCutInto (asked how) (item_of how) limit bytes read tail)
   pub nothing_left : (how : How) (limit : ℕ) (reader : Reading How) (before now : Option (List ℕ)) (read : List Item) →
-      ReadSoFar (asked how) (item_of how) how limit reader before now read →
+      ReadSoFar (asked how) (item_of how) how limit reader (given before now read) →
       (reader' : Reading How) (now' : Option (List ℕ)) →
-      Finishes (asked reader.how) reader reader' (ahead reader.pending now) (ahead reader'.pending now') End →
+      Finishes (asked reader.how) (cursor reader now) (cursor reader' now') End →
       IfSome before (λ bytes. now' ≡ Some [])

@@ -1,7 +1,7 @@
 -- What a reader of items answers.
 use Rattle.std.specs.Prelude.{◌≡◌, ℕ, ◌+◌, ◌≤◌, List, [], ◌++◌, length, Option, None, Some, Result, Ok, Err, IfSome}
 use Rattle.item_reader.specs.Cut.{IsItem, IsRest, Ends}
-use Rattle.midi_edge.specs.Outside.{Loses, Rose}
+use Rattle.midi_edge.specs.Outside.{Loses, Rose, ahead}
 use Rattle.item_reader.specs.declared.cutting.Tail.{Tail}
 use Rattle.item_reader.specs.declared.cutting.Tail.TheVariants.{End, Truncated, TooLong}
 use Rattle.midi_edge.specs.declared.outside.ReadStop.{ReadStop}
@@ -20,6 +20,18 @@ pub record Reading (How : Type 0) : Type 0 where
 abbrev pub new_reading : {How : Type 0} → How → ℕ → Reading How
 new_reading how limit = record { how = how; pending = []; offset = 0; limit = limit; end = None }
 
+-- A reader over its source, at some place in the stream: the reader, and what the source has left, where it tells that.
+pub record Cursor (How : Type 0) : Type 0 where
+  pub reader : Reading How
+  pub left : Option (List ℕ)
+
+abbrev pub cursor : {How : Type 0} → Reading How → Option (List ℕ) → Cursor How
+cursor reader left = record { reader = reader; left = left }
+
+-- what lies ahead of it: what the reader holds, and then what the source has left
+abbrev pub ahead_of : {How : Type 0} → Cursor How → Option (List ℕ)
+ahead_of at = ahead at.reader.pending at.left
+
 -- the answer for a tail
 abbrev pub answer_of : {Item : Type 0} → Tail → Result (Option Item) ReadStop
 answer_of End = Ok None
@@ -30,40 +42,40 @@ answer_of TooLong = Err StopTooLong
 abbrev pub Keeps : List ℕ → List ℕ → Type 0
 Keeps old new = (more : List ℕ) × (new ≡ old ++ more)
 
-module _ {How : Type 0} (asked : List ℕ → ℕ) (old new : Reading How) (before after : Option (List ℕ)) where
+module _ {How : Type 0} (asked : List ℕ → ℕ) (old new : Cursor How) where
   -- an item is given out: what is ahead loses its bytes
   pub record Gives {Item : Type 0} (item_of : ℕ → List ℕ → Item) (item : Item) : Type 0 where
     pub chunk : List ℕ
     pub is_item : IsItem asked chunk
-    pub lost : Loses before after chunk
-    pub item_is : item ≡ item_of old.offset chunk
-    pub within : old.offset + length chunk ≤ old.limit
-    pub goes_on : new ≡ record old { pending = new.pending; offset = old.offset + length chunk }
+    pub lost : Loses (ahead_of old) (ahead_of new) chunk
+    pub item_is : item ≡ item_of old.reader.offset chunk
+    pub within : old.reader.offset + length chunk ≤ old.reader.limit
+    pub goes_on : new.reader ≡ record old.reader { pending = new.reader.pending; offset = old.reader.offset + length chunk }
 
   -- nothing is given out, no byte is lost, and there is no whole item yet
   pub record Waits : Type 0 where
-    pub same : after ≡ before
-    pub kept : Keeps old.pending new.pending
-    pub partial : IsRest asked new.pending
-    pub within : old.offset + length new.pending ≤ old.limit
-    pub goes_on : new ≡ record old { pending = new.pending }
+    pub same : ahead_of new ≡ ahead_of old
+    pub kept : Keeps old.reader.pending new.reader.pending
+    pub partial : IsRest asked new.reader.pending
+    pub within : old.reader.offset + length new.reader.pending ≤ old.reader.limit
+    pub goes_on : new.reader ≡ record old.reader { pending = new.reader.pending }
 
   -- the items end with this tail, from now on: so do all bytes, and so do those that are held
   pub record Finishes (tail : Tail) : Type 0 where
-    pub same : after ≡ before
-    pub kept : Keeps old.pending new.pending
-    pub held : Ends asked old.limit old.offset new.pending tail
-    pub ends : IfSome before (λ bytes. Ends asked old.limit old.offset bytes tail)
-    pub goes_on : new ≡ record old { pending = new.pending; end = Some tail }
+    pub same : ahead_of new ≡ ahead_of old
+    pub kept : Keeps old.reader.pending new.reader.pending
+    pub held : Ends asked old.reader.limit old.reader.offset new.reader.pending tail
+    pub ends : IfSome (ahead_of old) (λ bytes. Ends asked old.reader.limit old.reader.offset bytes tail)
+    pub goes_on : new.reader ≡ record old.reader { pending = new.reader.pending; end = Some tail }
 
 -- what `next` answers where the items have not ended before
-abbrev pub Answers : {How Item : Type 0} → (List ℕ → ℕ) → (ℕ → List ℕ → Item) → Reading How → Reading How →
-    Option (List ℕ) → Option (List ℕ) → Result (Option Item) ReadStop → Type 0
-Answers asked item_of old new before after (Ok (Some item)) = Gives asked old new before after item_of item
-Answers asked item_of old new before after (Ok None) = Finishes asked old new before after End
-Answers asked item_of old new before after (Err (Read failed)) = Waits asked old new before after
-Answers asked item_of old new before after (Err (StopTruncated o)) = Finishes asked old new before after (Truncated o)
-Answers asked item_of old new before after (Err StopTooLong) = Finishes asked old new before after TooLong
+abbrev pub Answers : {How Item : Type 0} → (List ℕ → ℕ) → (ℕ → List ℕ → Item) → Cursor How → Cursor How →
+    Result (Option Item) ReadStop → Type 0
+Answers asked item_of old new (Ok (Some item)) = Gives asked old new item_of item
+Answers asked item_of old new (Ok None) = Finishes asked old new End
+Answers asked item_of old new (Err (Read failed)) = Waits asked old new
+Answers asked item_of old new (Err (StopTruncated o)) = Finishes asked old new (Truncated o)
+Answers asked item_of old new (Err StopTooLong) = Finishes asked old new TooLong
 
 -- the source's count never falls, and rose where a read failed
 abbrev pub ReadCause : {Item : Type 0} → ℕ → ℕ → Result (Option Item) ReadStop → Type 0

@@ -1,8 +1,7 @@
 // A reader of bytes from a source.
 ghost use Rattle.std.specs.Prelude.{◌≡◌, ◌≢◌, ℕ, ◌≤◌, ◌<◌, ◌^◌, length, IfSome};
 ghost use Rattle.item_reader.specs.ByteReader.{byte_at, byte_length, new_bytes, one_byte};
-ghost use Rattle.midi_edge.specs.Outside.{ahead};
-ghost use Rattle.item_reader.specs.Reading.{Answers, ReadCause, answer_of};
+ghost use Rattle.item_reader.specs.Reading.{Answers, ReadCause, answer_of, cursor};
 
 use crate::cutting::Cut;
 use crate::reader::ItemReader;
@@ -69,8 +68,8 @@ impl ByteReader {
     /// `Truncated` is never answered.
     #[inline(always)]
     pub fn next<S: Source>(&mut self, src: &mut S) -> Result<Option<(u8, u64)>, ReadStop>
-        ensures answer { self.old.end ≡ None → Answers one_byte byte_at self.old self.new
-            (ahead self.old.pending (S.left src.old)) (ahead self.new.pending (S.left src.new)) result }
+        ensures answer { self.old.end ≡ None → Answers one_byte byte_at
+            (cursor self.old (S.left src.old)) (cursor self.new (S.left src.new)) result }
         ensures again { IfSome self.old.end
             (λ last. (result ≡ answer_of last) × (self.new ≡ self.old) × (src.new ≡ src.old)) }
         ensures held { 0 < length self.old.pending → src.new ≡ src.old }

@@ -11,6 +11,3 @@ pub use crate::byte_reader::{ByteReader, EachByte};
 pub use crate::cutting::{Cut, Tail};
 pub use crate::laws::{items_are_read_in_order, streams_are_cut_once};
 pub use crate::reader::ItemReader;
-
-#[cfg(test)]
-mod byte_reader_tests;

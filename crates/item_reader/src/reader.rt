@@ -3,7 +3,7 @@ ghost use Rattle.std.specs.Prelude.{◌≡◌, ◌≤◌, ◌<◌, ◌+◌, ◌-
 ghost use Rattle.item_reader.specs.Cut.{IsRest};
 ghost use Rattle.item_reader.specs.Front.{Sees};
 ghost use Rattle.midi_edge.specs.Outside.{ahead, HasCause, IsUsedUp};
-ghost use Rattle.item_reader.specs.Reading.{Answers, Keeps, ReadCause, answer_of, new_reading};
+ghost use Rattle.item_reader.specs.Reading.{Answers, Keeps, ReadCause, answer_of, cursor, new_reading};
 
 use crate::cutting::{Cut, Tail};
 use crate::window::Window;
@@ -67,8 +67,8 @@ impl<H: Cut> ItemReader<H> {
     #[inline(always)]
     pub fn next<S: Source>(&mut self, src: &mut S) -> Result<Option<H::Item>, ReadStop>
         ensures answer { self.old.end ≡ None →
-            Answers (H.asked self.old.how) (H.item_of self.old.how) self.old self.new
-            (ahead self.old.pending (S.left src.old)) (ahead self.new.pending (S.left src.new)) result }
+            Answers (H.asked self.old.how) (H.item_of self.old.how)
+            (cursor self.old (S.left src.old)) (cursor self.new (S.left src.new)) result }
         ensures again { IfSome self.old.end (λ tail.
             (result ≡ answer_of tail) × (self.new ≡ self.old) × (src.new ≡ src.old)) }
         ensures held { H.asked self.old.how self.old.pending ≤ length self.old.pending → src.new ≡ src.old }
@@ -85,8 +85,8 @@ impl<H: Cut> ItemReader<H> {
     #[inline(always)]
     fn next_taken<S: Source>(&mut self, src: &mut S) -> Result<Option<H::Item>, ReadStop>
         ensures answer { self.old.end ≡ None →
-            Answers (H.asked self.old.how) (H.item_of self.old.how) self.old self.new
-            (ahead self.old.pending (S.left src.old)) (ahead self.new.pending (S.left src.new)) result }
+            Answers (H.asked self.old.how) (H.item_of self.old.how)
+            (cursor self.old (S.left src.old)) (cursor self.new (S.left src.new)) result }
         ensures again { IfSome self.old.end (λ tail.
             (result ≡ answer_of tail) × (self.new ≡ self.old) × (src.new ≡ src.old)) }
         ensures held { H.asked self.old.how self.old.pending ≤ length self.old.pending → src.new ≡ src.old }

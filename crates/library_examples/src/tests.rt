@@ -6,7 +6,7 @@ use midi_edge::{Lanes, MemLanes, MemSink, MemSource};
 use midi1_bytes::{Parser, Step, U4, U7, Voice1};
 use std::alloc::Global;
 use std::test::Fail;
-use ump_grammar::{decode, encode};
+use ump_grammar::decode;
 use ump_words::{Order, WordReader, put_words};
 use up_translator::Up;
 
@@ -32,7 +32,7 @@ fn translate_up(alloc: Global, bytes: &[u8], output: &mut MemSink) -> Result<(),
     for (offset, byte) in bytes.iter().enumerate() {
         let raised = up.byte(*byte, offset as u64)?;
         if let Some(packet) = raised.packet {
-            put_words(encode(packet).as_slice(), Order::Big, output)?;
+            put_words(packet.words().as_slice(), Order::Big, output)?;
         }
     }
     Ok(())

@@ -1,8 +1,13 @@
--- What the puts of lines of the listing leave, and where they go.
-use Rattle.std.proofs.Common.{◌≡◌, true, List, [], ◌∷◌, ◌++◌, refl, ap}
+-- What the puts of lines of the listing leave, and where they go; a byte without lines.
+use Rattle.std.proofs.Common.{◌≡◌, true, List, [], ◌∷◌, ◌++◌, Option, None, Some, refl, ap}
+use Rattle.std.specs.Prelude.{is_none, ◌&&◌}
 use Rattle.std.specs.List.{flat_map}
+use Rattle.std.specs.Option.{option_to_list}
+use Rattle.std.proofs.lemmas.Bool.{false≢true}
 use Rattle.std.proofs.lemmas.List.{map-append}
 use Rattle.voice_state.specs.declared.listed.Listed.{Listed}
+use Rattle.up_translator.specs.ByteLines.{first_in, has_none, lines_in, second_in}
+use Rattle.up_translator.specs.declared.byte_lines.ByteLines.{ByteLines}
 use Rattle.midi_lines.specs.ListingLines.{listing_text}
 use Rattle.midi_pass.specs.Named.{AreNamed, Named}
 use Rattle.midi_pass.specs.Put.{in_notes, notes_in, output_in, pairs_in}
@@ -26,3 +31,14 @@ output-lines (line ∷ lines) = output-lines lines
 pub pairs-lines : (lines : List Listed) → pairs_in (line_puts lines) ≡ []
 pairs-lines [] = refl
 pairs-lines (line ∷ lines) = pairs-lines lines
+
+-- ---- the lines of a byte
+
+neither : (first second : Option Listed) → (is_none first && is_none second) ≡ true →
+    option_to_list first ++ option_to_list second ≡ []
+neither None None none = refl
+neither None (Some second) none = absurd (false≢true none)
+neither (Some first) second none = absurd (false≢true none)
+
+pub none-lines : (lines : ByteLines) → has_none lines ≡ true → lines_in lines ≡ []
+none-lines lines none = neither (first_in lines) (second_in lines) none

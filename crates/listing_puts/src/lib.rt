@@ -4,5 +4,5 @@
 mod lines;
 mod refusal;
 
-pub use crate::lines::{put_line, put_listed};
+pub use crate::lines::{put_line, put_lines, put_listed};
 pub use crate::refusal::refused;

@@ -2,12 +2,14 @@
 ghost use Rattle.std.specs.Prelude.{◌∷◌, []};
 ghost use Rattle.std.specs.Option.{option_to_list};
 ghost use Rattle.midi_pass.specs.Places.{Puts, places};
+ghost use Rattle.up_translator.specs.ByteLines.{lines_in};
 ghost use Rattle.listing_puts.specs.Lines.{line_puts};
 
 use midi_edge::{Lanes, Sink};
 use midi_lines::{Line, fill_listing_line};
 use midi_pass::RunEnd;
 use midi_pass::places::put_notes;
+use up_translator::ByteLines;
 use voice_state::Listed;
 
 /// Puts a line of the listing in the notes.
@@ -42,5 +44,27 @@ pub fn put_listed<L: Lanes, W: Sink, N: Sink>(
     match listed {
         Some(listed) => put_line(&listed, lanes, output, notes),
         None => Ok(()),
+    }
+}
+
+/// Puts the lines of a byte in the notes, in order. Most bytes have none, so that is asked first.
+#[inline(always)]
+pub fn put_lines<L: Lanes, W: Sink, N: Sink>(
+    lines: &ByteLines,
+    lanes: &mut L,
+    output: &mut W,
+    notes: &mut N,
+) -> Result<(), RunEnd>
+    ensures { Puts (line_puts (lines_in lines.now))
+        (places L.Lanes W.Sink N.Sink lanes.old output.old notes.old)
+        (places L.Lanes W.Sink N.Sink lanes.new output.new notes.new) result }
+{
+    if lines.is_empty() {
+        return Ok(());
+    }
+    // The second line is asked for once the first is put: nearly all have one.
+    match put_listed(lines.first(), lanes, output, notes) {
+        Ok(()) => put_listed(lines.second(), lanes, output, notes),
+        Err(end) => Err(end),
     }
 }

@@ -12,6 +12,3 @@ pub use crate::file_header::header;
 pub use crate::laws::{clips_are_the_definition, worked_rows};
 pub use crate::role::{Role, role_of};
 pub use crate::step::{ClipFault, ClipStep, Stage};
-
-#[cfg(test)]
-mod tests;

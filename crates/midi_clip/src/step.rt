@@ -26,7 +26,7 @@ pub enum ClipFault {
     #[error("a packet comes after the end of the clip")]
     AfterEnd,
     /// The clip doesn't start, or doesn't end.
-    #[error("the clip does not end")]
+    #[error("the clip does not start, or does not end")]
     NoEnd,
 }
 

@@ -4,7 +4,9 @@ use Rattle.std.specs.Io.KnownBytes.{Keeps}
 use Rattle.midi_edge.specs.Adapters.{Accepts}
 use Rattle.midi_edge.specs.Outside.{HasCause, Rose}
 use Rattle.midi_edge.specs.declared.outside.Failed.{Failed}
-use Rattle.midi_pass.specs.Places.{Counts}
+use Rattle.midi_edge.specs.declared.outside.Lanes as lanes
+use Rattle.midi_edge.specs.declared.outside.Sink as sink
+use Rattle.midi_pass.specs.Places.{Counts, places}
 use Rattle.midi_commands.specs.LastLine.{last_line_text}
 use Rattle.midi_commands.specs.declared.status.Status.{Status}
 use Rattle.midi_commands.specs.declared.status.Status.TheVariants.{Done, LaneFault, OutputFault, NoteFault}
@@ -19,6 +21,10 @@ AcceptsLast status old new answer =
 abbrev pub PutsLast : Status → Option (List ℕ) → Option (List ℕ) → ℕ → ℕ → Type 0
 PutsLast status old new before now =
     (answer : Result (Unit {0}) Failed) × HasCause before now answer × AcceptsLast status old new answer
+
+-- the counts of faults of the lanes, the output and the notes
+abbrev pub fault_counts : {L W N : Type 0} → lanes.Ghosts L → sink.Ghosts W → sink.Ghosts N → L → W → N → Counts
+fault_counts L W N l w n = (places L W N l w n).faults
 
 -- which of the lanes, the output and the notes failed first when they were written out, in this order, or that none did
 abbrev pub WritesOut : Status → Counts → Counts → Type 0

@@ -2,8 +2,7 @@
 ghost use Rattle.std.specs.Prelude.{◌≡◌, ◌≢◌, []};
 ghost use Rattle.std.specs.Io.KnownBytes.{Keeps};
 ghost use Rattle.midi_edge.specs.Adapters.{IsWrittenOut, KeepsLanes, accepted, unwritten};
-ghost use Rattle.midi_pass.specs.Places.{places, with_faults};
-ghost use Rattle.midi_commands.specs.Ending.{EndsAs, IsOutOrFailed, IsOutOrTold, PutsLast, WritesBoth};
+ghost use Rattle.midi_commands.specs.Ending.{EndsAs, IsOutOrFailed, IsOutOrTold, PutsLast, WritesBoth, fault_counts};
 ghost use Rattle.midi_commands.specs.ExitCode.{exit_code_of};
 
 use crate::last_line::last_line;
@@ -39,10 +38,10 @@ pub fn finish<R: Files + AllocGlobal, O: Write, N: Write>(
 ) -> u8
     ensures cause { status ≢ Status.Done → result ≡ exit_code_of status }
     ensures done { result ≡ 0 → status ≡ Status.Done }
-    ensures ends { let before = (places ⟦<FolderLanes<R> as Lanes>⟧ ⟦<WriteSink<O> as Sink>⟧ ⟦<WriteSink<N> as Sink>⟧
-        lanes.old output.old notes.old).faults in
-        let now = (places ⟦<FolderLanes<R> as Lanes>⟧ ⟦<WriteSink<O> as Sink>⟧ ⟦<WriteSink<N> as Sink>⟧
-        lanes.new output.new notes.new).faults in
+    ensures ends { let counts = fault_counts
+        ⟦<FolderLanes<R> as Lanes>⟧ ⟦<WriteSink<O> as Sink>⟧ ⟦<WriteSink<N> as Sink>⟧ in
+        let before = counts lanes.old output.old notes.old in
+        let now = counts lanes.new output.new notes.new in
         status ≡ Status.Done → (end : Status) × (result ≡ exit_code_of end)
         × EndsAs end before now (accepted N.contents notes.old) (accepted N.contents notes.new) }
     ensures lanes { IsOutOrTold (IsWrittenOut lanes.new) (⟦<FolderLanes<R> as Lanes>⟧.faults lanes.old)

@@ -21,15 +21,12 @@ mod up_rows;
 mod usb_rows;
 mod word_rows;
 
+use endpoint_fixtures::DEMO_SETUP;
 use midi_commands::{Status, run};
 use midi_edge::{MemLanes, MemShelf, MemSink, MemSource};
 use std::alloc::Global;
 use std::process::Abort;
 use std::test::Fail;
-
-// `examples/endpoint.toml` without its comments.
-const SETUP: &str =
-    "[endpoint]\nname = \"Demo Endpoint X\"\nid = \"SN-0001\"\nmanufacturer = [125, 0, 0]\nfamily = 1\nmodel = 2\nrevision = [1, 0, 0, 0]\nmidi1 = true\nmidi2 = true\nprotocol = 2\nstatic = true\n\n[[block]]\nactive = true\nname = \"Main\"\nhint = 3\nmidi1 = 0\ndirection = 3\nfirst = 0\ncount = 1\nci = 2\nsysex8 = 0\nmuids = [19088743, 300]\n\n[[profile]]\nblock = 0\nplace = \"channel\"\ngroup = 0\nchannel = 2\nid = [126, 0, 1, 1, 0]\non = false\n";
 
 // How many bytes the lanes, the output and the notes have room for, and how many pieces the lanes.
 const ROOM: usize = 65_536;
@@ -118,7 +115,7 @@ fn take_line<'a>(given: &mut Given<'a>, line: &'a str) -> Result<(), Fail> {
         "input-ends-after" => given.input.truncate(rest.parse::<usize>()?),
         "cut" => given.cuts.push(rest.parse::<usize>()?)?,
         "cuts-of-one" => given.cuts.resize(rest.parse::<usize>()?, 1)?,
-        "demo-setup" => given.setup.extend_from_slice(SETUP.as_bytes())?,
+        "demo-setup" => given.setup.extend_from_slice(DEMO_SETUP.as_bytes())?,
         "setup-line" => {
             given.setup.extend_from_slice(rest.as_bytes())?;
             given.setup.push(b'\n')?;

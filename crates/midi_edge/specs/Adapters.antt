@@ -36,7 +36,7 @@ abbrev pub IsWrittenOut : {R F A : Type 0} → FolderLanes R F A → Type 0
 IsWrittenOut l = All (λ s. unwritten s ≡ []) l.lanes.items
 
 -- one lane accepts the piece, or at `Err` a front of it that isn't all of it, and the others stay as they are
-abbrev pub AcceptsInLane : {R F A T E : Type 0} → (F → Option (List ℕ)) → FolderLanes R F A → FolderLanes R F A → ℕ → Result T E → List ℕ → Type 0
-AcceptsInLane {F = F} contents old new lane result piece =
+abbrev pub AcceptsInLane : {R F A T E : Type 0} → (F → Option (List ℕ)) → FolderLanes R F A → FolderLanes R F A → ℕ × List ℕ → Result T E → Type 0
+AcceptsInLane {F = F} contents old new (lane, piece) result =
     (before after : WriteSink F) × (slice_get old.lanes.items lane ≡ Some before) × (new.lanes.items ≡ slice_set old.lanes.items lane after)
     × Accepts (accepted contents before) (accepted contents after) result piece

@@ -6,8 +6,6 @@ ghost use Rattle.midi_edge.specs.Outside.{HasCause, HasOpenCause, Rose};
 mod file_shelf;
 mod folder_lanes;
 mod read_source;
-#[cfg(test)]
-mod tests;
 mod write_sink;
 
 pub use crate::adapters::file_shelf::FileShelf;

@@ -3,9 +3,6 @@ ghost use Rattle.std.specs.Prelude.{◌≡◌, ◌≢◌, ℕ, List, ◌++◌, N
 ghost use Rattle.midi_edge.specs.Outside.{HasOpenCause, Fetches, kept_bytes};
 ghost use Rattle.midi_edge.specs.MemShelf.{text_named as first_named, is_failing, after_fetch};
 
-#[cfg(test)]
-mod tests;
-
 use crate::kept_text::KeptText;
 use crate::outside::{OpenFault, Shelf};
 use std::marker::Model;
@@ -76,6 +73,13 @@ impl MemShelf {
             faults: 0,
             name: KeptText::new(),
         }
+    }
+
+    /// How often it has failed, up to the last `u64`.
+    pub fn faults(&self) -> u64
+        ensures { result ≡ self.now.faults }
+    {
+        self.faults
     }
 }
 

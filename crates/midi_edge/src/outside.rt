@@ -2,9 +2,6 @@
 ghost use Rattle.std.specs.Prelude.{◌≡◌, ℕ, ◌≤◌, ◌<◌, Bool, true, List, ◌++◌, length, OnOk, OnErr, IfOk, None, Some, Option};
 ghost use Rattle.midi_edge.specs.Outside.{HasCause, HasOpenCause, Takes, Puts, PutsPair, Fetches, kept_bytes};
 
-#[cfg(test)]
-mod tests;
-
 use crate::few_bits::U4;
 use thiserror::Error;
 
@@ -22,7 +19,7 @@ pub struct NoMemory;
 #[derive(Clone, Copy, Debug, PartialEq, Eq, Error)]
 pub enum OpenFault {
     /// It is not there, or cannot be opened.
-    #[error("it cannot be opened")]
+    #[error("the folder or file cannot be opened")]
     Failed,
     /// There was no memory for it.
     #[error("out of memory")]
@@ -36,10 +33,10 @@ pub enum ReadStop {
     #[error(transparent)]
     Read(Failed),
     /// The input ended within what began at this offset, counted in bytes from 0.
-    #[error("the input ends within what begins at {0}")]
+    #[error("the input ends within what begins at byte {0}")]
     Truncated(u64),
     /// The source gave more bytes than the reader's limit.
-    #[error("the input is too long")]
+    #[error("the input is longer than the limit")]
     TooLong,
 }
 

@@ -18,7 +18,6 @@ use Rattle.function_blocks.specs.InForce.{message_read, protocol_at}
 use Rattle.function_blocks.specs.Replies.{protocol_after}
 use Rattle.function_blocks.specs.Setups.{Facts}
 use Rattle.ci_messages.specs.Reading.{ci_fault}
-use Rattle.ci_messages.specs.declared.view.CiFault.{CiFault}
 use Rattle.ci_responder.specs.Held.{Held, block_in, heard_in, replies_in, sender_in}
 use Rattle.ci_responder.specs.History.{held_at}
 use Rattle.ci_responder.specs.Laws.{HeldIsTheHistory}
@@ -65,18 +64,6 @@ message_is (packets.Data8 g w) message stream fine is = absurd stream
 message_is (packets.Flex g w) message stream fine is = absurd stream
 message_is (packets.Reserved w) message stream fine is = absurd stream
 
-pub no_message : (packet : Packet) → has_bad_format packet ≡ true → message_read packet ≡ None
-no_message (packets.Stream f s l w x y) bad =
-    ap (λ b. if b then None else Some (message_in (packets.Stream f s l w x y))) bad
-no_message (packets.Utility s v) bad = refl
-no_message (packets.System g m) bad = refl
-no_message (packets.Voice1 g m) bad = refl
-no_message (packets.Exclusive g f b) bad = refl
-no_message (packets.Voice2 g m) bad = refl
-no_message (packets.Data8 g w) bad = refl
-no_message (packets.Flex g w) bad = refl
-no_message (packets.Reserved w) bad = refl
-
 pub name_is : (replies : List Packet) (some : Bool) → IsTrue some ↔ (0 < length replies) → (if some then names.Answered else names.NoAnswer) ≡ name_of_replies replies
 name_is [] true same = absurd (omega (arith, same.0 refl))
 name_is [] false same = refl
@@ -87,9 +74,6 @@ name_is (p ∷ ps) false same = absurd (let e : false ≡ true = same.1 (omega a
 
 pub said_is_told : (group : ℕ) (message : List ℕ) (told : Told) → ci_fault message ≡ None → told ≡ told_in group message → said_in group message ≡ Ok told
 said_is_told group message told fine is = ap (λ fault. said_with fault (told_in group message)) fine ∙ ap Ok (sym is)
-
-pub said_is_fault : (group : ℕ) (message : List ℕ) (fault : CiFault) → ci_fault message ≡ Some fault → said_in group message ≡ Err fault
-said_is_fault group message fault is = ap (λ f. said_with f (told_in group message)) is
 
 -- ---- each reply to a message has two words
 
@@ -284,7 +268,7 @@ blocks_are muid other same blocks =
 -- ---- packets that are no messages to an endpoint
 
 pub other_kinds : (now : EndpointEngine) (offset : ℕ) (packet : Packet) (s : Places) → ((g : ℕ) (f : Form) (b : List ℕ) → packet ≡ packets.Exclusive g f b → ⊥)
-    → ((f s l w x y : ℕ) → packet ≡ packets.Stream f s l w x y → ⊥) → TakesPacket now now offset packet s s (Ok tt)
+    → ((f s l w x y : ℕ) → packet ≡ packets.Stream f s l w x y → ⊥) → TakesPacket now now (record { offset = offset; packet = packet }) s s (Ok tt)
 other_kinds now offset (packets.Exclusive g f b) s exclusive stream = absurd (exclusive g f b refl)
 other_kinds now offset (packets.Stream f t l w x y) s exclusive stream = absurd (stream f t l w x y refl)
 other_kinds now offset (packets.Utility t v) s exclusive stream = record { setup_is = refl; order_is = refl; protocol_is = refl; groups_are = refl; responder_is = refl; answers = nothing_written now.writer.order s }

@@ -1,6 +1,6 @@
 -- A state that is kept while packets or bytes are shown stands for what they mean, and what is put of it are its facts.
 use Rattle.std.proofs.Common.{◌≡◌, ◌≤◌, ◌<◌, ◌+◌, ℕ, Bool, true, false, cond, List, [], ◌∷◌, ◌++◌, length, take, drop, Option, None, Some, refl, ap, sym, ◌∙◌, subst, inl, inr, arith}
-use Rattle.std.specs.Prelude.{◌≢◌, get_or, Result, Ok, Err}
+use Rattle.std.specs.Prelude.{◌≢◌, IfOk, get_or, Result, Ok, Err}
 use Rattle.std.specs.Option.{option_map, option_and_then}
 use Rattle.std.proofs.lemmas.List.{drop_more, map-append, take-append-drop}
 use Rattle.voice_messages.specs.declared.voice2.Form.{Form}
@@ -39,19 +39,19 @@ use Rattle.midi_engines.specs.KeptState.{Kept, KeepsPacket, KeepsStep, StandsFor
 -- a step of a work that may take memory, which says what is held only where all was put
 pub steps_when_kept : {I : Type 0} (work : Work I) (past : List I) (item : I) (old new : Places) (Then : Type 0) (result : Result (Unit {0}) RunEnd) (puts : List Put)
     → TakesIn work.grows (work.refusal past item) puts old new result → (work.refusal past item ≡ None → work.IsPut past item puts) → (work.refusal past item ≡ None → result ≡ Ok tt → Then)
-    → Steps work past old new Then item result
+    → Steps work past old new item result × IfOk result (λ done. Then)
 steps_when_kept work past item old new Then result puts takes fine behind = by_memory work.grows refl takes
   where
-    by_result : (r : Result (Unit {0}) RunEnd) → Takes (work.refusal past item) puts old new r → (work.refusal past item ≡ None → r ≡ Ok tt → Then) → Steps work past old new Then item r
+    by_result : (r : Result (Unit {0}) RunEnd) → Takes (work.refusal past item) puts old new r → (work.refusal past item ≡ None → r ≡ Ok tt → Then) → Steps work past old new item r × IfOk r (λ done. Then)
     by_result (Ok done) takes behind = takes_steps work past item old new Then (Ok done) puts takes (λ e. (fine e, behind e refl))
     by_result (Err end) takes behind = takes_steps work past item old new (Unit {0}) (Err end) puts takes (λ e. (fine e, tt))
 
-    by_memory : (grows : Bool) → work.grows ≡ grows → TakesIn grows (work.refusal past item) puts old new result → Steps work past old new Then item result
+    by_memory : (grows : Bool) → work.grows ≡ grows → TakesIn grows (work.refusal past item) puts old new result → Steps work past old new item result × IfOk result (λ done. Then)
     by_memory false e takes = by_result result takes behind
     by_memory true e (inl takes) = by_result result takes behind
     by_memory true e (inr none) =
-        let S : Result (Unit {0}) RunEnd → Type 0 = λ r. Steps work past old new Then item r in
-        subst S (sym none.0) (e, none.1)
+        let S : Result (Unit {0}) RunEnd → Type 0 = λ r. Steps work past old new item r × IfOk r (λ done. Then) in
+        subst S (sym none.0) ((e, none.1), tt)
 
 -- ---- what is kept
 

@@ -1,10 +1,9 @@
 -- What is done with the packets of a byte, one after the other.
 use Rattle.std.proofs.Common.{◌≡◌, ◌+◌, ◌<◌, ℕ, zero, suc, Bool, true, false, List, [], ◌∷◌, ◌++◌, None, Some, refl, ap, sym, ◌∙◌, subst, arith, inl, inr}
-use Rattle.std.specs.Prelude.{Option, is_none, ◌&&◌, Result, Ok, Err, nat_lt, if◌then◌else◌}
+use Rattle.std.specs.Prelude.{IfOk, Result, Ok, Err, nat_lt, if◌then◌else◌}
 use Rattle.std.specs.Fork.{slice_chunk}
 use Rattle.std.specs.List.{AllByRecursion}
-use Rattle.std.specs.Option.{option_to_list}
-use Rattle.std.proofs.lemmas.Bool.{cases_eq, false≢true, ltb-true}
+use Rattle.std.proofs.lemmas.Bool.{cases_eq, ltb-true}
 use Rattle.std.proofs.lemmas.List.{append_assoc, append-nil}
 use Rattle.std.proofs.lemmas.Option.{same_Some}
 use Rattle.voice_messages.specs.declared.voice2.Form.{Form}
@@ -12,17 +11,17 @@ use Rattle.ump_grammar.specs.declared.packet.Packet.{Packet}
 use Rattle.ump_grammar.specs.declared.packet.Packet.TheVariants.{Exclusive}
 use Rattle.sysex_groups.specs.Cut.{form_at, part_at, part_count}
 use Rattle.voice_state.specs.Raising.{exclusive_packet, exclusive_packets, first_exclusive_packets}
-use Rattle.voice_state.specs.declared.listed.Listed.{Listed}
 use Rattle.up_translator.specs.declared.raised.Raised.{Raised}
-use Rattle.up_translator.specs.Raised.{first_in, group_in, is_empty_in, lines_in, packet_in, packets_by, packets_in, payload_in, second_in}
+use Rattle.up_translator.specs.ByteLines.{lines_in}
+use Rattle.up_translator.specs.Raised.{packets_in}
 use Rattle.midi_pass.specs.Pass.{Steps, Tail, Takes, Work}
 use Rattle.midi_pass.specs.Places.{Places, Puts, after_puts}
 use Rattle.midi_pass.specs.Put.{Put}
 use Rattle.midi_pass.specs.declared.ends.RunEnd.{RunEnd}
 use Rattle.midi_pass.specs.StepLaws.{takes_steps}
-use Rattle.midi_pass.specs.PutLaws.{after_puts-none, stops_more, then_put, then_stops}
+use Rattle.midi_pass.specs.PutLaws.{stops_more, then_put, then_stops}
 use Rattle.listing_puts.specs.Lines.{line_puts}
-use Rattle.midi_engines.specs.Raised.{Answers, AreDone, AreTaken, ByteIsDone, CanBeDone, CarriesOut, Doing}
+use Rattle.midi_engines.specs.Raised.{Answers, AreDone, AreTaken, ByteIsDone, CanBeDone, CarriesOut, Doing, Task}
 
 -- ---- some packets, and then others
 
@@ -153,24 +152,9 @@ pub carries_as : {Held : Type 0} (Does Meant : Held → List Put → Type 0) (le
 carries_as Does Meant left a b (Ok done) means out = (out.0, means left out.0 out.1, out.2)
 carries_as Does Meant left a b (Err end) means out = (out.0, out.1, means out.0 out.1 out.2, out.3)
 
--- a byte of which nothing comes has neither packets nor lines
-no_packets : (group : ℕ) (packet : Option Packet) (payload : Option (List ℕ)) (first second : Option Listed) → (is_none packet && is_none payload && is_none first && is_none second) ≡ true
-    → (packets_by group packet payload ≡ []) × ((option_to_list first ++ option_to_list second) ≡ [])
-no_packets group None None None None empty = (refl, refl)
-no_packets group None None None (Some second) empty = absurd (false≢true empty)
-no_packets group None None (Some first) second empty = absurd (false≢true empty)
-no_packets group None (Some payload) first second empty = absurd (false≢true empty)
-no_packets group (Some packet) payload first second empty = absurd (false≢true empty)
-
-pub nothing_done : {Held : Type 0} (IsDone : Doing Held) (from : Held) (raised : Raised) (s : Places) → is_empty_in raised ≡ true → CarriesOut (ByteIsDone IsDone from raised) from s s (Ok tt)
-nothing_done IsDone from raised s empty =
-    let none = no_packets (group_in raised) (packet_in raised) (payload_in raised) (first_in raised) (second_in raised) empty in
-    let D : List Packet → Type 0 = λ ps. AreDone IsDone from ps from [] in
-    ([], ([], subst D (sym none.0) (refl, refl), ap line_puts (sym none.1)), sym (after_puts-none s))
-
 module _ {Held : Type 0} (IsDone : Doing Held) (from : Held) (raised : Raised) (to : Held) where
   abbrev lines : List Put
-  lines = line_puts (lines_in raised)
+  lines = line_puts (lines_in raised.lines)
 
   pub then_lines : (a b c : Places) (result : Result (Unit {0}) RunEnd) → CarriesOut (AreDone IsDone from (packets_in raised)) to a b (Ok tt) → Puts lines b c result → CarriesOut (ByteIsDone IsDone from raised) to a c result
   then_lines a b c (Ok done) out puts = (out.0 ++ lines, (out.0, out.1, refl), then_put out.0 lines a b c out.2 puts)
@@ -181,18 +165,22 @@ module _ {Held : Type 0} (IsDone : Doing Held) (from : Held) (raised : Raised) (
 
 -- ---- a step of the work
 
+abbrev pub task : {Held : Type 0} → Tail → (Held → List Put → Type 0) → Task Held
+task refusal Does = record { refusal = refusal; Does = Does }
+
 pub answered_steps : {Held I : Type 0} (work : Work I) (past : List I) (item : I) (Does : Held → List Put → Type 0) (to : Held) (old new : Places) (Then : Type 0) (result : Result (Unit {0}) RunEnd)
-    → Answers (work.refusal past item) Does to old new result → ((to : Held) (puts : List Put) → Does to puts → work.IsPut past item puts) → ((puts : List Put) → Does to puts → Then) → Steps work past old new Then item result
+    → Answers (task (work.refusal past item) Does) to old new result → ((to : Held) (puts : List Put) → Does to puts → work.IsPut past item puts) → ((puts : List Put) → Does to puts → Then)
+    → Steps work past old new item result × IfOk result (λ done. Then)
 answered_steps {Held = Held} work past item Does to old new Then result answers is_put goes_on = by_refusal (work.refusal past item) refl answers
   where
-    by_result : (r : Result (Unit {0}) RunEnd) → work.refusal past item ≡ None → CarriesOut Does to old new r → Steps work past old new Then item r
-    by_result (Ok done) fine out = (fine, (out.0, is_put to out.0 out.1, out.2), goes_on out.0 out.1)
+    by_result : (r : Result (Unit {0}) RunEnd) → work.refusal past item ≡ None → CarriesOut Does to old new r → Steps work past old new item r × IfOk r (λ done. Then)
+    by_result (Ok done) fine out = ((fine, (out.0, is_put to out.0 out.1, out.2)), goes_on out.0 out.1)
     by_result (Err end) fine out =
         let T : Tail → Type 0 = λ tail. Takes tail out.1 old new (Err end) in
         takes_steps work past item old new (Unit {0}) (Err end) out.1 (subst T (sym fine) out.3) (λ _. (is_put out.0 out.1 out.2, tt))
 
-    by_refusal : (refusal : Tail) → work.refusal past item ≡ refusal → Answers refusal Does to old new result → Steps work past old new Then item result
+    by_refusal : (refusal : Tail) → work.refusal past item ≡ refusal → Answers (task refusal Does) to old new result → Steps work past old new item result × IfOk result (λ done. Then)
     by_refusal (Some refusal) e out =
-        let R : Result (Unit {0}) RunEnd → Type 0 = λ r. Steps work past old new Then item r in
-        subst R (sym out.0) (e, out.1)
+        let R : Result (Unit {0}) RunEnd → Type 0 = λ r. Steps work past old new item r × IfOk r (λ done. Then) in
+        subst R (sym out.0) ((e, out.1), tt)
     by_refusal None e out = by_result result e out

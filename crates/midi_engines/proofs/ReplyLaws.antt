@@ -117,9 +117,6 @@ pub record PutSoFar (order : Order) (size : ℕ) (packets : List Packet) (rest :
   pub written : AreWritten order done puts
   pub stands : now ≡ after_puts puts old
 
-pub nothing_put : (order : Order) (size : ℕ) (packets : List Packet) (words : List ℕ) (old : Places) → AreWordsOf size packets words → old ≡ after_puts [] old → PutSoFar order size packets words old old
-nothing_put order size packets words old are same = record { done = []; left = packets; parts = refl; words = are; puts = []; written = refl; stands = same }
-
 abbrev pub put_of : Order → List ℕ → List Put
 put_of order words = in_output (flat_map (word_bytes order) words) ∷ []
 

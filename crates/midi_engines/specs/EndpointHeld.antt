@@ -19,10 +19,10 @@ use Rattle.ci_lines.specs.declared.profiles.LinePlace.TheVariants.{Notes}
 use Rattle.voice_state.specs.declared.listed.Kind.TheVariants as kinds
 use Rattle.voice_state.specs.declared.listed.Listed.{Listed}
 use Rattle.voice_state.specs.Listing.{groups}
-use Rattle.voice_state.specs.Parts.{part_of, parts_of}
+use Rattle.voice_state.specs.Parts.{Placed, part_of, parts_of}
 use Rattle.midi_lines.specs.EndpointLines.{endpoint_text, protocol_text}
 use Rattle.midi_lines.specs.declared.endpoint.Name.{Name}
-use Rattle.down_translator.specs.Held.{with_part_of}
+use Rattle.down_translator.specs.Held.{bad_answer, with_part_of}
 use Rattle.down_translator.specs.Recording.{AreInRange}
 use Rattle.midi_pass.specs.Places.{Places}
 use Rattle.midi_pass.specs.Put.{Put, in_notes}
@@ -35,7 +35,7 @@ use Rattle.midi_pass.specs.Each.{for_each}
 use Rattle.midi_engines.specs.Endpoint.{Said, block_line_of, in_force, name_of_fault, protocol_after_packet, said_in, stream_lines, stream_packet_replies, told_in_packets}
 use Rattle.midi_engines.specs.Options.{EndpointOptions}
 use Rattle.midi_engines.specs.Packets.{all_placed}
-use Rattle.midi_engines.specs.Raised.{Answers}
+use Rattle.midi_engines.specs.Raised.{Answers, Task}
 use Rattle.midi_engines.specs.ShowPackets.{bad_join}
 use Rattle.midi_engines.specs.Up.{AreWritten, AreWrittenAndListed}
 
@@ -99,6 +99,15 @@ abbrev pub part_lines : Held → ℕ → ℕ → Answer → List Put
 part_lines held group offset answer =
     said_lines held group offset (said_of group answer) ++ line_puts (lost_by group offset answer)
 
+-- a part of an exclusive, by the answer to it: it is too long, or else the message that it ends is replied to, and its lines are put
+abbrev pub part_task : Order → Held → Part → Answer → Task (Unit {0})
+part_task order held part answer =
+    record {
+      refusal = refusal_by (bad_answer answer) part.offset;
+      Does =
+          WrittenAndListed order (part_replies held (said_of part.group answer)) (part_lines held part.group part.offset answer);
+    }
+
 -- ---- one packet
 
 abbrev pub placed_part : ℕ → ℕ → Form → List ℕ → Part
@@ -116,19 +125,28 @@ packet_part_lines table held offset (packets.Exclusive group form bytes) =
     part_lines held group offset (answer_to table (placed_part group offset form bytes))
 packet_part_lines table held offset _ = []
 
+-- a packet at its offset: its exclusive is too long, or else it is replied to, and its lines are put
+abbrev pub packet_task : EndpointEngine → Placed → Task (Unit {0})
+packet_task now placed =
+    record {
+      refusal = refusal_by (bad_join now.listener.groups placed.packet) placed.offset;
+      Does =
+          WrittenAndListed now.writer.order
+          (stream_packet_replies now.setup now.config.protocol placed.packet
+          ++ part_replies now.listener.responder (said_of_packet now.listener.groups placed.packet))
+          (stream_lines now.setup now.config.protocol placed.offset placed.packet
+          ++ packet_part_lines now.listener.groups now.listener.responder placed.offset placed.packet);
+    }
+
 -- what is done with one more packet: it is answered and its lines are put, or it is refused; and what is held then
-pub record TakesPacket (now later : EndpointEngine) (offset : ℕ) (packet : Packet) (old new : Places) (result : Result (Unit {0}) RunEnd) : Type 0 where
+pub record TakesPacket (now later : EndpointEngine) (placed : Placed) (old new : Places) (result : Result (Unit {0}) RunEnd) : Type 0 where
   pub setup_is : later.setup ≡ now.setup
   pub order_is : later.writer.order ≡ now.writer.order
-  pub protocol_is : later.config.protocol ≡ protocol_after_packet now.setup now.config.protocol packet
-  pub groups_are : later.listener.groups ≡ with_part_of (part_of offset packet) now.listener.groups
-  pub responder_is : later.listener.responder ≡ after_part now.listener.responder (said_of_packet now.listener.groups packet)
-  pub answers : Answers (refusal_by (bad_join now.listener.groups packet) offset)
-      (WrittenAndListed now.writer.order
-      (stream_packet_replies now.setup now.config.protocol packet ++ part_replies now.listener.responder
-      (said_of_packet now.listener.groups packet))
-      (stream_lines now.setup now.config.protocol offset packet
-      ++ packet_part_lines now.listener.groups now.listener.responder offset packet)) tt old new result
+  pub protocol_is : later.config.protocol ≡ protocol_after_packet now.setup now.config.protocol placed.packet
+  pub groups_are : later.listener.groups ≡ with_part_of (part_of placed.offset placed.packet) now.listener.groups
+  pub responder_is : later.listener.responder ≡
+      after_part now.listener.responder (said_of_packet now.listener.groups placed.packet)
+  pub answers : Answers (packet_task now placed) tt old new result
 
 -- ---- the end
 

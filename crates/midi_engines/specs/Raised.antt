@@ -1,5 +1,5 @@
 -- The packets to which a byte is raised, and what is done with them, one after the other.
-use Rattle.std.specs.Prelude.{◌≡◌, ℕ, Bool, true, false, List, [], ◌∷◌, ◌++◌, map, None, Some, Result, Ok, Err}
+use Rattle.std.specs.Prelude.{◌≡◌, ℕ, Bool, true, false, List, [], ◌∷◌, ◌++◌, map, MatchOption, Some, Result, Ok, Err}
 use Rattle.std.specs.Option.{option_map}
 use Rattle.voice_messages.specs.declared.voice2.Form.{Form}
 use Rattle.ump_grammar.specs.declared.packet.Packet.{Packet}
@@ -9,8 +9,9 @@ use Rattle.voice_state.specs.Raising.{packets_at}
 use Rattle.voice_state.specs.StepListing.{kinds_at_end, line_up, lines_at, open_pair}
 use Rattle.voice_state.specs.UpRefusal.{refusal_of_step, refusal_up}
 use Rattle.up_translator.specs.declared.raised.Raised.{Raised}
+use Rattle.up_translator.specs.ByteLines.{lines_in}
 use Rattle.up_translator.specs.Held.{UpState, step_in}
-use Rattle.up_translator.specs.Raised.{lines_in, packets_in}
+use Rattle.up_translator.specs.Raised.{packets_in}
 use Rattle.up_translator.specs.Step.{Raises}
 use Rattle.midi_pass.specs.Bytes.{bytes_of}
 use Rattle.midi_pass.specs.Named.{Named}
@@ -83,7 +84,7 @@ CanBeDone {Held = Held} Accepts IsDone =
 abbrev pub ByteIsDone : {Held : Type 0} → Doing Held → Held → Raised → Held → List Put → Type 0
 ByteIsDone IsDone from raised to puts =
     (written : List Put) × AreDone IsDone from (packets_in raised) to written
-    × (puts ≡ written ++ line_puts (lines_in raised))
+    × (puts ≡ written ++ line_puts (lines_in raised.lines))
 
 -- what is to be done, which ends with what is held and with what is put, is done, or one of these puts failed
 abbrev pub CarriesOut : {Held : Type 0} → (Held → List Put → Type 0) → Held → Places → Places →
@@ -92,11 +93,16 @@ CarriesOut Does to old new (Ok done) = (puts : List Put) × Does to puts × (new
 CarriesOut {Held = Held} Does to old new (Err end) =
     (meant : Held) × (puts : List Put) × Does meant puts × FailsAt puts end old new
 
+-- What a byte or a packet asks for: why it is refused, or else what is done, which ends with what is held and with what is put.
+pub record Task (Held : Type 0) : Type 1 where
+  pub refusal : Tail
+  pub Does : Held → List Put → Type 0
+
 -- it is refused, and nothing is put; or it is done, or a put failed
-abbrev pub Answers : {Held : Type 0} → Tail → (Held → List Put → Type 0) → Held → Places → Places →
-    Result (Unit {0}) RunEnd → Type 0
-Answers (Some refusal) Does to old new result = (result ≡ Err (Refused refusal.0 refusal.1)) × (new ≡ old)
-Answers None Does to old new result = CarriesOut Does to old new result
+abbrev pub Answers : {Held : Type 0} → Task Held → Held → Places → Places → Result (Unit {0}) RunEnd → Type 0
+Answers task to old new result =
+    MatchOption task.refusal (CarriesOut task.Does to old new result)
+    (λ refusal. (result ≡ Err (Refused refusal.0 refusal.1)) × (new ≡ old))
 
 -- ---- by what the translator up holds
 
@@ -104,10 +110,13 @@ Answers None Does to old new result = CarriesOut Does to old new result
 abbrev pub byte_refusal : UpState → ℕ → ℕ → Tail
 byte_refusal up offset byte = refusal_by (refusal_of_step (step_in up offset byte)) offset
 
--- the packets and lines of a byte at its offset, which the translator up accepts, are done
-abbrev pub RaisedIsDone : {Held : Type 0} → Doing Held → UpState → ℕ × ℕ → Held → Held → List Put → Type 0
-RaisedIsDone IsDone up item from to puts =
-    (raised : Raised) × Raises up item.0 item.1 (Ok raised) × ByteIsDone IsDone from raised to puts
+-- a byte after its offset: the translator up refuses it, or else its packets are done, and its lines put
+abbrev pub byte_task : {Held : Type 0} → Doing Held → UpState → ℕ × ℕ → Held → Task Held
+byte_task IsDone up item from =
+    record {
+      refusal = byte_refusal up item.0 item.1;
+      Does = λ to puts. (raised : Raised) × Raises up item.0 item.1 (Ok raised) × ByteIsDone IsDone from raised to puts;
+    }
 
 -- the line of what is open at the end, by what the translator up holds
 abbrev pub open_puts : UpState → List Put

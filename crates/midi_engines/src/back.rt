@@ -5,6 +5,7 @@ ghost use Rattle.midi_pass.specs.Pass.{Ends, IsDoneUnless, seen};
 ghost use Rattle.midi_pass.specs.Places.{Puts, places};
 ghost use Rattle.midi_pass.specs.Refused.{IsRefusedWhere};
 ghost use Rattle.midi_engines.specs.Back.{HoldsBack, ComesDown, options_of, piece_puts, PutsDown, returning};
+ghost use Rattle.midi_engines.specs.Raised.{CarriesOut};
 ghost use Rattle.midi_engines.specs.BackMeans.{returned_means, returns_named};
 ghost use Rattle.midi_engines.specs.RaisedMeans.{last_named};
 
@@ -20,8 +21,8 @@ use midi1_bytes::laws::parsed_bytes_are_the_definition;
 use std::alloc::Global;
 use std::marker::Model;
 use ump_grammar::Packet;
-use up_translator::Up;
 use up_translator::laws::raised_bytes_are_the_definition;
+use up_translator::{PacketForm, RaisedPacket, Up};
 use voice_state::up_laws::{
     bytes_that_come_back_mean_the_same, raised_packets_are_in_range,
     raised_packets_come_back_in_silence, rooms_that_are_not_reached_do_not_matter_in_bytes,
@@ -89,6 +90,27 @@ fn put_piece<L: Lanes, W: Sink, N: Sink>(
     }
 }
 
+// Takes a packet down, and puts its piece.
+#[inline(always)]
+fn put_down<L: Lanes, W: Sink, N: Sink>(
+    down: &mut Down,
+    packet: &Packet,
+    offset: u64,
+    lanes: &mut L,
+    output: &mut W,
+    notes: &mut N,
+) -> Result<(), RunEnd>
+    requires { ComesDown down.old packet.now }
+    ensures { CarriesOut (PutsDown offset down.old packet.now) down.new
+        (places L.Lanes W.Sink N.Sink lanes.old output.old notes.old)
+        (places L.Lanes W.Sink N.Sink lanes.new output.new notes.new) result }
+{
+    match down.packet(packet, offset) {
+        Ok(carried) => put_piece(carried.piece, lanes, output, notes),
+        Err(_) => unreachable!(),
+    }
+}
+
 // Takes packets down, and puts their pieces. What bytes are raised to is neither refused nor listed there.
 impl PacketWork for Down {
     ghost Accepts = { λ from packet. ComesDown from packet };
@@ -98,15 +120,25 @@ impl PacketWork for Down {
     #[inline(always)]
     fn put<L: Lanes, W: Sink, N: Sink>(
         &mut self,
-        packet: &Packet,
+        packet: &RaisedPacket,
         offset: u64,
         lanes: &mut L,
         output: &mut W,
         notes: &mut N,
     ) -> Result<(), RunEnd> {
-        match self.packet(packet, offset) {
-            Ok(carried) => put_piece(carried.piece, lanes, output, notes),
-            Err(_) => unreachable!(),
+        match packet.form() {
+            PacketForm::NoteOrControl { group, message } => {
+                let (group, message) = (*group, message.message());
+                put_down(
+                    self,
+                    &Packet::Voice2 { group, message },
+                    offset,
+                    lanes,
+                    output,
+                    notes,
+                )
+            }
+            PacketForm::Packet(packet) => put_down(self, packet, offset, lanes, output, notes),
         }
     }
 }

@@ -233,7 +233,7 @@ impl EndpointEngine {
         notes: &mut N,
     ) -> Result<(), RunEnd>
         requires packet { IsPacket packet.now }
-        ensures { TakesPacket self.old self.new offset packet.now
+        ensures { TakesPacket self.old self.new (record { offset = offset; packet = packet.now })
             (places L.Lanes W.Sink N.Sink lanes.old output.old notes.old)
             (places L.Lanes W.Sink N.Sink lanes.new output.new notes.new) result }
     {

@@ -1,20 +1,17 @@
 // The exclusives of a peer: joined by group, heard by the responder, and answered.
 ghost use Rattle.std.specs.Prelude.{◌≡◌, ◌≤◌, List, [], ◌∷◌, Some, length};
 ghost use Rattle.ci_messages.specs.Reading.{IsExclusive};
-ghost use Rattle.down_translator.specs.Held.{bad_answer};
 ghost use Rattle.midi_pass.specs.Places.{Puts, places};
 ghost use Rattle.sysex_groups.specs.Exclusives.{IsData};
 ghost use Rattle.sysex_groups.specs.Table.{answer_to, with_part};
 ghost use Rattle.listing_puts.specs.Lines.{line_puts};
-ghost use Rattle.listing_puts.specs.Refusal.{refusal_by};
 ghost use Rattle.midi_engines.specs.Endpoint.{name_of_fault as fault_name, said_in};
 ghost use Rattle.midi_engines.specs.EndpointHeld.{
   AreWordsOf,
   WrittenAndListed,
   after_part,
   after_said,
-  part_lines,
-  part_replies,
+  part_task,
   placed_part,
   said_lines,
   said_name_in,
@@ -149,14 +146,9 @@ pub(crate) fn take_part<L: Lanes, W: Sink, N: Sink>(
         with_part (placed_part group offset form bytes.now) listener.old.groups }
     ensures after { listener.new.responder ≡ after_part listener.old.responder
         (said_of group (answer_to listener.old.groups (placed_part group offset form bytes.now))) }
-    ensures answers { Answers
-        (refusal_by
-        (bad_answer (answer_to listener.old.groups (placed_part group offset form bytes.now))) offset)
-        (WrittenAndListed writer.old.order
-        (part_replies listener.old.responder
-        (said_of group (answer_to listener.old.groups (placed_part group offset form bytes.now))))
-        (part_lines listener.old.responder group offset
-        (answer_to listener.old.groups (placed_part group offset form bytes.now)))) tt
+    ensures answers { let part = placed_part group offset form bytes.now in
+        Answers
+        (part_task writer.old.order listener.old.responder part (answer_to listener.old.groups part)) tt
         (places L.Lanes W.Sink N.Sink lanes.old output.old notes.old)
         (places L.Lanes W.Sink N.Sink lanes.new output.new notes.new) result }
 {

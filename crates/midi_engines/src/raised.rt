@@ -1,23 +1,20 @@
 // What is done with the packets to which a byte is raised, and with its lines.
-ghost use Rattle.std.specs.Prelude.{◌≡◌, ◌++◌, ℕ, List, [], ◌∷◌, Ok};
-ghost use Rattle.std.specs.Option.{option_to_list};
+ghost use Rattle.std.specs.Prelude.{◌≡◌, ◌++◌, ℕ, List, Ok};
 ghost use Rattle.ump_grammar.specs.declared.packet.Packet.{Packet};
 ghost use Rattle.voice_state.specs.Raising.{exclusive_packets};
 ghost use Rattle.up_translator.specs.declared.raised.Raised.{Raised};
 ghost use Rattle.up_translator.specs.Held.{KeepsBehind, step_in, up_behind};
-ghost use Rattle.up_translator.specs.Raised.{IsApart, lines_in, packets_in};
+ghost use Rattle.up_translator.specs.Raised.{IsApart, packets_in};
 ghost use Rattle.up_translator.specs.Step.{Raises};
 ghost use Rattle.midi_pass.specs.Places.{Puts, places};
-ghost use Rattle.midi_pass.specs.Put.{Put};
-ghost use Rattle.listing_puts.specs.Lines.{line_puts};
-ghost use Rattle.midi_engines.specs.Raised.{Answers, AreDone, AreTaken, ByteIsDone, CanBeDone, CarriesOut, Doing, RaisedIsDone, byte_refusal, open_puts};
+ghost use Rattle.midi_engines.specs.Raised.{Answers, AreDone, AreTaken, ByteIsDone, CanBeDone, CarriesOut, Doing, byte_task, open_puts};
 
-use listing_puts::{put_listed, refused};
+use listing_puts::{put_lines, put_listed, refused};
 use midi_edge::{Lanes, Sink, U4};
 use midi_pass::RunEnd;
 use sysex_groups::part;
 use ump_grammar::Packet;
-use up_translator::{Raised, Up};
+use up_translator::{Raised, RaisedPacket, Up};
 
 /// What is done with each of the packets to which a byte is raised.
 pub(crate) trait PacketWork {
@@ -30,7 +27,7 @@ pub(crate) trait PacketWork {
     /// Does it.
     fn put<L: Lanes, W: Sink, N: Sink>(
         &mut self,
-        packet: &Packet,
+        packet: &RaisedPacket,
         offset: u64,
         lanes: &mut L,
         output: &mut W,
@@ -62,7 +59,7 @@ fn put_payload<P: PacketWork, L: Lanes, W: Sink, N: Sink>(
     loop {
         match part(payload, k) {
             Some((form, bytes)) => {
-                let packet = Packet::Exclusive { group, form, bytes };
+                let packet = RaisedPacket::of(Packet::Exclusive { group, form, bytes });
                 match work.put(&packet, offset, lanes, output, notes) {
                     Ok(()) => k += 1,
                     Err(end) => return Err(end),
@@ -101,24 +98,6 @@ fn put_packets<P: PacketWork, L: Lanes, W: Sink, N: Sink>(
     }
 }
 
-// Puts the lines of a byte.
-fn put_lines<L: Lanes, W: Sink, N: Sink>(
-    raised: &Raised<'_>,
-    lanes: &mut L,
-    output: &mut W,
-    notes: &mut N,
-) -> Result<(), RunEnd>
-    ensures { Puts (line_puts (lines_in raised.now))
-        (places L.Lanes W.Sink N.Sink lanes.old output.old notes.old)
-        (places L.Lanes W.Sink N.Sink lanes.new output.new notes.new) result }
-{
-    // The second line is asked for once the first is put: most bytes have none.
-    match put_listed(raised.first(), lanes, output, notes) {
-        Ok(()) => put_listed(raised.second(), lanes, output, notes),
-        Err(end) => Err(end),
-    }
-}
-
 // Does the work on the packets of a byte, and then puts its lines. Of most bytes nothing comes, since they are only held.
 #[inline(always)]
 fn put_raised<P: PacketWork, L: Lanes, W: Sink, N: Sink>(
@@ -136,11 +115,8 @@ fn put_raised<P: PacketWork, L: Lanes, W: Sink, N: Sink>(
         (places L.Lanes W.Sink N.Sink lanes.old output.old notes.old)
         (places L.Lanes W.Sink N.Sink lanes.new output.new notes.new) result }
 {
-    if raised.is_empty() {
-        return Ok(());
-    }
     match put_packets(raised, offset, work, lanes, output, notes) {
-        Ok(()) => put_lines(raised, lanes, output, notes),
+        Ok(()) => put_lines(&raised.lines, lanes, output, notes),
         Err(end) => Err(end),
     }
 }
@@ -158,8 +134,7 @@ pub(crate) fn put_byte<P: PacketWork, L: Lanes, W: Sink, N: Sink>(
     requires taken { (raised : Raised) → Raises up.old offset byte (Ok raised) →
         AreTaken P.Accepts (P.IsDone offset) work.old (packets_in raised) }
     requires done { CanBeDone P.Accepts (P.IsDone offset) }
-    ensures answer { Answers (byte_refusal up.old offset byte)
-        (RaisedIsDone (P.IsDone offset) up.old (offset, byte) work.old) work.new
+    ensures answer { Answers (byte_task (P.IsDone offset) up.old (offset, byte) work.old) work.new
         (places L.Lanes W.Sink N.Sink lanes.old output.old notes.old)
         (places L.Lanes W.Sink N.Sink lanes.new output.new notes.new) result }
     ensures kept { KeepsBehind up.old.holding (step_in up.old offset byte) }

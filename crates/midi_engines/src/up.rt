@@ -17,10 +17,9 @@ use midi1_bytes::laws::parsed_bytes_are_the_definition;
 use std::alloc::Global;
 use std::marker::Model;
 use ump_grammar::laws::exclusives_have_words;
-use ump_grammar::{Packet, encode};
 use ump_words::{Order, put_words};
-use up_translator::Up;
 use up_translator::laws::raised_bytes_are_the_definition;
+use up_translator::{RaisedPacket, Up};
 use voice_state::up_laws::{
     raised_packets_are_in_range, raised_packets_mean_the_bytes,
     rooms_that_are_not_reached_do_not_matter_in_bytes,
@@ -88,13 +87,13 @@ impl PacketWork for WordOutput {
     #[inline(always)]
     fn put<L: Lanes, W: Sink, N: Sink>(
         &mut self,
-        packet: &Packet,
+        packet: &RaisedPacket,
         _offset: u64,
         _lanes: &mut L,
         output: &mut W,
         _notes: &mut N,
     ) -> Result<(), RunEnd> {
-        let words = encode(packet);
+        let words = packet.words();
         match put_words(words.as_slice(), self.order, output) {
             Ok(()) => Ok(()),
             Err(_) => Err(RunEnd::OutputFault),

@@ -6,8 +6,8 @@ use Rattle.std.proofs.lemmas.List.{append_assoc, append-nil}
 use Rattle.item_reader.specs.Cut.{IsCutInto, IsRest}
 use Rattle.item_reader.specs.CutLaws.{ItemsAreReadInOrder}
 use Rattle.midi_edge.specs.Outside.{Loses, ahead}
-use Rattle.item_reader.specs.Reading.{Reading, Gives, Finishes, Waits}
-use Rattle.item_reader.specs.SoFar.{ReadSoFar}
+use Rattle.item_reader.specs.Reading.{Cursor, Reading, Gives, Finishes, Waits, cursor}
+use Rattle.item_reader.specs.SoFar.{ReadSoFar, given}
 use Rattle.item_reader.specs.declared.cutting.Tail.{Tail}
 use Rattle.item_reader.specs.declared.cutting.Tail.TheVariants as tail
 use Rattle.midi_pass.specs.ItemLaws.{ItemsAreTakenInOrder}
@@ -16,9 +16,9 @@ use Rattle.midi_pass.specs.Pass.{HasGivenUp, IsFront}
 use Rattle.midi_pass.specs.declared.ends.Reason.TheVariants.{Truncated}
 
 -- an item that is given out, after its offset
-pub placed : {How Item : Type 0} (asked : List ℕ → ℕ) (item_of : ℕ → List ℕ → Item × ℕ) (old new : Reading How) (before after : Option (List ℕ)) (given : Item × ℕ) → Gives asked old new before after item_of given
-    → Gives asked old new before after (after_offset item_of) (given.1, given.0)
-placed {Item = Item} asked item_of old new before after given gives =
+pub placed : {How Item : Type 0} (asked : List ℕ → ℕ) (item_of : ℕ → List ℕ → Item × ℕ) (old new : Cursor How) (item : Item × ℕ) → Gives asked old new item_of item
+    → Gives asked old new (after_offset item_of) (item.1, item.0)
+placed {Item = Item} asked item_of old new item gives =
     record { chunk = gives.chunk; is_item = gives.is_item; lost = gives.lost; item_is = ap (λ (g : Item × ℕ). (g.1, g.0)) gives.item_is; within = gives.within; goes_on = gives.goes_on }
 
 both : (all : Option (List ℕ)) (P Q : List ℕ → Type 0) → IfSome all P → IfSome all Q → IfSome all (λ bytes. P bytes × Q bytes)
@@ -26,7 +26,7 @@ both None P Q p q = tt
 both (Some bytes) P Q p q = (p, q)
 
 -- the chunks of a front are its whole cutting
-fronts : {How Item : Type 0} (asked : List ℕ → ℕ) (item_of : ℕ → List ℕ → Item) (how : How) (reader : Reading How) (all now : Option (List ℕ)) (items : List Item) (read : ReadSoFar asked item_of how limit reader all now items)
+fronts : {How Item : Type 0} (asked : List ℕ → ℕ) (item_of : ℕ → List ℕ → Item) (how : How) (reader : Reading How) (all now : Option (List ℕ)) (items : List Item) (read : ReadSoFar asked item_of how limit reader (given all now items))
     → (all' ahead' : Option (List ℕ)) → Loses all' ahead' (concat read.chunks) → IfSome all' (λ bytes. IsFront (item_cutting asked item_of) bytes items)
 fronts asked item_of how reader all now items read None ahead' lost = tt
 fronts asked item_of how reader all now items read (Some bytes) None lost = absurd lost
@@ -46,20 +46,20 @@ fronts asked item_of how reader all now items read (Some bytes) (Some rest) lost
 )
 
 module _ {How Item : Type 0} (asked : How → List ℕ → ℕ) (item_of : How → ℕ → List ℕ → Item) (laws : ItemsAreReadInOrder asked item_of) (how : How) (reader : Reading How) (all left : Option (List ℕ)) (items : List Item)
-    (so_far : ReadSoFar (asked how) (item_of how) how limit reader all left items) where
+    (so_far : ReadSoFar (asked how) (item_of how) how limit reader (given all left items)) where
   -- one more item
-  given_more : (reader' : Reading How) (left' : Option (List ℕ)) (item : Item) → Gives (asked reader.how) reader reader' (ahead reader.pending left) (ahead reader'.pending left') (item_of reader.how) item
-      → ReadSoFar (asked how) (item_of how) how limit reader' all left' (items ++ item ∷ [])
+  given_more : (reader' : Reading How) (left' : Option (List ℕ)) (item : Item) → Gives (asked reader.how) (cursor reader left) (cursor reader' left') (item_of reader.how) item
+      → ReadSoFar (asked how) (item_of how) how limit reader' (given all left' (items ++ item ∷ []))
   given_more reader' left' item gives = laws.step how limit reader all left items so_far reader' left' item gives
 
-  front_more : (reader' : Reading How) (left' : Option (List ℕ)) (item : Item) → Gives (asked reader.how) reader reader' (ahead reader.pending left) (ahead reader'.pending left') (item_of reader.how) item
+  front_more : (reader' : Reading How) (left' : Option (List ℕ)) (item : Item) → Gives (asked reader.how) (cursor reader left) (cursor reader' left') (item_of reader.how) item
       → IfSome all (λ bytes. IsFront (item_cutting (asked how) (item_of how)) bytes (items ++ item ∷ []))
   front_more reader' left' item gives =
       let more = laws.step how limit reader all left items so_far reader' left' item gives in
       fronts (asked how) (item_of how) how reader' all left' (items ++ item ∷ []) more all (ahead reader'.pending left') more.lost
 
   -- the items end with this tail
-  at_tail : (reader' : Reading How) (left' : Option (List ℕ)) (tail : Tail) → Finishes (asked reader.how) reader reader' (ahead reader.pending left) (ahead reader'.pending left') tail
+  at_tail : (reader' : Reading How) (left' : Option (List ℕ)) (tail : Tail) → Finishes (asked reader.how) (cursor reader left) (cursor reader' left') tail
       → IfSome all (λ bytes. item_cutting (asked how) (item_of how) bytes items (refusal_at tail))
   at_tail reader' left' tail ends = by_told all (laws.finishes how limit reader all left items so_far reader' left' tail ends)
     where
@@ -68,14 +68,14 @@ module _ {How Item : Type 0} (asked : How → List ℕ → ℕ) (item_of : How �
       by_told (Some bytes) cut = (tail, cut, refl)
 
   -- the input ends
-  at_end : (reader' : Reading How) (left' : Option (List ℕ)) → Finishes (asked reader.how) reader reader' (ahead reader.pending left) (ahead reader'.pending left') tail.End
+  at_end : (reader' : Reading How) (left' : Option (List ℕ)) → Finishes (asked reader.how) (cursor reader left) (cursor reader' left') tail.End
       → IfSome all (λ bytes. item_cutting (asked how) (item_of how) bytes items None × (left' ≡ Some []))
   at_end reader' left' ends =
       both all (λ bytes. item_cutting (asked how) (item_of how) bytes items None) (λ bytes. left' ≡ Some [])
       (at_tail reader' left' tail.End ends) (laws.nothing_left how limit reader all left items so_far reader' left' ends)
 
   -- a read failed
-  at_fault : (reader' : Reading How) (left' : Option (List ℕ)) → Waits (asked reader.how) reader reader' (ahead reader.pending left) (ahead reader'.pending left')
+  at_fault : (reader' : Reading How) (left' : Option (List ℕ)) → Waits (asked reader.how) (cursor reader left) (cursor reader' left')
       → IfSome all (λ bytes. HasGivenUp (item_cutting (asked how) (item_of how)) bytes left' items)
   at_fault reader' left' waits =
       let chunks : List ℕ = concat so_far.chunks in

@@ -58,6 +58,10 @@ at_one (x ∷ items) (o ∷ others) rest i j e =
       | inr go ↦ inr (go.0, ap (λ xs. o ∷ xs) go.1 ∙ ap (λ c. c ∷ ((items ++ i ∷ []) ++ go.0)) same)
     ]
 
+-- the items and the refusal are the same
+abbrev IsOne : {Item : Type 0} → List Item → List Item → Reason × ℕ → Reason × ℕ → Type 0
+IsOne items others refusal other = (items ≡ others) × (Some refusal ≡ Some other)
+
 module _ {Item : Type 0} (IsCut : Cutting Item) (work : Work Item) (cuts : CutsOnce IsCut) where
   -- an item among others that are accepted isn't refused
   among : (items others more : List Item) (item : Item) → others ≡ (items ++ item ∷ []) ++ more → AreAccepted work (reverse others) → work.refusal (reverse items) item ≡ None
@@ -65,10 +69,6 @@ module _ {Item : Type 0} (IsCut : Cutting Item) (work : Work Item) (cuts : CutsO
       let turned : reverse others ≡ reverse more ++ item ∷ reverse items = ap reverse same ∙ reverse-append (items ++ item ∷ []) more ∙ ap (λ xs. reverse more ++ xs) (reverse-append items (item ∷ [])) in
       let A : List Item → Type 0 = λ xs. AreAccepted work xs in
       accepted_at work (reverse more) item (reverse items) (subst A turned accepted)
-
-  -- the items and the refusal are the same
-  abbrev IsOne : List Item → List Item → Reason × ℕ → Reason × ℕ → Type 0
-  IsOne items others refusal other = (items ≡ others) × (Some refusal ≡ Some other)
 
   module _ (items others : List Item) (refusal other : Reason × ℕ) (accepted : AreAccepted work (reverse items)) (accepted' : AreAccepted work (reverse others)) where
     -- the bytes are refused after items, so no item of theirs is

@@ -75,12 +75,12 @@ module _ {Item : Type 0} (work : Work Item) (past : List Item) (old new : Places
   StepEnds item NoMemory = (work.grows ≡ true) × (new ≡ old)
   StepEnds item end = (work.refusal past item ≡ None) × ((puts : List Put) × work.IsPut past item puts × FailsAt puts end old new)
 
-  -- an item is accepted and its puts are put, and then `Then`
-  abbrev pub Steps : Type 0 → Item → Result (Unit {0}) RunEnd → Type 0
-  Steps Then item (Ok done) =
+  -- an item is accepted and its puts are put, or it ends the pass
+  abbrev pub Steps : Item → Result (Unit {0}) RunEnd → Type 0
+  Steps item (Ok done) =
       (work.refusal past item ≡ None)
-      × ((puts : List Put) × work.IsPut past item puts × (new ≡ after_puts puts old)) × Then
-  Steps Then item (Err end) = StepEnds item end
+      × ((puts : List Put) × work.IsPut past item puts × (new ≡ after_puts puts old))
+  Steps item (Err end) = StepEnds item end
 
   -- what is put at the end of the input is put, or one of these puts failed; or there is no memory for it
   abbrev pub Closes : Result (Unit {0}) RunEnd → Type 0

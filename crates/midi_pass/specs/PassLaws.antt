@@ -36,15 +36,15 @@ module _ {I : Type 0} (IsCut : Cutting I) (work : Work I) (Has : List I → Type
 
   -- one more item, which is accepted
   abbrev pub one_more : (Has' : List I → Type 0) (Holds' : List I → Type 0) (item : I) (new : Seen) → Has' (so_far.items ++ item ∷ []) → new.reads ≡ now.reads
-      → Steps work (reverse so_far.items) now.places new.places (Holds' (item ∷ reverse so_far.items)) item (Ok tt) → SoFar work Has' Holds' old new
-  one_more Has' Holds' item new has reads steps =
+      → Steps work (reverse so_far.items) now.places new.places item (Ok tt) → Holds' (item ∷ reverse so_far.items) → SoFar work Has' Holds' old new
+  one_more Has' Holds' item new has reads steps holds =
       let turned : reverse (so_far.items ++ item ∷ []) ≡ item ∷ reverse so_far.items = reverse-push so_far.items item in
       let A : List I → Type 0 = λ xs. AreAccepted work xs in
       let P : List I → Type 0 = λ xs. ArePut work xs (so_far.puts ++ steps.1.0) in
       record {
         items = so_far.items ++ item ∷ [];
         has = has;
-        holds = subst Holds' (sym turned) steps.2;
+        holds = subst Holds' (sym turned) holds;
         puts = so_far.puts ++ steps.1.0;
         accepted = subst A (sym turned) (steps.0, so_far.accepted);
         put = subst P (sym turned) (so_far.puts, steps.1.0, so_far.put, steps.1.1, refl);

@@ -81,9 +81,6 @@ stops_more ps qs end a b stops =
 
 -- ---- one put
 
-abbrev output_is : Places → Option (List ℕ) → Counts → Places
-output_is s output faults = record s { output = output; faults = faults }
-
 abbrev output_now : Places → Option (List ℕ) → ℕ → Places
 output_now s held faults = record s { output = held; faults = record s.faults { output = faults } }
 
@@ -118,11 +115,6 @@ output_fails s text held faults gains rose =
 abbrev pub notes_now : Places → Option (List ℕ) → ℕ → Places
 notes_now s held faults = record s { notes = held; faults = record s.faults { notes = faults } }
 
-pub notes_put : (s : Places) (text : List ℕ) (held : Option (List ℕ)) (faults : ℕ) → Gains s.notes held text → faults ≡ s.faults.notes → notes_now s held faults ≡ after_puts (in_notes text ∷ []) s
-notes_put s text held faults gains same =
-    ap (λ n. notes_now s held n) same
-    ∙ made-same s _ _ _ _ _ _ (sym (with_more-none s.pieces)) (sym (with_more-none s.output)) (Gains-with_more s.notes held text gains ∙ ap (with_more s.notes) (sym (append-nil text)))
-
 abbrev notes_made : Places → Option (List (ℕ × List ℕ)) → Option (List ℕ) → Option (List ℕ) → ℕ → Places
 notes_made s pieces output notes faults = record s { pieces = pieces; output = output; notes = notes; faults = record s.faults { notes = faults } }
 
@@ -156,13 +148,6 @@ lanes_seen s begun folder pieces faults = record s { begun = begun; folder = fol
 
 lanes_same : (s : Places) (begun : Bool) (folder : Option (List ℕ)) (pieces : Option (List (ℕ × List ℕ))) (faults : ℕ) → begun ≡ s.begun → folder ≡ s.folder → lanes_seen s begun folder pieces faults ≡ lanes_now s pieces faults
 lanes_same s begun folder pieces faults e f = ap (λ b. lanes_seen s b folder pieces faults) e ∙ ap (λ x. lanes_seen s s.begun x pieces faults) f
-
-pub lane_put : (s : Places) (lane : ℕ) (piece : List ℕ) (begun : Bool) (folder : Option (List ℕ)) (pieces : Option (List (ℕ × List ℕ))) (faults : ℕ) → begun ≡ s.begun → folder ≡ s.folder
-    → Gains s.pieces pieces ((lane, piece) ∷ []) → faults ≡ s.faults.lanes → lanes_seen s begun folder pieces faults ≡ after_puts (in_lane lane piece ∷ []) s
-lane_put s lane piece begun folder pieces faults e f gains same =
-    lanes_same s begun folder pieces faults e f
-    ∙ ap (λ n. lanes_now s pieces n) same
-    ∙ made-same s _ _ _ _ _ _ (Gains-with_more s.pieces pieces ((lane, piece) ∷ []) gains) (sym (with_more-none s.output)) (sym (with_more-none s.notes))
 
 lane_stands : (s : Places) (part : List Put) (pieces : Option (List (ℕ × List ℕ))) (faults : ℕ) → pieces ≡ with_more s.pieces (pairs_in part) → output_in part ≡ [] → notes_in part ≡ []
     → lanes_now s pieces faults ≡ with_faults (record s.faults { lanes = faults }) (after_puts part s)

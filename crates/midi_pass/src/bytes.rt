@@ -2,6 +2,7 @@
 ghost use Rattle.std.specs.Prelude.{◌≡◌, ◌-◌, ℕ, List, Option, length, None, Some};
 ghost use Rattle.midi_edge.specs.Outside.{ahead};
 ghost use Rattle.item_reader.specs.ByteReader.{each_byte, new_bytes, one_byte};
+ghost use Rattle.item_reader.specs.SoFar.{Given, given};
 ghost use Rattle.midi_pass.specs.Bytes.{GivenSoFar, byte_cutting, limit, placed_at};
 ghost use Rattle.midi_pass.specs.Next.{ComesNearer, GivesNext, NextCause};
 ghost use Rattle.midi_pass.specs.Pass.{Cutting};
@@ -21,7 +22,7 @@ impl Items<u64, u8> for ByteReader {
 
     ghost IsNew = { λ first. first ≡ new_bytes limit };
 
-    ghost HasGiven = { λ first now all left items. GivenSoFar now all left items };
+    ghost HasGiven = { λ first now so_far. GivenSoFar now so_far };
 
     ghost Promises = { λ past item. item.0 ≡ length past };
 

@@ -2,7 +2,7 @@
 ghost use Rattle.std.specs.Prelude.{◌≡◌, ◌-◌, ℕ, List, Option, None};
 ghost use Rattle.midi_edge.specs.Outside.{ahead};
 ghost use Rattle.item_reader.specs.Reading.{new_reading};
-ghost use Rattle.item_reader.specs.SoFar.{ReadSoFar};
+ghost use Rattle.item_reader.specs.SoFar.{Given, ReadSoFar, given};
 ghost use Rattle.midi_pass.specs.Items.{after_offset, item_cutting, limit};
 ghost use Rattle.midi_pass.specs.Next.{ComesNearer, GivesNext, NextCause};
 ghost use Rattle.midi_pass.specs.Pass.{Cutting};
@@ -46,9 +46,8 @@ impl<I, H: Cut<Item = (I, u64)>> Items<u64, I> for EachItems<H> {
 
     ghost IsNew = { λ first. first ≡ new_reading first.how limit };
 
-    ghost HasGiven = { λ first now all left items.
-        ReadSoFar (H.asked first.how) (after_offset (H.item_of first.how)) first.how limit
-        now all left items };
+    ghost HasGiven = { λ first now so_far.
+        ReadSoFar (H.asked first.how) (after_offset (H.item_of first.how)) first.how limit now so_far };
 
     ghost Promises = { λ past item. Unit {0} };
 

@@ -1,5 +1,6 @@
 // One loop for every pass.
-ghost use Rattle.std.specs.Prelude.{◌≡◌, ◌<◌, ℕ, List, [], ◌∷◌, Option, true};
+ghost use Rattle.std.specs.Prelude.{◌≡◌, ◌<◌, ℕ, IfOk, List, [], ◌∷◌, Option, true};
+ghost use Rattle.item_reader.specs.SoFar.{Given, given};
 ghost use Rattle.midi_pass.specs.Named.{AreNamed};
 ghost use Rattle.midi_pass.specs.Next.{ComesNearer, GivesNext, NextCause};
 ghost use Rattle.midi_pass.specs.Pass.{AreAccepted, ArePut, Closes, Cutting, Ends, Steps, Work, end_of as end_after, seen};
@@ -30,8 +31,8 @@ pub trait Items<A, I> {
     /// A reader that has read nothing.
     ghost IsNew: { Self → Type 0 };
 
-    /// The first reader, which was new, has become the second: it gave these items of all that there was, and this is left.
-    ghost HasGiven: { Self → Self → Option (List ℕ) → Option (List ℕ) → List (A × I) → Type 0 };
+    /// The first reader, which was new, has become the second, and has given this.
+    ghost HasGiven: { Self → Self → Given (A × I) → Type 0 };
 
     /// What holds of an item after others, the newest first.
     ghost Promises: { List (A × I) → A × I → Type 0 };
@@ -42,14 +43,15 @@ pub trait Items<A, I> {
     /// What comes next.
     fn next<S: Source>(&mut self, input: &mut S) -> Next<A, I>
         ensures answer { (first : Self) (all : Option (List ℕ)) (items : List (A × I)) →
-            HasGiven first self.old all (S.left input.old) items →
-            GivesNext (IsCut first) Promises (HasGiven first self.new all (S.left input.new)) all
-            (S.left input.new) items result }
+            HasGiven first self.old (given all (S.left input.old) items) →
+            GivesNext (IsCut first) Promises (HasGiven first self.new)
+            (given all (S.left input.new) items) result }
         ensures nearer { ComesNearer (to_go self.old) (to_go self.new) result }
         ensures cause { NextCause (S.faults input.old) (S.faults input.new) result };
 
     /// A new reader has given nothing.
-    ghost starts: { (first : Self) (all : Option (List ℕ)) → IsNew first → HasGiven first first all all [] };
+    ghost starts: { (first : Self) (all : Option (List ℕ)) → IsNew first →
+        HasGiven first first (given all all []) };
 }
 
 /// Does the work on items, one by one.
@@ -89,8 +91,8 @@ pub trait Engine<A, I> {
             AsksAfter past (at.now, item.now) →
             Steps (work first) past
             (places L.Lanes W.Sink N.Sink lanes.old output.old notes.old)
-            (places L.Lanes W.Sink N.Sink lanes.new output.new notes.new)
-            (Holds first self.new ((at.now, item.now) ∷ past)) (at.now, item.now) result };
+            (places L.Lanes W.Sink N.Sink lanes.new output.new notes.new) (at.now, item.now) result
+            × IfOk result (λ done. Holds first self.new ((at.now, item.now) ∷ past)) };
 
     /// Does what is to be done at the end of the input.
     fn close<L: Lanes, W: Sink, N: Sink>(

@@ -5,8 +5,8 @@ use Rattle.std.specs.List.{concat}
 use Rattle.std.proofs.Math.Nat.{mod-eq_of_lt}
 use Rattle.std.proofs.lemmas.List.{append_assoc, append-nil, length-append, map_push}
 use Rattle.item_reader.specs.CutLaws.{ItemsAreReadInOrder}
-use Rattle.item_reader.specs.Reading.{Gives}
-use Rattle.item_reader.specs.SoFar.{ReadSoFar, StandsBehind}
+use Rattle.item_reader.specs.Reading.{Gives, cursor}
+use Rattle.item_reader.specs.SoFar.{ReadSoFar, StandsBehind, given}
 use Rattle.item_reader.specs.declared.cutting.Tail as tails
 use Rattle.item_reader.specs.declared.cutting.Tail.TheVariants as tail
 use Rattle.midi_edge.specs.Outside.{Loses, ahead}
@@ -60,7 +60,7 @@ packet-size order chunk is = go (nat_lt (length chunk) 4) is
 -- ---- what is read
 
 -- the chunks of a front are its whole cutting
-fronts : (order : Order) (before : ℕ) (reader : Reading) (all now : Option (List ℕ)) (items : List (Framed × Packet)) (read : ReadSoFar (bytes_asked order) (framed_after before order) order (room_after before) reader all now (framed_of items))
+fronts : (order : Order) (before : ℕ) (reader : Reading) (all now : Option (List ℕ)) (items : List (Framed × Packet)) (read : ReadSoFar (bytes_asked order) (framed_after before order) order (room_after before) reader (given all now (framed_of items)))
     → AreRead items → (all' ahead' : Option (List ℕ)) → Loses all' ahead' (concat read.chunks) → IfSome all' (λ bytes. IsFront (packets_after order before) bytes items)
 fronts order before reader all now items read are None ahead' lost = tt
 fronts order before reader all now items read are (Some bytes) None lost = absurd lost
@@ -82,22 +82,22 @@ fronts order before reader all now items read are (Some bytes) (Some rest) lost 
   ),
 )
 
-module _ (order : Order) (before : ℕ) (laws : ItemsAreReadInOrder bytes_asked (framed_after before)) (reader : Reading) (all left : Option (List ℕ)) (items : List (Framed × Packet)) (given : GivenAfter order before reader all left items) where
+module _ (order : Order) (before : ℕ) (laws : ItemsAreReadInOrder bytes_asked (framed_after before)) (reader : Reading) (all left : Option (List ℕ)) (items : List (Framed × Packet)) (so_far : GivenAfter order before reader (given all left items)) where
   pub going : reader.end ≡ None
-  going = ap (λ r. r.end) given.read.place
+  going = ap (λ r. r.end) so_far.read.place
 
   within : reader.offset ≤ room_after before
   within =
       let W : Reading → Type 0 = λ r. r.offset ≤ room_after before in
-      subst W (sym given.read.place) given.read.within
+      subst W (sym so_far.read.place) so_far.read.within
 
   -- the packet at its offset in the input
   abbrev pub placed : Framed → Framed
   placed framed = record { offset = framed.offset + before; words = framed.words }
 
   -- one more packet
-  module _ (reader' : Reading) (left' : Option (List ℕ)) (framed : Framed) (gives : GivesPacket reader reader' (ahead reader.pending left) (ahead reader'.pending left') framed) where
-    abbrev gives_placed : Gives (bytes_asked reader.how) reader reader' (ahead reader.pending left) (ahead reader'.pending left') (framed_after before reader.how) (placed framed)
+  module _ (reader' : Reading) (left' : Option (List ℕ)) (framed : Framed) (gives : GivesPacket (cursor reader left) (cursor reader' left') framed) where
+    abbrev gives_placed : Gives (bytes_asked reader.how) (cursor reader left) (cursor reader' left') (framed_after before reader.how) (placed framed)
     gives_placed = record { chunk = gives.chunk; is_item = gives.is_item; lost = gives.lost; item_is = ap placed gives.item_is; within = gives.within; goes_on = gives.goes_on }
 
     at-reader : framed.offset ≡ reader.offset
@@ -127,7 +127,7 @@ module _ (order : Order) (before : ℕ) (laws : ItemsAreReadInOrder bytes_asked 
         let next : reader'.offset ≡ reader.offset + length gives.chunk = ap (λ r. r.offset) gives.goes_on in
         let W : ℕ → Type 0 = λ n. n ≤ room_after before in
         let L : ℕ → Type 0 = λ n. reader.offset + length gives.chunk ≤ n in
-        subst W (sym next) (subst L (ap (λ r. r.limit) given.read.place) gives.within)
+        subst W (sym next) (subst L (ap (λ r. r.limit) so_far.read.place) gives.within)
 
     pub at-place : framed.offset + before ≡ reader.offset + before
     at-place = ap (λ n. n + before) at-reader
@@ -136,100 +136,100 @@ module _ (order : Order) (before : ℕ) (laws : ItemsAreReadInOrder bytes_asked 
     pub at_words : (cause : Bad) → reason_of framed.words ≡ Some cause → IfSome all (λ bytes. packets_after order before bytes items (Some (reason_for cause, framed.offset + before)))
     at_words cause is =
         each all (λ bytes. StandsBehind (bytes_asked order) (framed_after before order) (room_after before) bytes (framed_of items) (placed framed)) _
-        (laws.stands_behind order (room_after before) reader all left (framed_of items) given.read reader' left' (placed framed) gives_placed)
-        (λ bytes stands. (given.are, inr (record { refused = placed framed; after = stands.after; tail = stands.tail; cut = stands.cut; cause = cause; cause_is = is; end_is = refl })))
+        (laws.stands_behind order (room_after before) reader all left (framed_of items) so_far.read reader' left' (placed framed) gives_placed)
+        (λ bytes stands. (so_far.are, inr (record { refused = placed framed; after = stands.after; tail = stands.tail; cut = stands.cut; cause = cause; cause_is = is; end_is = refl })))
 
     module _ (packet : Packet) (fine : reason_of framed.words ≡ None) (spells : Spells packet framed.words) where
       abbrev item : Framed × Packet
       item = (placed framed, packet)
 
-      pub given_more : GivenAfter order before reader' all left' (items ++ item ∷ [])
+      pub given_more : GivenAfter order before reader' (given all left' (items ++ item ∷ []))
       given_more =
-          let R : List Framed → Type 0 = λ fs. ReadSoFar (bytes_asked order) (framed_after before order) order (room_after before) reader' all left' fs in
+          let R : List Framed → Type 0 = λ fs. ReadSoFar (bytes_asked order) (framed_after before order) order (room_after before) reader' (given all left' fs) in
           record {
-            read = subst R (sym (map_push (λ (i : Framed × Packet). i.0) items item)) (laws.step order (room_after before) reader all left (framed_of items) given.read reader' left' (placed framed) gives_placed);
-            are = AreRead-push items item given.are (record { fine = fine; spells = spells });
+            read = subst R (sym (map_push (λ (i : Framed × Packet). i.0) items item)) (laws.step order (room_after before) reader all left (framed_of items) so_far.read reader' left' (placed framed) gives_placed);
+            are = AreRead-push items item so_far.are (record { fine = fine; spells = spells });
           }
 
       pub front_more : IfSome all (λ bytes. IsFront (packets_after order before) bytes (items ++ item ∷ []))
       front_more = let more = given_more in fronts order before reader' all left' (items ++ item ∷ []) more.read more.are all (ahead reader'.pending left') more.read.lost
 
   -- the packets end with this tail
-  pub at_tail : (reader' : Reading) (left' : Option (List ℕ)) (t : tails.Tail) → Finishes reader reader' (ahead reader.pending left) (ahead reader'.pending left') t
+  pub at_tail : (reader' : Reading) (left' : Option (List ℕ)) (t : tails.Tail) → Finishes (cursor reader left) (cursor reader' left') t
       → IfSome all (λ bytes. packets_after order before bytes items (refusal_after before t))
   at_tail reader' left' t ends =
-      each all (λ bytes. IsCutAfter order before bytes (framed_of items) t) _ (laws.finishes order (room_after before) reader all left (framed_of items) given.read reader' left' t ends)
-      (λ bytes cut. (given.are, inl (record { tail = t; cut = cut; end_is = refl })))
+      each all (λ bytes. IsCutAfter order before bytes (framed_of items) t) _ (laws.finishes order (room_after before) reader all left (framed_of items) so_far.read reader' left' t ends)
+      (λ bytes cut. (so_far.are, inl (record { tail = t; cut = cut; end_is = refl })))
 
   -- the input ends
-  pub at_end : (reader' : Reading) (left' : Option (List ℕ)) → Finishes reader reader' (ahead reader.pending left) (ahead reader'.pending left') tail.End
+  pub at_end : (reader' : Reading) (left' : Option (List ℕ)) → Finishes (cursor reader left) (cursor reader' left') tail.End
       → IfSome all (λ bytes. packets_after order before bytes items None × (left' ≡ Some []))
   at_end reader' left' ends =
       both all (λ bytes. packets_after order before bytes items None) (λ bytes. left' ≡ Some []) (at_tail reader' left' tail.End ends)
-      (laws.nothing_left order (room_after before) reader all left (framed_of items) given.read reader' left' ends)
+      (laws.nothing_left order (room_after before) reader all left (framed_of items) so_far.read reader' left' ends)
 
   -- all of it was given
-  pub all_read : (reader' : Reading) (left' : Option (List ℕ)) → Finishes reader reader' (ahead reader.pending left) (ahead reader'.pending left') tail.End → IfSome all (λ bytes. reader.offset ≡ length bytes)
-  all_read reader' left' ends = by_told all (ahead reader.pending left) given.read.lost ends.ends
+  pub all_read : (reader' : Reading) (left' : Option (List ℕ)) → Finishes (cursor reader left) (cursor reader' left') tail.End → IfSome all (λ bytes. reader.offset ≡ length bytes)
+  all_read reader' left' ends = by_told all (ahead reader.pending left) so_far.read.lost ends.ends
     where
-      by_told : (all' ahead' : Option (List ℕ)) → Loses all' ahead' (concat given.read.chunks) → IfSome ahead' (λ bytes. (bytes ≡ []) × (reader.offset ≤ reader.limit)) → IfSome all' (λ bytes. reader.offset ≡ length bytes)
+      by_told : (all' ahead' : Option (List ℕ)) → Loses all' ahead' (concat so_far.read.chunks) → IfSome ahead' (λ bytes. (bytes ≡ []) × (reader.offset ≤ reader.limit)) → IfSome all' (λ bytes. reader.offset ≡ length bytes)
       by_told None ahead' lost nothing = tt
       by_told (Some bytes) None lost nothing = absurd lost
       by_told (Some bytes) (Some more) lost nothing =
-          ap (λ r. r.offset) given.read.place ∙ ap length (sym (lost ∙ ap (λ xs. concat given.read.chunks ++ xs) nothing.0 ∙ append-nil (concat given.read.chunks)))
+          ap (λ r. r.offset) so_far.read.place ∙ ap length (sym (lost ∙ ap (λ xs. concat so_far.read.chunks ++ xs) nothing.0 ∙ append-nil (concat so_far.read.chunks)))
 
   -- it ends within a packet, whose offset isn't cut either
-  pub part-sum : (reader' : Reading) (left' : Option (List ℕ)) (at : ℕ) → Finishes reader reader' (ahead reader.pending left) (ahead reader'.pending left') (tail.Truncated at) → before ≤ limit → (at + before) % 2 ^ 64 ≡ at + before
+  pub part-sum : (reader' : Reading) (left' : Option (List ℕ)) (at : ℕ) → Finishes (cursor reader left) (cursor reader' left') (tail.Truncated at) → before ≤ limit → (at + before) % 2 ^ 64 ≡ at + before
   part-sum reader' left' at ends few =
       let W : ℕ → Type 0 = λ n. n ≤ room_after before in
       whole-sum at before (subst W (sym ends.held.0) within) few
 
   -- a read failed
-  pub at_fault : (reader' : Reading) (left' : Option (List ℕ)) → Waits reader reader' (ahead reader.pending left) (ahead reader'.pending left') → IfSome all (λ bytes. HasGivenUp (packets_after order before) bytes left' items)
+  pub at_fault : (reader' : Reading) (left' : Option (List ℕ)) → Waits (cursor reader left) (cursor reader' left') → IfSome all (λ bytes. HasGivenUp (packets_after order before) bytes left' items)
   at_fault reader' left' waits =
-      let chunks : List ℕ = concat given.read.chunks in
+      let chunks : List ℕ = concat so_far.read.chunks in
       let L : Option (List ℕ) → Type 0 = λ now. Loses all now chunks in
       let R : Reading → Type 0 = λ r. IsRest r.how reader'.pending in
       let W : Reading → Type 0 = λ r. r.offset + length reader'.pending ≤ r.limit in
-      by_told all left' (subst L (sym waits.same) given.read.lost) (cut_by reader'.pending (subst R given.read.place waits.partial) (subst W given.read.place waits.within))
+      by_told all left' (subst L (sym waits.same) so_far.read.lost) (cut_by reader'.pending (subst R so_far.read.place waits.partial) (subst W so_far.read.place waits.within))
     where
-      cut_by : (rest : List ℕ) → IsRest order rest → length (concat given.read.chunks) + length rest ≤ room_after before
-          → packets_after order before (concat given.read.chunks ++ rest) items None ⊎ ((offset : ℕ) × packets_after order before (concat given.read.chunks ++ rest) items (Some (Truncated, offset)))
+      cut_by : (rest : List ℕ) → IsRest order rest → length (concat so_far.read.chunks) + length rest ≤ room_after before
+          → packets_after order before (concat so_far.read.chunks ++ rest) items None ⊎ ((offset : ℕ) × packets_after order before (concat so_far.read.chunks ++ rest) items (Some (Truncated, offset)))
       cut_by [] is_rest fits =
           inl (
-            given.are,
+            so_far.are,
             inl (record {
               tail = tail.End;
               cut = record {
-                chunks = given.read.chunks;
-                cuts = record { rest = []; whole = refl; each = given.read.each; ends = (refl, omega (arith, given.read.within)) };
-                same = given.read.same;
+                chunks = so_far.read.chunks;
+                cuts = record { rest = []; whole = refl; each = so_far.read.each; ends = (refl, omega (arith, so_far.read.within)) };
+                same = so_far.read.same;
               };
               end_is = refl;
             }),
           )
       cut_by (b ∷ rest) is_rest fits =
-          let at : ℕ = 0 + length (concat given.read.chunks) in
+          let at : ℕ = 0 + length (concat so_far.read.chunks) in
           inr (
             at + before,
             (
-              given.are,
+              so_far.are,
               inl (record {
                 tail = tail.Truncated at;
                 cut = record {
-                  chunks = given.read.chunks;
-                  cuts = record { rest = b ∷ rest; whole = refl; each = given.read.each; ends = (refl, omega arith, is_rest, omega (arith, fits)) };
-                  same = given.read.same;
+                  chunks = so_far.read.chunks;
+                  cuts = record { rest = b ∷ rest; whole = refl; each = so_far.read.each; ends = (refl, omega arith, is_rest, omega (arith, fits)) };
+                  same = so_far.read.same;
                 };
                 end_is = refl;
               }),
             ),
           )
 
-      by_told : (all' left'' : Option (List ℕ)) → Loses all' (ahead reader'.pending left'') (concat given.read.chunks)
-          → packets_after order before (concat given.read.chunks ++ reader'.pending) items None ⊎ ((offset : ℕ) × packets_after order before (concat given.read.chunks ++ reader'.pending) items (Some (Truncated, offset)))
+      by_told : (all' left'' : Option (List ℕ)) → Loses all' (ahead reader'.pending left'') (concat so_far.read.chunks)
+          → packets_after order before (concat so_far.read.chunks ++ reader'.pending) items None ⊎ ((offset : ℕ) × packets_after order before (concat so_far.read.chunks ++ reader'.pending) items (Some (Truncated, offset)))
           → IfSome all' (λ bytes. HasGivenUp (packets_after order before) bytes left'' items)
       by_told None left'' lost cut = tt
       by_told (Some bytes) None lost cut = absurd lost
       by_told (Some bytes) (Some rest) lost cut =
-          record { given = concat given.read.chunks ++ reader'.pending; rest = rest; parts = lost ∙ sym (append_assoc (concat given.read.chunks) reader'.pending rest); left_is = refl; cut = cut }
+          record { given = concat so_far.read.chunks ++ reader'.pending; rest = rest; parts = lost ∙ sym (append_assoc (concat so_far.read.chunks) reader'.pending rest); left_is = refl; cut = cut }

@@ -4,7 +4,7 @@ use Rattle.std.specs.Prelude.{◌≡◌, ◌⊎◌, ℕ, ◌+◌, ◌*◌, ◌-�
 use Rattle.std.specs.List.{AllByRecursion}
 use Rattle.item_reader.specs.Cut.{IsCutInto}
 use Rattle.item_reader.specs.Reading.{new_reading}
-use Rattle.item_reader.specs.SoFar.{ReadSoFar}
+use Rattle.item_reader.specs.SoFar.{Given, ReadSoFar, given}
 use Rattle.item_reader.specs.declared.cutting.Tail as tails
 use Rattle.item_reader.specs.declared.cutting.Tail.TheVariants as tail
 use Rattle.ump_words.specs.Cut.{bytes_asked, words_of}
@@ -93,12 +93,13 @@ words_after order before = new_reading order (room_after before)
 abbrev pub new_words : Order → Reading
 new_words order = new_reading order limit
 
--- it has given these packets of all that came after so many bytes, and goes on
-pub record GivenAfter (order : Order) (before : ℕ) (reader : Reading) (all left : Option (List ℕ)) (items : List (Framed × Packet)) : Type 0 where
-  pub read : ReadSoFar (bytes_asked order) (framed_after before order) order (room_after before) reader all left (framed_of items)
-  pub are : AreRead items
+-- it has given these packets of what came after so many bytes, and goes on
+pub record GivenAfter (order : Order) (before : ℕ) (reader : Reading) (so_far : Given (Framed × Packet)) : Type 0 where
+  pub read : ReadSoFar (bytes_asked order) (framed_after before order) order (room_after before) reader
+      (given so_far.all so_far.left (framed_of so_far.items))
+  pub are : AreRead so_far.items
 
-abbrev pub GivenSoFar : Order → Reading → Option (List ℕ) → Option (List ℕ) → List (Framed × Packet) → Type 0
+abbrev pub GivenSoFar : Order → Reading → Given (Framed × Packet) → Type 0
 GivenSoFar order = GivenAfter order 0
 
 -- a packet stands where the reader stood, which is behind it then, within the limit; where the input ends, all of it is read

@@ -1,12 +1,12 @@
 -- A reader that has given nothing.
 use Rattle.std.proofs.Common.{◌≡◌, ℕ, List, [], Option, sym, subst}
-use Rattle.item_reader.specs.SoFar.{start}
+use Rattle.item_reader.specs.SoFar.{given, start}
 use Rattle.ump_words.specs.Cut.{bytes_asked}
 use Rattle.ump_words.specs.Reader.{Reading}
 use Rattle.ump_words.specs.declared.words.Order.{Order}
 use Rattle.packet_items.specs.Packets.{GivenAfter, framed_after, room_after, words_after}
 
-pub none_given : (reader : Reading) (order : Order) (before : ℕ) (all : Option (List ℕ)) → reader ≡ words_after order before → GivenAfter order before reader all all []
+pub none_given : (reader : Reading) (order : Order) (before : ℕ) (all : Option (List ℕ)) → reader ≡ words_after order before → GivenAfter order before reader (given all all [])
 none_given reader order before all is_new =
-    let G : Reading → Type 0 = λ r. GivenAfter order before r all all [] in
+    let G : Reading → Type 0 = λ r. GivenAfter order before r (given all all []) in
     subst G (sym is_new) (record { read = start (bytes_asked order) (framed_after before order) order (room_after before) all; are = tt })

@@ -1,5 +1,6 @@
 // The packets of a recording, or of a file after its first bytes, one by one.
 ghost use Rattle.std.specs.Prelude.{◌≡◌, ◌≤◌, ◌-◌, ℕ, List, Option, None};
+ghost use Rattle.item_reader.specs.SoFar.{Given, given};
 ghost use Rattle.midi_edge.specs.Outside.{ahead};
 ghost use Rattle.midi_pass.specs.Items.{limit};
 ghost use Rattle.midi_pass.specs.Next.{ComesNearer, GivesNext, NextCause};
@@ -26,12 +27,11 @@ pub fn next_packet<S: Source>(
 ) -> Next<Framed, Packet>
     requires { before ≤ limit }
     ensures answer { (order : Order) (all : Option (List ℕ)) (items : List (Framed × Packet)) →
-        GivenAfter order before words.old all (S.left input.old) items →
+        GivenAfter order before words.old (given all (S.left input.old) items) →
         GivesNext (packets_after order before) (λ past item. IsPacket item.1)
-        (λ given. GivenAfter order before words.new all (S.left input.new) given) all
-        (S.left input.new) items result }
+        (GivenAfter order before words.new) (given all (S.left input.new) items) result }
     ensures place { (order : Order) (all : Option (List ℕ)) (items : List (Framed × Packet)) →
-        GivenAfter order before words.old all (S.left input.old) items →
+        GivenAfter order before words.old (given all (S.left input.old) items) →
         MovesOn before words.old words.new all result }
     ensures reason { RefusesBytes result }
     ensures nearer { ComesNearer (words.old.limit - words.old.offset)
@@ -93,7 +93,7 @@ impl Items<Framed, Packet> for PacketReader {
 
     ghost IsNew = { λ first. first.words ≡ new_words first.words.how };
 
-    ghost HasGiven = { λ first now all left items. GivenSoFar first.words.how now.words all left items };
+    ghost HasGiven = { λ first now so_far. GivenSoFar first.words.how now.words so_far };
 
     ghost Promises = { λ past item. IsPacket item.1 };
 

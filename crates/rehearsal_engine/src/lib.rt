@@ -7,6 +7,3 @@ mod lines;
 mod rehearse;
 
 pub use crate::rehearse::{RehearseRun, run_rehearse};
-
-#[cfg(test)]
-mod tests;

@@ -1,13 +1,46 @@
 // The bytes of channel voice messages, up and down again.
-ghost use Rattle.std.specs.Prelude.{◌≡◌, ◌≤◌, ◌<◌, ◌+◌, ◌*◌, ◌^◌, ℕ, List, ◌∷◌, ◌++◌, length, reverse, Some};
+ghost use Rattle.std.specs.Prelude.{◌≡◌, ◌≤◌, ◌<◌, ◌+◌, ◌*◌, ◌^◌, ℕ, List, ◌∷◌, ◌++◌, length, reverse, None, Some};
+ghost use Rattle.ump_grammar.specs.Ranges.{IsPacket};
+ghost use Rattle.down_translator.specs.Held.{down_after, refusal_in};
+ghost use Rattle.down_translator.specs.Step.{piece_of};
 ghost use Rattle.midi1_bytes.specs.Steps.{step_of};
 ghost use Rattle.self_test.specs.Held.{ComesBack, HasReturned};
 ghost use Rattle.self_test.specs.Played.{ArePlayed, IsPlayedStep};
 
 use down_translator::Down;
 use midi1_bytes::laws::parsed_bytes_are_the_definition;
-use up_translator::Up;
+use ump_grammar::Packet;
 use up_translator::laws::raised_bytes_are_the_definition;
+use up_translator::{PacketForm, RaisedPacket, Up};
+
+// Takes a packet down: the number of bytes of its piece.
+fn bring_down(packet: &Packet, offset: u64, down: &mut Down) -> u64
+    requires fits { IsPacket packet.now }
+    requires accepted { refusal_in down.old packet.now ≡ None }
+    ensures count { result ≡ length (piece_of down.old packet.now) }
+    ensures after { down.new ≡ down_after offset packet.now down.old }
+{
+    match down.packet(packet, offset) {
+        Ok(carried) => carried.piece.len() as u64,
+        Err(_) => unreachable!(),
+    }
+}
+
+// Takes a packet down to which a message is raised: the number of bytes of its piece.
+fn bring_raised_down(packet: &RaisedPacket, offset: u64, down: &mut Down) -> u64
+    requires fits { IsPacket packet.now }
+    requires accepted { refusal_in down.old packet.now ≡ None }
+    ensures count { result ≡ length (piece_of down.old packet.now) }
+    ensures after { down.new ≡ down_after offset packet.now down.old }
+{
+    match packet.form() {
+        PacketForm::NoteOrControl { group, message } => {
+            let (group, message) = (*group, message.message());
+            bring_down(&Packet::Voice2 { group, message }, offset, down)
+        }
+        PacketForm::Packet(packet) => bring_down(packet, offset, down),
+    }
+}
 
 // Takes a byte up, and the packet that it completes down again: the number of bytes that come back, at most twelve. Channel
 // voice messages complete no exclusive, and neither way refuses any.
@@ -23,10 +56,7 @@ fn bring_byte_back(byte: u8, offset: u64, up: &mut Up, down: &mut Down) -> u64
     raised_bytes_are_the_definition();
     match up.byte(byte, offset) {
         Ok(raised) => match raised.packet {
-            Some(packet) => match down.packet(packet, offset) {
-                Ok(carried) => carried.piece.len() as u64,
-                Err(_) => unreachable!(),
-            },
+            Some(packet) => bring_raised_down(packet, offset, down),
             None => 0,
         },
         Err(_) => unreachable!(),

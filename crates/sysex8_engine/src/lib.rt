@@ -6,6 +6,3 @@ pub mod laws;
 mod lines;
 
 pub use crate::joining::{Sysex8Run, run_sysex8};
-
-#[cfg(test)]
-mod tests;

@@ -11,6 +11,3 @@ pub use crate::fed8::Fed8;
 pub use crate::laws::{fed_streams_are_the_definition, worked_rows};
 pub use crate::part8::{Part8, read8};
 pub use crate::streams::Streams;
-
-#[cfg(test)]
-mod tests;

@@ -3,10 +3,8 @@ ghost use Rattle.std.specs.Prelude.{
   ◌≡◌,
   ◌≤◌,
   ◌+◌,
-  ◌++◌,
   Some,
   length,
-  vec_len,
   vec_capacity,
   nat_lt,
   IfOk,
@@ -19,6 +17,7 @@ use crate::fed8::Fed8;
 use crate::part8::Part8;
 use midi_edge::U4;
 use std::alloc::{AllocError, Global};
+use sysex_groups::reserved::append;
 use voice_messages::Form;
 
 /// The stream that has a slot, and the offset of the packet that began its exclusive.
@@ -37,18 +36,6 @@ pub struct Slot {
     room: u32,
     ghost reserved: { room ≤ vec_capacity bytes },
     ghost whole_packet: { 13 ≤ room },
-}
-
-/// Adds bytes for which memory is reserved.
-fn append(bytes: &mut Vec<u8>, more: &[u8])
-    requires { vec_len bytes.old + length more.now ≤ vec_capacity bytes.old }
-    ensures items { bytes.new.items ≡ bytes.old.items ++ more.now }
-    ensures capacity { vec_capacity bytes.old ≤ vec_capacity bytes.new }
-{
-    match bytes.extend_from_slice(more) {
-        Ok(()) => {}
-        Err(_) => unreachable!(),
-    }
 }
 
 // Whether two groups with their stream ids are one stream.

@@ -3,11 +3,11 @@ use Rattle.std.proofs.Common.{ℕ, ◌≡◌, ◌<◌, ◌≤◌, ◌+◌, ◌*�
 use Rattle.std.proofs.lemmas.Bool.{le-leb, leb-true, eq-eqb, ne_eqb, cases_eq}
 use Rattle.std.proofs.lemmas.Grind.{div_ceil_times}
 use Rattle.std.proofs.lemmas.List.{take_all}
-use Rattle.std.proofs.Math.Seq.{take-add}
 use Rattle.std.specs.Fork.{slice_chunk}
 use Rattle.std.specs.Option.{option_map}
 use Rattle.voice_messages.specs.declared.voice2.Form.{Form}
 use Rattle.voice_messages.specs.declared.voice2.Form.TheVariants as form
+use Rattle.voice_messages.proofs.FormLaws.{form_at-only, form_at-first, form_at-last, form_at-inner, chunk-joins}
 use Rattle.sysex_groups.specs.Exclusives.{Part, Room, fits, of_group, ended, ended_by}
 use Rattle.sysex_groups.specs.Table.{Begun, begun_after}
 use Rattle.sysex_groups.specs.Cut.{part_count, form_at, sent_part, sent}
@@ -17,25 +17,6 @@ use Rattle.sysex_groups.proofs.ExclusiveLaws.{begun_on, begun_on-more, joined-be
 pub fits-less : (room : Room) (less more : ℕ) → less ≤ more → fits room more ≡ true → fits room less ≡ true
 fits-less None less more within fitting = refl
 fits-less (Some room) less more within fitting = le-leb less room (omega (arith, leb-true more room fitting))
-
--- the forms
-form_at-only : (count k : ℕ) → count ≡ 1 → form_at count k ≡ form.Complete
-form_at-only count k one = rw (eq-eqb count 1 one) refl
-
-form_at-first : (count k : ℕ) → 1 < count → k ≡ 0 → form_at count k ≡ form.Start
-form_at-first count k many first = rw (ne_eqb count 1 (λ e. omega arith), eq-eqb k 0 first) refl
-
-form_at-last : (count k : ℕ) → 1 < count → k + 1 ≡ count → form_at count k ≡ form.End
-form_at-last count k many last = rw (ne_eqb count 1 (λ e. omega arith), ne_eqb k 0 (λ e. omega arith), eq-eqb (k + 1) count last) refl
-
-form_at-inner : (count k : ℕ) → 0 < k → k + 1 < count → form_at count k ≡ form.Continue
-form_at-inner count k later inner = rw (ne_eqb count 1 (λ e. omega arith), ne_eqb k 0 (λ e. omega arith), ne_eqb (k + 1) count (λ e. omega arith)) refl
-
--- one more packet's bytes
-chunk-joins : (payload : List ℕ) (k : ℕ) → take (k * 6) payload ++ slice_chunk payload 6 k ≡ take ((k + 1) * 6) payload
-chunk-joins payload k =
-    let more : k * 6 + 6 ≡ (k + 1) * 6 = omega arith in
-    sym (take-add (k * 6) 6 payload) ∙ ap (λ n. take n payload) more
 
 chunk-fits : (room : Room) (payload : List ℕ) (k : ℕ) → fits room (length payload) ≡ true → fits room (length (slice_chunk payload 6 k)) ≡ true
 chunk-fits room payload k fitting = fits-less room (length (slice_chunk payload 6 k)) (length payload) (omega (arith, length-take 6 (drop (k * 6) payload), length-drop (k * 6) payload)) fitting
@@ -56,7 +37,7 @@ sent-begun room group offsets payload past fitting (suc k) more =
     let front : List ℕ = take ((k + 1) * 6) payload in
     let chunk : List ℕ = slice_chunk payload 6 (suc k) in
     let same : suc k ≡ k + 1 = omega arith in
-    let joins : front ++ chunk ≡ take ((suc k + 1) * 6) payload = ap (λ n. take (n * 6) payload ++ chunk) (sym same) ∙ chunk-joins payload (suc k) in
+    let joins : front ++ chunk ≡ take ((suc k + 1) * 6) payload = ap (λ n. take (n * 6) payload ++ chunk) (sym same) ∙ chunk-joins 6 payload (suc k) in
     let begun : Option Begun → Option Begun = λ before. begun_after room before form.Continue chunk (offsets (suc k)) in
     begun_on-form room (sent_part group offsets payload (suc k)) (sent group offsets payload past (suc k)) form.Continue (form_at-inner (part_count payload) (suc k) (omega arith) more) (chunk-fits room payload (suc k) fitting)
     ∙ ap begun (sent-begun room group offsets payload past fitting k (omega arith))
@@ -88,7 +69,7 @@ sent-ended room group offsets payload past fitting (suc k) within =
       | inl last ↦
           ap ends (form_at-last count (suc k) (omega arith) last)
           ∙ ap (λ before. ended_by room form.End (option_map (λ begun. begun.bytes) before) chunk) (sent-begun room group offsets payload past fitting k (omega arith))
-          ∙ ap (λ bs. cond (fits room (length bs)) (Some bs) None) (ap (λ n. take (n * 6) payload ++ chunk) (sym same) ∙ chunk-joins payload (suc k) ∙ covered payload (suc k) last)
+          ∙ ap (λ bs. cond (fits room (length bs)) (Some bs) None) (ap (λ n. take (n * 6) payload ++ chunk) (sym same) ∙ chunk-joins 6 payload (suc k) ∙ covered payload (suc k) last)
           ∙ rw (fitting, eq-eqb (suc k + 1) count last) refl
       | inr inner ↦ ap ends (form_at-inner count (suc k) (omega arith) (omega arith)) ∙ rw (ne_eqb (suc k + 1) count inner) refl
     ]

@@ -1,5 +1,5 @@
 -- A payload cut into the packets of one exclusive (M2-104-UM, system exclusive 7-bit messages): six bytes in each but the last.
-use Rattle.std.specs.Prelude.{ℕ, ◌+◌, max, nat_lt, if◌then◌else◌, List, ◌∷◌, length, Option, Some, None}
+use Rattle.std.specs.Prelude.{ℕ, max, nat_lt, if◌then◌else◌, List, ◌∷◌, length, Option, Some, None}
 use Rattle.std.proofs.Common.{zero, suc}
 use Rattle.std.specs.Int.{div_ceil}
 use Rattle.std.specs.Fork.{slice_chunk}

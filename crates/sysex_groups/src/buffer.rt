@@ -22,6 +22,7 @@ ghost use Rattle.sysex_groups.specs.Exclusives.{IsData, LendsData, ended_by, fra
 ghost use Rattle.voice_messages.specs.declared.voice2.Form.TheVariants as form;
 
 use crate::fed::Fed;
+use crate::reserved::append;
 use std::alloc::{AllocError, Global};
 use voice_messages::{END_OF_EXCLUSIVE, Form, START_OF_EXCLUSIVE};
 
@@ -36,18 +37,6 @@ pub struct Buffer {
     ghost framed: { take 1 bytes.items ≡ 240 ∷ [] },
     ghost whole_packet: { 6 ≤ room },
     ghost data_bytes: { ForSome start (λ _. IsData (drop 1 bytes.items)) },
-}
-
-/// Adds bytes for which memory is reserved.
-fn append(bytes: &mut Vec<u8>, more: &[u8])
-    requires { vec_len bytes.old + length more.now ≤ vec_capacity bytes.old }
-    ensures items { bytes.new.items ≡ bytes.old.items ++ more.now }
-    ensures capacity { vec_capacity bytes.old ≤ vec_capacity bytes.new }
-{
-    match bytes.extend_from_slice(more) {
-        Ok(()) => {}
-        Err(_) => unreachable!(),
-    }
 }
 
 /// Ends the exclusive that begins with F0: adds its last bytes and F7.

@@ -6,11 +6,9 @@ pub mod cutting;
 pub mod fed;
 pub mod groups;
 pub mod laws;
+pub mod reserved;
 
 pub use crate::cutting::part;
 pub use crate::fed::Fed;
 pub use crate::groups::Groups;
 pub use crate::laws::{cut_payload_is_joined, fed_parts_are_the_definition, parts_of_one_group};
-
-#[cfg(test)]
-mod tests;

@@ -3,12 +3,13 @@ use Rattle.std.proofs.Common.{lit<, ℕ, ◌≡◌, ◌≢◌, ◌<◌, ◌≤�
 use Rattle.std.proofs.lemmas.Bool.{le-leb, eq-eqb, ne_eqb, cases_eq}
 use Rattle.std.proofs.lemmas.Grind.{div_ceil_times}
 use Rattle.std.proofs.lemmas.List.{take_all, take-append-drop, reverse-append, reverse-reverse, length-replicate}
-use Rattle.std.proofs.Math.Seq.{take-add, drop-cons}
+use Rattle.std.proofs.Math.Seq.{drop-cons}
 use Rattle.std.proofs.lemmas.List.{drop_all}
 use Rattle.std.specs.Fork.{slice_chunk}
 use Rattle.std.specs.Option.{option_and_then}
 use Rattle.voice_messages.specs.declared.voice2.Form.{Form}
 use Rattle.voice_messages.specs.declared.voice2.Form.TheVariants as form
+use Rattle.voice_messages.proofs.FormLaws.{form_at-only, form_at-first, form_at-last, form_at-inner, chunk-joins}
 use Rattle.system_stream.specs.declared.texts.TextKind.{TextKind}
 use Rattle.system_stream.specs.declared.texts.TextKind.TheVariants as kind
 use Rattle.system_stream.specs.Texts.{limit_of, part_size, without_leading_zeros, without_trailing_zeros, is_text}
@@ -16,19 +17,6 @@ use Rattle.system_stream.specs.Cut.{part_count, form_at, filled, part_bytes, sen
 use Rattle.system_stream.specs.Parts.{Part, Answer, answer_at, finished, held, whole, bad}
 use Rattle.system_stream.specs.Joining.{OpenText, joined_with, limited, answer_of, open_after, opened_text}
 use Rattle.system_stream.proofs.PartLaws.{opened-more, answer-more}
-
--- the forms
-form_at-only : (count k : ℕ) → count ≡ 1 → form_at count k ≡ form.Complete
-form_at-only count k one = rw (eq-eqb count 1 one) refl
-
-form_at-first : (count k : ℕ) → 1 < count → k ≡ 0 → form_at count k ≡ form.Start
-form_at-first count k many first = rw (ne_eqb count 1 (λ e. omega arith), eq-eqb k 0 first) refl
-
-form_at-last : (count k : ℕ) → 1 < count → k + 1 ≡ count → form_at count k ≡ form.End
-form_at-last count k many last = rw (ne_eqb count 1 (λ e. omega arith), ne_eqb k 0 (λ e. omega arith), eq-eqb (k + 1) count last) refl
-
-form_at-inner : (count k : ℕ) → 0 < k → k + 1 < count → form_at count k ≡ form.Continue
-form_at-inner count k later inner = rw (ne_eqb count 1 (λ e. omega arith), ne_eqb k 0 (λ e. omega arith), ne_eqb (k + 1) count (λ e. omega arith)) refl
 
 -- zeros at the end are lost
 one-zero : (bytes : List ℕ) → without_trailing_zeros (bytes ++ 0 ∷ []) ≡ without_trailing_zeros bytes
@@ -70,12 +58,6 @@ chunk-full : (size : ℕ) (text : List ℕ) (k : ℕ) → (k + 1) * size ≤ len
 chunk-full size text k within =
     let more : k * size + size ≡ (k + 1) * size = grind arith in
     omega (arith, length-take size (drop (k * size) text), length-drop (k * size) text, more)
-
--- one more packet's bytes
-chunk-joins : (size : ℕ) (text : List ℕ) (k : ℕ) → take (k * size) text ++ slice_chunk text size k ≡ take ((k + 1) * size) text
-chunk-joins size text k =
-    let more : k * size + size ≡ (k + 1) * size = grind arith in
-    sym (take-add (k * size) size text) ∙ ap (λ n. take n text) more
 
 -- none of them exceeds the limit
 size-some : (kind : TextKind) → 0 < part_size kind

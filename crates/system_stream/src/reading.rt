@@ -173,22 +173,9 @@ fn name_bytes(low: u32, second: u32, third: u32, fourth: u32) -> [u8; 14]
     ensures { result ≡
         field low 8 8 ∷ field low 0 8 ∷ word_bytes second ++ word_bytes third ++ word_bytes fourth }
 {
-    [
-        byte(low, 8),
-        byte(low, 0),
-        byte(second, 24),
-        byte(second, 16),
-        byte(second, 8),
-        byte(second, 0),
-        byte(third, 24),
-        byte(third, 16),
-        byte(third, 8),
-        byte(third, 0),
-        byte(fourth, 24),
-        byte(fourth, 16),
-        byte(fourth, 8),
-        byte(fourth, 0),
-    ]
+    let mut bytes = [byte(low, 8); 14];
+    bytes[1..].copy_from_slice(&block_name_bytes(low, second, third, fourth));
+    bytes
 }
 
 // The text bytes from byte 4 on.

@@ -1,9 +1,10 @@
 -- Bytes in places of seven bits.
-use Rattle.std.proofs.Common.{◌-◌, ◌++◌, replicate, ◌≡◌, ◌<◌, ◌≤◌, ℕ, Bool, true, false, ◌||◌, leb, List, [], ◌∷◌, length, get_or, take, refl, arith}
+use Rattle.std.proofs.Common.{◌-◌, ◌++◌, replicate, ◌≡◌, ◌<◌, ◌≤◌, ℕ, Bool, true, false, ◌||◌, leb, List, [], ◌∷◌, length, get_or, take, refl, ap, sym, ◌∙◌, arith}
 use Rattle.std.specs.List.{All}
 use Rattle.std.proofs.lemmas.Bool.{true≢false, leb-false, lt-leb}
 use Rattle.std.proofs.lemmas.List.Elements.{All-nil, All-cons, All-weaker}
 use Rattle.std.proofs.lemmas.List.Folds.{list_any_none}
+use Rattle.std.proofs.Math.Seq.{take-append_seam}
 use Rattle.ump_grammar.specs.Reason.{has_high}
 
 abbrev pub IsSmall : ℕ → Type 0
@@ -23,18 +24,6 @@ pub small-has_high : (bytes : List ℕ) → has_high bytes ≡ false → All (λ
 small-has_high [] none = All-nil IsSmall
 small-has_high (x ∷ xs) none = small-cons (leb 128 x) x xs refl none (small-has_high xs)
 
--- at most six bytes, from six places that hold zeros after them
-pub take-six : (bytes : List ℕ) → length bytes ≤ 6
-    → bytes ≡ take (length bytes) (get_or bytes 0 0 ∷ get_or bytes 1 0 ∷ get_or bytes 2 0 ∷ get_or bytes 3 0 ∷ get_or bytes 4 0 ∷ get_or bytes 5 0 ∷ [])
-take-six [] few = refl
-take-six (a ∷ []) few = refl
-take-six (a ∷ b ∷ []) few = refl
-take-six (a ∷ b ∷ c ∷ []) few = refl
-take-six (a ∷ b ∷ c ∷ d ∷ []) few = refl
-take-six (a ∷ b ∷ c ∷ d ∷ e ∷ []) few = refl
-take-six (a ∷ b ∷ c ∷ d ∷ e ∷ f ∷ []) few = refl
-take-six (a ∷ b ∷ c ∷ d ∷ e ∷ f ∷ g ∷ rest) few = absurd (omega arith)
-
 -- the six places hold the bytes, and zeros after them
 pub append-zeros : (bytes : List ℕ) → length bytes ≤ 6
     → (get_or bytes 0 0 ∷ get_or bytes 1 0 ∷ get_or bytes 2 0 ∷ get_or bytes 3 0 ∷ get_or bytes 4 0 ∷ get_or bytes 5 0 ∷ []) ≡ bytes ++ replicate (6 - length bytes) 0
@@ -46,3 +35,9 @@ append-zeros (a ∷ b ∷ c ∷ d ∷ []) few = refl
 append-zeros (a ∷ b ∷ c ∷ d ∷ e ∷ []) few = refl
 append-zeros (a ∷ b ∷ c ∷ d ∷ e ∷ f ∷ []) few = refl
 append-zeros (a ∷ b ∷ c ∷ d ∷ e ∷ f ∷ g ∷ rest) few = absurd (omega arith)
+
+-- so they are the first ones in these places
+pub take-six : (bytes : List ℕ) → length bytes ≤ 6
+    → bytes ≡ take (length bytes) (get_or bytes 0 0 ∷ get_or bytes 1 0 ∷ get_or bytes 2 0 ∷ get_or bytes 3 0 ∷ get_or bytes 4 0 ∷ get_or bytes 5 0 ∷ [])
+take-six bytes few =
+    sym (take-append_seam bytes (replicate (6 - length bytes) 0)) ∙ ap (λ places. take (length bytes) places) (sym (append-zeros bytes few))

@@ -62,7 +62,7 @@ pub enum Packet {
 #[derive(Clone, Copy, Debug, PartialEq, Eq, Error)]
 pub enum Bad {
     /// A 7-bit exclusive has a count above 6.
-    #[error("an exclusive packet counts more than six bytes")]
+    #[error("the count of an exclusive packet is above six")]
     BadCount,
     /// A byte that carries seven bits is 128 or more.
     #[error("a data byte has its high bit set")]

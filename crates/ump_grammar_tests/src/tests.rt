@@ -587,7 +587,7 @@ fn each_refusal_has_its_text(rt: HostRuntime) -> Result<(), Fail> {
     for (bad, text) in [
         (
             Bad::BadCount,
-            "an exclusive packet counts more than six bytes",
+            "the count of an exclusive packet is above six",
         ),
         (Bad::HighBit, "a data byte has its high bit set"),
     ] {

@@ -1,36 +1,36 @@
 -- Each packet that is given out is whole.
-use Rattle.std.proofs.Common.{◌≡◌, ℕ, List, Option, None, Some, refl, sym, subst}
+use Rattle.std.proofs.Common.{◌≡◌, Option, None, Some, refl, sym, subst}
 use Rattle.std.specs.Prelude.{IfOk, IfSome, Result, Ok, Err}
-use Rattle.item_reader.specs.Reading.{Answers, answer_of}
+use Rattle.item_reader.specs.Reading.{Answers, Cursor, answer_of}
 use Rattle.item_reader.specs.declared.cutting.Tail.{Tail}
 use Rattle.item_reader.specs.declared.cutting.Tail.TheVariants.{End, Truncated, TooLong}
 use Rattle.midi_edge.specs.declared.outside.ReadStop.{ReadStop}
 use Rattle.ump_words.specs.Cut.{IsWhole, bytes_asked, framed_at}
-use Rattle.ump_words.specs.Reader.{Reading}
 use Rattle.ump_words.specs.declared.words.Framed.{Framed}
+use Rattle.ump_words.specs.declared.words.Order.{Order}
 use Rattle.ump_words.proofs.Counts.{IsWhole-words_of}
 
 abbrev GivesWhole : Result (Option Framed) ReadStop → Type 0
 GivesWhole result = IfOk result (λ given. IfSome given (λ framed. IsWhole framed.words))
 
-answered : (old new : Reading) (before after : Option (List ℕ)) (result : Result (Option Framed) ReadStop)
-    → Answers (bytes_asked old.how) (framed_at old.how) old new before after result → GivesWhole result
-answered old new before after (Ok (Some framed)) gives =
+answered : (old new : Cursor Order) (result : Result (Option Framed) ReadStop)
+    → Answers (bytes_asked old.reader.how) (framed_at old.reader.how) old new result → GivesWhole result
+answered old new (Ok (Some framed)) gives =
     let W : Framed → Type 0 = λ f. IsWhole f.words in
-    subst W (sym gives.item_is) (IsWhole-words_of old.how gives.chunk gives.is_item)
-answered old new before after (Ok None) ends = tt
-answered old new before after (Err stop) waits = tt
+    subst W (sym gives.item_is) (IsWhole-words_of old.reader.how gives.chunk gives.is_item)
+answered old new (Ok None) ends = tt
+answered old new (Err stop) waits = tt
 
 last : (tail : Tail) → GivesWhole (answer_of tail)
 last End = tt
 last (Truncated offset) = tt
 last TooLong = tt
 
-pub whole_given : (A B : Type 0) (old new : Reading) (before after : Option (List ℕ)) (result : Result (Option Framed) ReadStop)
-    → (old.end ≡ None → Answers (bytes_asked old.how) (framed_at old.how) old new before after result)
-    → IfSome old.end (λ tail. (result ≡ answer_of tail) × A × B) → GivesWhole result
-whole_given A B old new before after result answers again = by_end old.end refl again
+pub whole_given : (A B : Type 0) (old new : Cursor Order) (result : Result (Option Framed) ReadStop)
+    → (old.reader.end ≡ None → Answers (bytes_asked old.reader.how) (framed_at old.reader.how) old new result)
+    → IfSome old.reader.end (λ tail. (result ≡ answer_of tail) × A × B) → GivesWhole result
+whole_given A B old new result answers again = by_end old.reader.end refl again
   where
-    by_end : (end : Option Tail) → old.end ≡ end → IfSome end (λ tail. (result ≡ answer_of tail) × A × B) → GivesWhole result
-    by_end None e ended = answered old new before after result (answers e)
+    by_end : (end : Option Tail) → old.reader.end ≡ end → IfSome end (λ tail. (result ≡ answer_of tail) × A × B) → GivesWhole result
+    by_end None e ended = answered old new result (answers e)
     by_end (Some tail) e ended = let W : Result (Option Framed) ReadStop → Type 0 = λ r. GivesWhole r in subst W (sym ended.0) (last tail)

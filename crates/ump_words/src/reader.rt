@@ -1,8 +1,7 @@
 // A reader of packets from a source.
 ghost use Rattle.std.specs.Prelude.{◌≡◌, ◌≤◌, ◌^◌, length, IfOk, IfSome};
 ghost use Rattle.item_reader.specs.Cut.{IsItem};
-ghost use Rattle.midi_edge.specs.Outside.{ahead};
-ghost use Rattle.item_reader.specs.Reading.{ReadCause, answer_of, new_reading};
+ghost use Rattle.item_reader.specs.Reading.{ReadCause, answer_of, cursor, new_reading};
 ghost use Rattle.ump_words.specs.Cut.{IsWhole, bytes_asked, framed_at};
 ghost use Rattle.ump_words.specs.Lengths.{packet_lengths};
 ghost use Rattle.ump_words.specs.Reader.{Answers};
@@ -75,8 +74,8 @@ impl WordReader {
     /// packet is returned again by every later call. The source is asked only where no whole packet is held.
     #[inline(always)]
     pub fn next<S: Source>(&mut self, src: &mut S) -> Result<Option<Framed>, ReadStop>
-        ensures answer { self.old.end ≡ None → Answers self.old self.new
-            (ahead self.old.pending (S.left src.old)) (ahead self.new.pending (S.left src.new)) result }
+        ensures answer { self.old.end ≡ None →
+            Answers (cursor self.old (S.left src.old)) (cursor self.new (S.left src.new)) result }
         ensures whole { IfOk result (λ given. IfSome given (λ framed. IsWhole framed.words)) }
         ensures again { IfSome self.old.end (λ tail.
             (result ≡ answer_of tail) × (self.new ≡ self.old) × (src.new ≡ src.old)) }

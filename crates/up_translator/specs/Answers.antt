@@ -6,13 +6,14 @@ use Rattle.voice_state.specs.Raising.{packets_at}
 use Rattle.voice_state.specs.StepListing.{lines_at}
 use Rattle.voice_state.specs.UpRefusal.{refusal_up}
 use Rattle.up_translator.specs.declared.raised.Raised.{Raised}
-use Rattle.up_translator.specs.Raised.{payload_in, packets_in, lines_in}
+use Rattle.up_translator.specs.ByteLines.{lines_in}
+use Rattle.up_translator.specs.Raised.{payload_in, packets_in}
 
 -- the byte is accepted with its packets and its lines
 pub record IsRaisedAt (paired : Bool) (room group : ℕ) (past : List ℕ) (byte : ℕ) (raised : Raised) : Type 0 where
   pub accepted : refusal_up (Some room) past byte ≡ None
   pub packets : packets_in raised ≡ packets_at paired (Some room) group past byte
-  pub lines : lines_in raised ≡ lines_at paired (Some room) group past byte
+  pub lines : lines_in raised.lines ≡ lines_at paired (Some room) group past byte
   pub data_bytes : IfSome (payload_in raised) AreData
 
 -- It is refused exactly when there is a reason to refuse it, and for that reason.

@@ -22,6 +22,7 @@ use Rattle.up_translator.specs.declared.outcome.Outcome.TheVariants as outcome
 
 abbrev pub messages_in : Outcome → List Voice2
 messages_in outcome.Nothing = []
+messages_in (outcome.NoteOrControl message) = message ∷ []
 messages_in (outcome.Message message) = message ∷ []
 messages_in outcome.Ignored = []
 messages_in (outcome.Refused bad) = []
@@ -36,6 +37,7 @@ refusal_in _ = None
 
 -- the fields of a message fit their places
 abbrev pub FitsVoice2 : Outcome → Type 0
+FitsVoice2 (outcome.NoteOrControl message) = IsVoice2 message
 FitsVoice2 (outcome.Message message) = IsVoice2 message
 FitsVoice2 _ = Unit {0}
 
@@ -57,8 +59,8 @@ outcome_by collected.DataStep channel index value = outcome.Refused (bad_data_st
 outcome_by collected.Held channel index value = outcome.Nothing
 outcome_by (collected.Set param entered) channel index value = outcome.Message (voice2.Set channel param (up entered 14 32))
 outcome_by collected.Ignored channel index value = outcome.Ignored
-outcome_by (collected.Pair coarse entered) channel index value = outcome.Message (voice2.Control channel coarse (up entered 14 32))
-outcome_by collected.Plain channel index value = outcome.Message (voice2.Control channel index (up value 7 32))
+outcome_by (collected.Pair coarse entered) channel index value = outcome.NoteOrControl (voice2.Control channel coarse (up entered 14 32))
+outcome_by collected.Plain channel index value = outcome.NoteOrControl (voice2.Control channel index (up value 7 32))
 
 -- ---- what is held after a voice message: a control change is collected
 

@@ -11,13 +11,14 @@ use Rattle.voice_state.specs.UpRefusal.{refusal_of_step}
 use Rattle.param_collector.specs.Holding.{Holding}
 use Rattle.param_collector.specs.Keeps.{Keeps}
 use Rattle.up_translator.specs.declared.raised.Raised.{Raised}
-use Rattle.up_translator.specs.Raised.{group_in, packet_in, payload_in, packets_in, lines_in, IsApart, IsInOrder}
+use Rattle.up_translator.specs.ByteLines.{lines_in, IsInOrder}
+use Rattle.up_translator.specs.Raised.{group_in, packet_in, payload_in, packets_in, IsApart}
 use Rattle.up_translator.specs.Held.{UpState, step_in}
 
 -- the packets and the lines of a step, from the state of the group before it, with paired controllers or without
 pub record IsRaised (paired : Bool) (state : GroupState) (group offset : ℕ) (step : Step) (raised : Raised) : Type 0 where
   pub packets : packets_in raised ≡ raised_step paired state group step
-  pub lines : lines_in raised ≡ map (line_up group) (kinds_up state step offset)
+  pub lines : lines_in raised.lines ≡ map (line_up group) (kinds_up state step offset)
 
 -- the bytes of the exclusive that a step completes
 abbrev pub payload_by : Option Message → Option (List ℕ)
@@ -30,7 +31,7 @@ pub record Accepts (holding : Holding) (group offset : ℕ) (step : Step) (raise
   pub accepted : refusal_of_step step ≡ None
   pub grouped : group_in raised ≡ group
   pub apart : IsApart raised
-  pub in_order : IsInOrder raised
+  pub in_order : IsInOrder raised.lines
   pub payload : payload_in raised ≡ payload_by (completed_by step)
   pub spelled : IfSome (packet_in raised) IsPacket
   pub raised_of : (state : GroupState) → Keeps holding state → IsRaised holding.paired state group offset step raised

@@ -1,15 +1,21 @@
 //! Turns the bytes of a MIDI 1.0 stream into packets of the Universal MIDI Packet format, in one group.
 #![tactic(auto)]
 
+pub mod byte_lines;
 pub mod laws;
-mod lines;
+pub mod lines;
+pub mod note_or_control;
 mod outcome;
 pub mod raised;
+pub mod raised_packet;
 mod raiser;
 pub mod up;
 mod voice;
 
+pub use crate::byte_lines::{ByteLines, Line};
 pub use crate::lines::{kind_of_cut, kind_of_open};
+pub use crate::note_or_control::NoteOrControl;
 pub use crate::raised::Raised;
+pub use crate::raised_packet::{PacketForm, RaisedPacket};
 pub use crate::up::Up;
 pub use voice_state::{BadStep, Kind, Listed};

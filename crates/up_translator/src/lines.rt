@@ -2,13 +2,13 @@
 ghost use Rattle.std.specs.Prelude.{◌≡◌};
 ghost use Rattle.voice_state.specs.declared.listed.Kind.TheVariants as kinds;
 ghost use Rattle.voice_state.specs.StepListing.{cut_kind, open_kind};
-ghost use Rattle.up_translator.specs.Raised.{told_of};
+ghost use Rattle.up_translator.specs.ByteLines.{told_of};
 
-use crate::raised::Line;
+use crate::byte_lines::Line;
 use midi1_bytes::CutKind;
 use voice_state::Kind;
 
-/// A byte that belongs to nothing.
+/// The line of a byte at this offset that belongs to nothing (own rule).
 pub fn stray(offset: u64) -> Line
     ensures { told_of result ≡ (kinds.Stray, offset) }
 {
@@ -18,7 +18,7 @@ pub fn stray(offset: u64) -> Line
     }
 }
 
-/// A status that no message has.
+/// The line of a status at this offset that no message has (own rule).
 pub fn undefined(offset: u64) -> Line
     ensures { told_of result ≡ (kinds.Undefined, offset) }
 {
@@ -28,7 +28,7 @@ pub fn undefined(offset: u64) -> Line
     }
 }
 
-/// A data entry without a selected parameter.
+/// The line of a data entry without a selected parameter, completed at this offset (own rule).
 pub fn ignored(offset: u64) -> Line
     ensures { told_of result ≡ (kinds.IgnoredDataEntry, offset) }
 {
@@ -38,7 +38,7 @@ pub fn ignored(offset: u64) -> Line
     }
 }
 
-/// What started at an offset and is cut off.
+/// The line of what started at this offset and is cut off (own rule).
 pub fn cut_off(start: u64, what: CutKind) -> Line
     ensures { told_of result ≡ (cut_kind what, start) }
 {

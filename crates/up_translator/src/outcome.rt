@@ -18,6 +18,7 @@ ghost use Rattle.up_translator.specs.Outcome.{
   IsRaisedVoice,
 };
 
+use crate::note_or_control::NoteOrControl;
 use crate::voice::{
     raise_bend, raise_control, raise_data_entry, raise_note_off, raise_note_on, raise_pair,
     raise_poly_pressure, raise_pressure, raise_program,
@@ -28,10 +29,12 @@ use voice_messages::{U4, U7, Voice1, Voice2};
 use voice_state::{BadStep, ControlRole};
 
 /// What comes of a voice message.
-#[derive(Clone, Copy, Debug, PartialEq, Eq)]
+#[derive(Debug, Drop)]
 pub enum Outcome {
     /// Nothing now: what it selects is kept for the messages that use it.
     Nothing,
+    /// This message of MIDI 2.0, one of those that are written alike.
+    NoteOrControl(NoteOrControl),
     /// This message of MIDI 2.0.
     Message(Voice2),
     /// Nothing: it is a data entry without a selected parameter.
@@ -63,8 +66,10 @@ fn outcome_of(collected: Collected, channel: U4, index: U7, value: U7) -> Outcom
             Outcome::Message(raise_data_entry(channel, param, entered))
         }
         Collected::Ignored => Outcome::Ignored,
-        Collected::Pair(coarse, entered) => Outcome::Message(raise_pair(channel, coarse, entered)),
-        Collected::Plain => Outcome::Message(raise_control(channel, index, value)),
+        Collected::Pair(coarse, entered) => Outcome::NoteOrControl(raise_pair(
+            channel, coarse, entered,
+        )),
+        Collected::Plain => Outcome::NoteOrControl(raise_control(channel, index, value)),
     }
 }
 
@@ -103,17 +108,17 @@ pub fn raise(collector: &mut Collector, message: &Voice1) -> Outcome
             channel,
             note,
             velocity,
-        } => Outcome::Message(raise_note_off(channel, note, velocity)),
+        } => Outcome::NoteOrControl(raise_note_off(channel, note, velocity)),
         Voice1::NoteOn {
             channel,
             note,
             velocity,
-        } => Outcome::Message(raise_note_on(channel, note, velocity)),
+        } => Outcome::NoteOrControl(raise_note_on(channel, note, velocity)),
         Voice1::PolyPressure {
             channel,
             note,
             value,
-        } => Outcome::Message(raise_poly_pressure(channel, note, value)),
+        } => Outcome::NoteOrControl(raise_poly_pressure(channel, note, value)),
         Voice1::Control {
             channel,
             index,

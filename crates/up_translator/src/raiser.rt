@@ -6,9 +6,11 @@ ghost use Rattle.midi1_bytes.specs.Steps.{completes};
 ghost use Rattle.ump_grammar.specs.Ranges.{IsPacket};
 ghost use Rattle.ump_grammar.specs.declared.packet.Packet.TheVariants as packet;
 
+use crate::byte_lines::Line;
 use crate::lines::ignored;
 use crate::outcome::{Outcome, raise};
-use crate::raised::{Line, Raised};
+use crate::raised::Raised;
+use crate::raised_packet::RaisedPacket;
 use param_collector::Collector;
 use std::marker::Model;
 use ump_grammar::Packet;
@@ -37,7 +39,7 @@ fn system_fits(group: U4, message: &System)
 pub(crate) struct Raiser {
     group: U4,
     collector: Collector,
-    packet: Packet,
+    packet: RaisedPacket,
 }
 
 impl Model for Raiser {
@@ -54,16 +56,8 @@ impl Raiser {
     ghost use Rattle.up_translator.specs.Held.{KeepsBehind};
     ghost use Rattle.up_translator.specs.LendRaiser.{KeepsRaiser};
     ghost use Rattle.up_translator.specs.Outcome.{holding_with};
-    ghost use Rattle.up_translator.specs.Raised.{
-      packet_in,
-      payload_in,
-      packets_in,
-      group_in,
-      lines_in,
-      told_of,
-      IsApart,
-      IsInOrder,
-    };
+    ghost use Rattle.up_translator.specs.ByteLines.{lines_in, told_of, IsInOrder};
+    ghost use Rattle.up_translator.specs.Raised.{packet_in, payload_in, packets_in, group_in, IsApart};
     ghost use Rattle.up_translator.specs.Step.{RaisesStep};
 
     /// A raiser into a group.
@@ -73,10 +67,10 @@ impl Raiser {
         Raiser {
             group,
             collector,
-            packet: Packet::System {
+            packet: RaisedPacket::of(Packet::System {
                 group,
                 message: System::Tune,
-            },
+            }),
         }
     }
 
@@ -88,14 +82,15 @@ impl Raiser {
 
     // Lends a packet, with a line if there is one.
     #[inline(always)]
-    fn give(&mut self, packet: Packet, line: Option<Line>) -> Raised<'_>
+    fn give(&mut self, packet: RaisedPacket, line: Option<Line>) -> Raised<'_>
         ensures group { group_in result ≡ self.old.group }
-        ensures order { IsInOrder result }
+        ensures order { IsInOrder result.lines }
         ensures apart { IsApart result }
         ensures packet { packet_in result ≡ Some packet }
         ensures payload { payload_in result ≡ None }
         ensures packets { packets_in result ≡ packet ∷ [] }
-        ensures lines { lines_in result ≡ map (line_up self.old.group) (map told_of (option_to_list line)) }
+        ensures lines { lines_in result.lines ≡
+            map (line_up self.old.group) (map told_of (option_to_list line)) }
         ensures* after { sem 𝓛 (KeepsRaiser self.entry self.old) }
     {
         self.packet = packet;
@@ -106,17 +101,18 @@ impl Raiser {
     #[inline(always)]
     pub(crate) fn system(&mut self, message: System, line: Option<Line>) -> Raised<'_>
         ensures group { group_in result ≡ self.old.group }
-        ensures order { IsInOrder result }
+        ensures order { IsInOrder result.lines }
         ensures apart { IsApart result }
         ensures spelled { IfSome (packet_in result) IsPacket }
         ensures payload { payload_in result ≡ None }
         ensures packets { packets_in result ≡ packet.System self.old.group message ∷ [] }
-        ensures lines { lines_in result ≡ map (line_up self.old.group) (map told_of (option_to_list line)) }
+        ensures lines { lines_in result.lines ≡
+            map (line_up self.old.group) (map told_of (option_to_list line)) }
         ensures* after { sem 𝓛 (KeepsRaiser self.entry self.old) }
     {
         let group = self.group;
         system_fits(group, &message);
-        self.give(Packet::System { group, message }, line)
+        self.give(RaisedPacket::of(Packet::System { group, message }), line)
     }
 
     /// A voice message that the byte at this offset completes.
@@ -130,11 +126,16 @@ impl Raiser {
     {
         match raise(&mut self.collector, message) {
             Outcome::Nothing => Ok(Raised::only_listed(self.group, None, None)),
-            Outcome::Message(message) => {
+            Outcome::NoteOrControl(message) => {
                 let group = self.group;
                 // tells that the group is below 16
                 group.get();
-                Ok(self.give(Packet::Voice2 { group, message }, None))
+                Ok(self.give(RaisedPacket::of_note_or_control(group, message), None))
+            }
+            Outcome::Message(message) => {
+                let group = self.group;
+                group.get();
+                Ok(self.give(RaisedPacket::of(Packet::Voice2 { group, message }), None))
             }
             Outcome::Ignored => { Ok(Raised::only_listed(self.group, Some(ignored(offset)), None)) }
             Outcome::Refused(bad) => Err(bad),

@@ -3,7 +3,6 @@ use midi_edge::U4;
 use std::alloc::{AllocError, Global};
 use std::process::Abort;
 use std::test::Fail;
-use ump_grammar::encode;
 use up_translator::*;
 
 const GROUP: u32 = 0;
@@ -56,12 +55,12 @@ fn raises_in(
         match up.byte(byte, offset) {
             Ok(raised) => {
                 if let Some(packet) = raised.packet {
-                    found.extend_from_slice(encode(packet).as_slice())?;
+                    found.extend_from_slice(packet.words().as_slice())?;
                 }
-                if let Some(line) = raised.first() {
+                if let Some(line) = raised.lines.first() {
                     listed.push(line)?;
                 }
-                if let Some(line) = raised.second() {
+                if let Some(line) = raised.lines.second() {
                     listed.push(line)?;
                 }
                 assert!(rt; raised.payload.is_none(), "a payload at {offset}");

@@ -12,7 +12,8 @@ use Rattle.midi_pass.specs.declared.ends.Reason.TheVariants.{ExclusiveTooLong}
 use Rattle.midi_pass.specs.declared.ends.RunEnd.{RunEnd}
 use Rattle.midi_pass.specs.declared.ends.RunEnd.TheVariants.{Refused}
 use Rattle.usb_midi1.specs.Laws.{ExclusiveEventsComeInOrder}
-use Rattle.usb_midi1.specs.Packed.{IsPacked, cable_in, events_from, events_in, lines_in, whole_in, whole_of}
+use Rattle.up_translator.specs.ByteLines.{lines_in}
+use Rattle.usb_midi1.specs.Packed.{IsPacked, cable_in, events_from, events_in, whole_in, whole_of}
 use Rattle.usb_midi1.specs.Packing.{events_by, exclusive_events, first_event}
 use Rattle.usb_midi1.specs.declared.packed.Packed.{Packed}
 use Rattle.listing_puts.specs.Lines.{line_puts}
@@ -52,13 +53,13 @@ pub only_whole : (packed : Packed) (whole : List ℕ) → packed.event ≡ None 
 only_whole packed whole none is = ap (λ event. events_from (cable_in packed) event (whole_in packed)) none ∙ ap (λ w. events_from (cable_in packed) None w) is
 
 pub accepts : (packed : Packed) (cable offset : ℕ) (step : Step) (old new : Places) (result : Result (Unit {0}) RunEnd) → IsPacked cable offset step packed
-    → Puts (event_puts (events_in packed) ++ line_puts (lines_in packed)) old new result → Takes (refusal_of step offset) (packed_puts cable step offset) old new result
+    → Puts (event_puts (events_in packed) ++ line_puts (lines_in packed.lines)) old new result → Takes (refusal_of step offset) (packed_puts cable step offset) old new result
 accepts packed cable offset step old new result is put =
     let P : List Put → Type 0 = λ puts. Puts puts old new result in
     let T : Tail → Type 0 = λ tail. Takes tail (packed_puts cable step offset) old new result in
     subst T (sym (fine_within step offset is.within))
     (subst P
-    (ap (λ events. event_puts events ++ line_puts (lines_in packed)) is.events ∙ ap (λ lines. event_puts (events_by cable (completed_by step)) ++ line_puts lines) is.lines)
+    (ap (λ events. event_puts events ++ line_puts (lines_in packed.lines)) is.events ∙ ap (λ lines. event_puts (events_by cable (completed_by step)) ++ line_puts lines) is.lines)
     put)
 
 pub refuses : (cable offset : ℕ) (step : Step) (old : Places) → step ≡ too_long → Takes (refusal_of step offset) (packed_puts cable step offset) old old (Err (Refused ExclusiveTooLong offset))

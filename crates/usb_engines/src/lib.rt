@@ -7,6 +7,3 @@ mod split;
 
 pub use crate::pack::{PackRun, run_pack};
 pub use crate::split::run_split;
-
-#[cfg(test)]
-mod tests;

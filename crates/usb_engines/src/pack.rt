@@ -7,8 +7,9 @@ ghost use Rattle.midi_pass.specs.Bytes.{byte_cutting};
 ghost use Rattle.midi_pass.specs.Pass.{Ends, IsDoneUnless, Takes, seen};
 ghost use Rattle.midi_pass.specs.Places.{Puts, places};
 ghost use Rattle.midi_pass.specs.Refused.{IsRefusedWhere};
+ghost use Rattle.up_translator.specs.ByteLines.{lines_in};
 ghost use Rattle.usb_midi1.specs.Held.{packer_behind, step_in};
-ghost use Rattle.usb_midi1.specs.Packed.{IsApart, events_in, lines_in, whole_in};
+ghost use Rattle.usb_midi1.specs.Packed.{IsApart, events_in, whole_in};
 ghost use Rattle.usb_midi1.specs.Packing.{exclusive_events};
 ghost use Rattle.listing_puts.specs.Lines.{line_puts};
 ghost use Rattle.listing_puts.specs.Refusal.{refusal_of};
@@ -16,7 +17,7 @@ ghost use Rattle.usb_engines.specs.Pack.{HoldsPacked, event_puts, open_lines, op
 ghost use Rattle.usb_engines.specs.PackMeans.{last_named, packs_mean, packs_named};
 
 use item_reader::ByteReader;
-use listing_puts::{put_listed, refused};
+use listing_puts::{put_lines, put_listed, refused};
 use midi_edge::{Lanes, NoMemory, Sink, Source, U4};
 use midi_pass::laws::bytes_are_cut_once;
 use midi_pass::places::put_output;
@@ -182,12 +183,12 @@ fn put_packed<L: Lanes, W: Sink, N: Sink>(
 ) -> Result<(), RunEnd>
     requires apart { IsApart packed.now }
     requires whole { IfSome (whole_in packed.now) (λ whole. 2 ≤ length whole) }
-    ensures { Puts (event_puts (events_in packed.now) ++ line_puts (lines_in packed.now))
+    ensures { Puts (event_puts (events_in packed.now) ++ line_puts (lines_in packed.now.lines))
         (places L.Lanes W.Sink N.Sink lanes.old output.old notes.old)
         (places L.Lanes W.Sink N.Sink lanes.new output.new notes.new) result }
 {
     match put_events(*packed, lanes, output, notes) {
-        Ok(()) => put_lines(packed, lanes, output, notes),
+        Ok(()) => put_lines(&packed.lines, lanes, output, notes),
         Err(end) => Err(end),
     }
 }
@@ -237,24 +238,6 @@ fn put_exclusive<L: Lanes, W: Sink, N: Sink>(
         }
     }
     Ok(())
-}
-
-// Puts the lines of a byte. Most bytes have none.
-#[inline(always)]
-fn put_lines<L: Lanes, W: Sink, N: Sink>(
-    packed: &Packed<'_>,
-    lanes: &mut L,
-    output: &mut W,
-    notes: &mut N,
-) -> Result<(), RunEnd>
-    ensures { Puts (line_puts (lines_in packed.now))
-        (places L.Lanes W.Sink N.Sink lanes.old output.old notes.old)
-        (places L.Lanes W.Sink N.Sink lanes.new output.new notes.new) result }
-{
-    match put_listed(packed.first(), lanes, output, notes) {
-        Ok(()) => put_listed(packed.second(), lanes, output, notes),
-        Err(end) => Err(end),
-    }
 }
 
 // Puts the line of what is still open at the end, if anything is.

@@ -1,20 +1,18 @@
--- What comes of a byte: its events and its lines of the listing.
-use Rattle.std.specs.Prelude.{◌≡◌, ◌≢◌, ℕ, List, [], ◌∷◌, ◌++◌, map, Option, Some, None, Result, Ok, Err}
-use Rattle.std.specs.Option.{option_map, option_to_list}
+-- What comes of a byte: its events, beside its lines of the listing.
+use Rattle.std.specs.Prelude.{◌≡◌, ◌≢◌, ℕ, List, [], ◌∷◌, map, Option, Some, None, Result, Ok, Err}
+use Rattle.std.specs.Option.{option_map}
 use Rattle.midi1_bytes.specs.Answers.{framed}
 use Rattle.midi1_bytes.specs.Messages.{Message, exclusive}
 use Rattle.midi1_bytes.specs.Steps.{Step, completed_by, too_long}
 use Rattle.voice_state.specs.StepListing.{kinds_of_step, line_up}
-use Rattle.voice_state.specs.declared.listed.Kind.{Kind}
-use Rattle.voice_state.specs.declared.listed.Listed.{Listed}
+use Rattle.up_translator.specs.ByteLines.{group_of, lines_in}
 use Rattle.usb_midi1.specs.Held.{PackerState, step_in}
 use Rattle.usb_midi1.specs.Packing.{events_by, exclusive_events}
-use Rattle.usb_midi1.specs.declared.packed.Line.{Line}
 use Rattle.usb_midi1.specs.declared.packed.Packed.{Packed}
 use Rattle.usb_midi1.specs.declared.packed.TooLong.{TooLong}
 
 abbrev pub cable_in : Packed → ℕ
-cable_in packed = packed.cable.number
+cable_in packed = group_of packed.lines
 
 -- the exclusive from F0 to F7
 abbrev pub whole_in : Packed → Option (List ℕ)
@@ -43,25 +41,6 @@ whole_of _ = None
 abbrev pub IsApart : Packed → Type 0
 IsApart packed = AreApart packed.event (whole_in packed)
 
--- ---- lines
-
--- its kind and offset
-abbrev pub told_of : Line → Kind × ℕ
-told_of line = (line.kind, line.offset)
-
-abbrev pub line_by : ℕ → Line → Listed
-line_by cable line = record { offset = line.offset; group = Some cable; kind = line.kind }
-
-abbrev pub first_in : Packed → Option Listed
-first_in packed = option_map (line_by (cable_in packed)) packed.first
-
-abbrev pub second_in : Packed → Option Listed
-second_in packed = option_map (line_by (cable_in packed)) packed.second
-
--- the lines, in order
-abbrev pub lines_in : Packed → List Listed
-lines_in packed = option_to_list (first_in packed) ++ option_to_list (second_in packed)
-
 -- ---- of a step
 
 -- a step within the limit, with the events of the message that it completes, a whole exclusive by itself, and its lines
@@ -70,7 +49,7 @@ pub record IsPacked (cable offset : ℕ) (step : Step) (packed : Packed) : Type 
   pub apart : IsApart packed
   pub whole : whole_in packed ≡ whole_of (completed_by step)
   pub events : events_in packed ≡ events_by cable (completed_by step)
-  pub lines : lines_in packed ≡ map (line_up cable) (kinds_of_step step offset)
+  pub lines : lines_in packed.lines ≡ map (line_up cable) (kinds_of_step step offset)
 
 -- it is refused exactly where an exclusive exceeds the limit
 abbrev pub PacksStep : ℕ → ℕ → Step → Result Packed TooLong → Type 0

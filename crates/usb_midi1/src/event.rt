@@ -1,7 +1,6 @@
 // Events, and their reader.
 ghost use Rattle.std.specs.Prelude.{◌≡◌, ◌<◌, ◌≤◌, ◌^◌, false, length, IfSome};
-ghost use Rattle.midi_edge.specs.Outside.{ahead};
-ghost use Rattle.item_reader.specs.Reading.{Answers, ReadCause, answer_of};
+ghost use Rattle.item_reader.specs.Reading.{Answers, ReadCause, answer_of, cursor};
 ghost use Rattle.usb_midi1.specs.Codes.{carried_count as count_by, is_reserved as is_reserved_code};
 ghost use Rattle.usb_midi1.specs.Events.{carried_by, event_at, event_length, four_bytes, new_events};
 
@@ -84,8 +83,8 @@ impl EventReader {
     /// where no whole event is held.
     #[inline(always)]
     pub fn next<S: Source>(&mut self, src: &mut S) -> Result<Option<(Event, u64)>, ReadStop>
-        ensures answer { self.old.end ≡ None → Answers four_bytes event_at self.old self.new
-            (ahead self.old.pending (S.left src.old)) (ahead self.new.pending (S.left src.new)) result }
+        ensures answer { self.old.end ≡ None → Answers four_bytes event_at
+            (cursor self.old (S.left src.old)) (cursor self.new (S.left src.new)) result }
         ensures again { IfSome self.old.end (λ tail.
             (result ≡ answer_of tail) × (self.new ≡ self.old) × (src.new ≡ src.old)) }
         ensures held { 4 ≤ length self.old.pending → src.new ≡ src.old }

@@ -1,49 +1,18 @@
 // The packer of a stream into events.
 ghost use Rattle.std.specs.Prelude.{◌≡◌, ◌≤◌, map, IfOk};
 ghost use Rattle.std.specs.Option.{option_map, option_to_list};
-ghost use Rattle.voice_state.specs.StepListing.{cut_kind, kinds_at_end, line_up};
-ghost use Rattle.voice_state.specs.declared.listed.Kind.TheVariants as kinds;
+ghost use Rattle.voice_state.specs.StepListing.{kinds_at_end, line_up};
 ghost use Rattle.midi1_bytes.specs.Steps as steps;
-ghost use Rattle.usb_midi1.specs.Packed.{IsPacked, told_of};
+ghost use Rattle.usb_midi1.specs.Packed.{IsPacked};
 
-use crate::packed::{Line, Packed, TooLong};
+use crate::packed::{Packed, TooLong};
 use crate::packing::{system_event, voice_event};
 use midi_edge::{NoMemory, U4};
 use midi1_bytes::{AfterCut, CutKind, Parser, Step, System};
 use std::alloc::Global;
 use std::marker::Model;
-use up_translator::{kind_of_cut, kind_of_open};
-use voice_state::{Kind, Listed};
-
-// The line of a byte that belongs to nothing.
-fn stray(offset: u64) -> Line
-    ensures { told_of result ≡ (kinds.Stray, offset) }
-{
-    Line {
-        offset,
-        kind: Kind::Stray,
-    }
-}
-
-// The line of a status that no message has.
-fn undefined(offset: u64) -> Line
-    ensures { told_of result ≡ (kinds.Undefined, offset) }
-{
-    Line {
-        offset,
-        kind: Kind::Undefined,
-    }
-}
-
-// The line of what started at an offset and is cut off.
-fn cut_off(start: u64, what: CutKind) -> Line
-    ensures { told_of result ≡ (cut_kind what, start) }
-{
-    Line {
-        offset: start,
-        kind: kind_of_cut(what),
-    }
-}
+use up_translator::lines::{cut_off, kind_of_open, stray, undefined};
+use voice_state::Listed;
 
 // What comes of a byte that cuts off what started at an offset.
 fn cut<'a>(cable: U4, start: u64, what: CutKind, after: AfterCut, offset: u64) -> Packed<'a>

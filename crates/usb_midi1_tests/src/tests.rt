@@ -57,10 +57,10 @@ fn packs(
                 if let Some(whole) = packed.whole {
                     add_whole(&mut found, cable, whole)?;
                 }
-                if let Some(line) = packed.first() {
+                if let Some(line) = packed.lines.first() {
                     listed.push(line)?;
                 }
-                if let Some(line) = packed.second() {
+                if let Some(line) = packed.lines.second() {
                     listed.push(line)?;
                 }
             }
@@ -271,6 +271,6 @@ fn a_failed_take_loses_no_event(rt: HostRuntime) -> Result<(), Fail> {
 #[test]
 fn too_long_has_its_text(rt: HostRuntime) -> Result<(), Fail> {
     let shown = format!(in rt.alloc(); "{}", TooLong)?;
-    assert_eq!(rt; shown.as_str(), "an exclusive is too long");
+    assert_eq!(rt; shown.as_str(), "an exclusive is longer than the limit");
     Ok(())
 }

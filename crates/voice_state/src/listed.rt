@@ -64,12 +64,12 @@ pub struct Listed {
 #[derive(Clone, Copy, Debug, PartialEq, Eq, Error)]
 pub enum BadStep {
     /// A data increment, control change 96.
-    #[error("a data increment can't be carried")]
+    #[error("a data increment cannot be carried")]
     DataIncrement,
     /// A data decrement, control change 97.
-    #[error("a data decrement can't be carried")]
+    #[error("a data decrement cannot be carried")]
     DataDecrement,
     /// An exclusive exceeds its limit.
-    #[error("an exclusive is too long")]
+    #[error("an exclusive is longer than the limit")]
     ExclusiveTooLong,
 }

@@ -5,9 +5,12 @@ use voice_state::BadStep;
 #[test]
 fn each_refusal_has_its_text(rt: HostRuntime) -> Result<(), Fail> {
     for (bad, text) in [
-        (BadStep::DataIncrement, "a data increment can't be carried"),
-        (BadStep::DataDecrement, "a data decrement can't be carried"),
-        (BadStep::ExclusiveTooLong, "an exclusive is too long"),
+        (BadStep::DataIncrement, "a data increment cannot be carried"),
+        (BadStep::DataDecrement, "a data decrement cannot be carried"),
+        (
+            BadStep::ExclusiveTooLong,
+            "an exclusive is longer than the limit",
+        ),
     ] {
         let shown = format!(in rt.alloc(); "{bad}")?;
         assert_eq!(rt; shown.as_str(), text);

@@ -4,177 +4,193 @@ use midi_edge::{FolderLanes, Lanes, Sink, U4, WriteSink};
 use midi_pass::Reason;
 use std::io::ErrorKind;
 use std::os::unix::fs as unix_fs;
+use std::process::Abort;
 use std::test::Fail;
 use std::{fs, process};
+
+// A folder of its own for a test.
+fn new_folder(rt: &HostRuntime, name: &str) -> Result<String, Fail> {
+    let id = process::id(rt.process());
+    let folder = format!(in rt.alloc(); "/tmp/midi_tool_{name}_{id}")?;
+    let _ = fs::remove_dir_all(rt, folder.as_str());
+    fs::create_dir(rt, folder.as_str())?;
+    Ok(folder)
+}
+
+// The path of a file in a folder.
+fn path_in(rt: &HostRuntime, folder: &str, name: &str) -> Result<String, Fail> {
+    Ok(format!(in rt.alloc(); "{folder}/{name}")?)
+}
+
+// Ends a run of this status that has put a piece of lane 15 in the folder, a line in the output and one in the notes, in these files.
+fn finished(
+    rt: &HostRuntime,
+    status: Status,
+    folder: &str,
+    output: &str,
+    notes: &str,
+) -> Result<u8, Fail> {
+    let mut lanes = FolderLanes::new(rt.clone()?);
+    lanes.begin(folder)?;
+    lanes.put(U4::low_bits(15), b"fifteen")?;
+    let mut output = WriteSink::new(fs::File::create(rt, output)?);
+    output.put(b"a line")?;
+    let mut notes = WriteSink::new(fs::File::create(rt, notes)?);
+    notes.put(b"a note\n")?;
+    Ok(finish(status, &mut lanes, &mut output, &mut notes))
+}
+
+fn file_holds(rt: &impl Abort, files: &HostRuntime, path: &str, text: &str) -> Result<(), Fail> {
+    assert_eq!(rt;
+        fs::read(files, path)?.as_slice(),
+        text.as_bytes(),
+        "{path}"
+    );
+    Ok(())
+}
+
+const REFUSED: Status = Status::Refused {
+    reason: Reason::HighBit,
+    offset: 8,
+};
+
+const CODES: [(Status, u8); 11] = [
+    (Status::Done, 0),
+    (REFUSED, 1),
+    (Status::ReadFault, 2),
+    (Status::LaneFault, 3),
+    (Status::OutputFault, 4),
+    (Status::NoteFault, 5),
+    (Status::ShelfFault, 6),
+    (Status::Usage, 7),
+    (Status::SetupSyntax, 8),
+    (Status::SetupField(14), 9),
+    (Status::NoMemory, 10),
+];
 
 // Where everything can be written, what is gathered is written out whatever the status, which gives its own exit code.
 #[test]
 fn each_status_has_its_exit_code(rt: HostRuntime) -> Result<(), Fail> {
-    let alloc = rt.alloc();
-    let id = process::id(rt.process());
-    let folder = format!(in alloc; "/tmp/midi_tool_exit_{id}")?;
-    let refused = Status::Refused {
-        reason: Reason::HighBit,
-        offset: 8,
-    };
-    let codes: [(Status, u8); 11] = [
-        (Status::Done, 0),
-        (refused, 1),
-        (Status::ReadFault, 2),
-        (Status::LaneFault, 3),
-        (Status::OutputFault, 4),
-        (Status::NoteFault, 5),
-        (Status::ShelfFault, 6),
-        (Status::Usage, 7),
-        (Status::SetupSyntax, 8),
-        (Status::SetupField(14), 9),
-        (Status::NoMemory, 10),
-    ];
-    for (status, code) in codes {
-        let _ = fs::remove_dir_all(&rt, folder.as_str());
-        fs::create_dir(&rt, folder.as_str())?;
-        let lane = format!(in alloc; "{folder}/group-15.midi1")?;
-        let lines = format!(in alloc; "{folder}/output")?;
-        let told = format!(in alloc; "{folder}/notes")?;
-        let mut lanes = FolderLanes::new(rt.clone()?);
-        lanes.begin(folder.as_str())?;
-        lanes.put(U4::low_bits(15), b"fifteen")?;
-        let mut output = WriteSink::new(fs::File::create(&rt, lines.as_str())?);
-        output.put(b"a line")?;
-        let mut notes = WriteSink::new(fs::File::create(&rt, told.as_str())?);
-        notes.put(b"a note")?;
-        assert_eq!(rt; finish(status, &mut lanes, &mut output, &mut notes), code);
-        assert_eq!(rt;
-            fs::read(&rt, lane.as_str())?.as_slice(),
-            b"fifteen".as_slice()
-        );
-        assert_eq!(rt;
-            fs::read(&rt, lines.as_str())?.as_slice(),
-            b"a line".as_slice()
-        );
-        assert_eq!(rt;
-            fs::read(&rt, told.as_str())?.as_slice(),
-            b"a note".as_slice()
-        );
+    for (status, code) in CODES {
+        all_is_written(&rt, &rt, status, code)?;
     }
-    fs::remove_dir_all(&rt, folder.as_str())?;
     Ok(())
 }
 
-// Which objects write to a full place, the exit code and the last line after `Done` and after a refusal.
-#[derive(Clone, Copy)]
-struct Full {
-    lanes: bool,
-    output: bool,
-    notes: bool,
-    done: u8,
-    line: &'static [u8],
+fn all_is_written(
+    rt: &impl Abort,
+    files: &HostRuntime,
+    status: Status,
+    code: u8,
+) -> Result<(), Fail> {
+    let folder = new_folder(files, "exit")?;
+    let lane = path_in(files, folder.as_str(), "group-15.midi1")?;
+    let output = path_in(files, folder.as_str(), "output")?;
+    let notes = path_in(files, folder.as_str(), "notes")?;
+    let found = finished(
+        files,
+        status,
+        folder.as_str(),
+        output.as_str(),
+        notes.as_str(),
+    )?;
+    assert_eq!(rt; found, code);
+    file_holds(rt, files, lane.as_str(), "fifteen")?;
+    file_holds(rt, files, output.as_str(), "a line")?;
+    file_holds(rt, files, notes.as_str(), "a note\n")?;
+    fs::remove_dir_all(files, folder.as_str())?;
+    Ok(())
 }
+
+// Each row has the objects that write to a full place, and the exit code and the last line after `Done`.
+const FULL_PLACES: &str = "\
+lanes 3 lane write failed
+output 4 output write failed
+lanes,output 3 lane write failed
+notes 5
+output,notes 4";
 
 // A full place gives its own code and line where the run was done; where it was refused both stay as they are.
 #[test]
 fn a_full_place_is_told(rt: HostRuntime) -> Result<(), Fail> {
-    let alloc = rt.alloc();
-    let id = process::id(rt.process());
-    let folder = format!(in alloc; "/tmp/midi_tool_full_{id}")?;
-    let rows = [
-        Full {
-            lanes: true,
-            output: false,
-            notes: false,
-            done: 3,
-            line: b"lane write failed\n",
-        },
-        Full {
-            lanes: false,
-            output: true,
-            notes: false,
-            done: 4,
-            line: b"output write failed\n",
-        },
-        Full {
-            lanes: true,
-            output: true,
-            notes: false,
-            done: 3,
-            line: b"lane write failed\n",
-        },
-        Full {
-            lanes: false,
-            output: false,
-            notes: true,
-            done: 5,
-            line: b"",
-        },
-        Full {
-            lanes: false,
-            output: true,
-            notes: true,
-            done: 4,
-            line: b"",
-        },
-    ];
-    for row in rows {
-        let refused = Status::Refused {
-            reason: Reason::HighBit,
-            offset: 8,
-        };
-        for (status, code, line) in [(Status::Done, row.done, row.line), (refused, 1, b"")] {
-            let _ = fs::remove_dir_all(&rt, folder.as_str());
-            fs::create_dir(&rt, folder.as_str())?;
-            let lane = format!(in alloc; "{folder}/group-00.midi1")?;
-            let told = format!(in alloc; "{folder}/notes")?;
-            let lines = if row.output { "/dev/full" } else { "/dev/null" };
-            let notes_at = if row.notes {
-                "/dev/full"
-            } else {
-                told.as_str()
-            };
-            if row.lanes {
-                unix_fs::symlink(&rt, "/dev/full", lane.as_str())?;
-            }
-            let mut lanes = FolderLanes::new(rt.clone()?);
-            lanes.begin(folder.as_str())?;
-            lanes.put(U4::low_bits(0), b"zero")?;
-            let mut output = WriteSink::new(fs::File::create(&rt, lines)?);
-            output.put(b"a line")?;
-            let mut notes = WriteSink::new(fs::File::create(&rt, notes_at)?);
-            notes.put(b"a note\n")?;
-            assert_eq!(rt; finish(status, &mut lanes, &mut output, &mut notes), code);
-            if !row.notes {
-                let text = fs::read(&rt, told.as_str())?;
-                assert_eq!(rt; text.starts_with(b"a note\n"), true);
-                assert_eq!(rt; text.ends_with(line), true);
-                assert_eq!(rt; text.len(), 7 + line.len());
-            }
-        }
+    for row in FULL_PLACES.lines() {
+        let (full, told) = row.split_once(' ').unwrap_or((row, ""));
+        let (code, line) = told.split_once(' ').unwrap_or((told, ""));
+        is_told(&rt, &rt, full, Status::Done, code.parse::<u8>()?, line)?;
+        is_told(&rt, &rt, full, REFUSED, 1, "")?;
     }
-    fs::remove_dir_all(&rt, folder.as_str())?;
     Ok(())
+}
+
+// A run of this status whose objects write to these full places ends with this code, and this line where the notes take one.
+fn is_told(
+    rt: &impl Abort,
+    files: &HostRuntime,
+    full: &str,
+    status: Status,
+    code: u8,
+    line: &str,
+) -> Result<(), Fail> {
+    let folder = new_folder(files, "full")?;
+    let output = if full.contains("output") {
+        "/dev/full"
+    } else {
+        "/dev/null"
+    };
+    if full.contains("lanes") {
+        let lane = path_in(files, folder.as_str(), "group-15.midi1")?;
+        unix_fs::symlink(files, "/dev/full", lane.as_str())?;
+    }
+    if full.contains("notes") {
+        let found = finished(files, status, folder.as_str(), output, "/dev/full")?;
+        assert_eq!(rt; found, code, "{full}");
+    } else {
+        let notes = path_in(files, folder.as_str(), "notes")?;
+        let found = finished(files, status, folder.as_str(), output, notes.as_str())?;
+        assert_eq!(rt; found, code, "{full}");
+        notes_end_with(rt, files, notes.as_str(), line)?;
+    }
+    fs::remove_dir_all(files, folder.as_str())?;
+    Ok(())
+}
+
+// Whether the notes are the one that was put, and this line behind it.
+fn notes_end_with(
+    rt: &impl Abort,
+    files: &HostRuntime,
+    path: &str,
+    line: &str,
+) -> Result<(), Fail> {
+    if line.is_empty() {
+        return file_holds(rt, files, path, "a note\n");
+    }
+    let text = format!(in files.alloc(); "a note\n{line}\n")?;
+    file_holds(rt, files, path, text.as_str())
 }
 
 // Words that are no UTF-8 are told the usage.
 #[test]
 fn words_that_cannot_be_read_are_told(rt: HostRuntime) -> Result<(), Fail> {
-    let alloc = rt.alloc();
-    let id = process::id(rt.process());
-    let told = format!(in alloc; "/tmp/midi_tool_words_{id}")?;
-    let rows: [(ErrorKind, u8, &[u8]); 2] = [
-        (
-            ErrorKind::InvalidData,
-            7,
-            b"usage: translate, show, endpoint or selftest\n",
-        ),
-        (ErrorKind::OutOfMemory, 10, b"no memory\n"),
-    ];
-    for (kind, code, line) in rows {
-        let mut lanes = FolderLanes::new(rt.clone()?);
-        let mut output = WriteSink::new(fs::File::create(&rt, "/dev/null")?);
-        let mut notes = WriteSink::new(fs::File::create(&rt, told.as_str())?);
-        let status = unread_words(kind, &mut notes);
-        assert_eq!(rt; finish(status, &mut lanes, &mut output, &mut notes), code);
-        assert_eq!(rt; fs::read(&rt, told.as_str())?.as_slice(), line);
-    }
-    fs::remove_file(&rt, told.as_str())?;
+    let usage = "usage: translate, show, endpoint or selftest\n";
+    unread_is_told(&rt, &rt, ErrorKind::InvalidData, 7, usage)?;
+    unread_is_told(&rt, &rt, ErrorKind::OutOfMemory, 10, "no memory\n")
+}
+
+fn unread_is_told(
+    rt: &impl Abort,
+    files: &HostRuntime,
+    kind: ErrorKind,
+    code: u8,
+    text: &str,
+) -> Result<(), Fail> {
+    let folder = new_folder(files, "words")?;
+    let told = path_in(files, folder.as_str(), "notes")?;
+    let mut lanes = FolderLanes::new(files.clone()?);
+    let mut output = WriteSink::new(fs::File::create(files, "/dev/null")?);
+    let mut notes = WriteSink::new(fs::File::create(files, told.as_str())?);
+    let status = unread_words(kind, &mut notes);
+    assert_eq!(rt; finish(status, &mut lanes, &mut output, &mut notes), code);
+    file_holds(rt, files, told.as_str(), text)?;
+    fs::remove_dir_all(files, folder.as_str())?;
     Ok(())
 }

@@ -2,9 +2,6 @@
 ghost use Rattle.std.specs.Prelude.{◌≡◌, ℕ, List, [], ◌++◌, None, Some, Err, OnOk, OnErr, IfSome, take};
 ghost use Rattle.midi_edge.specs.Outside.{HasOpenCause, Fetches, kept_bytes};
 
-#[cfg(test)]
-mod tests;
-
 use super::{counted_opening, fault_of};
 use crate::kept_text::KeptText;
 use crate::outside::{OpenFault, Shelf};
@@ -35,6 +32,13 @@ impl<R: Files> FileShelf<R> {
             faults: 0,
             name: KeptText::new(),
         }
+    }
+
+    /// How often it has failed, up to the last `u64`.
+    pub fn faults(&self) -> u64
+        ensures { result ≡ ⟦<FileShelf<R> as Shelf>⟧.faults self.now }
+    {
+        self.faults
     }
 }
 

@@ -21,7 +21,7 @@ use std::rt::Files;
 pub struct FolderLanes<R: Files + AllocGlobal> {
     rt: R,
     lanes: Vec<WriteSink<R::File>>,
-    pub(super) faults: u64,
+    faults: u64,
     path: KeptText,
 }
 
@@ -40,6 +40,13 @@ impl<R: Files + AllocGlobal> FolderLanes<R> {
             faults: 0,
             path: KeptText::new(),
         }
+    }
+
+    /// How often they have failed, up to the last `u64`.
+    pub fn faults(&self) -> u64
+        ensures { result ≡ ⟦<FolderLanes<R> as Lanes>⟧.faults self.now }
+    {
+        self.faults
     }
 
     /// Writes out what is gathered, of every lane, also behind one that fails. After an `Err` what is not yet written
@@ -140,7 +147,7 @@ impl<R: Files + AllocGlobal> Lanes for FolderLanes<R> {
         ensures cause { HasCause (⟦<Self as Lanes>⟧.faults self.old)
             (⟦<Self as Lanes>⟧.faults self.new) result }
         ensures accepts { AcceptsInLane ⟦<R::File as Write>⟧.contents
-            self.old self.new lane result piece.now }
+            self.old self.new (lane, piece.now) result }
     {
         let answer = self.lanes[usize::from(lane.get())].put(piece);
         counted(answer, &mut self.faults)

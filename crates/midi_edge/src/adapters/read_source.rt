@@ -13,8 +13,8 @@ use std::io::{ErrorKind, Read};
 /// A source over any reader. A read that a signal interrupts is tried again.
 #[derive(Drop)]
 pub struct ReadSource<R: Read> {
-    pub(super) reader: R,
-    pub(super) faults: u64,
+    reader: R,
+    faults: u64,
 }
 
 impl<R: Read> ReadSource<R> {
@@ -24,6 +24,13 @@ impl<R: Read> ReadSource<R> {
         ensures faults { ⟦<ReadSource<R> as Source>⟧.faults result ≡ 0 }
     {
         ReadSource { reader, faults: 0 }
+    }
+
+    /// How often it has failed, up to the last `u64`.
+    pub fn faults(&self) -> u64
+        ensures { result ≡ ⟦<ReadSource<R> as Source>⟧.faults self.now }
+    {
+        self.faults
     }
 }
 

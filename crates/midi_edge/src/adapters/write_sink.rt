@@ -17,9 +17,9 @@ use std::io::{ErrorKind, Write};
 /// that writes. What is still gathered when the sink is dropped is lost, so call `flush` when all is put.
 #[derive(Drop)]
 pub struct WriteSink<W: Write> {
-    pub(super) writer: W,
+    writer: W,
     gathered: ShortList<u8, 8192>,
-    pub(super) faults: u64,
+    faults: u64,
 }
 
 impl<W: Write> WriteSink<W> {
@@ -34,6 +34,13 @@ impl<W: Write> WriteSink<W> {
             gathered: ShortList::new(),
             faults: 0,
         }
+    }
+
+    /// How often it has failed, up to the last `u64`.
+    pub fn faults(&self) -> u64
+        ensures { result ≡ ⟦<WriteSink<W> as Sink>⟧.faults self.now }
+    {
+        self.faults
     }
 
     /// Writes out what is gathered, and flushes the writer. After an `Err` what is not yet written stays gathered, and a

@@ -1,4 +1,5 @@
 use Rattle.std.proofs.Common.{◌-◌}
+use Rattle.item_reader.specs.SoFar.{given}
 use Rattle.midi_pass.specs.PassLaws.{SoFar}
 use Rattle.midi_pass.specs.Pass.{seen}
 use Rattle.clip_engine.specs.Clipping.{clipping}
@@ -10,7 +11,7 @@ use Rattle.clip_engine.proofs.clipping.show_packets.Given as goal
 abbrev pub invariant-loop-at : goal.invariant-loop-at
 invariant-loop-at g l =
     SoFar clipping
-    (λ items. HasGiven l.words l.size (g.S.Source.left l.fn.input) (g.S.Source.left l.input) items)
+    (λ items. HasGiven l.words l.size (given (g.S.Source.left l.fn.input) (g.S.Source.left l.input) items))
     (λ past. HoldsClip l.clip past)
     (with_header (seen g.S.Source g.L.Lanes g.W.Sink g.N.Sink l.fn.input l.fn.lanes l.fn.output l.fn.notes))
     (seen g.S.Source g.L.Lanes g.W.Sink g.N.Sink l.input l.lanes l.output l.notes)

@@ -4,10 +4,9 @@ use Rattle.down_translator.proofs.laws.answers_are_the_translation.Goals as goal
 pub returns : goal.returns
 returns c =
     let fed = c.fed_parts_are_the_definition.ensures in
+    let more = c.one_more_accepted_packet_adds_its_pair_and_line.ensures in
     record {
       accepted = λ paired. steps-accepted paired fed;
-      pairs = λ paired.
-          steps-pairs paired fed c.rooms_that_are_not_passed_do_not_matter.ensures c.joined_bytes_know_no_offsets.ensures (c.carried_packets_have_a_piece.ensures paired)
-          (c.kept_lanes_are_those_of_the_recording.ensures paired) c.statuses_that_run_can_be_left_out.ensures;
-      lines = λ paired. steps-lines paired fed;
+      pairs = λ paired. steps-pairs paired fed (more paired);
+      lines = λ paired. steps-lines paired (more paired);
     }

@@ -7,7 +7,7 @@ use Rattle.down_translator.specs.Held.{DownState, paired_of, whole_in}
 use Rattle.down_translator.specs.Lanes.{piece_by}
 use Rattle.down_translator.specs.Recording.{state_of}
 use Rattle.down_translator.specs.Step.{lane_before, piece_of}
-use Rattle.down_translator.proofs.HeldLaws.{held-whole, held-begun, held-refusal, held-behind}
+use Rattle.down_translator.proofs.HeldLaws.{held-told, held-behind}
 use Rattle.down_translator.proofs.LaneLaws.{lanes-whole}
 use Rattle.down_translator.proofs.StyledLaws.{plain_is}
 use Rattle.down_translator.proofs.laws.what_is_held_is_the_definition.Goals as goal
@@ -27,8 +27,8 @@ returns c = λ paired.
       style = λ style room past. (lanes-whole paired style room past).0;
       paired_is = λ style room past. (lanes-whole paired style room past).2;
       plain = plain_piece_is paired;
-      whole = held-whole paired fed;
-      begun = held-begun paired fed;
-      refusal = held-refusal paired fed;
+      whole = λ style room past least a packet. (held-told paired fed style room past least a packet).whole;
+      begun = λ style room past least a packet. (held-told paired fed style room past least a packet).begun;
+      refusal = λ style room past least a packet. (held-told paired fed style room past least a packet).refusal;
       behind = held-behind paired;
     }

@@ -1,12 +1,6 @@
-use Rattle.std.proofs.Common.{sym, ◌∙◌}
 use Rattle.midi_pass.specs.Places.{places}
-use Rattle.midi_engines.proofs.RaisedLaws.{no_lines, nothing_done, then_lines}
+use Rattle.midi_engines.proofs.RaisedLaws.{no_lines, then_lines}
 use Rattle.midi_engines.proofs.raised.put_raised.Goals as goal
-
-pub returns-then-is_empty : goal.returns-then-is_empty
-returns-then-is_empty g c =
-    nothing_done (g.P.PacketWork.IsDone c.args.offset) c.args.work.now c.args.raised.now
-    (places g.L.Lanes g.W.Sink g.N.Sink c.args.lanes.now c.args.output.now c.args.notes.now) (sym c.is_empty.ensures ∙ c.if-is_empty.true)
 
 pub returns-in-Ok : goal.returns-in-Ok
 returns-in-Ok g c =

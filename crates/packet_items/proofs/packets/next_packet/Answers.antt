@@ -1,10 +1,11 @@
 use Rattle.std.proofs.Common.{ℕ, Option, Some, List, subst, sym, ◌∙◌}
 use Rattle.std.specs.Prelude.{IfSome, Ok, Err}
-use Rattle.midi_edge.specs.Outside.{ahead}
 use Rattle.midi_edge.specs.declared.outside.ReadStop.{ReadStop}
 use Rattle.midi_pass.specs.Next.{GivesNext}
 use Rattle.midi_pass.specs.declared.ends.Reason.TheVariants.{Truncated, BadCount, HighBit}
 use Rattle.midi_pass.specs.declared.pass.Next.TheVariants as next
+use Rattle.item_reader.specs.Reading.{cursor}
+use Rattle.item_reader.specs.SoFar.{given}
 use Rattle.item_reader.specs.declared.cutting.Tail.TheVariants as tail
 use Rattle.ump_words.specs.Reader.{Answers, Reading}
 use Rattle.ump_words.specs.declared.words.Framed.{Framed}
@@ -25,11 +26,11 @@ returns-in-Ok-clause-answer g c = λ order all items so_far.
     let left : Option (List ℕ) = g.S.Source.left c.args.input.now in
     let left' : Option (List ℕ) = g.S.Source.left c.next.new.src in
     let framed : Framed = c.in-Ok-Some.framed in
-    let A : Option Framed → Type 0 = λ given. Answers reader reader' (ahead reader.pending left) (ahead reader'.pending left') (Ok given) in
+    let A : Option Framed → Type 0 = λ next. Answers (cursor reader left) (cursor reader' left') (Ok next) in
     let gives = subst A c.in-Ok-Some.field-0-is (c.in-Ok-Some.ensures.answer (going order before laws reader all left items so_far)) in
     let decodes = c.in-Ok.ensures.answer in
     let G : ℕ → Type 0 = λ at.
-    GivesNext (packets_after order before) (λ past item. IsPacket item.1) (λ given. GivenAfter order before reader' all left' given) all left' items (next.Item (record { offset = at; words = framed.words }) c.in-Ok.packet) in
+    GivesNext (packets_after order before) (λ past item. IsPacket item.1) (GivenAfter order before reader') (given all left' items) (next.Item (record { offset = at; words = framed.words }) c.in-Ok.packet) in
     subst G (sym (sum-is order before laws reader all left items so_far reader' left' framed gives c.requires)) (
       given_more order before laws reader all left items so_far reader' left' framed gives c.in-Ok.packet decodes.0 decodes.1,
       c.in-Ok.ensures.fits,
@@ -45,7 +46,7 @@ returns-in-Ok-clause-place g c = λ order all items so_far.
     let left : Option (List ℕ) = g.S.Source.left c.args.input.now in
     let left' : Option (List ℕ) = g.S.Source.left c.next.new.src in
     let framed : Framed = c.in-Ok-Some.framed in
-    let A : Option Framed → Type 0 = λ given. Answers reader reader' (ahead reader.pending left) (ahead reader'.pending left') (Ok given) in
+    let A : Option Framed → Type 0 = λ next. Answers (cursor reader left) (cursor reader' left') (Ok next) in
     let gives = subst A c.in-Ok-Some.field-0-is (c.in-Ok-Some.ensures.answer (going order before laws reader all left items so_far)) in (
       sum-is order before laws reader all left items so_far reader' left' framed gives c.requires ∙ at-place order before laws reader all left items so_far reader' left' framed gives,
       some order before laws reader all left items so_far reader' left' framed gives,
@@ -62,7 +63,7 @@ returns-in-Err-BadCount-clause-answer g c = λ order all items so_far.
     let left : Option (List ℕ) = g.S.Source.left c.args.input.now in
     let left' : Option (List ℕ) = g.S.Source.left c.next.new.src in
     let framed : Framed = c.in-Ok-Some.framed in
-    let A : Option Framed → Type 0 = λ given. Answers reader reader' (ahead reader.pending left) (ahead reader'.pending left') (Ok given) in
+    let A : Option Framed → Type 0 = λ next. Answers (cursor reader left) (cursor reader' left') (Ok next) in
     let gives = subst A c.in-Ok-Some.field-0-is (c.in-Ok-Some.ensures.answer (going order before laws reader all left items so_far)) in
     let D : Bad → Type 0 = λ cause. Decodes framed.words (Err cause) in
     let G : ℕ → Type 0 = λ at. IfSome all (λ bytes. packets_after order before bytes items (Some (BadCount, at))) in
@@ -78,7 +79,7 @@ returns-in-Err-HighBit-clause-answer g c = λ order all items so_far.
     let left : Option (List ℕ) = g.S.Source.left c.args.input.now in
     let left' : Option (List ℕ) = g.S.Source.left c.next.new.src in
     let framed : Framed = c.in-Ok-Some.framed in
-    let A : Option Framed → Type 0 = λ given. Answers reader reader' (ahead reader.pending left) (ahead reader'.pending left') (Ok given) in
+    let A : Option Framed → Type 0 = λ next. Answers (cursor reader left) (cursor reader' left') (Ok next) in
     let gives = subst A c.in-Ok-Some.field-0-is (c.in-Ok-Some.ensures.answer (going order before laws reader all left items so_far)) in
     let D : Bad → Type 0 = λ cause. Decodes framed.words (Err cause) in
     let G : ℕ → Type 0 = λ at. IfSome all (λ bytes. packets_after order before bytes items (Some (HighBit, at))) in
@@ -93,7 +94,7 @@ returns-in-Ok-None-clause-answer g c = λ order all items so_far.
     let reader' : Reading = c.next.new.self in
     let left : Option (List ℕ) = g.S.Source.left c.args.input.now in
     let left' : Option (List ℕ) = g.S.Source.left c.next.new.src in
-    let A : Option Framed → Type 0 = λ given. Answers reader reader' (ahead reader.pending left) (ahead reader'.pending left') (Ok given) in
+    let A : Option Framed → Type 0 = λ next. Answers (cursor reader left) (cursor reader' left') (Ok next) in
     at_end order before laws reader all left items so_far reader' left' (subst A c.in-Ok-None.field-0-is (c.in-Ok-None.ensures.answer (going order before laws reader all left items so_far)))
 
 pub returns-in-Ok-None-clause-place : goal.returns-in-Ok-None-clause-place
@@ -104,7 +105,7 @@ returns-in-Ok-None-clause-place g c = λ order all items so_far.
     let reader' : Reading = c.next.new.self in
     let left : Option (List ℕ) = g.S.Source.left c.args.input.now in
     let left' : Option (List ℕ) = g.S.Source.left c.next.new.src in
-    let A : Option Framed → Type 0 = λ given. Answers reader reader' (ahead reader.pending left) (ahead reader'.pending left') (Ok given) in
+    let A : Option Framed → Type 0 = λ next. Answers (cursor reader left) (cursor reader' left') (Ok next) in
     all_read order before laws reader all left items so_far reader' left' (subst A c.in-Ok-None.field-0-is (c.in-Ok-None.ensures.answer (going order before laws reader all left items so_far)))
 
 pub returns-in-Err-Read-clause-answer : goal.returns-in-Err-Read-clause-answer
@@ -115,7 +116,7 @@ returns-in-Err-Read-clause-answer g c = λ order all items so_far.
     let reader' : Reading = c.next.new.self in
     let left : Option (List ℕ) = g.S.Source.left c.args.input.now in
     let left' : Option (List ℕ) = g.S.Source.left c.next.new.src in
-    let A : ReadStop → Type 0 = λ stop. Answers reader reader' (ahead reader.pending left) (ahead reader'.pending left') (Err stop) in
+    let A : ReadStop → Type 0 = λ stop. Answers (cursor reader left) (cursor reader' left') (Err stop) in
     at_fault order before laws reader all left items so_far reader' left' (subst A c.in-Err-Read.field-0-is (c.in-Err-Read.ensures.answer (going order before laws reader all left items so_far)))
 
 pub returns-in-Err-Truncated-clause-answer : goal.returns-in-Err-Truncated-clause-answer
@@ -126,7 +127,7 @@ returns-in-Err-Truncated-clause-answer g c = λ order all items so_far.
     let reader' : Reading = c.next.new.self in
     let left : Option (List ℕ) = g.S.Source.left c.args.input.now in
     let left' : Option (List ℕ) = g.S.Source.left c.next.new.src in
-    let A : ReadStop → Type 0 = λ stop. Answers reader reader' (ahead reader.pending left) (ahead reader'.pending left') (Err stop) in
+    let A : ReadStop → Type 0 = λ stop. Answers (cursor reader left) (cursor reader' left') (Err stop) in
     let stops = subst A c.in-Err-Truncated.field-0-is (c.in-Err-Truncated.ensures.answer (going order before laws reader all left items so_far)) in
     let G : ℕ → Type 0 = λ at. IfSome all (λ bytes. packets_after order before bytes items (Some (Truncated, at))) in
     subst G (sym (part-sum order before laws reader all left items so_far reader' left' c.in-Err-Truncated.at stops c.requires))
@@ -140,6 +141,6 @@ returns-in-Err-TooLong-clause-answer g c = λ order all items so_far.
     let reader' : Reading = c.next.new.self in
     let left : Option (List ℕ) = g.S.Source.left c.args.input.now in
     let left' : Option (List ℕ) = g.S.Source.left c.next.new.src in
-    let A : ReadStop → Type 0 = λ stop. Answers reader reader' (ahead reader.pending left) (ahead reader'.pending left') (Err stop) in
+    let A : ReadStop → Type 0 = λ stop. Answers (cursor reader left) (cursor reader' left') (Err stop) in
     let stops = subst A c.in-Err-TooLong.field-0-is (c.in-Err-TooLong.ensures.answer (going order before laws reader all left items so_far)) in
     at_tail order before laws reader all left items so_far reader' left' tail.TooLong stops

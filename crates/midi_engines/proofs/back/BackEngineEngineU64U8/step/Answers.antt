@@ -10,9 +10,9 @@ use Rattle.midi_pass.specs.Places.{places}
 use Rattle.midi_pass.specs.Put.{Put}
 use Rattle.midi_engines.specs.Back.{ComesDown, options_of, PutsDown, returning}
 use Rattle.listing_puts.specs.Lines.{line_puts}
-use Rattle.midi_engines.specs.Raised.{Answers, AreDone, AreTaken, RaisedIsDone, byte_lines}
+use Rattle.midi_engines.specs.Raised.{Answers, AreDone, AreTaken, byte_lines, byte_task}
 use Rattle.midi_engines.proofs.BackLaws.{byte_comes_down, piece_is_put}
-use Rattle.midi_engines.proofs.RaisedLaws.{answered_steps}
+use Rattle.midi_engines.proofs.RaisedLaws.{answered_steps, task}
 use Rattle.midi_engines.proofs.StreamLaws.{answered, holds_more, refused_as}
 use Rattle.midi_engines.proofs.back.BackEngineEngineU64U8.step.Goals as goal
 
@@ -46,8 +46,8 @@ returns g c = λ first past held place.
     let down : DownState = c.args.self.now.down in
     let law = c.raised_bytes_are_the_definition.ensures paired in
     let comes = byte_comes_down paired (c.raised_packets_come_back_in_silence.ensures paired) (c.what_is_held_is_the_definition.ensures paired) (c.raised_packets_are_in_range.ensures paired) room group held.least held.few past item down held.holds_down in
-    let does = RaisedIsDone (PutsDown offset) up (offset, byte) down in
-    let A : Tail → Type 0 = λ tail. Answers tail does c.put_byte.new.work old new c.put_byte.result in
+    let does = (byte_task (PutsDown offset) up (offset, byte) down).Does in
+    let A : Tail → Type 0 = λ tail. Answers (task tail does) c.put_byte.new.work old new c.put_byte.result in
     let D : DownState → List Put → List Packet → Type 0 = λ to puts ps. AreDone (PutsDown offset) down ps to puts in
     answered_steps (returning (options_of first.up)) past item does c.put_byte.new.work old new _ c.put_byte.result
     (subst A (refused_as paired law room group past up held.holds_up offset byte place c.parsed_bytes_are_the_definition.ensures) c.put_byte.ensures.answer)

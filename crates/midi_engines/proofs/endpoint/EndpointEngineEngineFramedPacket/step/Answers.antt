@@ -20,7 +20,7 @@ use Rattle.midi_engines.specs.Raised.{Answers}
 use Rattle.midi_engines.specs.ShowPackets.{bad_join}
 use Rattle.midi_engines.specs.Up.{AreWrittenAndListed}
 use Rattle.midi_engines.proofs.EndpointLaws.{bad_is, packet_lines_are, packet_replies_are, protocol_next, responder_is}
-use Rattle.midi_engines.proofs.RaisedLaws.{answered_steps}
+use Rattle.midi_engines.proofs.RaisedLaws.{answered_steps, task}
 use Rattle.midi_engines.proofs.endpoint.EndpointEngineEngineFramedPacket.step.Goals as goal
 
 pub returns : goal.returns
@@ -57,7 +57,7 @@ returns g c = λ first past holds asks.
     ∙ ap (λ h. lines_of setup (in_force setup before) table h) holds.responder_is
     ∙ packet_lines_are laws history setup room before holds.least holds.range placed in
     let does = WrittenAndListed now.writer.order (replies_of now.setup now.config.protocol now.listener.groups now.listener.responder) (lines_of now.setup now.config.protocol now.listener.groups now.listener.responder) in
-    let T : Tail → Type 0 = λ tail. Answers tail does tt old new c.take_packet.result in
+    let T : Tail → Type 0 = λ tail. Answers (task tail does) tt old new c.take_packet.result in
     answered_steps (answering (options_of first)) past item does tt old new _ c.take_packet.result
     (subst T (ap (λ t. refusal_by (bad_join t packet) offset) holds.groups_are ∙ ap (λ b. refusal_by b offset) (bad_is laws history setup room before holds.least holds.range packet)) takes.answers)
     (λ to puts done.

@@ -9,9 +9,9 @@ use Rattle.midi_pass.specs.Bytes.{bytes_of}
 use Rattle.midi_pass.specs.Pass.{Tail}
 use Rattle.midi_pass.specs.Places.{places}
 use Rattle.listing_puts.specs.Lines.{line_puts}
-use Rattle.midi_engines.specs.Raised.{Answers, AreTaken, RaisedIsDone}
+use Rattle.midi_engines.specs.Raised.{Answers, AreTaken, byte_task}
 use Rattle.midi_engines.specs.Up.{AreWritten, options_of, raising}
-use Rattle.midi_engines.proofs.RaisedLaws.{answered_steps}
+use Rattle.midi_engines.proofs.RaisedLaws.{answered_steps, task}
 use Rattle.midi_engines.proofs.StreamLaws.{answered, holds_more, refused_as}
 use Rattle.midi_engines.proofs.UpLaws.{AcceptsWords, all_taken, are_written, exclusive_is_written, same_words, WritesWords}
 use Rattle.midi_engines.proofs.up.UpEngineEngineU64U8.step.Goals as goal
@@ -42,8 +42,8 @@ returns g c = λ first past holds place.
     let offset : ℕ = c.args.at.now in
     let up : UpState = c.args.self.now.up in
     let law = c.raised_bytes_are_the_definition.ensures paired in
-    let does = RaisedIsDone WritesWords up (offset, byte) c.args.self.now.words in
-    let A : Tail → Type 0 = λ tail. Answers tail does c.put_byte.new.work old new c.put_byte.result in
+    let does = (byte_task WritesWords up (offset, byte) c.args.self.now.words).Does in
+    let A : Tail → Type 0 = λ tail. Answers (task tail does) c.put_byte.new.work old new c.put_byte.result in
     answered_steps (raising (options_of first.up order)) past (offset, byte) does c.put_byte.new.work old new _ c.put_byte.result
     (subst A (refused_as paired law room group past up held.holds offset byte place c.parsed_bytes_are_the_definition.ensures) c.put_byte.ensures.answer)
     (λ to puts done.

@@ -13,7 +13,7 @@ returns-in-Ok g c =
     let words : List ℕ = c.as_slice.result.now in
     let text : List ℕ = flat_map (word_bytes c.args.self.now.order) words in
     let E : List ℕ → Type 0 = λ ws. Encodes c.args.packet.now ws in
-    (in_output text ∷ [], (refl, (words, subst E (sym c.as_slice.ensures.words) c.encode-words.ensures.spelled, refl)), output_put old text _ _ c.in-Ok.ensures.bytes c.in-Ok.ensures.cause.kept)
+    (in_output text ∷ [], (refl, (words, subst E (sym c.as_slice.ensures.words) c.words-words.ensures, refl)), output_put old text _ _ c.in-Ok.ensures.bytes c.in-Ok.ensures.cause.kept)
 
 pub returns-in-Err : goal.returns-in-Err
 returns-in-Err g c =
@@ -21,4 +21,4 @@ returns-in-Err g c =
     let words : List ℕ = c.as_slice.result.now in
     let text : List ℕ = flat_map (word_bytes c.args.self.now.order) words in
     let E : List ℕ → Type 0 = λ ws. Encodes c.args.packet.now ws in
-    (c.args.self.now, in_output text ∷ [], (refl, (words, subst E (sym c.as_slice.ensures.words) c.encode-words.ensures.spelled, refl)), output_fails old text _ _ c.in-Err.ensures.bytes c.in-Err.ensures.cause.rose)
+    (c.args.self.now, in_output text ∷ [], (refl, (words, subst E (sym c.as_slice.ensures.words) c.words-words.ensures, refl)), output_fails old text _ _ c.in-Err.ensures.bytes c.in-Err.ensures.cause.rose)

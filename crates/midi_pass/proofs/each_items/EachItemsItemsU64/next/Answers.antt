@@ -1,9 +1,8 @@
 use Rattle.std.proofs.Common.{ℕ, Option, List, subst, sym, ap}
 use Rattle.std.specs.Prelude.{Ok, Err}
-use Rattle.item_reader.specs.Reading.{Answers, Reading}
-use Rattle.item_reader.specs.SoFar.{ReadSoFar}
+use Rattle.item_reader.specs.Reading.{Answers, Reading, cursor}
+use Rattle.item_reader.specs.SoFar.{ReadSoFar, given}
 use Rattle.item_reader.specs.declared.cutting.Tail.TheVariants as tail
-use Rattle.midi_edge.specs.Outside.{ahead}
 use Rattle.midi_edge.specs.declared.outside.ReadStop.{ReadStop}
 use Rattle.midi_pass.specs.Items.{after_offset, item_cutting, limit}
 use Rattle.midi_pass.specs.Next.{GivesNext}
@@ -20,19 +19,19 @@ returns-clause-answer g c = λ first all items given_so_far.
     let reader' = c.next.new.self in
     let asked = g.H.Cut.asked reader.how in
     let item_of = g.H.Cut.item_of reader.how in
-    let R : Reading g.row.H.Denot → Type 0 = λ r. ReadSoFar (g.H.Cut.asked first.how) (after_offset (g.H.Cut.item_of first.how)) first.how limit r all left items in
+    let R : Reading g.row.H.Denot → Type 0 = λ r. ReadSoFar (g.H.Cut.asked first.how) (after_offset (g.H.Cut.item_of first.how)) first.how limit r (given all left items) in
     let so_far = subst R (sym c.self.view_is) given_so_far in
     let goes_on = ap (λ r. r.end) so_far.place in
     let laws = c.items_are_taken_in_order.ensures (λ how. after_offset (g.H.Cut.item_of how)) in
     let G : Next ℕ g.row.I.Denot → Type 0 =
     λ next. GivesNext (item_cutting (g.H.Cut.asked first.how) (after_offset (g.H.Cut.item_of first.how))) (λ past item. Unit {0})
-    (λ given. ReadSoFar (g.H.Cut.asked first.how) (after_offset (g.H.Cut.item_of first.how)) first.how limit reader' all left' given) all left' items next in
-    let K : Option (g.row.I.Denot × ℕ) → Type 0 = λ given. Answers asked item_of reader reader' (ahead reader.pending left) (ahead reader'.pending left') (Ok given) in
-    let E : ReadStop → Type 0 = λ stop. Answers {Item = g.row.I.Denot × ℕ} asked item_of reader reader' (ahead reader.pending left) (ahead reader'.pending left') (Err stop) in
+    (λ so_far. ReadSoFar (g.H.Cut.asked first.how) (after_offset (g.H.Cut.item_of first.how)) first.how limit reader' so_far) (given all left' items) next in
+    let K : Option (g.row.I.Denot × ℕ) → Type 0 = λ next. Answers asked item_of (cursor reader left) (cursor reader' left') (Ok next) in
+    let E : ReadStop → Type 0 = λ stop. Answers {Item = g.row.I.Denot × ℕ} asked item_of (cursor reader left) (cursor reader' left') (Err stop) in
     elim c.match-next.branch [
       | in-Ok-Some w ↦
           let gives = subst K w.in-Ok-Some.field-0-is (w.in-Ok-Some.ensures.answer goes_on) in
-          let one = placed asked item_of reader reader' (ahead reader.pending left) (ahead reader'.pending left') (w.in-Ok-Some.item, w.in-Ok-Some.offset) gives in
+          let one = placed asked item_of (cursor reader left) (cursor reader' left') (w.in-Ok-Some.item, w.in-Ok-Some.offset) gives in
           let item : ℕ × g.row.I.Denot = (w.in-Ok-Some.offset, w.in-Ok-Some.item) in
           subst G (sym w.result-is)
           (laws.given_more first.how reader all left items so_far reader' left' item one, tt, laws.front_more first.how reader all left items so_far reader' left' item one)

@@ -30,4 +30,4 @@ pub returns-in-Err : goal.returns-in-Err
 returns-in-Err g c = λ first past holds asks.
     let item : ℕ × CalledEvent = (c.args.at.now, c.args.item.now) in
     let is : next_at first.setup past item ≡ Err c.in-Err.fault = by_course first.setup past item c.args.self.now.rehearsal (Err c.in-Err.fault) holds.stage c.in-Err.ensures.0 in
-    (ap (λ next. refusal_of next item.0) is ∙ ap (λ reason. Some (reason, item.0)) (sym c.reason_of.ensures), refl)
+    ((ap (λ next. refusal_of next item.0) is ∙ ap (λ reason. Some (reason, item.0)) (sym c.reason_of.ensures), refl), tt)

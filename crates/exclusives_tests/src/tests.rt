@@ -1,0 +1,3 @@
+// The exclusives of sixteen groups, and those of many streams.
+mod groups;
+mod streams;

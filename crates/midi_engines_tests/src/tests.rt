@@ -1,2 +1,0 @@
-// Tests over the objects in memory.
-mod stream_faults;
