@@ -1,6 +1,8 @@
+pub mod AloneLaws
 pub mod ExclusiveLaws
 pub mod HeldLaws
 pub mod LaneLaws
+pub mod LoweredLaws
 pub mod PieceLaws
 pub mod RecordingLaws
 pub mod RecordingRooms

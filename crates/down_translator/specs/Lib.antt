@@ -3,6 +3,7 @@ pub mod Held
 pub mod Lanes
 pub mod Laws
 pub mod Lend
+pub mod Lowered
 pub mod Recording
 pub mod Statuses
 pub mod Step

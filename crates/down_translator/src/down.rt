@@ -1,16 +1,22 @@
 // The translator down, in both styles.
-ghost use Rattle.std.specs.Prelude.{◌≡◌, ◌≤◌, ◌<◌, IfOk, true, Some, None, length};
+ghost use Rattle.std.specs.Prelude.{◌≡◌, ◌≤◌, ◌<◌, ◌/◌, IfOk, IfSome, true, Some, None, length, take};
 ghost use Rattle.sysex_groups.specs.Exclusives.{IsData};
 ghost use Rattle.ump_grammar.specs.Ranges.{IsPacket};
+ghost use Rattle.voice_state.specs.Controllers.{pairing, role_of};
+ghost use Rattle.voice_state.specs.Styles.{plain_style};
+ghost use Rattle.down_translator.specs.Lanes.{is_single};
+ghost use Rattle.down_translator.specs.Lowered.{IsWholeStep};
 ghost use Rattle.ump_grammar.specs.declared.packet.Packet.TheVariants as packet;
 ghost use Rattle.voice_messages.specs.declared.voice2.Voice2.TheVariants as voice2;
 
 use crate::carried::Carried;
 use crate::lanes::Lanes;
 use crate::listing::{line, paired_kind, voice_kind};
+use crate::lowered::{LoweredMessage, lowered};
 use crate::pieces::{Piece, write_paired, write_system, write_voice1, write_voice2};
 use crate::refusals::{bad_voice1, bad_voice2};
 use crate::style::Style;
+use encoded_packets::{EncodedPacket, ExclusivePart, ValueMessage};
 use midi_edge::{NoMemory, U4};
 use std::alloc::Global;
 use std::marker::Model;
@@ -231,6 +237,69 @@ impl Down {
             }
             Packet::Stream { .. } => Ok(Carried::only_listed(offset, None, Kind::Stream)),
             Packet::Reserved { .. } => Ok(Carried::only_listed(offset, None, Kind::Reserved)),
+        }
+    }
+
+    // Takes a part of an exclusive with its places for bytes.
+    #[tactic(auto, using(crate::proofs::LoweredLaws::few_of, crate::proofs::LoweredLaws::data_of))]
+    #[inline(always)]
+    fn part(&mut self, part: ExclusivePart, offset: u64) -> Result<Carried<'_>, BadStep>
+        requires few { part.count ≤ 6 }
+        requires data_bytes { IsData part.bytes }
+        ensures answer { Translates self.old offset
+            (packet.Exclusive part.group part.form (take part.count part.bytes)) result }
+        ensures* after { sem 𝓛 (KeepsDown self.entry (down_after offset
+            (packet.Exclusive part.group part.form (take part.count part.bytes)) self.old)) }
+    {
+        let ExclusivePart {
+            group,
+            form,
+            count,
+            bytes,
+        } = part;
+        self.exclusive(group, form, &bytes[..count], offset)
+    }
+
+    /// The same for a packet that is held as its words. It is taken apart, unless it is a part of an exclusive whose bytes are read
+    /// from the words.
+    #[inline(always)]
+    pub fn encoded(&mut self, packet: &EncodedPacket, offset: u64) -> Result<Carried<'_>, BadStep>
+        ensures answer { Translates self.old offset packet.now result }
+        ensures* after { sem 𝓛 (KeepsDown self.entry (down_after offset packet.now self.old)) }
+    {
+        match packet.exclusive() {
+            Some(part) => self.part(part, offset),
+            None => self.packet(&packet.decode(), offset),
+        }
+    }
+
+    // Whether a message that has a value is carried by one MIDI 1.0 message, and that with all its bytes. Those without an index
+    // count as a control change that has no other meaning, so that nothing need be guessed.
+    #[inline(always)]
+    fn is_lowered(&self, message: &ValueMessage) -> bool
+        ensures plain { result ≡ true → self.now.lanes.style ≡ plain_style }
+        ensures control { result ≡ true → message.now.status / 16 ≡ 0xB →
+            is_single (pairing self.now.lanes.paired (role_of message.now.index)) ≡ true }
+    {
+        let index = if message.status / 16 == 0xB {
+            message.index
+        } else {
+            U7::low_bits(64)
+        };
+        self.lanes.is_alone(index)
+    }
+
+    /// The message that carries the packet, where in plain style one MIDI 1.0 message with the packet's status byte does
+    /// (M2-104-UM, default translation): a note off or on, the pressure of a note or of a channel, a bend, and a control change of
+    /// a controller that has a value and isn't one of a pair. It is the answer of `packet`, and the translator stays as it is. For
+    /// other packets `None` comes, and `packet` has their answer.
+    #[inline(always)]
+    pub fn lowered(&self, packet: &EncodedPacket) -> Option<LoweredMessage>
+        ensures { IfSome result (λ message. IsWholeStep self.now packet.now message) }
+    {
+        match packet.value_message() {
+            Some(message) if self.is_lowered(&message) => Some(lowered(&message)),
+            _ => None,
         }
     }
 

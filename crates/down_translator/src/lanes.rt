@@ -1,5 +1,5 @@
 // The lanes, as they are written in a style.
-ghost use Rattle.std.specs.Prelude.{◌≡◌, ◌≤◌, ◌++◌, if◌then◌else◌, IfOk, Some, is_some, length};
+ghost use Rattle.std.specs.Prelude.{◌≡◌, ◌≤◌, ◌<◌, ◌++◌, ℕ, if◌then◌else◌, IfOk, Some, true, false, is_some, length, slice_index_or};
 ghost use Rattle.std.specs.Option.{option_map};
 ghost use Rattle.midi1_bytes.specs.Messages.{voice};
 ghost use Rattle.sysex_groups.specs.Exclusives.{ended_by};
@@ -7,7 +7,11 @@ ghost use Rattle.sysex_groups.specs.Table.{begun_in};
 ghost use Rattle.voice_state.specs.Compact.{has_bank, is_selected};
 ghost use Rattle.voice_state.specs.LaneState.{at_registers_of, channels_after1, registers_at};
 ghost use Rattle.voice_state.specs.Registers.{with_bank, with_selected};
+ghost use Rattle.voice_state.specs.Controllers.{pairing, role_of};
+ghost use Rattle.voice_state.specs.Styles.{plain_style};
 ghost use Rattle.down_translator.specs.Lanes.{
+  is_single,
+  AreAlone,
   after_system,
   is_there,
   kept_by,
@@ -21,7 +25,7 @@ ghost use Rattle.down_translator.specs.Lanes.{
 ghost use Rattle.down_translator.specs.Statuses.{statuses_after, written_in};
 
 use crate::lane::Lane;
-use crate::pieces::Piece;
+use crate::pieces::{Piece, is_single_index};
 use crate::statuses::Statuses;
 use crate::style::Style;
 use midi_edge::{NoMemory, U4};
@@ -29,7 +33,7 @@ use midi1_bytes::write_voice;
 use std::alloc::Global;
 use std::marker::Model;
 use sysex_groups::Groups;
-use voice_messages::{Bank, Form, Param, System, Voice1};
+use voice_messages::{Bank, Form, Param, System, U7, Voice1};
 
 /// How lanes are written, and what is kept of each of the sixteen in compact style. In plain style nothing is kept.
 #[derive(Drop)]
@@ -37,6 +41,8 @@ pub struct Lanes {
     style: Style,
     paired: bool,
     lanes: Vec<Lane>,
+    // Of which control changes one message carries all, by their index.
+    alone: [bool; 128],
 }
 
 impl Model for Lanes {
@@ -51,7 +57,30 @@ impl Model for Lanes {
       states = l.lanes.items;
     } };
 
-    ghost invariant = { λ l. length l.lanes.items ≡ 16 };
+    ghost invariant = { λ l. (length l.lanes.items ≡ 16)
+        × definition.AreAlone (definition.style_in l.style) l.paired l.alone };
+}
+
+// Marks the indexes of the control changes that one message carries, where controllers are paired or aren't.
+fn single_indexes(paired: bool) -> [bool; 128]
+    ensures { (index : ℕ) → index < 128 → slice_index_or result index false ≡ true →
+        is_single (pairing paired (role_of index)) ≡ true }
+{
+    let mut marked = [false; 128];
+    for index in 0..128u8 {
+        marked[index as usize] = is_single_index(U7::low_bits(index as u32), paired);
+    }
+    marked
+}
+
+// The same in plain style. In compact style none is marked, since a message may be without its status byte.
+fn alone_in(style: Style, paired: bool) -> [bool; 128]
+    ensures { AreAlone (style_in style) paired result }
+{
+    match style {
+        Style::Plain => single_indexes(paired),
+        Style::Compact => [false; 128],
+    }
 }
 
 impl Lanes {
@@ -75,6 +104,7 @@ impl Lanes {
             style,
             paired,
             lanes,
+            alone: alone_in(style, paired),
         })
     }
 
@@ -84,6 +114,16 @@ impl Lanes {
         ensures { result ≡ self.now.paired }
     {
         self.paired
+    }
+
+    /// Whether the style is plain and one message carries the control change with this index, where controllers are paired or
+    /// aren't.
+    #[inline(always)]
+    pub fn is_alone(&self, index: U7) -> bool
+        ensures { result ≡ true → (self.now.style ≡ plain_style)
+            × (is_single (pairing self.now.paired (role_of index)) ≡ true) }
+    {
+        self.alone[index.get() as usize]
     }
 
     /// Which status bytes are written in the lane of a group.

@@ -7,6 +7,7 @@ mod lane;
 mod lanes;
 pub mod laws;
 mod listing;
+pub mod lowered;
 mod pieces;
 mod refusals;
 mod statuses;
@@ -15,5 +16,6 @@ mod voice;
 
 pub use crate::carried::Carried;
 pub use crate::down::Down;
+pub use crate::lowered::LoweredMessage;
 pub use crate::style::Style;
 pub use voice_state::{BadStep, Kind, Listed};

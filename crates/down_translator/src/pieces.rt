@@ -48,21 +48,14 @@ fn fill_system(piece: &mut Piece, message: &System)
     piece.extend(bytes.as_slice());
 }
 
-/// Whether a control change of MIDI 2.0 is carried by one of MIDI 1.0, without pairs.
+/// Whether a control change of MIDI 2.0 is carried by one of MIDI 1.0, where controllers are paired or aren't.
 #[inline(always)]
-fn is_single_index(index: U7) -> bool
-    ensures { result ≡ is_single (pairing false (role_of index)) }
+pub fn is_single_index(index: U7, paired: bool) -> bool
+    ensures { result ≡ is_single (pairing paired (role_of index)) }
 {
-    match ControlRole::of(index) {
-        ControlRole::BankMsb
-        | ControlRole::BankLsb
-        | ControlRole::DataMsb
-        | ControlRole::DataLsb
-        | ControlRole::DataIncrement
-        | ControlRole::DataDecrement
-        | ControlRole::NumberMsb(_)
-        | ControlRole::NumberLsb(_) => false,
-        _ => true,
+    match ControlRole::of(index).pairing(paired) {
+        ControlRole::ResetAll | ControlRole::ChannelMode | ControlRole::Plain => true,
+        _ => false,
     }
 }
 
@@ -160,7 +153,7 @@ fn single_message(message: &Voice2) -> Option<Voice1>
             channel,
             index,
             value,
-        } if is_single_index(index) => lower_control(channel, index, value),
+        } if is_single_index(index, false) => lower_control(channel, index, value),
         Voice2::Program {
             channel,
             program,

@@ -20,9 +20,8 @@ use midi_pass::{Engine, LIMIT, RunEnd, drive};
 use midi1_bytes::laws::parsed_bytes_are_the_definition;
 use std::alloc::Global;
 use std::marker::Model;
-use ump_grammar::Packet;
 use up_translator::laws::raised_bytes_are_the_definition;
-use up_translator::{PacketForm, RaisedPacket, Up};
+use up_translator::{RaisedPacket, Up};
 use voice_state::up_laws::{
     bytes_that_come_back_mean_the_same, raised_packets_are_in_range,
     raised_packets_come_back_in_silence, rooms_that_are_not_reached_do_not_matter_in_bytes,
@@ -90,27 +89,6 @@ fn put_piece<L: Lanes, W: Sink, N: Sink>(
     }
 }
 
-// Takes a packet down, and puts its piece.
-#[inline(always)]
-fn put_down<L: Lanes, W: Sink, N: Sink>(
-    down: &mut Down,
-    packet: &Packet,
-    offset: u64,
-    lanes: &mut L,
-    output: &mut W,
-    notes: &mut N,
-) -> Result<(), RunEnd>
-    requires { ComesDown down.old packet.now }
-    ensures { CarriesOut (PutsDown offset down.old packet.now) down.new
-        (places L.Lanes W.Sink N.Sink lanes.old output.old notes.old)
-        (places L.Lanes W.Sink N.Sink lanes.new output.new notes.new) result }
-{
-    match down.packet(packet, offset) {
-        Ok(carried) => put_piece(carried.piece, lanes, output, notes),
-        Err(_) => unreachable!(),
-    }
-}
-
 // Takes packets down, and puts their pieces. What bytes are raised to is neither refused nor listed there.
 impl PacketWork for Down {
     ghost Accepts = { λ from packet. ComesDown from packet };
@@ -126,19 +104,9 @@ impl PacketWork for Down {
         output: &mut W,
         notes: &mut N,
     ) -> Result<(), RunEnd> {
-        match packet.form() {
-            PacketForm::NoteOrControl { group, message } => {
-                let (group, message) = (*group, message.message());
-                put_down(
-                    self,
-                    &Packet::Voice2 { group, message },
-                    offset,
-                    lanes,
-                    output,
-                    notes,
-                )
-            }
-            PacketForm::Packet(packet) => put_down(self, packet, offset, lanes, output, notes),
+        match self.packet(&packet.packet(), offset) {
+            Ok(carried) => put_piece(carried.piece, lanes, output, notes),
+            Err(_) => unreachable!(),
         }
     }
 }

@@ -1,5 +1,5 @@
 // From packets to MIDI 1.0 bytes.
-ghost use Rattle.std.specs.Prelude.{◌≡◌, ◌<◌, ◌≤◌, IfOk, true};
+ghost use Rattle.std.specs.Prelude.{◌≡◌, ◌<◌, ◌≤◌, ◌∷◌, [], IfOk, true};
 ghost use Rattle.std.specs.Option.{option_map, option_to_list};
 ghost use Rattle.sysex_groups.specs.Table.{Table, begun_in};
 ghost use Rattle.ump_grammar.specs.declared.packet.Packet.{Packet};
@@ -8,11 +8,13 @@ ghost use Rattle.down_translator.specs.Held.{down_after};
 ghost use Rattle.down_translator.specs.Lanes.{style_in};
 ghost use Rattle.midi_pass.specs.Pass.{Ends, IsDoneUnless, seen};
 ghost use Rattle.midi_pass.specs.Places.{Puts, places};
+ghost use Rattle.midi_pass.specs.Put.{in_lane};
 ghost use Rattle.midi_pass.specs.Refused.{IsRefusedWhere};
 ghost use Rattle.voice_state.specs.Listing.{groups};
+ghost use Rattle.down_translator.specs.Lowered.{attribute_line, bytes_of};
 ghost use Rattle.down_translator.specs.Recording.{pair_put};
 ghost use Rattle.listing_puts.specs.Lines.{line_puts};
-ghost use Rattle.midi_engines.specs.Down.{Carries, HoldsDown, IsReadyDown, carrying, open_line, open_puts, options_of, pair_puts, puts_for};
+ghost use Rattle.midi_engines.specs.Down.{Carries, HoldsDown, IsReadyDown, carrying, lowered_puts, open_line, open_puts, options_of, pair_puts, puts_for};
 ghost use Rattle.midi_engines.specs.DownMeans.{carries_named, carries_nothing, carries_means, ends_named};
 ghost use Rattle.packet_items.specs.Packets.{packet_cutting};
 
@@ -20,16 +22,16 @@ use down_translator::laws::{
     one_more_accepted_packet_adds_its_pair_and_line, spelled_packets_are_in_range,
     what_is_held_is_the_definition,
 };
-use down_translator::{Carried, Down, Kind, Listed, Style};
+use down_translator::{Carried, Down, Kind, Listed, LoweredMessage, Style};
+use encoded_packets::EncodedPacket;
 use listing_puts::{put_line, put_listed, refused};
 use midi_edge::{Lanes, NoMemory, Sink, Source, U4};
 use midi_pass::places::put_lane;
 use midi_pass::{Engine, RunEnd, drive};
-use packet_items::{PacketReader, packets_are_cut_once};
+use packet_items::{EncodedReader, packets_are_cut_once};
 use std::alloc::Global;
 use std::marker::Model;
 use sysex_groups::Groups;
-use ump_grammar::Packet;
 use ump_words::{Framed, Order};
 use voice_state::style_laws::styled_pairs_are_a_translation;
 
@@ -88,7 +90,7 @@ struct DownEngine {
     down: Down,
 }
 
-impl Engine<Framed, Packet> for DownEngine {
+impl Engine<Framed, EncodedPacket> for DownEngine {
     ghost work = { λ first. carrying (options_of first.down) };
 
     ghost IsReady = { λ first. IsReadyDown first.down };
@@ -104,7 +106,7 @@ impl Engine<Framed, Packet> for DownEngine {
     fn step<L: Lanes, W: Sink, N: Sink>(
         &mut self,
         at: &Framed,
-        item: &Packet,
+        item: &EncodedPacket,
         lanes: &mut L,
         output: &mut W,
         notes: &mut N,
@@ -165,7 +167,7 @@ pub fn run_down<S: Source, L: Lanes, W: Sink, N: Sink>(
     styled_pairs_are_a_translation();
     packets_are_cut_once();
     let DownRun { down, order } = engine;
-    let reader = PacketReader::new(order);
+    let reader = EncodedReader::new(order);
     drive(reader, DownEngine { down }, input, lanes, output, notes)
 }
 
@@ -206,10 +208,10 @@ fn put_carried<L: Lanes, W: Sink, N: Sink>(
     }
 }
 
-// Takes one packet down: puts its piece into the lane of its group, and its line into the notes.
-fn carry<L: Lanes, W: Sink, N: Sink>(
+// Takes one packet down that isn't carried by one message: puts its piece into the lane of its group, and its line into the notes.
+fn carry_encoded<L: Lanes, W: Sink, N: Sink>(
     down: &mut Down,
-    packet: &Packet,
+    packet: &EncodedPacket,
     offset: u64,
     lanes: &mut L,
     output: &mut W,
@@ -222,9 +224,141 @@ fn carry<L: Lanes, W: Sink, N: Sink>(
         (places L.Lanes W.Sink N.Sink lanes.old output.old notes.old)
         (places L.Lanes W.Sink N.Sink lanes.new output.new notes.new) result }
 {
-    match down.packet(packet, offset) {
+    match down.encoded(packet, offset) {
         Ok(carried) => put_carried(&carried, lanes, output, notes),
         Err(bad) => Err(refused(bad, offset)),
+    }
+}
+
+// Puts a message of two bytes. Each of these arrays has a function of its own, since it is cleared where its function begins.
+#[inline(always)]
+fn put_two<L: Lanes, W: Sink, N: Sink>(
+    lane: U4,
+    status: u8,
+    first: u8,
+    lanes: &mut L,
+    output: &mut W,
+    notes: &mut N,
+) -> Result<(), RunEnd>
+    requires begun { L.begun lanes.old ≡ true }
+    ensures { Puts (in_lane lane (status ∷ first ∷ []) ∷ [])
+        (places L.Lanes W.Sink N.Sink lanes.old output.old notes.old)
+        (places L.Lanes W.Sink N.Sink lanes.new output.new notes.new) result }
+{
+    put_lane(lane, &[status, first], lanes, output, notes)
+}
+
+// Puts a message of three bytes.
+#[inline(always)]
+fn put_three<L: Lanes, W: Sink, N: Sink>(
+    lane: U4,
+    status: u8,
+    first: u8,
+    second: u8,
+    lanes: &mut L,
+    output: &mut W,
+    notes: &mut N,
+) -> Result<(), RunEnd>
+    requires begun { L.begun lanes.old ≡ true }
+    ensures { Puts (in_lane lane (status ∷ first ∷ second ∷ []) ∷ [])
+        (places L.Lanes W.Sink N.Sink lanes.old output.old notes.old)
+        (places L.Lanes W.Sink N.Sink lanes.new output.new notes.new) result }
+{
+    put_lane(lane, &[status, first, second], lanes, output, notes)
+}
+
+// Puts a message that alone carries a packet into its lane.
+#[inline(always)]
+fn put_message<L: Lanes, W: Sink, N: Sink>(
+    message: &LoweredMessage,
+    lanes: &mut L,
+    output: &mut W,
+    notes: &mut N,
+) -> Result<(), RunEnd>
+    requires begun { L.begun lanes.old ≡ true }
+    ensures { Puts (in_lane message.now.lane (bytes_of message.now) ∷ [])
+        (places L.Lanes W.Sink N.Sink lanes.old output.old notes.old)
+        (places L.Lanes W.Sink N.Sink lanes.new output.new notes.new) result }
+{
+    let LoweredMessage {
+        lane,
+        status,
+        first,
+        second,
+        ..
+    } = *message;
+    match second {
+        Some(second) => put_three(lane, status, first, second, lanes, output, notes),
+        None => put_two(lane, status, first, lanes, output, notes),
+    }
+}
+
+// Puts the line of an attribute that is left out.
+#[inline(always)]
+fn put_attribute<L: Lanes, W: Sink, N: Sink>(
+    group: U4,
+    offset: u64,
+    lanes: &mut L,
+    output: &mut W,
+    notes: &mut N,
+) -> Result<(), RunEnd>
+    ensures { Puts (line_puts (option_to_list (attribute_line offset group true)))
+        (places L.Lanes W.Sink N.Sink lanes.old output.old notes.old)
+        (places L.Lanes W.Sink N.Sink lanes.new output.new notes.new) result }
+{
+    let listed = Listed {
+        offset,
+        group: Some(group),
+        kind: Kind::NoteAttribute,
+    };
+    put_line(&listed, lanes, output, notes)
+}
+
+// Puts a message that alone carries a packet into its lane, and then the line of the attribute that it leaves out, if it does.
+#[inline(always)]
+fn put_lowered<L: Lanes, W: Sink, N: Sink>(
+    message: &LoweredMessage,
+    offset: u64,
+    lanes: &mut L,
+    output: &mut W,
+    notes: &mut N,
+) -> Result<(), RunEnd>
+    requires begun { L.begun lanes.old ≡ true }
+    ensures { Puts (lowered_puts offset message.now)
+        (places L.Lanes W.Sink N.Sink lanes.old output.old notes.old)
+        (places L.Lanes W.Sink N.Sink lanes.new output.new notes.new) result }
+{
+    match put_message(message, lanes, output, notes) {
+        Ok(()) => {
+            if message.has_attribute {
+                put_attribute(message.lane, offset, lanes, output, notes)
+            } else {
+                Ok(())
+            }
+        }
+        Err(end) => Err(end),
+    }
+}
+
+// Takes one packet down: puts its piece into the lane of its group, and its line into the notes.
+fn carry<L: Lanes, W: Sink, N: Sink>(
+    down: &mut Down,
+    packet: &EncodedPacket,
+    offset: u64,
+    lanes: &mut L,
+    output: &mut W,
+    notes: &mut N,
+) -> Result<(), RunEnd>
+    requires packet { IsPacket packet.now }
+    requires begun { L.begun lanes.old ≡ true }
+    ensures behind { down.new ≡ down_after offset packet.now down.old }
+    ensures carries { Carries down.old offset packet.now
+        (places L.Lanes W.Sink N.Sink lanes.old output.old notes.old)
+        (places L.Lanes W.Sink N.Sink lanes.new output.new notes.new) result }
+{
+    match down.lowered(packet) {
+        Some(message) => put_lowered(&message, offset, lanes, output, notes),
+        None => carry_encoded(down, packet, offset, lanes, output, notes),
     }
 }
 

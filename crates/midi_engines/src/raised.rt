@@ -13,7 +13,6 @@ use listing_puts::{put_lines, put_listed, refused};
 use midi_edge::{Lanes, Sink, U4};
 use midi_pass::RunEnd;
 use sysex_groups::part;
-use ump_grammar::Packet;
 use up_translator::{Raised, RaisedPacket, Up};
 
 /// What is done with each of the packets to which a byte is raised.
@@ -59,7 +58,7 @@ fn put_payload<P: PacketWork, L: Lanes, W: Sink, N: Sink>(
     loop {
         match part(payload, k) {
             Some((form, bytes)) => {
-                let packet = RaisedPacket::of(Packet::Exclusive { group, form, bytes });
+                let packet = RaisedPacket::of_exclusive(group, form, bytes);
                 match work.put(&packet, offset, lanes, output, notes) {
                     Ok(()) => k += 1,
                     Err(end) => return Err(end),

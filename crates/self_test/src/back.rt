@@ -9,36 +9,19 @@ ghost use Rattle.self_test.specs.Played.{ArePlayed, IsPlayedStep};
 
 use down_translator::Down;
 use midi1_bytes::laws::parsed_bytes_are_the_definition;
-use ump_grammar::Packet;
 use up_translator::laws::raised_bytes_are_the_definition;
-use up_translator::{PacketForm, RaisedPacket, Up};
-
-// Takes a packet down: the number of bytes of its piece.
-fn bring_down(packet: &Packet, offset: u64, down: &mut Down) -> u64
-    requires fits { IsPacket packet.now }
-    requires accepted { refusal_in down.old packet.now ≡ None }
-    ensures count { result ≡ length (piece_of down.old packet.now) }
-    ensures after { down.new ≡ down_after offset packet.now down.old }
-{
-    match down.packet(packet, offset) {
-        Ok(carried) => carried.piece.len() as u64,
-        Err(_) => unreachable!(),
-    }
-}
+use up_translator::{RaisedPacket, Up};
 
 // Takes a packet down to which a message is raised: the number of bytes of its piece.
-fn bring_raised_down(packet: &RaisedPacket, offset: u64, down: &mut Down) -> u64
+fn bring_down(packet: &RaisedPacket, offset: u64, down: &mut Down) -> u64
     requires fits { IsPacket packet.now }
     requires accepted { refusal_in down.old packet.now ≡ None }
     ensures count { result ≡ length (piece_of down.old packet.now) }
     ensures after { down.new ≡ down_after offset packet.now down.old }
 {
-    match packet.form() {
-        PacketForm::NoteOrControl { group, message } => {
-            let (group, message) = (*group, message.message());
-            bring_down(&Packet::Voice2 { group, message }, offset, down)
-        }
-        PacketForm::Packet(packet) => bring_down(packet, offset, down),
+    match down.packet(&packet.packet(), offset) {
+        Ok(carried) => carried.piece.len() as u64,
+        Err(_) => unreachable!(),
     }
 }
 
@@ -56,7 +39,7 @@ fn bring_byte_back(byte: u8, offset: u64, up: &mut Up, down: &mut Down) -> u64
     raised_bytes_are_the_definition();
     match up.byte(byte, offset) {
         Ok(raised) => match raised.packet {
-            Some(packet) => bring_raised_down(packet, offset, down),
+            Some(packet) => bring_down(packet, offset, down),
             None => 0,
         },
         Err(_) => unreachable!(),

@@ -1,9 +1,9 @@
 -- What is raised from a byte: its packets, beside its lines of the listing.
-use Rattle.std.specs.Prelude.{ℕ, Bool, ◌&&◌, is_none, List, [], ◌∷◌, Option, Some, None}
+use Rattle.std.specs.Prelude.{ℕ, List, [], ◌∷◌, Option, Some, None}
 use Rattle.std.specs.Option.{option_map}
 use Rattle.ump_grammar.specs.declared.packet.Packet.{Packet}
 use Rattle.voice_state.specs.Raising.{exclusive_packets}
-use Rattle.up_translator.specs.ByteLines.{group_of, has_none}
+use Rattle.up_translator.specs.ByteLines.{group_of}
 use Rattle.up_translator.specs.declared.raised.Raised.{Raised}
 
 abbrev pub group_in : Raised → ℕ
@@ -34,7 +34,3 @@ AreApart _ _ = Unit {0}
 -- at most one of the two is there
 abbrev pub IsApart : Raised → Type 0
 IsApart raised = AreApart (packet_in raised) (payload_in raised)
-
--- nothing comes of the byte
-abbrev pub is_empty_in : Raised → Bool
-is_empty_in raised = is_none (packet_in raised) && is_none (payload_in raised) && has_none raised.lines

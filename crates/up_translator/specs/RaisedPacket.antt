@@ -7,4 +7,6 @@ use Rattle.up_translator.specs.declared.raised_packet.PacketForm.TheVariants as 
 -- by how it is held
 abbrev pub packet_by : PacketForm → Packet
 packet_by (form.NoteOrControl group message) = packet.Voice2 group message
-packet_by (form.Packet kept) = kept
+packet_by (form.Voice2 group message) = packet.Voice2 group message
+packet_by (form.System group message) = packet.System group message
+packet_by (form.Exclusive group cut bytes) = packet.Exclusive group cut bytes

@@ -16,6 +16,6 @@ pub use crate::byte_lines::{ByteLines, Line};
 pub use crate::lines::{kind_of_cut, kind_of_open};
 pub use crate::note_or_control::NoteOrControl;
 pub use crate::raised::Raised;
-pub use crate::raised_packet::{PacketForm, RaisedPacket};
+pub use crate::raised_packet::RaisedPacket;
 pub use crate::up::Up;
 pub use voice_state::{BadStep, Kind, Listed};

@@ -27,7 +27,6 @@ impl<'a> Raised<'a> {
       packet_in,
       payload_in,
       packets_in,
-      is_empty_in,
       IsApart,
     };
 
@@ -83,14 +82,6 @@ impl<'a> Raised<'a> {
             payload: Some(payload),
             lines: ByteLines::new(group, None, None),
         }
-    }
-
-    /// Whether nothing comes of the byte: no packet, no payload and no line. Most bytes are only held.
-    #[inline(always)]
-    pub fn is_empty(&self) -> bool
-        ensures { result ≡ is_empty_in self.now }
-    {
-        self.packet.is_none() && self.payload.is_none() && self.lines.is_empty()
     }
 
     /// The group of the packets and of the lines.

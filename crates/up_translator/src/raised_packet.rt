@@ -6,18 +6,36 @@ ghost use Rattle.ump_grammar.specs.declared.packet.Packet.TheVariants as packet;
 ghost use Rattle.up_translator.specs.RaisedPacket.{packet_by};
 
 use crate::note_or_control::NoteOrControl;
+use midi_edge::ShortList;
 use std::marker::Model;
 use ump_grammar::{Packet, encode};
 use ump_words::Words;
-use voice_messages::U4;
+use voice_messages::{Form, System, U4, Voice2};
 
-/// How a packet is held.
+// How a packet is held: each kind to which a message is raised.
 #[derive(Debug, Drop)]
-pub enum PacketForm {
-    /// A message of MIDI 2.0, one of those that are written alike.
-    NoteOrControl { group: U4, message: NoteOrControl },
-    /// Any packet.
-    Packet(Packet),
+enum PacketForm {
+    // a message of MIDI 2.0, one of those that are written alike
+    NoteOrControl {
+        group: U4,
+        message: NoteOrControl,
+    },
+    // any message of MIDI 2.0
+    Voice2 {
+        group: U4,
+        message: Voice2,
+    },
+    // a system message
+    System {
+        group: U4,
+        message: System,
+    },
+    // up to six bytes of an exclusive
+    Exclusive {
+        group: U4,
+        form: Form,
+        bytes: ShortList<u8, 6>,
+    },
 }
 
 /// The packet to which a message is raised. A contract sees the packet.
@@ -36,17 +54,37 @@ impl Model for RaisedPacket {
 }
 
 impl RaisedPacket {
-    /// A packet as it is.
+    /// A message of MIDI 2.0 in a group.
     #[inline(always)]
-    pub fn of(packet: Packet) -> RaisedPacket
-        ensures { result ≡ packet }
+    pub(crate) fn of_voice2(group: U4, message: Voice2) -> RaisedPacket
+        ensures { result ≡ packet.Voice2 group message }
     {
         RaisedPacket {
-            form: PacketForm::Packet(packet),
+            form: PacketForm::Voice2 { group, message },
         }
     }
 
-    /// The packet of a message in a group.
+    /// A system message in a group.
+    #[inline(always)]
+    pub(crate) fn of_system(group: U4, message: System) -> RaisedPacket
+        ensures { result ≡ packet.System group message }
+    {
+        RaisedPacket {
+            form: PacketForm::System { group, message },
+        }
+    }
+
+    /// A part of an exclusive in a group, with up to six of its bytes.
+    #[inline(always)]
+    pub fn of_exclusive(group: U4, form: Form, bytes: ShortList<u8, 6>) -> RaisedPacket
+        ensures { result ≡ packet.Exclusive group form bytes }
+    {
+        RaisedPacket {
+            form: PacketForm::Exclusive { group, form, bytes },
+        }
+    }
+
+    /// A message of MIDI 2.0 in a group, one of those that are written alike.
     #[inline(always)]
     pub(crate) fn of_note_or_control(group: U4, message: NoteOrControl) -> RaisedPacket
         ensures { result ≡ packet.Voice2 group message }
@@ -56,12 +94,30 @@ impl RaisedPacket {
         }
     }
 
-    /// How it is held.
+    /// The packet.
     #[inline(always)]
-    pub fn form(&self) -> &PacketForm
-        ensures { packet_by result.now ≡ self.now }
+    pub fn packet(&self) -> Packet
+        ensures { result ≡ self.now }
     {
-        &self.form
+        match &self.form {
+            PacketForm::NoteOrControl { group, message } => Packet::Voice2 {
+                group: *group,
+                message: message.message(),
+            },
+            PacketForm::Voice2 { group, message } => Packet::Voice2 {
+                group: *group,
+                message: *message,
+            },
+            PacketForm::System { group, message } => Packet::System {
+                group: *group,
+                message: *message,
+            },
+            PacketForm::Exclusive { group, form, bytes } => Packet::Exclusive {
+                group: *group,
+                form: *form,
+                bytes: bytes.copied(),
+            },
+        }
     }
 
     /// The words that encode it (M2-104-UM), with zeros in the places that its row doesn't name. The packet is one that some words
@@ -73,7 +129,7 @@ impl RaisedPacket {
     {
         match &self.form {
             PacketForm::NoteOrControl { group, message } => message.words(*group),
-            PacketForm::Packet(packet) => encode(packet),
+            _ => encode(&self.packet()),
         }
     }
 }

@@ -13,7 +13,6 @@ use crate::raised::Raised;
 use crate::raised_packet::RaisedPacket;
 use param_collector::Collector;
 use std::marker::Model;
-use ump_grammar::Packet;
 use voice_messages::{System, U4, Voice1};
 use voice_state::BadStep;
 
@@ -67,10 +66,7 @@ impl Raiser {
         Raiser {
             group,
             collector,
-            packet: RaisedPacket::of(Packet::System {
-                group,
-                message: System::Tune,
-            }),
+            packet: RaisedPacket::of_system(group, System::Tune),
         }
     }
 
@@ -112,7 +108,7 @@ impl Raiser {
     {
         let group = self.group;
         system_fits(group, &message);
-        self.give(RaisedPacket::of(Packet::System { group, message }), line)
+        self.give(RaisedPacket::of_system(group, message), line)
     }
 
     /// A voice message that the byte at this offset completes.
@@ -135,7 +131,7 @@ impl Raiser {
             Outcome::Message(message) => {
                 let group = self.group;
                 group.get();
-                Ok(self.give(RaisedPacket::of(Packet::Voice2 { group, message }), None))
+                Ok(self.give(RaisedPacket::of_voice2(group, message), None))
             }
             Outcome::Ignored => { Ok(Raised::only_listed(self.group, Some(ignored(offset)), None)) }
             Outcome::Refused(bad) => Err(bad),

@@ -38,7 +38,7 @@ pub fn raise_note_on(channel: U4, note: U7, velocity: U7) -> NoteOrControl
     ensures fits { IsVoice2 result }
 {
     let raised = velocity_up(velocity);
-    // Two values are chosen and no way, since nothing tells which velocity comes next.
+    // Both are chosen as values, so that no branch has to guess which velocity comes next.
     let (opcode, raised) = if velocity.get() == 0 {
         (0x8, RELEASE)
     } else {

@@ -12,7 +12,7 @@ put-requires g c =
     let i = c.loop-form.invariant in
     let part = packet_part c.args.group c.args.payload.now c.loop-form.k c.in-Some.form c.in-Some.bytes c.in-Some.ensures in
     let A : Packet → Type 0 = λ packet. g.P.PacketWork.Accepts c.loop-form.work packet in
-    subst A (sym c.of-packet.ensures)
+    subst A (sym c.of_exclusive-packet.ensures)
     (part_accepted g.P.PacketWork.Accepts (g.P.PacketWork.IsDone c.args.offset) c.args.group c.args.payload.now c.loop-form.k c.in-Some.form c.in-Some.bytes part c.args.work.now c.loop-form.work i.puts i.done c.requires.taken)
 
 pub loop-form-preserved : goal.loop-form-preserved
@@ -24,7 +24,7 @@ loop-form-preserved g c =
     record {
       within = omega (arith, part.below);
       puts = i.puts ++ one.0;
-      done = part_done g.P.PacketWork.Accepts (g.P.PacketWork.IsDone c.args.offset) c.args.group c.args.payload.now c.loop-form.k c.in-Some.form c.in-Some.bytes part c.args.work.now c.loop-form.work i.puts i.done c.put.new.self one.0 (subst D c.of-packet.ensures one.1);
+      done = part_done g.P.PacketWork.Accepts (g.P.PacketWork.IsDone c.args.offset) c.args.group c.args.payload.now c.loop-form.k c.in-Some.form c.in-Some.bytes part c.args.work.now c.loop-form.work i.puts i.done c.put.new.self one.0 (subst D c.of_exclusive-packet.ensures one.1);
       stands = then_put i.puts one.0 (places g.L.Lanes g.W.Sink g.N.Sink c.args.lanes.now c.args.output.now c.args.notes.now) _ _ i.stands one.2;
     }
 
@@ -36,4 +36,4 @@ returns-in-Err g c =
     let new = places g.L.Lanes g.W.Sink g.N.Sink c.put.new.lanes c.put.new.output c.put.new.notes in
     let F : Packet → Type 0 = λ packet. CarriesOut (g.P.PacketWork.IsDone c.args.offset c.loop-form.work packet) c.put.new.self old new (Err c.in-Err.end) in
     part_fails g.P.PacketWork.Accepts (g.P.PacketWork.IsDone c.args.offset) c.args.group c.args.payload.now c.loop-form.k c.in-Some.form c.in-Some.bytes part c.args.work.now c.loop-form.work i.puts i.done c.requires.done c.requires.taken c.put.new.self
-    (places g.L.Lanes g.W.Sink g.N.Sink c.args.lanes.now c.args.output.now c.args.notes.now) (places g.L.Lanes g.W.Sink g.N.Sink c.loop-form.lanes c.loop-form.output c.loop-form.notes) _ c.in-Err.end i.stands (subst F c.of-packet.ensures c.in-Err.ensures)
+    (places g.L.Lanes g.W.Sink g.N.Sink c.args.lanes.now c.args.output.now c.args.notes.now) (places g.L.Lanes g.W.Sink g.N.Sink c.loop-form.lanes c.loop-form.output c.loop-form.notes) _ c.in-Err.end i.stands (subst F c.of_exclusive-packet.ensures c.in-Err.ensures)

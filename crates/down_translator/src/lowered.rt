@@ -1,0 +1,69 @@
+// Messages that one MIDI 1.0 message with their status byte carries.
+ghost use Rattle.std.specs.Prelude.{◌≡◌, ◌/◌, ◌==◌, not, ◌&&◌};
+ghost use Rattle.encoded_packets.specs.ValueMessages.{IsValueMessage};
+ghost use Rattle.midi1_bytes.specs.Messages.{spelled_voice};
+ghost use Rattle.down_translator.specs.Lowered.{bytes_of, first_by, has_attribute, second_by, voice_of};
+
+use bit_scaling::{down7, down14, velocity_down};
+use encoded_packets::ValueMessage;
+use midi_edge::U4;
+
+/// A MIDI 1.0 channel voice message, which alone carries a message of the MIDI 2.0 protocol and has its status byte.
+#[derive(Clone, Copy, Debug)]
+pub struct LoweredMessage {
+    /// The lane, which is the packet's group.
+    pub lane: U4,
+    /// The status byte, 80 to BF, or D0 to EF.
+    pub status: u8,
+    /// The first data byte, 0 to 127.
+    pub first: u8,
+    /// The second data byte, 0 to 127; none exactly in a channel pressure.
+    pub second: Option<u8>,
+    /// Whether it leaves out the attribute of a note, which is listed.
+    pub has_attribute: bool,
+}
+
+// The first data byte: the value of a channel pressure, the low seven bits of a bend's, or else the note or the index.
+#[inline(always)]
+fn first_byte(opcode: u8, message: &ValueMessage) -> u8
+    ensures { result ≡ first_by opcode message.now }
+{
+    let upper = down7(message.value).get();
+    let middle = (down14(message.value).get() % 128) as u8;
+    let first = if opcode == 0xE {
+        middle
+    } else {
+        message.index.get()
+    };
+    if opcode == 0xD { upper } else { first }
+}
+
+// The second data byte: the value, of a bend its high seven bits.
+#[inline(always)]
+fn second_byte(opcode: u8, message: &ValueMessage) -> Option<u8>
+    ensures { result ≡ second_by opcode message.now }
+{
+    let upper = down7(message.value).get();
+    let velocity = velocity_down((message.value >> 16) as u16).get();
+    let second = if opcode == 0x9 { velocity } else { upper };
+    if opcode == 0xD { None } else { Some(second) }
+}
+
+/// The message that carries a message that has a value (M2-104-UM, default translation; M2-115-U).
+#[tactic(auto, using(crate::proofs::LoweredLaws::spelled_lowered))]
+#[inline(always)]
+pub fn lowered(message: &ValueMessage) -> LoweredMessage
+    requires { IsValueMessage message.now }
+    ensures lane { result.lane ≡ message.now.group }
+    ensures bytes { bytes_of result ≡ spelled_voice (voice_of message.now) }
+    ensures attribute { result.has_attribute ≡ has_attribute message.now }
+{
+    let opcode = message.status / 16;
+    LoweredMessage {
+        lane: message.group,
+        status: message.status,
+        first: first_byte(opcode, message),
+        second: second_byte(opcode, message),
+        has_attribute: (opcode < 0xA) & (message.attribute_type != 0),
+    }
+}

@@ -1,0 +1,10 @@
+//! Packets as the words that encode them: a packet is read once, and taken apart only by those that ask for its fields.
+#![tactic(auto)]
+
+pub mod encoded;
+pub mod exclusive_part;
+pub mod value_message;
+
+pub use crate::encoded::EncodedPacket;
+pub use crate::exclusive_part::ExclusivePart;
+pub use crate::value_message::ValueMessage;

@@ -1,0 +1,109 @@
+// The packets of a recording, one by one, as the words that encode them.
+ghost use Rattle.std.specs.Prelude.{◌≡◌, ◌≤◌, ◌-◌, ℕ, List, Option, None};
+ghost use Rattle.item_reader.specs.SoFar.{Given, given};
+ghost use Rattle.midi_edge.specs.Outside.{ahead};
+ghost use Rattle.midi_pass.specs.Items.{limit};
+ghost use Rattle.midi_pass.specs.Next.{ComesNearer, GivesNext, NextCause};
+ghost use Rattle.ump_grammar.specs.Ranges.{IsPacket};
+ghost use Rattle.ump_grammar.specs.declared.packet.Packet.{Packet};
+ghost use Rattle.ump_words.specs.declared.words.Framed.{Framed};
+ghost use Rattle.ump_words.specs.declared.words.Order.{Order};
+ghost use Rattle.packet_items.specs.Packets.{GivenAfter, GivenSoFar, MovesOn, RefusesBytes, new_words, packet_cutting, packets_after};
+ghost use Rattle.packet_items.specs.Starting.{none_given};
+
+use encoded_packets::EncodedPacket;
+use item_reader::items_are_read_in_order;
+use midi_edge::{ReadStop, Source};
+use midi_pass::{Items, LIMIT, Next, Reason};
+use ump_grammar::Bad;
+use ump_words::{Framed, Order, WordReader};
+
+/// The next packet, as its words (M2-104-UM, message types), of an input in which so many bytes stand before the first word. They
+/// count in each offset and in the limit, which is 4,294,967,296 bytes (own rule).
+#[inline(always)]
+pub fn next_encoded<S: Source>(
+    words: &mut WordReader,
+    before: u64,
+    input: &mut S,
+) -> Next<Framed, EncodedPacket>
+    requires { before ≤ limit }
+    ensures answer { (order : Order) (all : Option (List ℕ)) (items : List (Framed × Packet)) →
+        GivenAfter order before words.old (given all (S.left input.old) items) →
+        GivesNext (packets_after order before) (λ past item. IsPacket item.1)
+        (GivenAfter order before words.new) (given all (S.left input.new) items) result }
+    ensures place { (order : Order) (all : Option (List ℕ)) (items : List (Framed × Packet)) →
+        GivenAfter order before words.old (given all (S.left input.old) items) →
+        MovesOn before words.old words.new all result }
+    ensures reason { RefusesBytes result }
+    ensures nearer { ComesNearer (words.old.limit - words.old.offset)
+        (words.new.limit - words.new.offset) result }
+    ensures cause { NextCause (S.faults input.old) (S.faults input.new) result }
+{
+    items_are_read_in_order::<Order, Framed>();
+    match words.next(input) {
+        Ok(Some(mut framed)) => {
+            // Both are within the limit, so that the sum is never cut.
+            framed.offset = framed.offset.wrapping_add(before);
+            match EncodedPacket::new(&framed) {
+                Ok(packet) => Next::Item {
+                    at: framed,
+                    item: packet,
+                },
+                Err(Bad::BadCount) => Next::Refused {
+                    reason: Reason::BadCount,
+                    offset: framed.offset,
+                },
+                Err(Bad::HighBit) => Next::Refused {
+                    reason: Reason::HighBit,
+                    offset: framed.offset,
+                },
+            }
+        }
+        Ok(None) => Next::End,
+        Err(ReadStop::Read(_)) => Next::Failed,
+        Err(ReadStop::Truncated(at)) => Next::Refused {
+            reason: Reason::Truncated,
+            offset: at.wrapping_add(before),
+        },
+        Err(ReadStop::TooLong) => Next::Refused {
+            reason: Reason::InputTooLong,
+            offset: LIMIT,
+        },
+    }
+}
+
+/// Gives out the packets of a recording, as their words.
+#[derive(Drop)]
+pub struct EncodedReader {
+    words: WordReader,
+}
+
+impl EncodedReader {
+    /// A reader of words in this order (M2-104-UM, message types).
+    pub fn new(order: Order) -> EncodedReader
+        ensures { result.words ≡ new_words order }
+    {
+        EncodedReader {
+            words: WordReader::new(order, LIMIT),
+        }
+    }
+}
+
+impl Items<Framed, EncodedPacket> for EncodedReader {
+    ghost IsCut = { λ first. packet_cutting first.words.how };
+
+    ghost IsNew = { λ first. first.words ≡ new_words first.words.how };
+
+    ghost HasGiven = { λ first now so_far. GivenSoFar first.words.how now.words so_far };
+
+    ghost Promises = { λ past item. IsPacket item.1 };
+
+    ghost to_go = { λ reader. reader.words.limit - reader.words.offset };
+
+    #[inline(always)]
+    fn next<S: Source>(&mut self, input: &mut S) -> Next<Framed, EncodedPacket> {
+        next_encoded(&mut self.words, 0, input)
+    }
+
+    ghost starts = { λ first all new. none_given first.words first.words.how 0 all new };
+}
