@@ -1,11 +1,13 @@
-pub mod AloneLaws
+pub mod BytesLaws
 pub mod ExclusiveLaws
 pub mod HeldLaws
 pub mod LaneLaws
+pub mod LoneLaws
 pub mod LoweredLaws
 pub mod PieceLaws
 pub mod RecordingLaws
 pub mod RecordingRooms
+pub mod ShortenedLaws
 pub mod Spelling
 pub mod StyledLaws
 pub mod Turned

@@ -1,5 +1,5 @@
 -- The lanes, as they are written in a style: what is written of a packet, and what is kept of each lane in compact style.
-use Rattle.std.specs.Prelude.{◌≡◌, ◌<◌, ℕ, Bool, true, false, List, drop, replicate, slice_index_or, slice_set, Option, Some, None}
+use Rattle.std.specs.Prelude.{◌≡◌, ℕ, Bool, true, false, List, drop, replicate, slice_index_or, slice_set, Option, Some, None}
 use Rattle.voice_messages.specs.declared.voice1.System.{System}
 use Rattle.voice_messages.specs.declared.voice1.System.TheVariants as system
 use Rattle.voice_messages.specs.declared.voice2.Voice2.{Voice2}
@@ -8,7 +8,7 @@ use Rattle.ump_grammar.specs.declared.packet.Packet.{Packet}
 use Rattle.ump_grammar.specs.declared.packet.Packet.TheVariants as packet
 use Rattle.midi1_bytes.specs.Messages.{Message, message_of}
 use Rattle.midi1_bytes.specs.RunningStatus.{running_after}
-use Rattle.voice_state.specs.Controllers.{Role, channel_mode, coarse, pairing, plain, reset_all, role_of}
+use Rattle.voice_state.specs.Controllers.{Role, channel_mode, coarse, plain, reset_all}
 use Rattle.voice_state.specs.Registers.{Registers}
 use Rattle.voice_state.specs.Plain.{plain_piece, voice_messages}
 use Rattle.voice_state.specs.Compact.{needed_voice}
@@ -23,6 +23,19 @@ use Rattle.down_translator.specs.declared.statuses.Statuses.TheVariants.{All, Ch
 abbrev pub style_in : NamedStyle → Style
 style_in Plain = plain_style
 style_in Compact = compact_style
+
+abbrev pub is_plain : Style → Bool
+is_plain plain_style = true
+is_plain compact_style = false
+
+-- whether controllers are paired, told in one style alone
+abbrev pub when_plain : Style → Bool → Option Bool
+when_plain plain_style paired = Some paired
+when_plain compact_style paired = None
+
+abbrev pub when_compact : Style → Bool → Option Bool
+when_compact plain_style paired = None
+when_compact compact_style paired = Some paired
 
 -- the style, whether controllers are paired, and what is kept of each of the sixteen lanes; in plain style that stays as it begins
 pub record Lanes : Type 0 where
@@ -48,12 +61,6 @@ is_single _ = false
 abbrev pub is_pair : Role → Bool
 is_pair coarse = true
 is_pair _ = false
-
--- the marked control changes are carried by one message with all its bytes, by their index
-abbrev pub AreAlone : Style → Bool → List Bool → Type 0
-AreAlone style paired marked =
-    (index : ℕ) → index < 128 → slice_index_or marked index false ≡ true
-    → (style ≡ plain_style) × (is_single (pairing paired (role_of index)) ≡ true)
 
 -- a message other than a control change where controllers are paired
 abbrev pub IsAlone : Bool → Voice2 → Type 0

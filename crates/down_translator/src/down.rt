@@ -1,11 +1,10 @@
 // The translator down, in both styles.
-ghost use Rattle.std.specs.Prelude.{◌≡◌, ◌≤◌, ◌<◌, ◌/◌, IfOk, IfSome, true, Some, None, length, take};
+ghost use Rattle.std.specs.Prelude.{◌≡◌, ◌≤◌, ◌<◌, ◌&&◌, not, IfOk, MatchOption, true, false, Some, None, length, take};
 ghost use Rattle.sysex_groups.specs.Exclusives.{IsData};
 ghost use Rattle.ump_grammar.specs.Ranges.{IsPacket};
-ghost use Rattle.voice_state.specs.Controllers.{pairing, role_of};
-ghost use Rattle.voice_state.specs.Styles.{plain_style};
-ghost use Rattle.down_translator.specs.Lanes.{is_single};
-ghost use Rattle.down_translator.specs.Lowered.{IsWholeStep};
+ghost use Rattle.encoded_packets.specs.ValueMessages.{IsValueMessage, message_of};
+ghost use Rattle.down_translator.specs.Lanes.{is_plain};
+ghost use Rattle.down_translator.specs.Lowered.{IsWholeStep, is_lone_message, is_whole};
 ghost use Rattle.ump_grammar.specs.declared.packet.Packet.TheVariants as packet;
 ghost use Rattle.voice_messages.specs.declared.voice2.Voice2.TheVariants as voice2;
 
@@ -15,6 +14,7 @@ use crate::listing::{line, paired_kind, voice_kind};
 use crate::lowered::{LoweredMessage, lowered};
 use crate::pieces::{Piece, write_paired, write_system, write_voice1, write_voice2};
 use crate::refusals::{bad_voice1, bad_voice2};
+use crate::shortened::{Bytes, attribute_line, control_index, write_shortened};
 use crate::style::Style;
 use encoded_packets::{EncodedPacket, ExclusivePart, ValueMessage};
 use midi_edge::{NoMemory, U4};
@@ -33,6 +33,8 @@ pub struct Down {
     groups: Groups,
     lanes: Lanes,
     piece: Piece,
+    // Lent in place of the piece where a message is written from the words of its packet.
+    message: Bytes,
 }
 
 impl Model for Down {
@@ -66,6 +68,7 @@ impl Down {
             groups,
             lanes,
             piece: Piece::new(),
+            message: [0; 3],
         })
     }
 
@@ -260,46 +263,88 @@ impl Down {
         self.exclusive(group, form, &bytes[..count], offset)
     }
 
+    // Whether a message that has a value is carried by one MIDI 1.0 message with all its bytes.
+    #[tactic(auto, using(crate::proofs::LoneLaws::lone_index))]
+    #[inline(always)]
+    fn is_lowered(&self, message: &ValueMessage) -> bool
+        ensures { result ≡ (is_plain self.now.lanes.style
+            && is_lone_message self.now.lanes.paired message.now) }
+    {
+        self.lanes.is_alone(control_index(message))
+    }
+
+    // Whether it is carried by one MIDI 1.0 message, perhaps without its status byte, and leaves the registers as they are.
+    #[tactic(auto, using(crate::proofs::LoneLaws::lone_index))]
+    #[inline(always)]
+    fn is_shortened(&self, message: &ValueMessage) -> bool
+        ensures { result ≡ (not (is_plain self.now.lanes.style)
+            && is_lone_message self.now.lanes.paired message.now) }
+    {
+        self.lanes.is_shortened(control_index(message))
+    }
+
+    // Takes such a message in compact style, with no packet taken apart.
+    #[tactic(auto, using(crate::proofs::ShortenedLaws::shortened_step, crate::proofs::ShortenedLaws::kept_shortened))]
+    #[inline(always)]
+    fn shortened(&mut self, message: &ValueMessage, offset: u64) -> Result<Carried<'_>, BadStep>
+        requires value { IsValueMessage message.now }
+        requires compact { is_plain self.old.lanes.style ≡ false }
+        requires lone { is_lone_message self.old.lanes.paired message.now ≡ true }
+        ensures answer { Translates self.old offset
+            (packet.Voice2 message.now.group (message_of message.now)) result }
+        ensures* after { sem 𝓛 (KeepsDown self.entry (down_after offset
+            (packet.Voice2 message.now.group (message_of message.now)) self.old)) }
+    {
+        let message = lowered(message);
+        let count = write_shortened(&mut self.message, &mut self.lanes, &message);
+        let listed = attribute_line(offset, &message);
+        Ok(Carried::new(message.lane, &self.message[..count], listed))
+    }
+
     /// The same for a packet that is held as its words. It is taken apart, unless it is a part of an exclusive whose bytes are read
-    /// from the words.
+    /// from the words, or in compact style a message that is written from the words.
     #[inline(always)]
     pub fn encoded(&mut self, packet: &EncodedPacket, offset: u64) -> Result<Carried<'_>, BadStep>
         ensures answer { Translates self.old offset packet.now result }
         ensures* after { sem 𝓛 (KeepsDown self.entry (down_after offset packet.now self.old)) }
     {
-        match packet.exclusive() {
-            Some(part) => self.part(part, offset),
-            None => self.packet(&packet.decode(), offset),
+        // Most packets are such messages.
+        match packet.value_message() {
+            Some(message) if self.is_shortened(&message) => self.shortened(&message, offset),
+            _ => match packet.exclusive() {
+                Some(part) => self.part(part, offset),
+                None => self.packet(&packet.decode(), offset),
+            },
         }
-    }
-
-    // Whether a message that has a value is carried by one MIDI 1.0 message, and that with all its bytes. Those without an index
-    // count as a control change that has no other meaning, so that nothing need be guessed.
-    #[inline(always)]
-    fn is_lowered(&self, message: &ValueMessage) -> bool
-        ensures plain { result ≡ true → self.now.lanes.style ≡ plain_style }
-        ensures control { result ≡ true → message.now.status / 16 ≡ 0xB →
-            is_single (pairing self.now.lanes.paired (role_of message.now.index)) ≡ true }
-    {
-        let index = if message.status / 16 == 0xB {
-            message.index
-        } else {
-            U7::low_bits(64)
-        };
-        self.lanes.is_alone(index)
     }
 
     /// The message that carries the packet, where in plain style one MIDI 1.0 message with the packet's status byte does
     /// (M2-104-UM, default translation): a note off or on, the pressure of a note or of a channel, a bend, and a control change of
-    /// a controller that has a value and isn't one of a pair. It is the answer of `packet`, and the translator stays as it is. For
-    /// other packets `None` comes, and `packet` has their answer.
+    /// a controller that has a value and isn't one of a pair, or a channel mode message other than the reset of all controllers. It
+    /// is the answer of `packet`, and the translator stays as it is. `None` exactly for other packets and in compact style: `packet`
+    /// has their answer.
     #[inline(always)]
     pub fn lowered(&self, packet: &EncodedPacket) -> Option<LoweredMessage>
-        ensures { IfSome result (λ message. IsWholeStep self.now packet.now message) }
+        ensures { MatchOption result (is_whole self.now packet.now ≡ false)
+            (λ message. IsWholeStep self.now packet.now message) }
     {
-        match packet.value_message() {
-            Some(message) if self.is_lowered(&message) => Some(lowered(&message)),
-            _ => None,
+        let message = packet.value_message()?;
+        self.lowered_message(&message)
+    }
+
+    /// The same for a message that has a value, in its group.
+    #[inline(always)]
+    pub fn lowered_message(&self, message: &ValueMessage) -> Option<LoweredMessage>
+        requires { IsValueMessage message.now }
+        ensures { MatchOption result
+            (is_whole self.now (packet.Voice2 message.now.group (message_of message.now)) ≡ false)
+            (λ lowered. IsWholeStep self.now
+            (packet.Voice2 message.now.group (message_of message.now)) lowered) }
+    {
+        if self.is_lowered(message) {
+            Some(lowered(message))
+        } else {
+            None
         }
     }
 

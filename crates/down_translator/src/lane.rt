@@ -1,7 +1,7 @@
 // What is kept of a lane in compact style.
-ghost use Rattle.std.specs.Prelude.{◌≡◌, ◌<◌, ◌≤◌, ◌++◌, ℕ, IfOk, None, length};
+ghost use Rattle.std.specs.Prelude.{◌≡◌, ◌<◌, ◌≤◌, ◌++◌, ℕ, IfOk, None, Some, length};
 ghost use Rattle.midi1_bytes.specs.Messages.{spelled_voice, voice};
-ghost use Rattle.midi1_bytes.specs.RunningStatus.{running_after, without_status};
+ghost use Rattle.midi1_bytes.specs.RunningStatus.{is_running, running_after, without_status};
 ghost use Rattle.voice_state.specs.Compact.{has_bank, is_half, is_param, is_selected};
 ghost use Rattle.voice_state.specs.Controllers.{role_of};
 ghost use Rattle.voice_state.specs.Registers.{unset_registers, with_bank, with_selected};
@@ -121,6 +121,21 @@ impl Lane {
         add_unless_running(piece, self.running, bytes);
         self.running = Some(bytes[0]);
         self.keep_registers(message);
+    }
+
+    /// Whether a status byte is the running status; from now on it is (MIDI 1.0 Detailed Specification, running status).
+    #[tactic(auto, using(crate::proofs::LoneLaws::running_is))]
+    #[inline(always)]
+    pub fn take_status(&mut self, status: u8) -> bool
+        ensures running { result ≡ is_running self.old.running status }
+        ensures after { self.new ≡ record { running = Some status; channels = self.old.channels } }
+    {
+        if self.running == Some(status) {
+            true
+        } else {
+            self.running = Some(status);
+            false
+        }
     }
 
     #[inline(always)]

@@ -1,31 +1,33 @@
 // The lanes, as they are written in a style.
-ghost use Rattle.std.specs.Prelude.{◌≡◌, ◌≤◌, ◌<◌, ◌++◌, ℕ, if◌then◌else◌, IfOk, Some, true, false, is_some, length, slice_index_or};
+ghost use Rattle.std.specs.Prelude.{◌≡◌, ◌≤◌, ◌<◌, ◌++◌, ◌&&◌, if◌then◌else◌, not, IfOk, Some, false, is_some, length};
 ghost use Rattle.std.specs.Option.{option_map};
 ghost use Rattle.midi1_bytes.specs.Messages.{voice};
+ghost use Rattle.midi1_bytes.specs.RunningStatus.{is_running};
 ghost use Rattle.sysex_groups.specs.Exclusives.{ended_by};
 ghost use Rattle.sysex_groups.specs.Table.{begun_in};
 ghost use Rattle.voice_state.specs.Compact.{has_bank, is_selected};
 ghost use Rattle.voice_state.specs.LaneState.{at_registers_of, channels_after1, registers_at};
 ghost use Rattle.voice_state.specs.Registers.{with_bank, with_selected};
-ghost use Rattle.voice_state.specs.Controllers.{pairing, role_of};
-ghost use Rattle.voice_state.specs.Styles.{plain_style};
+ghost use Rattle.voice_state.specs.Controllers.{is_lone, pairing, role_of};
 ghost use Rattle.down_translator.specs.Lanes.{
-  is_single,
-  AreAlone,
   after_system,
+  is_plain,
   is_there,
   kept_by,
   lane_at,
   new_lanes,
   statuses_in,
   style_in,
+  when_compact,
+  when_plain,
   with_exclusive,
   with_lane,
 };
 ghost use Rattle.down_translator.specs.Statuses.{statuses_after, written_in};
+ghost use Rattle.down_translator.specs.declared.statuses.Statuses.TheVariants.{Changes};
 
 use crate::lane::Lane;
-use crate::pieces::{Piece, is_single_index};
+use crate::pieces::Piece;
 use crate::statuses::Statuses;
 use crate::style::Style;
 use midi_edge::{NoMemory, U4};
@@ -34,6 +36,7 @@ use std::alloc::Global;
 use std::marker::Model;
 use sysex_groups::Groups;
 use voice_messages::{Bank, Form, Param, System, U7, Voice1};
+use voice_state::LoneControls;
 
 /// How lanes are written, and what is kept of each of the sixteen in compact style. In plain style nothing is kept.
 #[derive(Drop)]
@@ -41,8 +44,9 @@ pub struct Lanes {
     style: Style,
     paired: bool,
     lanes: Vec<Lane>,
-    // Of which control changes one message carries all, by their index.
-    alone: [bool; 128],
+    // The lone control changes in plain style, and those in compact style; none in the other style.
+    whole: LoneControls,
+    shortened: LoneControls,
 }
 
 impl Model for Lanes {
@@ -58,28 +62,18 @@ impl Model for Lanes {
     } };
 
     ghost invariant = { λ l. (length l.lanes.items ≡ 16)
-        × definition.AreAlone (definition.style_in l.style) l.paired l.alone };
+        × (l.whole ≡ definition.when_plain (definition.style_in l.style) l.paired)
+        × (l.shortened ≡ definition.when_compact (definition.style_in l.style) l.paired) };
 }
 
-// Marks the indexes of the control changes that one message carries, where controllers are paired or aren't.
-fn single_indexes(paired: bool) -> [bool; 128]
-    ensures { (index : ℕ) → index < 128 → slice_index_or result index false ≡ true →
-        is_single (pairing paired (role_of index)) ≡ true }
-{
-    let mut marked = [false; 128];
-    for index in 0..128u8 {
-        marked[index as usize] = is_single_index(U7::low_bits(index as u32), paired);
-    }
-    marked
-}
-
-// The same in plain style. In compact style none is marked, since a message may be without its status byte.
-fn alone_in(style: Style, paired: bool) -> [bool; 128]
-    ensures { AreAlone (style_in style) paired result }
+// The lone control changes in plain style, where they are carried with all their bytes, and those in compact style.
+fn lone_controls(style: Style, paired: bool) -> (LoneControls, LoneControls)
+    ensures whole { result.0 ≡ when_plain (style_in style) paired }
+    ensures shortened { result.1 ≡ when_compact (style_in style) paired }
 {
     match style {
-        Style::Plain => single_indexes(paired),
-        Style::Compact => [false; 128],
+        Style::Plain => (LoneControls::new(Some(paired)), LoneControls::new(None)),
+        Style::Compact => (LoneControls::new(None), LoneControls::new(Some(paired))),
     }
 }
 
@@ -100,11 +94,13 @@ impl Lanes {
                 return Err(NoMemory);
             }
         }
+        let (whole, shortened) = lone_controls(style, paired);
         Ok(Lanes {
             style,
             paired,
             lanes,
-            alone: alone_in(style, paired),
+            whole,
+            shortened,
         })
     }
 
@@ -116,14 +112,24 @@ impl Lanes {
         self.paired
     }
 
-    /// Whether the style is plain and one message carries the control change with this index, where controllers are paired or
-    /// aren't.
+    /// Whether the style is plain and the control change with this index is lone, where controllers are paired or aren't.
+    #[tactic(auto, using(crate::proofs::LoneLaws::lone_when_plain))]
     #[inline(always)]
     pub fn is_alone(&self, index: U7) -> bool
-        ensures { result ≡ true → (self.now.style ≡ plain_style)
-            × (is_single (pairing self.now.paired (role_of index)) ≡ true) }
+        ensures { result ≡ (is_plain self.now.style
+            && is_lone (pairing self.now.paired (role_of index))) }
     {
-        self.alone[index.get() as usize]
+        self.whole.has(index)
+    }
+
+    /// Whether the style is compact and the control change with this index is lone, where controllers are paired or aren't.
+    #[tactic(auto, using(crate::proofs::LoneLaws::lone_when_compact))]
+    #[inline(always)]
+    pub fn is_shortened(&self, index: U7) -> bool
+        ensures { result ≡ (not (is_plain self.now.style)
+            && is_lone (pairing self.now.paired (role_of index))) }
+    {
+        self.shortened.has(index)
     }
 
     /// Which status bytes are written in the lane of a group.
@@ -220,6 +226,18 @@ impl Lanes {
             }
             _ => {}
         }
+    }
+
+    /// Whether a status byte is the running status of a group's lane in compact style; from now on it is (MIDI 1.0 Detailed
+    /// Specification, running status). The registers stay as they are.
+    #[inline(always)]
+    pub fn take_status(&mut self, group: U4, status: u8) -> bool
+        requires { is_plain self.old.style ≡ false }
+        ensures running { result ≡ is_running (lane_at self.old.states group).running status }
+        ensures after { self.new ≡
+            kept_by group (Changes (Some status)) (λ channels. channels) self.old }
+    {
+        self.lanes[group.get() as usize].take_status(status)
     }
 
     /// Keeps what a system message leaves (MIDI 1.0 Detailed Specification, running status; System Reset by own rule).

@@ -10,6 +10,7 @@ mod listing;
 pub mod lowered;
 mod pieces;
 mod refusals;
+mod shortened;
 mod statuses;
 pub mod style;
 mod voice;

@@ -1,18 +1,21 @@
 -- A 7-bit exclusive in which no byte is high is a part of an exclusive with the bytes that it counts.
-use Rattle.std.proofs.Common.{◌≡◌, ◌<◌, ◌≤◌, ◌/◌, ◌%◌, ◌^◌, ◌+◌, ℕ, zero, suc, Bool, true, false, ◌||◌, ◌&&◌, leb, List, [], ◌∷◌, length, refl, sym, ap, ◌∙◌, subst, arith, nat_le, nat_lt, slice_index_or, take}
-use Rattle.std.specs.Prelude.{◌==◌, slice_index, if◌then◌else◌, Some, None, All}
-use Rattle.std.specs.List.{list_any}
-use Rattle.std.proofs.lemmas.Bool.{and_parts, eqb-true, le-leb, le-ltb, leb-true, lt-leb, ltb-true}
+use Rattle.std.proofs.Common.{◌≡◌, ◌<◌, ◌≤◌, ◌/◌, ◌^◌, ℕ, zero, suc, Bool, true, false, ◌||◌, ◌&&◌, leb, List, [], ◌∷◌, length, refl, sym, ap, ◌∙◌, subst, arith, lit≤, nat_le, nat_lt, slice_index_or, take}
+use Rattle.std.specs.Prelude.{◌==◌, slice_index, Some, None, All}
+use Rattle.std.proofs.lemmas.Bool.{and_parts, eqb-true, le-leb, le-ltb, leb-false, leb-true, lt-leb, lt-ltb, ltb-false, ltb-true, or_parts, true≢false}
+use Rattle.std.proofs.lemmas.List.{length-take-le, take_all}
+use Rattle.std.specs.Coded.{Coded, Coded-set, codes}
+use mathlib.Core.Logic.{∥∥₁_elim}
+use Rattle.ump_grammar.specs.declared.packet.Bad.TheVariants.{BadCount, HighBit}
 use Rattle.voice_messages.specs.declared.voice2.Form.{Form}
 use Rattle.voice_messages.specs.declared.voice2.Form.TheVariants as form
 use Rattle.ump_words.specs.Cut.{IsWhole}
 use Rattle.ump_grammar.specs.declared.packet.Packet.{Packet}
 use Rattle.ump_grammar.specs.declared.packet.Packet.TheVariants as packet
-use Rattle.ump_grammar.specs.Places.{byte, count_of, field, group_of, opcode_of, type_of}
+use Rattle.ump_grammar.specs.Places.{byte, count_of, group_of, opcode_of, type_of}
 use Rattle.ump_grammar.specs.Reason.{has_high, reason}
 use Rattle.ump_grammar.specs.Spelling.{Spells, exclusive_places, form_number}
 use Rattle.encoded_packets.specs.Encoded.{ThePacket}
-use Rattle.encoded_packets.specs.Parts.{begins_part, has_low_bytes, is_low_part}
+use Rattle.encoded_packets.specs.Parts.{begins_part, has_low_bytes, is_full_part, is_low_part}
 use Rattle.encoded_packets.specs.ValueMessages.{is_value_opcode}
 use Rattle.encoded_packets.proofs.EncodedLaws.{is_whole, the_one}
 use Rattle.encoded_packets.proofs.ValueLaws.{SpellsOne}
@@ -134,3 +137,84 @@ is_part words t group count f bytes low same_group same_form same_count same_byt
     let taken : take count bytes ≡ take (count_of words) (exclusive_places words) =
     ap (λ n. take n bytes) same_count ∙ ap (λ places. take (count_of words) places) same_bytes in
     the_one words t (packet.Exclusive group f (take count bytes)) (record { whole = is_whole words t; row = (low.type, same_group, (same_form, taken)) })
+
+-- ---- a full part has no high byte
+
+form-small : (f : Form) → form_number f ≤ 3
+form-small form.Complete = lit≤ tt
+form-small form.Start = lit≤ tt
+form-small form.Continue = lit≤ tt
+form-small form.End = lit≤ tt
+
+-- words that pass the test
+low_is : (words : List ℕ) → IsLow words → is_low_part words ≡ true
+low_is words low =
+    rw (
+      low.type,
+      le-leb (opcode_of words) 3 low.opcode,
+      le-leb (count_of words) 6 low.count,
+      lt-ltb (byte words 3) 128 low.byte3,
+      lt-ltb (byte words 4) 128 low.byte4,
+      lt-ltb (byte words 5) 128 low.byte5,
+      lt-ltb (byte words 6) 128 low.byte6,
+      lt-ltb (byte words 7) 128 low.byte7,
+      lt-ltb (byte words 8) 128 low.byte8,
+    ) refl
+
+-- there is no reason to refuse an exclusive: it counts at most six bytes, of which none is high
+counted : (words : List ℕ) → reason words ≡ None → type_of words ≡ 3 → opcode_of words ≤ 3
+    → (count_of words ≤ 6) × (has_high (take (count_of words) (exclusive_places words)) ≡ false)
+counted words fine type few = go (nat_lt 6 (count_of words)) (has_high (take (count_of words) (exclusive_places words))) refl refl
+  where
+    opcode : nat_le (opcode_of words) 3 ≡ true
+    opcode = le-leb (opcode_of words) 3 few
+
+    go : (bad high : Bool) → nat_lt 6 (count_of words) ≡ bad → has_high (take (count_of words) (exclusive_places words)) ≡ high
+        → (count_of words ≤ 6) × (has_high (take (count_of words) (exclusive_places words)) ≡ false)
+    go true high many is = absurd (let told : reason words ≡ Some BadCount = rw (type, opcode, many) refl in let other = fine in cc)
+    go false true some is = absurd (let told : reason words ≡ Some HighBit = rw (type, opcode, some, is) refl in let other = fine in cc)
+    go false false some is = (ltb-false 6 (count_of words) some, is)
+
+low-bytes : (words : List ℕ) → type_of words ≡ 3 → opcode_of words ≤ 3 → count_of words ≤ 6 → has_high (exclusive_places words) ≡ false → IsLow words
+low-bytes words type opcode count none =
+    let h3 = or_parts (leb 128 (byte words 3)) _ none in
+    let h4 = or_parts (leb 128 (byte words 4)) _ h3.1 in
+    let h5 = or_parts (leb 128 (byte words 5)) _ h4.1 in
+    let h6 = or_parts (leb 128 (byte words 6)) _ h5.1 in
+    let h7 = or_parts (leb 128 (byte words 7)) _ h6.1 in
+    let h8 = or_parts (leb 128 (byte words 8)) _ h7.1 in
+    record {
+      type = type;
+      opcode = opcode;
+      count = count;
+      byte3 = leb-false 128 (byte words 3) h3.0;
+      byte4 = leb-false 128 (byte words 4) h4.0;
+      byte5 = leb-false 128 (byte words 5) h5.0;
+      byte6 = leb-false 128 (byte words 6) h6.0;
+      byte7 = leb-false 128 (byte words 7) h7.0;
+      byte8 = leb-false 128 (byte words 8) h8.0;
+    }
+
+full_is_low : (words : List ℕ) (group : ℕ) (f : Form) (bytes : List ℕ) → Spells (packet.Exclusive group f bytes) words → reason words ≡ None → length bytes ≡ 6 → is_low_part words ≡ true
+full_is_low words group f bytes spells fine full =
+    let few : opcode_of words ≤ 3 = let Few : ℕ → Type 0 = λ n. n ≤ 3 in subst Few (sym spells.row.2.0) (form-small f) in
+    let told = counted words fine spells.row.0 few in
+    let size : length (take (count_of words) (exclusive_places words)) ≡ 6 = ap length (sym spells.row.2.1) ∙ full in
+    let count : 6 ≤ count_of words = omega (arith, size, length-take-le (count_of words) (exclusive_places words) told.0) in
+    let whole : take (count_of words) (exclusive_places words) ≡ exclusive_places words = take_all (count_of words) (exclusive_places words) count in
+    low_is words (low-bytes words spells.row.0 few told.0 (ap has_high (sym whole) ∙ told.1))
+
+bool-code : Coded Bool
+bool-code = hlevel codes
+
+-- words that have a high byte encode no full part
+pub not_full : (words : List ℕ) (t : ThePacket words) → is_low_part words ≡ false → is_full_part t.0 ≡ false
+not_full words t none = ∥∥₁_elim t.1 (Coded-set bool-code (is_full_part t.0) false) (λ a. by_packet t.0 a.spelled a.fine)
+  where
+    by_size : (group : ℕ) (f : Form) (bytes : List ℕ) (full : Bool) → (length bytes == 6) ≡ full → Spells (packet.Exclusive group f bytes) words → reason words ≡ None → full ≡ false
+    by_size group f bytes false e spells fine = refl
+    by_size group f bytes true e spells fine = absurd (true≢false (sym (full_is_low words group f bytes spells fine (eqb-true (length bytes) 6 e)) ∙ none))
+
+    by_packet : (p : Packet) → Spells p words → reason words ≡ None → is_full_part p ≡ false
+    by_packet (packet.Exclusive group f bytes) spells fine = by_size group f bytes (length bytes == 6) refl spells fine
+    by_packet _ spells fine = refl

@@ -1,6 +1,8 @@
 -- 7-bit exclusives in which no byte is high, counted or not (M2-104-UM, system exclusive 7-bit messages).
-use Rattle.std.specs.Prelude.{◌==◌, ◌&&◌, nat_le, nat_lt, ℕ, Bool, List, slice_index}
+use Rattle.std.specs.Prelude.{◌==◌, ◌&&◌, nat_le, nat_lt, ℕ, Bool, false, List, length, slice_index}
 use Rattle.ump_grammar.specs.Places.{byte, field}
+use Rattle.ump_grammar.specs.declared.packet.Packet.{Packet}
+use Rattle.ump_grammar.specs.declared.packet.Packet.TheVariants as packet
 
 -- the first word of one that counts at most six bytes
 abbrev pub begins_part : ℕ → Bool
@@ -14,3 +16,8 @@ has_low_bytes words =
 
 abbrev pub is_low_part : List ℕ → Bool
 is_low_part words = begins_part (slice_index words 0) && has_low_bytes words
+
+-- the packet is an exclusive of which all six places count
+abbrev pub is_full_part : Packet → Bool
+is_full_part (packet.Exclusive group form bytes) = length bytes == 6
+is_full_part _ = false

@@ -1,5 +1,5 @@
 // A packet as its words.
-ghost use Rattle.std.specs.Prelude.{◌≡◌, ◌≤◌, ◌%◌, ◌==◌, ◌&&◌, ◌<◌, true, false, All, Ok, IfOk, IfSome, MatchOption, length, take};
+ghost use Rattle.std.specs.Prelude.{◌≡◌, ◌≤◌, ◌%◌, ◌==◌, ◌&&◌, ◌<◌, true, false, All, Ok, IfOk, MatchOption, length, take};
 ghost use Rattle.ump_words.specs.Cut.{IsWhole};
 ghost use Rattle.ump_grammar.specs.Places.{byte as place, count_of, field, group_of, opcode_of, type_of, word};
 ghost use Rattle.ump_grammar.specs.Ranges.{IsPacket};
@@ -7,7 +7,7 @@ ghost use Rattle.ump_grammar.specs.Reading.{Decodes};
 ghost use Rattle.ump_grammar.specs.Reason.{reason};
 ghost use Rattle.ump_grammar.specs.Spelling.{exclusive_places, form_number};
 ghost use Rattle.ump_grammar.specs.declared.packet.Packet.TheVariants as packet;
-ghost use Rattle.encoded_packets.specs.Parts.{begins_part, has_low_bytes, is_low_part};
+ghost use Rattle.encoded_packets.specs.Parts.{begins_part, has_low_bytes, is_full_part, is_low_part};
 ghost use Rattle.encoded_packets.specs.Encoded.{ThePacket, the_packet-prop};
 ghost use Rattle.encoded_packets.specs.ValueMessages.{IsValueMessage, has_value, is_value_opcode, message_of};
 
@@ -86,11 +86,12 @@ impl EncodedPacket {
         }
     }
 
-    /// The packet as a part of an exclusive, where no byte of it is 128 or more, counted or not; for others `None` comes, and `decode`
-    /// has them.
+    /// The packet as a part of an exclusive, where none of its six bytes is 128 or more, counted or not: so always where all six
+    /// count. For others `None` comes, and `decode` has them.
     #[inline(always)]
     pub fn exclusive(&self) -> Option<ExclusivePart>
-        ensures { IfSome result (λ part. (part.count ≤ 6) × All (λ byte. byte < 128) part.bytes
+        ensures { MatchOption result (is_full_part self.now ≡ false) (λ part. (part.count ≤ 6)
+            × All (λ byte. byte < 128) part.bytes
             × (self.now ≡ packet.Exclusive part.group part.form (take part.count part.bytes))) }
     {
         if self.is_part {
@@ -151,11 +152,11 @@ fn value_packet(words: &Words) -> EncodedPacket
     }
 }
 
-// The part of an exclusive in these words.
+// The part of an exclusive in these words; `None` exactly where they have no form.
 #[inline(always)]
 fn part_in(words: &[u32]) -> Option<ExclusivePart>
     requires { length words.now ≡ 2 }
-    ensures { IfSome result (λ part. (part.group ≡ group_of words.now)
+    ensures { MatchOption result (3 < opcode_of words.now) (λ part. (part.group ≡ group_of words.now)
         × (opcode_of words.now ≡ form_number part.form) × (part.count ≡ count_of words.now)
         × (part.bytes ≡ exclusive_places words.now)) }
 {
@@ -175,14 +176,9 @@ fn exclusive_bytes(words: &[u32]) -> [u8; 6]
     requires { length words.now ≡ 2 }
     ensures { result ≡ exclusive_places words.now }
 {
-    [
-        byte(words[0], 8),
-        byte(words[0], 0),
-        byte(words[1], 24),
-        byte(words[1], 16),
-        byte(words[1], 8),
-        byte(words[1], 0),
-    ]
+    let [_, _, byte3, byte4] = words[0].to_be_bytes();
+    let [byte5, byte6, byte7, byte8] = words[1].to_be_bytes();
+    [byte3, byte4, byte5, byte6, byte7, byte8]
 }
 
 // Whether this is a 7-bit exclusive in which no byte is high, counted or not.

@@ -1,6 +1,6 @@
 // The messages that a parser completes, by their bytes. What is lent holds no type that contracts see as another value, so these
 // stand in for the messages, which they give.
-ghost use Rattle.std.specs.Prelude.{◌<◌};
+ghost use Rattle.std.specs.Prelude.{◌<◌, ◌≤◌};
 
 use crate::messages::{fourteen_bits, real_time, seven_bits, voice_of_one, voice_of_two};
 use voice_messages::{System, Voice1};
@@ -9,9 +9,14 @@ use voice_messages::{System, Voice1};
 /// Specification, channel voice messages).
 #[derive(Clone, Copy, Debug)]
 pub struct VoiceBytes {
-    status: u8,
-    first: u8,
-    second: u8,
+    /// The status byte, 80 to EF.
+    pub status: u8,
+    /// The first data byte, 0 to 127.
+    pub first: u8,
+    /// The second data byte, 0 to 127; says nothing in a message of one.
+    pub second: u8,
+    ghost least: { 128 ≤ status },
+    ghost most: { status < 240 },
     ghost first_below: { first < 128 },
     ghost second_below: { second < 128 },
 }
@@ -41,6 +46,7 @@ impl VoiceBytes {
     ghost use Rattle.midi1_bytes.specs.Spoken.{voice_in};
 
     /// A message of one data byte, Cn or Dn.
+    #[tactic(auto, unfolding(crate::specs::Sorts::sort_of))]
     #[inline(always)]
     pub(crate) fn of_one(status: u8, only: u8) -> VoiceBytes
         requires sort { sort_of status ≡ voice_status one }
@@ -55,6 +61,7 @@ impl VoiceBytes {
     }
 
     /// A message of two data bytes, 8n to Bn or En.
+    #[tactic(auto, unfolding(crate::specs::Sorts::sort_of))]
     #[inline(always)]
     pub(crate) fn of_two(status: u8, first: u8, second: u8) -> VoiceBytes
         requires sort { sort_of status ≡ voice_status two }

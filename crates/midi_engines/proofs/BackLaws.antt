@@ -18,13 +18,22 @@ use Rattle.down_translator.specs.Laws.{WhatIsHeldIsTheDefinition}
 use Rattle.down_translator.specs.Recording.{AreInRange, packets_of, state_of}
 use Rattle.down_translator.specs.Step.{piece_of}
 use Rattle.midi_pass.specs.Bytes.{bytes_of}
-use Rattle.midi_pass.specs.Put.{Put}
+use Rattle.midi_pass.specs.Put.{Put, in_output}
+use Rattle.down_translator.specs.Lowered.{IsWholeStep, bytes_of as message_bytes}
+use Rattle.down_translator.specs.declared.lowered.LoweredMessage.{LoweredMessage}
 use Rattle.midi_engines.specs.Back.{HoldsReturned, ReturnedBytesMean, byte_pieces, ComesDown, piece_puts, plain_puts, PutsDown}
 use Rattle.midi_engines.specs.Raised.{AreDone, AreTaken, CanBeDone, byte_packets}
+use Rattle.midi_engines.proofs.LoweredLaws.{carried_as, is_carried_as}
 use Rattle.midi_engines.proofs.StreamLaws.{front_accepted}
 
 pub piece_is_put : (offset : ℕ) → CanBeDone ComesDown (PutsDown offset)
 piece_is_put offset from group form bytes accepted = (_, _, (refl, refl))
+
+-- a message that alone carries a packet is its piece
+pub lowered_comes_down : (offset : ℕ) (from : DownState) (packet : Packet) (m : LoweredMessage) → IsWholeStep from packet m → PutsDown offset from packet from (in_output (message_bytes m) ∷ [])
+lowered_comes_down offset from packet m whole =
+    let step = whole.step offset (carried_as offset m whole.lane) (is_carried_as offset m whole.lane) in
+    (sym (whole.after offset), ap piece_puts step.piece)
 
 -- what comes of packets that come after others
 record ComesDownAfter (paired : Bool) (room offset : ℕ) (earlier ps : List Packet) (placed : List Placed) : Type 0 where

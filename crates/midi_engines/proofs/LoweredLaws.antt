@@ -4,13 +4,11 @@ use Rattle.std.specs.Prelude.{◌==◌, if◌then◌else◌}
 use Rattle.std.specs.Option.{option_map, option_to_list}
 use Rattle.std.proofs.lemmas.Bool.{cond_both, eqb-true}
 use Rattle.voice_state.specs.declared.listed.Kind.TheVariants as kinds
-use Rattle.voice_state.specs.declared.listed.Listed.{Listed}
 use Rattle.down_translator.specs.declared.carried.Carried.{Carried}
 use Rattle.down_translator.specs.declared.carried.Line.{Line}
 use Rattle.down_translator.specs.declared.lowered.LoweredMessage.{LoweredMessage}
 use Rattle.down_translator.specs.Carried.{line_in, listed_by}
 use Rattle.down_translator.specs.Lowered.{IsCarriedAs, attribute_line, bytes_of}
-use Rattle.down_translator.specs.Recording.{pair_put}
 use Rattle.listing_puts.specs.Lines.{line_puts}
 use Rattle.midi_engines.specs.Down.{lowered_puts, pair_puts, puts_for}
 

@@ -1,5 +1,7 @@
 // From a stream of MIDI 1.0 bytes to packets, and from these to MIDI 1.0 bytes again.
-ghost use Rattle.std.specs.Prelude.{◌≡◌, ◌<◌, ◌≤◌, [], IfOk, length};
+ghost use Rattle.std.specs.Prelude.{◌≡◌, ◌<◌, ◌≤◌, [], ◌∷◌, false, IfOk, MatchOption, length};
+ghost use Rattle.down_translator.specs.Lowered.{IsWholeStep, bytes_of, is_whole};
+ghost use Rattle.midi_pass.specs.Put.{in_output};
 ghost use Rattle.midi_pass.specs.Bytes.{byte_cutting};
 ghost use Rattle.midi_pass.specs.Pass.{Ends, IsDoneUnless, seen};
 ghost use Rattle.midi_pass.specs.Places.{Puts, places};
@@ -11,7 +13,7 @@ ghost use Rattle.midi_engines.specs.RaisedMeans.{last_named};
 
 use crate::raised::{PacketWork, put_byte, put_open};
 use down_translator::laws::what_is_held_is_the_definition;
-use down_translator::{Down, Style};
+use down_translator::{Down, LoweredMessage, Style};
 use item_reader::ByteReader;
 use midi_edge::{Lanes, NoMemory, Sink, Source, U4};
 use midi_pass::laws::bytes_are_cut_once;
@@ -89,12 +91,47 @@ fn put_piece<L: Lanes, W: Sink, N: Sink>(
     }
 }
 
+// Puts a message that alone carries a packet in the output.
+#[inline(always)]
+fn put_message<L: Lanes, W: Sink, N: Sink>(
+    message: &LoweredMessage,
+    lanes: &mut L,
+    output: &mut W,
+    notes: &mut N,
+) -> Result<(), RunEnd>
+    ensures { Puts (in_output (bytes_of message.now) ∷ [])
+        (places L.Lanes W.Sink N.Sink lanes.old output.old notes.old)
+        (places L.Lanes W.Sink N.Sink lanes.new output.new notes.new) result }
+{
+    let LoweredMessage {
+        status,
+        first,
+        second,
+        ..
+    } = *message;
+    match second {
+        Some(second) => put_output(&[status, first, second], lanes, output, notes),
+        None => put_output(&[status, first], lanes, output, notes),
+    }
+}
+
+// The message that alone carries a packet, where one does.
+#[inline(always)]
+fn lowered_in(down: &Down, packet: &RaisedPacket) -> Option<LoweredMessage>
+    ensures { MatchOption result (is_whole down.now packet.now ≡ false)
+        (λ message. IsWholeStep down.now packet.now message) }
+{
+    let message = packet.value_message()?;
+    down.lowered_message(&message)
+}
+
 // Takes packets down, and puts their pieces. What bytes are raised to is neither refused nor listed there.
 impl PacketWork for Down {
     ghost Accepts = { λ from packet. ComesDown from packet };
 
     ghost IsDone = { λ offset. PutsDown offset };
 
+    #[tactic(auto, using(crate::proofs::BackLaws::lowered_comes_down))]
     #[inline(always)]
     fn put<L: Lanes, W: Sink, N: Sink>(
         &mut self,
@@ -104,9 +141,12 @@ impl PacketWork for Down {
         output: &mut W,
         notes: &mut N,
     ) -> Result<(), RunEnd> {
-        match self.packet(&packet.packet(), offset) {
-            Ok(carried) => put_piece(carried.piece, lanes, output, notes),
-            Err(_) => unreachable!(),
+        match lowered_in(self, packet) {
+            Some(message) => put_message(&message, lanes, output, notes),
+            None => match self.packet(&packet.packet(), offset) {
+                Ok(carried) => put_piece(carried.piece, lanes, output, notes),
+                Err(_) => unreachable!(),
+            },
         }
     }
 }

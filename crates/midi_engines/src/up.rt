@@ -1,5 +1,9 @@
 // From a stream of MIDI 1.0 bytes to packets.
-ghost use Rattle.std.specs.Prelude.{◌≡◌, ◌≤◌, ◌<◌, [], IfOk, length, refl};
+ghost use Rattle.std.specs.Prelude.{◌≡◌, ◌≤◌, ◌<◌, [], ◌∷◌, IfOk, length, refl};
+ghost use Rattle.std.specs.List.{flat_map};
+ghost use Rattle.ump_words.specs.Cut.{word_bytes};
+ghost use Rattle.midi_pass.specs.Places.{Puts, places};
+ghost use Rattle.midi_pass.specs.Put.{in_output};
 ghost use Rattle.ump_grammar.specs.Ranges.{IsPacket};
 ghost use Rattle.midi_pass.specs.Bytes.{byte_cutting};
 ghost use Rattle.midi_pass.specs.Pass.{Ends, IsDoneUnless, seen};
@@ -73,6 +77,27 @@ impl UpRun {
     }
 }
 
+// Puts the words of one packet in the output.
+#[inline(always)]
+fn put_encoded<L: Lanes, W: Sink, N: Sink>(
+    words: &[u32],
+    order: Order,
+    lanes: &mut L,
+    output: &mut W,
+    notes: &mut N,
+) -> Result<(), RunEnd>
+    requires some { 0 < length words.now }
+    requires few { length words.now ≤ 4 }
+    ensures { Puts (in_output (flat_map (word_bytes order) words.now) ∷ [])
+        (places L.Lanes W.Sink N.Sink lanes.old output.old notes.old)
+        (places L.Lanes W.Sink N.Sink lanes.new output.new notes.new) result }
+{
+    match put_words(words, order, output) {
+        Ok(()) => Ok(()),
+        Err(_) => Err(RunEnd::OutputFault),
+    }
+}
+
 // Puts the words of packets in the output, in this order of their bytes.
 #[derive(Drop)]
 struct WordOutput {
@@ -89,14 +114,16 @@ impl PacketWork for WordOutput {
         &mut self,
         packet: &RaisedPacket,
         _offset: u64,
-        _lanes: &mut L,
+        lanes: &mut L,
         output: &mut W,
-        _notes: &mut N,
+        notes: &mut N,
     ) -> Result<(), RunEnd> {
-        let words = packet.words();
-        match put_words(words.as_slice(), self.order, output) {
-            Ok(()) => Ok(()),
-            Err(_) => Err(RunEnd::OutputFault),
+        match packet.pair() {
+            Some(pair) => put_encoded(&pair, self.order, lanes, output, notes),
+            None => {
+                let words = packet.words();
+                put_encoded(words.as_slice(), self.order, lanes, output, notes)
+            }
         }
     }
 }

@@ -1,2 +1,3 @@
 pub mod CuttingLaws
+pub mod NextLaws
 pub mod PacketLaws

@@ -1,6 +1,6 @@
 -- An input, cut into packets: a recording from its start, or a file after its first bytes. These count in each offset, and the limit is that
 -- of the whole input.
-use Rattle.std.specs.Prelude.{◌≡◌, ◌⊎◌, ℕ, ◌+◌, ◌*◌, ◌-◌, ◌<◌, ◌≤◌, List, ◌∷◌, ◌++◌, length, map, Option, None, Some, IfSome}
+use Rattle.std.specs.Prelude.{◌≡◌, ◌⊎◌, ℕ, ◌+◌, ◌*◌, ◌-◌, ◌%◌, ◌^◌, ◌<◌, ◌≤◌, List, ◌∷◌, ◌++◌, length, map, Option, None, Some, IfSome}
 use Rattle.std.specs.List.{AllByRecursion}
 use Rattle.item_reader.specs.Cut.{IsCutInto}
 use Rattle.item_reader.specs.Reading.{new_reading}
@@ -14,9 +14,14 @@ use Rattle.ump_words.specs.declared.words.Order.{Order}
 use Rattle.ump_grammar.specs.declared.packet.Bad.{Bad}
 use Rattle.ump_grammar.specs.declared.packet.Bad.TheVariants as bad
 use Rattle.ump_grammar.specs.declared.packet.Packet.{Packet}
+use Rattle.ump_grammar.specs.Ranges.{IsPacket}
 use Rattle.ump_grammar.specs.Reason.{reason as reason_of}
 use Rattle.ump_grammar.specs.Spelling.{Spells}
+use Rattle.midi_edge.specs.declared.outside.ReadStop.{ReadStop}
+use Rattle.midi_edge.specs.declared.outside.ReadStop.TheVariants as stop
+use Rattle.midi_edge.specs.declared.outside.Source as source
 use Rattle.midi_pass.specs.Items.{limit}
+use Rattle.midi_pass.specs.Next.{ComesNearer, GivesNext, NextCause}
 use Rattle.midi_pass.specs.Pass.{Cutting, Tail}
 use Rattle.midi_pass.specs.declared.pass.Next.{Next}
 use Rattle.midi_pass.specs.declared.pass.Next.TheVariants as next
@@ -121,3 +126,24 @@ IsOfBytes _ = ⊥
 abbrev pub RefusesBytes : Next Framed Packet → Type 0
 RefusesBytes (next.Refused reason offset) = IsOfBytes reason
 RefusesBytes _ = Unit {0}
+
+-- What is given out next of an input in which so many bytes stand before the first word: by what was given before, where a
+-- packet stands, for what bytes are refused, how the end comes nearer, and when the source failed. The second reader and the
+-- second source are those after it.
+pub record GivesNextPacket {S : Type 0} (source : source.Ghosts S) (before : ℕ) (words words' : Reading)
+    (input input' : S) (result : Next Framed Packet) : Type 0 where
+  pub answer : (order : Order) (all : Option (List ℕ)) (items : List (Framed × Packet))
+      → GivenAfter order before words (given all (source.left input) items)
+      → GivesNext (packets_after order before) (λ past item. IsPacket item.1)
+      (GivenAfter order before words') (given all (source.left input') items) result
+  pub place : (order : Order) (all : Option (List ℕ)) (items : List (Framed × Packet))
+      → GivenAfter order before words (given all (source.left input) items) → MovesOn before words words' all result
+  pub reason : RefusesBytes result
+  pub nearer : ComesNearer (words.limit - words.offset) (words'.limit - words'.offset) result
+  pub cause : NextCause (source.faults input) (source.faults input') result
+
+-- what is given out where the words of an input stop, with the offset of a part in the whole input, as a sum of 64 bits
+abbrev pub next_of_stop : {P : Type 0} → ℕ → ReadStop → Next Framed P
+next_of_stop before (stop.Read failed) = next.Failed
+next_of_stop before (stop.Truncated at) = next.Refused Truncated ((at + before) % 2 ^ 64)
+next_of_stop before stop.TooLong = next.Refused InputTooLong limit

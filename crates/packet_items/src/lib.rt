@@ -2,6 +2,7 @@
 #![tactic(auto)]
 
 mod encoded;
+mod endings;
 pub mod laws;
 mod packets;
 

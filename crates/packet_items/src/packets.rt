@@ -8,13 +8,14 @@ ghost use Rattle.ump_grammar.specs.Ranges.{IsPacket};
 ghost use Rattle.ump_grammar.specs.declared.packet.Packet.{Packet};
 ghost use Rattle.ump_words.specs.declared.words.Framed.{Framed};
 ghost use Rattle.ump_words.specs.declared.words.Order.{Order};
-ghost use Rattle.packet_items.specs.Packets.{GivenAfter, GivenSoFar, MovesOn, RefusesBytes, new_words, packet_cutting, packets_after};
+ghost use Rattle.packet_items.specs.Packets.{GivenSoFar, GivesNextPacket, new_words, packet_cutting};
 ghost use Rattle.packet_items.specs.Starting.{none_given};
 
+use crate::endings::{refused, stopped};
 use item_reader::items_are_read_in_order;
-use midi_edge::{ReadStop, Source};
-use midi_pass::{Items, LIMIT, Next, Reason};
-use ump_grammar::{Bad, Packet, decode};
+use midi_edge::Source;
+use midi_pass::{Items, LIMIT, Next};
+use ump_grammar::{Packet, decode};
 use ump_words::{Framed, Order, WordReader};
 
 /// The next packet (M2-104-UM, message types) of an input in which so many bytes stand before the first word. They count in each offset and
@@ -26,17 +27,7 @@ pub fn next_packet<S: Source>(
     input: &mut S,
 ) -> Next<Framed, Packet>
     requires { before ≤ limit }
-    ensures answer { (order : Order) (all : Option (List ℕ)) (items : List (Framed × Packet)) →
-        GivenAfter order before words.old (given all (S.left input.old) items) →
-        GivesNext (packets_after order before) (λ past item. IsPacket item.1)
-        (GivenAfter order before words.new) (given all (S.left input.new) items) result }
-    ensures place { (order : Order) (all : Option (List ℕ)) (items : List (Framed × Packet)) →
-        GivenAfter order before words.old (given all (S.left input.old) items) →
-        MovesOn before words.old words.new all result }
-    ensures reason { RefusesBytes result }
-    ensures nearer { ComesNearer (words.old.limit - words.old.offset)
-        (words.new.limit - words.new.offset) result }
-    ensures cause { NextCause (S.faults input.old) (S.faults input.new) result }
+    ensures { GivesNextPacket S.Source before words.old words.new input.old input.new result }
 {
     items_are_read_in_order::<Order, Framed>();
     match words.next(input) {
@@ -48,26 +39,11 @@ pub fn next_packet<S: Source>(
                     at: framed,
                     item: packet,
                 },
-                Err(Bad::BadCount) => Next::Refused {
-                    reason: Reason::BadCount,
-                    offset: framed.offset,
-                },
-                Err(Bad::HighBit) => Next::Refused {
-                    reason: Reason::HighBit,
-                    offset: framed.offset,
-                },
+                Err(bad) => refused(bad, framed.offset),
             }
         }
         Ok(None) => Next::End,
-        Err(ReadStop::Read(_)) => Next::Failed,
-        Err(ReadStop::Truncated(at)) => Next::Refused {
-            reason: Reason::Truncated,
-            offset: at.wrapping_add(before),
-        },
-        Err(ReadStop::TooLong) => Next::Refused {
-            reason: Reason::InputTooLong,
-            offset: LIMIT,
-        },
+        Err(stop) => stopped(stop, before),
     }
 }
 

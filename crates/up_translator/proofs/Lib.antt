@@ -1,3 +1,5 @@
+pub mod AloneLaws
 pub mod ControlLaws
 pub mod RecordingLaws
 pub mod StepLaws
+pub mod WordLaws

@@ -1,12 +1,13 @@
+pub mod Alone
 pub mod Answers
 pub mod ByteLines
 pub mod Held
 pub mod Laws
 pub mod Lend
 pub mod LendRaiser
-pub mod NoteOrControl
 pub mod Outcome
 pub mod Raised
 pub mod RaisedPacket
 pub mod Recording
 pub mod Step
+pub mod ValueWords

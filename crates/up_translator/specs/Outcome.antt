@@ -5,6 +5,7 @@ use Rattle.voice_messages.specs.declared.voice1.Voice1.TheVariants as voice1
 use Rattle.voice_messages.specs.declared.voice2.Voice2.{Voice2}
 use Rattle.voice_messages.specs.declared.voice2.Voice2.TheVariants as voice2
 use Rattle.voice_messages.specs.Ranges.{IsVoice2}
+use Rattle.encoded_packets.specs.ValueMessages.{is_value_voice}
 use Rattle.bit_scaling.specs.Scaling.{up}
 use Rattle.voice_state.specs.declared.listed.BadStep.{BadStep}
 use Rattle.voice_state.specs.declared.listed.BadStep.TheVariants as bad
@@ -22,7 +23,7 @@ use Rattle.up_translator.specs.declared.outcome.Outcome.TheVariants as outcome
 
 abbrev pub messages_in : Outcome → List Voice2
 messages_in outcome.Nothing = []
-messages_in (outcome.NoteOrControl message) = message ∷ []
+messages_in (outcome.Control channel index value) = voice2.Control channel index value ∷ []
 messages_in (outcome.Message message) = message ∷ []
 messages_in outcome.Ignored = []
 messages_in (outcome.Refused bad) = []
@@ -35,10 +36,10 @@ abbrev pub refusal_in : Outcome → Option BadStep
 refusal_in (outcome.Refused bad) = Some bad
 refusal_in _ = None
 
--- the fields of a message fit their places
+-- the fields of a message fit their places, and only a control change has a value
 abbrev pub FitsVoice2 : Outcome → Type 0
-FitsVoice2 (outcome.NoteOrControl message) = IsVoice2 message
-FitsVoice2 (outcome.Message message) = IsVoice2 message
+FitsVoice2 (outcome.Control channel index value) = IsVoice2 (voice2.Control channel index value)
+FitsVoice2 (outcome.Message message) = IsVoice2 message × (is_value_voice message ≡ false)
 FitsVoice2 _ = Unit {0}
 
 -- from the state of the group before the message, with paired controllers or without
@@ -59,8 +60,8 @@ outcome_by collected.DataStep channel index value = outcome.Refused (bad_data_st
 outcome_by collected.Held channel index value = outcome.Nothing
 outcome_by (collected.Set param entered) channel index value = outcome.Message (voice2.Set channel param (up entered 14 32))
 outcome_by collected.Ignored channel index value = outcome.Ignored
-outcome_by (collected.Pair coarse entered) channel index value = outcome.NoteOrControl (voice2.Control channel coarse (up entered 14 32))
-outcome_by collected.Plain channel index value = outcome.NoteOrControl (voice2.Control channel index (up value 7 32))
+outcome_by (collected.Pair coarse entered) channel index value = outcome.Control channel coarse (up entered 14 32)
+outcome_by collected.Plain channel index value = outcome.Control channel index (up value 7 32)
 
 -- ---- what is held after a voice message: a control change is collected
 

@@ -4,17 +4,17 @@
 pub mod byte_lines;
 pub mod laws;
 pub mod lines;
-pub mod note_or_control;
 mod outcome;
 pub mod raised;
 pub mod raised_packet;
 mod raiser;
 pub mod up;
+mod value_message;
+mod value_words;
 mod voice;
 
 pub use crate::byte_lines::{ByteLines, Line};
 pub use crate::lines::{kind_of_cut, kind_of_open};
-pub use crate::note_or_control::NoteOrControl;
 pub use crate::raised::Raised;
 pub use crate::raised_packet::RaisedPacket;
 pub use crate::up::Up;

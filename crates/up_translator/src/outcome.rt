@@ -1,5 +1,5 @@
 // What comes of a voice message, by the banks and parameters that control changes have set before it.
-ghost use Rattle.std.specs.Prelude.{◌≡◌};
+ghost use Rattle.std.specs.Prelude.{◌≡◌, Some, false};
 ghost use Rattle.midi1_bytes.specs.Messages.{voice};
 ghost use Rattle.voice_messages.specs.declared.voice1.Voice1.TheVariants as voice1;
 ghost use Rattle.voice_state.specs.Controllers.{pairing, role_of};
@@ -8,6 +8,7 @@ ghost use Rattle.voice_state.specs.Refusal.{bad_control, bad_voice1};
 ghost use Rattle.voice_state.specs.State.{GroupState};
 ghost use Rattle.param_collector.specs.Control.{holding_behind};
 ghost use Rattle.param_collector.specs.Keeps.{Keeps};
+ghost use Rattle.up_translator.specs.Alone.{stands_alone};
 ghost use Rattle.up_translator.specs.Outcome.{
   messages_in,
   refusal_in,
@@ -18,11 +19,8 @@ ghost use Rattle.up_translator.specs.Outcome.{
   IsRaisedVoice,
 };
 
-use crate::note_or_control::NoteOrControl;
-use crate::voice::{
-    raise_bend, raise_control, raise_data_entry, raise_note_off, raise_note_on, raise_pair,
-    raise_poly_pressure, raise_pressure, raise_program,
-};
+use crate::voice::{raise_data_entry, raise_program};
+use bit_scaling::{up7, up14};
 use param_collector::laws::other_messages_change_nothing_kept;
 use param_collector::{Collected, Collector};
 use voice_messages::{U4, U7, Voice1, Voice2};
@@ -33,9 +31,9 @@ use voice_state::{BadStep, ControlRole};
 pub enum Outcome {
     /// Nothing now: what it selects is kept for the messages that use it.
     Nothing,
-    /// This message of MIDI 2.0, one of those that are written alike.
-    NoteOrControl(NoteOrControl),
-    /// This message of MIDI 2.0.
+    /// This control change of MIDI 2.0.
+    Control { channel: U4, index: U7, value: u32 },
+    /// This message of MIDI 2.0, which has no value.
     Message(Voice2),
     /// Nothing: it is a data entry without a selected parameter.
     Ignored,
@@ -66,10 +64,16 @@ fn outcome_of(collected: Collected, channel: U4, index: U7, value: U7) -> Outcom
             Outcome::Message(raise_data_entry(channel, param, entered))
         }
         Collected::Ignored => Outcome::Ignored,
-        Collected::Pair(coarse, entered) => Outcome::NoteOrControl(raise_pair(
-            channel, coarse, entered,
-        )),
-        Collected::Plain => Outcome::NoteOrControl(raise_control(channel, index, value)),
+        Collected::Pair(coarse, entered) => Outcome::Control {
+            channel,
+            index: coarse,
+            value: up14(entered),
+        },
+        Collected::Plain => Outcome::Control {
+            channel,
+            index,
+            value: up7(value),
+        },
     }
 }
 
@@ -90,10 +94,11 @@ fn raise_control_change(collector: &mut Collector, channel: U4, index: U7, value
     outcome_of(collected, channel, index, value)
 }
 
-/// What comes of a voice message (M2-104-UM, translation from MIDI 1.0). A control change is collected; a program change takes
-/// the bank that is selected.
+/// What comes of a message that doesn't stand alone (M2-104-UM, translation from MIDI 1.0). A control change is collected; a program
+/// change takes the bank that is selected.
 #[inline(always)]
 pub fn raise(collector: &mut Collector, message: &Voice1) -> Outcome
+    requires { stands_alone (Some collector.old.paired) message.now ≡ false }
     ensures refused { refusal_in result ≡ bad_voice1 message.now }
     ensures raised { (state : GroupState) → Keeps collector.old state →
         IsRaisedVoice collector.old.paired state message.now result }
@@ -104,21 +109,6 @@ pub fn raise(collector: &mut Collector, message: &Voice1) -> Outcome
 {
     other_messages_change_nothing_kept();
     match *message {
-        Voice1::NoteOff {
-            channel,
-            note,
-            velocity,
-        } => Outcome::NoteOrControl(raise_note_off(channel, note, velocity)),
-        Voice1::NoteOn {
-            channel,
-            note,
-            velocity,
-        } => Outcome::NoteOrControl(raise_note_on(channel, note, velocity)),
-        Voice1::PolyPressure {
-            channel,
-            note,
-            value,
-        } => Outcome::NoteOrControl(raise_poly_pressure(channel, note, value)),
         Voice1::Control {
             channel,
             index,
@@ -128,7 +118,6 @@ pub fn raise(collector: &mut Collector, message: &Voice1) -> Outcome
             let bank = collector.program(channel);
             Outcome::Message(raise_program(channel, program, bank))
         }
-        Voice1::Pressure { channel, value } => Outcome::Message(raise_pressure(channel, value)),
-        Voice1::Bend { channel, value } => Outcome::Message(raise_bend(channel, value)),
+        _ => unreachable!(),
     }
 }

@@ -1,11 +1,14 @@
 // The packet of a message, as it is written.
-ghost use Rattle.std.specs.Prelude.{◌≡◌};
+ghost use Rattle.std.specs.Prelude.{◌≡◌, MatchOption, false};
+ghost use Rattle.encoded_packets.specs.ValueMessages.{has_value, is_value_voice};
 ghost use Rattle.ump_grammar.specs.Ranges.{IsPacket};
 ghost use Rattle.ump_grammar.specs.Reading.{Encodes};
 ghost use Rattle.ump_grammar.specs.declared.packet.Packet.TheVariants as packet;
 ghost use Rattle.up_translator.specs.RaisedPacket.{packet_by};
+ghost use Rattle.up_translator.specs.ValueWords.{IsBare, packet_of};
 
-use crate::note_or_control::NoteOrControl;
+use crate::value_words::ValueWords;
+use encoded_packets::ValueMessage;
 use midi_edge::ShortList;
 use std::marker::Model;
 use ump_grammar::{Packet, encode};
@@ -15,12 +18,9 @@ use voice_messages::{Form, System, U4, Voice2};
 // How a packet is held: each kind to which a message is raised.
 #[derive(Debug, Drop)]
 enum PacketForm {
-    // a message of MIDI 2.0, one of those that are written alike
-    NoteOrControl {
-        group: U4,
-        message: NoteOrControl,
-    },
-    // any message of MIDI 2.0
+    // a message of MIDI 2.0 that has a value, and its group
+    Value(ValueWords),
+    // any other message of MIDI 2.0
     Voice2 {
         group: U4,
         message: Voice2,
@@ -46,17 +46,20 @@ pub struct RaisedPacket {
 
 impl Model for RaisedPacket {
     ghost use Rattle.ump_grammar.specs.declared.packet.Packet.{Packet};
-    ghost use Rattle.up_translator.specs.RaisedPacket.{packet_by};
+    ghost use Rattle.up_translator.specs.RaisedPacket.{IsSorted, packet_by};
 
     ghost Value = { Packet };
 
     ghost view = { λ p. packet_by p.form };
+
+    ghost invariant = { λ p. IsSorted p.form };
 }
 
 impl RaisedPacket {
-    /// A message of MIDI 2.0 in a group.
+    /// A message of MIDI 2.0 that has no value, in a group.
     #[inline(always)]
     pub(crate) fn of_voice2(group: U4, message: Voice2) -> RaisedPacket
+        requires { is_value_voice message ≡ false }
         ensures { result ≡ packet.Voice2 group message }
     {
         RaisedPacket {
@@ -84,13 +87,14 @@ impl RaisedPacket {
         }
     }
 
-    /// A message of MIDI 2.0 in a group, one of those that are written alike.
+    /// A message of MIDI 2.0 that has a value, in its group.
     #[inline(always)]
-    pub(crate) fn of_note_or_control(group: U4, message: NoteOrControl) -> RaisedPacket
-        ensures { result ≡ packet.Voice2 group message }
+    pub(crate) fn of_value(message: &ValueMessage) -> RaisedPacket
+        requires { IsBare message.now }
+        ensures { result ≡ packet_of message.now }
     {
         RaisedPacket {
-            form: PacketForm::NoteOrControl { group, message },
+            form: PacketForm::Value(ValueWords::new(message)),
         }
     }
 
@@ -100,9 +104,9 @@ impl RaisedPacket {
         ensures { result ≡ self.now }
     {
         match &self.form {
-            PacketForm::NoteOrControl { group, message } => Packet::Voice2 {
-                group: *group,
-                message: message.message(),
+            PacketForm::Value(words) => Packet::Voice2 {
+                group: words.group(),
+                message: words.message(),
             },
             PacketForm::Voice2 { group, message } => Packet::Voice2 {
                 group: *group,
@@ -120,6 +124,30 @@ impl RaisedPacket {
         }
     }
 
+    /// The message, where it has a value; `None` exactly for all other packets.
+    #[inline(always)]
+    pub fn value_message(&self) -> Option<ValueMessage>
+        ensures { MatchOption result (has_value self.now ≡ false)
+            (λ message. IsBare message × (self.now ≡ packet_of message)) }
+    {
+        match &self.form {
+            PacketForm::Value(words) => Some(words.fields()),
+            _ => None,
+        }
+    }
+
+    /// The two words that encode a message that has a value (M2-104-UM, MIDI 2.0 channel voice messages); `None` exactly for all
+    /// other packets, whose words `words` gives.
+    #[inline(always)]
+    pub fn pair(&self) -> Option<[u32; 2]>
+        ensures { MatchOption result (has_value self.now ≡ false) (λ pair. Encodes self.now pair) }
+    {
+        match &self.form {
+            PacketForm::Value(words) => Some(words.pair()),
+            _ => None,
+        }
+    }
+
     /// The words that encode it (M2-104-UM), with zeros in the places that its row doesn't name. The packet is one that some words
     /// decode to.
     #[inline(always)]
@@ -127,9 +155,6 @@ impl RaisedPacket {
         requires { IsPacket self.now }
         ensures { Encodes self.now result }
     {
-        match &self.form {
-            PacketForm::NoteOrControl { group, message } => message.words(*group),
-            _ => encode(&self.packet()),
-        }
+        encode(&self.packet())
     }
 }

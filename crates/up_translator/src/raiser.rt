@@ -1,20 +1,26 @@
 // Messages of a stream as packets of its group.
-ghost use Rattle.std.specs.Prelude.{◌≡◌, [], ◌∷◌, map, Some, None, IfSome};
+ghost use Rattle.std.specs.Prelude.{◌≡◌, [], ◌∷◌, map, Some, None, IfSome, false};
 ghost use Rattle.std.specs.Option.{option_to_list};
 ghost use Rattle.midi1_bytes.specs.Messages.{voice};
+ghost use Rattle.midi1_bytes.specs.Spoken.{voice_in};
 ghost use Rattle.midi1_bytes.specs.Steps.{completes};
+ghost use Rattle.up_translator.specs.Alone.{stands_alone};
 ghost use Rattle.ump_grammar.specs.Ranges.{IsPacket};
 ghost use Rattle.ump_grammar.specs.declared.packet.Packet.TheVariants as packet;
+ghost use Rattle.voice_messages.specs.declared.voice2.Voice2.TheVariants as voice2;
 
 use crate::byte_lines::Line;
 use crate::lines::ignored;
 use crate::outcome::{Outcome, raise};
 use crate::raised::Raised;
 use crate::raised_packet::RaisedPacket;
+use crate::value_message::{control_change, raise_alone, stands_alone};
+use midi1_bytes::VoiceBytes;
 use param_collector::Collector;
+use param_collector::laws::{control_changes_are_kept, other_messages_change_nothing_kept};
 use std::marker::Model;
-use voice_messages::{System, U4, Voice1};
-use voice_state::BadStep;
+use voice_messages::{System, U4, U7, Voice1};
+use voice_state::{BadStep, LoneControls};
 
 // The fields of a system message and of its group fit their places.
 fn system_fits(group: U4, message: &System)
@@ -32,21 +38,33 @@ fn system_fits(group: U4, message: &System)
     }
 }
 
+// A control change.
+#[inline(always)]
+fn control_packet(group: U4, channel: U4, index: U7, value: u32) -> RaisedPacket
+    ensures { result ≡ packet.Voice2 group (voice2.Control channel index value) }
+{
+    RaisedPacket::of_value(&control_change(group, channel, index, value))
+}
+
 /// Raises messages to packets of one group. It keeps the packet that it lends. A contract sees the group and what control changes
 /// have set.
 #[derive(Drop)]
 pub(crate) struct Raiser {
     group: U4,
     collector: Collector,
+    lone: LoneControls,
     packet: RaisedPacket,
 }
 
 impl Model for Raiser {
+    ghost use Rattle.std.specs.Prelude.{◌≡◌, Some};
     ghost use Rattle.up_translator.specs.Held.{RaiserState};
 
     ghost Value = { RaiserState };
 
     ghost view = { λ r. record { group = r.group; holding = r.collector } };
+
+    ghost invariant = { λ r. r.lone ≡ Some r.collector.paired };
 }
 
 impl Raiser {
@@ -59,13 +77,15 @@ impl Raiser {
     ghost use Rattle.up_translator.specs.Raised.{packet_in, payload_in, packets_in, group_in, IsApart};
     ghost use Rattle.up_translator.specs.Step.{RaisesStep};
 
-    /// A raiser into a group.
-    pub(crate) fn new(group: U4, collector: Collector) -> Raiser
+    /// A raiser into a group, with paired controllers or without, as the collector has them.
+    pub(crate) fn new(group: U4, collector: Collector, paired: bool) -> Raiser
+        requires { collector.paired ≡ paired }
         ensures { result ≡ record { group = group; holding = collector } }
     {
         Raiser {
             group,
             collector,
+            lone: LoneControls::new(Some(paired)),
             packet: RaisedPacket::of_system(group, System::Tune),
         }
     }
@@ -111,30 +131,53 @@ impl Raiser {
         self.give(RaisedPacket::of_system(group, message), line)
     }
 
-    /// A voice message that the byte at this offset completes.
+    // A voice message that doesn't stand alone.
     #[inline(always)]
-    pub(crate) fn voice(&mut self, message: &Voice1, offset: u64) -> Result<Raised<'_>, BadStep>
+    fn other(&mut self, message: &Voice1, offset: u64) -> Result<Raised<'_>, BadStep>
+        requires { stands_alone (Some self.old.holding.paired) message.now ≡ false }
         ensures answer { RaisesStep self.old.holding self.old.group offset
             (completes (voice message.now)) result }
         ensures kept { KeepsBehind self.old.holding (completes (voice message.now)) }
         ensures* after { sem 𝓛 (KeepsRaiser self.entry
             (record self.old { holding = holding_with self.old.holding message.now })) }
     {
+        control_changes_are_kept();
         match raise(&mut self.collector, message) {
             Outcome::Nothing => Ok(Raised::only_listed(self.group, None, None)),
-            Outcome::NoteOrControl(message) => {
-                let group = self.group;
-                // tells that the group is below 16
-                group.get();
-                Ok(self.give(RaisedPacket::of_note_or_control(group, message), None))
+            Outcome::Control {
+                channel,
+                index,
+                value,
+            } => {
+                let packet = control_packet(self.group, channel, index, value);
+                Ok(self.give(packet, None))
             }
             Outcome::Message(message) => {
                 let group = self.group;
+                // tells that the group is below 16
                 group.get();
                 Ok(self.give(RaisedPacket::of_voice2(group, message), None))
             }
             Outcome::Ignored => { Ok(Raised::only_listed(self.group, Some(ignored(offset)), None)) }
             Outcome::Refused(bad) => Err(bad),
+        }
+    }
+
+    /// A voice message that the byte at this offset completes.
+    #[inline(always)]
+    pub(crate) fn voice(&mut self, bytes: &VoiceBytes, offset: u64) -> Result<Raised<'_>, BadStep>
+        ensures answer { RaisesStep self.old.holding self.old.group offset
+            (completes (voice (voice_in bytes.now))) result }
+        ensures kept { KeepsBehind self.old.holding (completes (voice (voice_in bytes.now))) }
+        ensures* after { sem 𝓛 (KeepsRaiser self.entry
+            (record self.old { holding = holding_with self.old.holding (voice_in bytes.now) })) }
+    {
+        other_messages_change_nothing_kept();
+        if stands_alone(&self.lone, bytes) {
+            let message = raise_alone(self.group, bytes);
+            Ok(self.give(RaisedPacket::of_value(&message), None))
+        } else {
+            self.other(&bytes.message(), offset)
         }
     }
 }

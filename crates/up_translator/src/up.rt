@@ -61,7 +61,7 @@ impl Up {
         match Collector::new(alloc, paired) {
             Ok(collector) => Ok(Up {
                 parser,
-                raiser: Raiser::new(group, collector),
+                raiser: Raiser::new(group, collector, paired),
             }),
             Err(NoMemory) => Err(NoMemory),
         }
@@ -100,7 +100,7 @@ impl Up {
         let group = self.raiser.group();
         match self.parser.byte(byte, offset) {
             Step::Held => Ok(Raised::only_listed(group, None, None)),
-            Step::Voice(bytes) => self.raiser.voice(&bytes.message(), offset),
+            Step::Voice(bytes) => self.raiser.voice(&bytes, offset),
             Step::Common(bytes) => Ok(self.raiser.system(bytes.message(), None)),
             Step::RealTime(byte) => Ok(self.raiser.system(byte.message(), None)),
             Step::Exclusive(_) => unreachable!(),

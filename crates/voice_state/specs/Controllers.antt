@@ -1,5 +1,5 @@
 -- What a control change is by its index (MIDI 1.0 Detailed Specification, the table of controller numbers).
-use Rattle.std.specs.Prelude.{ℕ, nat_le, ◌==◌, Bool, if◌then◌else◌}
+use Rattle.std.specs.Prelude.{ℕ, nat_le, ◌==◌, Bool, true, false, if◌then◌else◌, Option, Some, None}
 use Rattle.voice_messages.specs.declared.voice2.ParamKind.{ParamKind}
 use Rattle.voice_messages.specs.declared.voice2.ParamKind.TheVariants.{Registered, Assignable}
 
@@ -43,6 +43,18 @@ abbrev pub pairing : Bool → Role → Role
 pairing paired coarse = if paired then coarse else plain
 pairing paired fine = if paired then fine else plain
 pairing paired role = role
+
+-- A control change that only gives a controller its value, or is a channel mode message other than the reset: nothing is selected, entered or
+-- reset by it, and no other one is a half of it.
+abbrev pub is_lone : Role → Bool
+is_lone channel_mode = true
+is_lone plain = true
+is_lone _ = false
+
+-- the same by the index, where controllers are paired or aren't; none where that isn't told
+abbrev pub is_lone_in : Option Bool → ℕ → Bool
+is_lone_in None index = false
+is_lone_in (Some paired) index = is_lone (pairing paired (role_of index))
 
 -- the indexes of a parameter's number
 abbrev pub number_msb_index : ParamKind → ℕ

@@ -10,6 +10,7 @@ pub mod fact;
 mod group;
 pub mod laws;
 pub mod listed;
+pub mod lone_controls;
 pub mod meaning_rows;
 mod note_act;
 pub mod paired_rows;
@@ -28,6 +29,7 @@ mod width;
 
 pub use crate::fact::Fact;
 pub use crate::listed::{BadStep, Kind, Listed};
+pub use crate::lone_controls::LoneControls;
 pub use crate::registers::{Registers, is_null_param};
 pub use crate::role::ControlRole;
 pub use crate::running::VoiceState;

@@ -1,6 +1,6 @@
 // What a control change is by its index.
 ghost use Rattle.std.specs.Prelude.{◌≡◌, ℕ};
-ghost use Rattle.voice_state.specs.Controllers.{pairing, role_of};
+ghost use Rattle.voice_state.specs.Controllers.{is_lone, pairing, role_of};
 ghost use Rattle.voice_state.specs.Indexes.{HasIndex, HasIndexIn};
 ghost use Rattle.voice_state.specs.Roles.{role_in};
 
@@ -76,5 +76,14 @@ impl ControlRole {
             ControlRole::Coarse | ControlRole::Fine if !paired => ControlRole::Plain,
             role => role,
         }
+    }
+
+    /// Whether nothing is selected, entered or reset by such a control change, and no other one is a half of it: it gives a
+    /// controller its value, or is a channel mode message other than Reset All Controllers.
+    #[inline(always)]
+    pub fn is_lone(self) -> bool
+        ensures { result ≡ is_lone (role_in self) }
+    {
+        matches!(self, ControlRole::ChannelMode | ControlRole::Plain)
     }
 }

@@ -1,14 +1,14 @@
-use Rattle.std.proofs.Common.{arith, ◌≡◌, ◌≤◌, ◌<◌, ℕ, List, Option, None, Some, true, All, take, sym, subst, ap, ◌∙◌}
-use Rattle.std.specs.Prelude.{IfSome}
+use Rattle.std.proofs.Common.{arith, ◌≡◌, ◌≤◌, ◌<◌, ℕ, List, Option, None, Some, false, All, take, sym, subst, ap, ◌∙◌}
+use Rattle.std.specs.Prelude.{MatchOption}
 use Rattle.ump_words.specs.Cut.{IsWhole}
 use Rattle.ump_grammar.specs.declared.packet.Packet.{Packet}
 use Rattle.ump_grammar.specs.declared.packet.Packet.TheVariants as packet
 use Rattle.ump_grammar.specs.Places.{count_of, group_of, opcode_of}
 use Rattle.ump_grammar.specs.Spelling.{exclusive_places, form_number}
 use Rattle.encoded_packets.specs.declared.exclusive_part.ExclusivePart.{ExclusivePart}
-use Rattle.encoded_packets.specs.Parts.{is_low_part}
+use Rattle.encoded_packets.specs.Parts.{is_full_part, is_low_part}
 use Rattle.encoded_packets.proofs.EncodedLaws.{is_whole}
-use Rattle.encoded_packets.proofs.PartLaws.{IsLow, data_in, is_part, low_of, two_words}
+use Rattle.encoded_packets.proofs.PartLaws.{IsLow, data_in, is_part, low_of, not_full, two_words}
 use Rattle.encoded_packets.proofs.encoded.EncodedPacket.exclusive.Goals as goal
 
 pub part_in-requires : goal.part_in-requires
@@ -34,8 +34,11 @@ returns-then-self c = go c.part_in.result c.part_in.ensures
     low : IsLow words
     low = low_of words (sym c.self.inside.part_asked ∙ c.if-self.true)
 
-    go : (found : Option ExclusivePart) → IfSome found (IsPart c.as_slice-words.result.now) → IfSome found (IsTold c.args.self.now)
-    go None is = tt
+    go : (found : Option ExclusivePart) → MatchOption found (3 < opcode_of c.as_slice-words.result.now) (IsPart c.as_slice-words.result.now)
+        → MatchOption found (is_full_part c.args.self.now ≡ false) (IsTold c.args.self.now)
+    go None is =
+        let same : opcode_of c.as_slice-words.result.now ≡ opcode_of words = ap opcode_of c.as_slice-words.ensures.words in
+        absurd (omega (arith, is, same, low.opcode))
     go (Some part) is =
         let same : c.as_slice-words.result.now ≡ words = c.as_slice-words.ensures.words in
         let count : part.count ≡ count_of words = is.2 ∙ ap count_of same in
@@ -47,3 +50,7 @@ returns-then-self c = go c.part_in.result c.part_in.ensures
           sym c.self.view_is
               ∙ is_part words c.self.inside.packet part.group part.count part.form part.bytes low (is.0 ∙ ap group_of same) (ap opcode_of (sym same) ∙ is.1) count bytes,
         )
+
+pub returns-else-self : goal.returns-else-self
+returns-else-self c =
+    ap is_full_part (sym c.self.view_is) ∙ not_full c.self.inside.words c.self.inside.packet (sym c.self.inside.part_asked ∙ c.if-self.false)

@@ -1,0 +1,60 @@
+use Rattle.std.proofs.Common.{◌≡◌, ◌∙◌, ap, sym, subst, refl, [], ◌∷◌, map, true, Option, Some}
+use Rattle.std.specs.Prelude.{IfSome}
+use Rattle.voice_messages.specs.declared.voice1.Voice1.{Voice1}
+use Rattle.ump_grammar.specs.Ranges.{IsPacket}
+use Rattle.ump_grammar.specs.declared.packet.Packet.{Packet}
+use Rattle.ump_grammar.specs.declared.packet.Packet.TheVariants as packet
+use Rattle.midi1_bytes.specs.Messages.{voice}
+use Rattle.midi1_bytes.specs.Spoken.{voice_in}
+use Rattle.encoded_packets.specs.declared.value_message.ValueMessage.{ValueMessage}
+use Rattle.encoded_packets.specs.ValueMessages.{message_of}
+use Rattle.voice_state.specs.Messages.{channel_of, step1}
+use Rattle.param_collector.specs.Holding.{Holding}
+use Rattle.param_collector.specs.Keeps.{Keeps}
+use Rattle.up_translator.specs.Alone.{stands_alone}
+use Rattle.up_translator.specs.Held.{RaiserState}
+use Rattle.up_translator.proofs.AloneLaws.{accepted, fits, held, kept, no_program, not_ignored}
+use Rattle.up_translator.proofs.raiser.Raiser.voice.Goals as goal
+
+pub raise_alone-message-requires : goal.raise_alone-message-requires
+raise_alone-message-requires c =
+    let bytes = c.args.bytes.now in
+    let alone : stands_alone (Some c.self.inside.collector.paired) (voice_in bytes) ≡ true =
+    ap (λ paired. stands_alone paired (voice_in bytes)) (sym c.self.invariant) ∙ sym c.stands_alone.ensures ∙ c.if-stands_alone.true in
+    no_program c.self.inside.collector.paired bytes.status bytes.first bytes.second alone
+
+pub returns-then-stands_alone : goal.returns-then-stands_alone
+returns-then-stands_alone c =
+    let v : Voice1 = voice_in c.args.bytes.now in
+    let state : RaiserState = c.args.self.now in
+    let holding : Holding = state.holding in
+    let m : ValueMessage = c.raise_alone-message.result in
+    let same : c.self.inside.collector ≡ holding = ap (λ (r : RaiserState). r.holding) c.self.view_is in
+    let alone : stands_alone (Some holding.paired) v ≡ true =
+    ap (λ (h : Holding). stands_alone (Some h.paired) v) (sym same)
+    ∙ ap (λ paired. stands_alone paired v) (sym c.self.invariant) ∙ sym c.stands_alone.ensures ∙ c.if-stands_alone.true in
+    let group : m.group ≡ state.group = c.raise_alone-message.ensures.group ∙ ap (λ (r : RaiserState). r.group) c.self.view_is in
+    let others = c.other_messages_change_nothing_kept.ensures in (
+      (refl, λ _. tt, c.give.follows.holds-at-none ∙ (λ i. record { group = state.group; holding = sym (held holding v alone) i })),
+      record {
+        answer = record {
+          accepted = accepted holding.paired v alone;
+          grouped = c.give.ensures.group;
+          apart = c.give.ensures.apart;
+          in_order = c.give.ensures.order;
+          payload = c.give.ensures.payload;
+          spelled = subst (λ (o : Option Packet). IfSome o IsPacket) (sym c.give.ensures.packet) (subst IsPacket (sym c.of_value.ensures) (fits m c.raise_alone-message.ensures.bare));
+          raised_of = λ kept_state keeps. record {
+            packets =
+                c.give.ensures.packets
+                ∙ ap (λ (p : Packet). p ∷ []) (c.of_value.ensures ∙ ap (λ n. packet.Voice2 n (message_of m)) group)
+                ∙ ap (map (packet.Voice2 state.group)) (sym (c.raise_alone-message.ensures.raised holding.paired (kept_state.channels (channel_of v)) alone));
+            lines = rw (not_ignored holding.paired (kept_state.channels (channel_of v)) v alone) c.give.ensures.lines;
+          };
+        };
+        kept = λ kept_state keeps.
+            subst (λ (h : Holding). Keeps h (step1 holding.paired kept_state (voice v))) (sym (held holding v alone))
+            (kept others holding kept_state v alone keeps);
+        after = tt;
+      },
+    )
