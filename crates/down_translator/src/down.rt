@@ -328,8 +328,10 @@ impl Down {
         ensures { MatchOption result (is_whole self.now packet.now ≡ false)
             (λ message. IsWholeStep self.now packet.now message) }
     {
-        let message = packet.value_message()?;
-        self.lowered_message(&message)
+        match packet.value_message() {
+            Some(message) if self.is_lowered(&message) => Some(lowered(&message)),
+            _ => None,
+        }
     }
 
     /// The same for a message that has a value, in its group.

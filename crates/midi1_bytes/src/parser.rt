@@ -281,11 +281,26 @@ impl Parser {
         }
     }
 
-    // A status byte that is neither F7 nor Real Time.
+    // The status byte of a voice message.
     #[tactic(auto, using(crate::proofs::OpenLaws::cut_off_open), unfolding(crate::specs::Sorts::sort_of))]
     #[inline(always)]
-    fn status<'a>(&mut self, status: u8, offset: u64) -> Step<'a>
+    fn voice_status<'a>(&mut self, status: u8, offset: u64) -> Step<'a>
         requires least { 128 ≤ status }
+        requires most { status < 240 }
+        ensures step { step_view result ≡ (parse self.old offset status).step }
+        ensures framed { LendsFramed result }
+        ensures after { self.new ≡ (parse self.old offset status).after }
+    {
+        let begun = self.end();
+        self.begin_voice(status, offset);
+        cut_off(begun, AfterCut::Begins, Step::Held)
+    }
+
+    // A status byte of a system message that is neither F7 nor Real Time.
+    #[tactic(auto, using(crate::proofs::OpenLaws::cut_off_open), unfolding(crate::specs::Sorts::sort_of))]
+    #[inline(always)]
+    fn system_status<'a>(&mut self, status: u8, offset: u64) -> Step<'a>
+        requires least { 240 ≤ status }
         requires most { status < 247 }
         ensures step { step_view result ≡ (parse self.old offset status).step }
         ensures framed { LendsFramed result }
@@ -293,10 +308,6 @@ impl Parser {
     {
         let begun = self.end();
         match status {
-            0x80..=0xef => {
-                self.begin_voice(status, offset);
-                cut_off(begun, AfterCut::Begins, Step::Held)
-            }
             0xf1..=0xf3 => {
                 self.begin_common(status, offset);
                 cut_off(begun, AfterCut::Begins, Step::Held)
@@ -355,12 +366,15 @@ impl Parser {
         ensures framed { LendsFramed result }
         ensures* after { sem 𝓛 (KeepsParser self.entry (parse self.old offset byte).after) }
     {
-        // Most bytes are data bytes, so they come first.
+        // Most bytes are data bytes, and most others begin voice messages, so these come first.
         if byte < 0x80 {
             return self.data(byte, offset);
         }
+        if byte < 0xf0 {
+            return self.voice_status(byte, offset);
+        }
         match byte {
-            0x80..=0xf6 => self.status(byte, offset),
+            0xf0..=0xf6 => self.system_status(byte, offset),
             0xf7 => self.end_exclusive(),
             0xf9 | 0xfd => Step::Undefined,
             _ => Step::RealTime(RealTimeByte::of(byte)),

@@ -146,6 +146,8 @@ impl Engine<Framed, EncodedPacket> for DownEngine {
 /// `Refused` comes for `Truncated`, `InputTooLong`, `BadCount`, `HighBit`, `DataIncrement`, `DataDecrement` and `ExclusiveTooLong`,
 /// with the number of bytes before what is refused. `ReadFault`, `LaneFault` and `NoteFault` come only where the count of that object
 /// rose. The output stays as it is.
+// Never inlined, so that the loops of the other passes keep their registers.
+#[inline(never)]
 pub fn run_down<S: Source, L: Lanes, W: Sink, N: Sink>(
     engine: DownRun,
     input: &mut S,

@@ -141,7 +141,7 @@ pub(crate) fn words_in(order: Order, bytes: &[u8]) -> Words
     ensures { result ≡ words_of order bytes.now }
 {
     let first = word_in(order, bytes, 0);
-    let count = words_in_packet(first);
+    let count = bytes.len() / 4;
     let cells = match count {
         1 => [first, 0, 0, 0],
         2 => [first, word_in(order, bytes, 1), 0, 0],

@@ -97,20 +97,23 @@ impl Up {
         ensures* after { sem 𝓛 (KeepsUp self.entry (up_behind self.old offset byte)) }
     {
         other_messages_change_nothing_kept();
-        let group = self.raiser.group();
         match self.parser.byte(byte, offset) {
-            Step::Held => Ok(Raised::only_listed(group, None, None)),
+            Step::Held => Ok(Raised::only_listed(self.raiser.group(), None, None)),
             Step::Voice(bytes) => self.raiser.voice(&bytes, offset),
             Step::Common(bytes) => Ok(self.raiser.system(bytes.message(), None)),
             Step::RealTime(byte) => Ok(self.raiser.system(byte.message(), None)),
             Step::Exclusive(_) => unreachable!(),
-            Step::Stray => Ok(Raised::only_listed(group, Some(stray(offset)), None)),
-            Step::Undefined => Ok(Raised::only_listed(group, Some(undefined(offset)), None)),
+            Step::Stray => Ok(Raised::only_listed(self.raiser.group(), Some(stray(offset)), None)),
+            Step::Undefined => Ok(Raised::only_listed(
+                self.raiser.group(),
+                Some(undefined(offset)),
+                None,
+            )),
             Step::Cut {
                 start,
                 what,
                 after: AfterCut::Begins,
-            } => Ok(Raised::only_listed(group, Some(cut_off(start, what)), None)),
+            } => Ok(Raised::only_listed(self.raiser.group(), Some(cut_off(start, what)), None)),
             Step::Cut {
                 start,
                 what,
@@ -121,7 +124,7 @@ impl Up {
                 what,
                 after: AfterCut::Undefined,
             } => Ok(Raised::only_listed(
-                group,
+                self.raiser.group(),
                 Some(cut_off(start, what)),
                 Some(undefined(offset)),
             )),
@@ -129,7 +132,11 @@ impl Up {
                 start,
                 what,
                 after: AfterCut::Stray,
-            } => Ok(Raised::only_listed(group, Some(cut_off(start, what)), Some(stray(offset)))),
+            } => Ok(Raised::only_listed(
+                self.raiser.group(),
+                Some(cut_off(start, what)),
+                Some(stray(offset)),
+            )),
             Step::TooLong => Err(BadStep::ExclusiveTooLong),
         }
     }
@@ -146,10 +153,13 @@ impl Up {
         ensures kept { KeepsBehind self.old.holding (step_in self.old offset byte) }
         ensures* after { sem 𝓛 (KeepsUp self.entry (up_behind self.old offset byte)) }
     {
-        match byte {
-            END_OF_EXCLUSIVE => self.end_exclusive(offset),
-            _ => self.take(byte, offset),
+        // Most bytes are data bytes. The parser asks first whether a byte is one, so that this question costs nothing.
+        if byte >= 0x80 {
+            if byte == END_OF_EXCLUSIVE {
+                return self.end_exclusive(offset);
+            }
         }
+        self.take(byte, offset)
     }
 
     /// The line of what is open at the end of the stream, with the offset at which it starts; `None` exactly when nothing is
