@@ -88,9 +88,9 @@ impl Initiator {
     }
 
     /// Writes what is asked as a message from F0 to F7 into an empty list (M2-101-UM): Discovery to all at the function block, with
-    /// an identity of zeros, the category of profiles and 512 as the most bytes; the others to the peer at the watch's address,
-    /// with the count 1 for a channel and 0 otherwise. All are of version 02, and `ci_messages::read` takes them. The watch must be
-    /// there, and for all but Discovery a peer must be known: `can_ask` tells both.
+    /// an identity of zeros, the category of profiles, 512 as the most bytes and the output path 0; the others to the peer at the
+    /// watch's address, Set Profile On with the count 1 for a channel and 0 otherwise. All are of version 02, and
+    /// `ci_messages::read` takes them. The watch must be there, and for all but Discovery a peer must be known: `can_ask` tells both.
     pub fn ask(&self, what: Ask, into: &mut ShortList<u8, 512>)
         requires asks { is_some (asked_by self.now what) ≡ true }
         requires empty { into.old ≡ [] }

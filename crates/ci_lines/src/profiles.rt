@@ -86,7 +86,8 @@ fn put_profile<P: ProfileStates, L: Lanes, W: Sink, N: Sink>(
     put_line(place, line.as_slice(), lanes, output, notes)
 }
 
-/// Puts the line of each profile of a setup, in its order: whether it is on, as `known` tells, else as the setup says (own rule).
+/// Puts the line of each profile of a setup, in its order: whether it is on, as `known` tells, else as the setup says (own rule). An
+/// `Err` is the fault of the place, `OutputFault` or `NoteFault`, and comes only where the place's count of faults rose.
 pub fn put_profiles<P: ProfileStates, L: Lanes, W: Sink, N: Sink>(
     setup: &Setup,
     known: &P,

@@ -22,7 +22,8 @@ use ump_grammar::{Packet, Replies};
 /// How many bytes of an exclusive a packet has at most.
 const PACKET_BYTES: usize = 6;
 
-/// Writes a message of at most 342 bytes between F0 and F7 into an empty list. `ci_messages::read` takes it.
+/// Writes a message of version 01 or above, whose source is below 0FFFFF00, of at most 342 bytes between F0 and F7, into an empty
+/// list (M2-101-UM). `ci_messages::read` takes it.
 pub fn put_message(view: &CiView<'_>, into: &mut ShortList<u8, 512>)
     requires view { IsView view.now }
     requires version { 1 ≤ view.now.version }

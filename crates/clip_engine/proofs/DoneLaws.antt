@@ -1,6 +1,6 @@
 -- Where the pass is done, the input is a whole clip file, and its lines were put.
 use Rattle.std.proofs.Common.{◌≡◌, ◌+◌, ℕ, Bool, true, false, List, [], ◌∷◌, ◌++◌, is_some, Option, None, Some, refl, ap, sym, ◌∙◌, subst, arith}
-use Rattle.std.specs.Prelude.{IfSome, Result, Ok, reverse}
+use Rattle.std.specs.Prelude.{IfSome, Result, Ok, reverse, ◌&&◌}
 use Rattle.std.specs.List.{AllByRecursion, sum_by}
 use Rattle.std.specs.Option.{option_and_then}
 use Rattle.std.proofs.lemmas.List.{append_assoc, append-nil, map-append, reverse-append, reverse-reverse}
@@ -9,7 +9,9 @@ use Rattle.ump_words.specs.declared.words.Framed.{Framed}
 use Rattle.ump_grammar.specs.declared.packet.Packet.{Packet}
 use Rattle.midi_clip.specs.History.{IsEndedAfter, IsStartedBefore, before_end, before_end_by, can_start, is_ended, is_started, resolution_at, since_start, since_start_by, step_at, step_by, step_within, tick_at, ticks_in, ticks_since}
 use Rattle.midi_clip.specs.Laws.{ClipsAreTheDefinition}
-use Rattle.midi_clip.specs.Roles.{is_end, role_of, ticks_added}
+use Rattle.midi_clip.specs.Roles.{is_end, is_start, role_of, ticks_added}
+use Rattle.midi_clip.specs.declared.role.Role.{Role}
+use Rattle.midi_clip.specs.declared.role.Role.TheVariants.{StartOfClip, EndOfClip, Resolution, Delta, Other}
 use Rattle.midi_clip.specs.declared.step.ClipFault.{ClipFault}
 use Rattle.midi_clip.specs.declared.step.ClipStep.{ClipStep}
 use Rattle.midi_pass.specs.Pass.{AreAccepted, IsDone, Seen}
@@ -148,6 +150,46 @@ stands-at past since packet started going =
     ap (λ s. step_since (resolution_at past) s packet) started
     ∙ ap (λ ended. step_by (resolution_at past) true (is_some ended) (ticks_in since) (role_of packet)) going
 
+-- ---- the packets before the start
+
+abbrev IsNoStart : Packet → Type 0
+IsNoStart packet = is_start (role_of packet) ≡ false
+
+-- none of these packets could start the clip
+abbrev NoneStarts : List Packet → Type 0
+NoneStarts packets = (newer older : List Packet) (packet : Packet) → packets ≡ newer ++ packet ∷ older → can_start older packet ≡ false
+
+earlier-ones : (packet : Packet) (packets : List Packet) → NoneStarts (packet ∷ packets) → NoneStarts packets
+earlier-ones packet packets none newer older p e = none (packet ∷ newer) older p (ap (λ ps. packet ∷ ps) e)
+
+not-started : (packets : List Packet) → NoneStarts packets → since_start packets ≡ None
+not-started [] none = refl
+not-started (packet ∷ packets) none =
+    ap (λ since. since_start_by since (can_start packets packet) packet) (not-started packets (earlier-ones packet packets none))
+    ∙ ap (λ can. since_start_by None can packet) (none [] packets packet refl)
+
+-- a packet that is accepted before the start, and couldn't start the clip, is no Start of Clip
+no-start-by : (resolution : Option ℕ) (role : Role) (ended : Bool) (ticks offset : ℕ) → (is_start role && is_some resolution) ≡ false
+    → refusal_by (step_by resolution false ended ticks role) offset ≡ None → is_start role ≡ false
+no-start-by (Some ticks_each) StartOfClip ended ticks offset can fine = absurd (let e : true ≡ false = can in cc)
+no-start-by None StartOfClip ended ticks offset can fine = absurd cc
+no-start-by resolution EndOfClip ended ticks offset can fine = refl
+no-start-by resolution (Resolution n) ended ticks offset can fine = refl
+no-start-by resolution (Delta n) ended ticks offset can fine = refl
+no-start-by resolution Other ended ticks offset can fine = refl
+
+no-starts : (past : List Item) → NoneStarts (packets_of past) → AreAccepted clipping past → AllByRecursion IsNoStart (packets_of past)
+no-starts [] none accepted = tt
+no-starts (item ∷ past) none accepted =
+    let before = earlier-ones item.1 (packets_of past) none in
+    let S : Option (List Packet) → Type 0 = λ since. refusal_by (step_since (resolution_at (packets_of past)) since item.1) item.0.offset ≡ None in
+    (no-start-by (resolution_at (packets_of past)) (role_of item.1) false 0 item.0.offset (none [] (packets_of past) item.1 refl) (subst S (not-started (packets_of past) before) accepted.0),
+    no-starts past before accepted.1)
+
+accepted-before : (later earlier : List Item) → AreAccepted clipping (later ++ earlier) → AreAccepted clipping earlier
+accepted-before [] earlier accepted = accepted
+accepted-before (item ∷ later) earlier accepted = accepted-before later earlier accepted.1
+
 abbrev first-or : Item → List Item → Item
 first-or other [] = other
 first-or other (i ∷ items) = i
@@ -214,11 +256,15 @@ module _ (laws : ClipsAreTheDefinition) (older : List Item) (end : Item) (after 
       ∙ ap (can_start start-is.before) parts.packet_is
       ∙ start-is.starts
 
-  none-starts : (earlier later : List Item) (item : Item) → before ≡ earlier ++ item ∷ later → can_start (packets_of (reverse earlier)) item.1 ≡ false
-  none-starts earlier later item e =
-      let back : parts.earlier ≡ reverse later ++ item ∷ reverse earlier = sym (reverse-reverse parts.earlier) ∙ ap reverse e ∙ turned earlier later item in
-      start-is.first (packets_of (reverse later)) (packets_of (reverse earlier)) item.1
-      (sym parts.older_is ∙ ap packets_of back ∙ map-append (λ (i : Item). i.1) (reverse later) (item ∷ reverse earlier))
+  -- none of the packets before the start is a Start of Clip
+  none-starts : AreAccepted clipping older → AllByRecursion IsNoStart (packets_of before)
+  none-starts accepted =
+      let A : List Packet → Type 0 = λ ps. AllByRecursion IsNoStart ps in
+      let N : List Packet → Type 0 = λ ps. NoneStarts ps in
+      let B : List Item → Type 0 = λ items. AreAccepted clipping items in
+      let rest : AreAccepted clipping (parts.item ∷ parts.earlier) = accepted-before parts.later (parts.item ∷ parts.earlier) (subst B parts.split accepted) in
+      subst A (sym (packets-reverse parts.earlier))
+      (all-reverse IsNoStart (packets_of parts.earlier) (no-starts parts.earlier (subst N (sym parts.older_is) start-is.first) rest.1))
 
   -- each packet after the start stands at the sum of the ticks
   stands : (earlier later : List Item) (item : Item) → within ++ end ∷ [] ≡ earlier ++ item ∷ later
@@ -274,7 +320,7 @@ module _ (laws : ClipsAreTheDefinition) (old new : Seen) (bytes : List ℕ) (tol
         end = end;
         cut = subst I whole (subst C told done.cut).0;
         starts = can-start laws older end clip.0 clip.1 clip.2 clip.3;
-        first = none-starts laws older end clip.0 clip.1 clip.2 clip.3;
+        first = all-items IsNoStart (before laws older end clip.0 clip.1 clip.2 clip.3) (none-starts laws older end clip.0 clip.1 clip.2 clip.3 accepted.1);
         ends = clip.3;
         none_before = all-items IsNoEnd (within laws older end clip.0 clip.1 clip.2 clip.3) (none-within laws older end clip.0 clip.1 clip.2 clip.3);
         stands = stands laws older end clip.0 clip.1 clip.2 clip.3;

@@ -4,7 +4,7 @@ use Rattle.std.specs.List.{AllByRecursion}
 use Rattle.ump_words.specs.declared.words.Framed.{Framed}
 use Rattle.ump_grammar.specs.declared.packet.Packet.{Packet}
 use Rattle.midi_clip.specs.History.{can_start, step_at, step_within, ticks_in}
-use Rattle.midi_clip.specs.Roles.{is_end, role_of}
+use Rattle.midi_clip.specs.Roles.{is_end, is_start, role_of}
 use Rattle.midi_pass.specs.Pass.{Seen}
 use Rattle.midi_pass.specs.Places.{Places, with_more}
 use Rattle.midi_pass.specs.declared.ends.RunEnd.TheVariants.{Done}
@@ -16,7 +16,7 @@ use Rattle.clip_engine.specs.Ends.{ClipEnds}
 abbrev pub CanStart : List (Framed × Packet) → Framed × Packet → Type 0
 CanStart before item = can_start (packets_of (reverse before)) item.1 ≡ true
 
--- The bytes are the header and these packets: one that starts the clip, none before it that could, and after it one End of Clip, with
+-- The bytes are the header and these packets: one that starts the clip, no Start of Clip before it, and after it one End of Clip, with
 -- which the bytes end. Each packet between the two is what its role says, at the sum of the Delta Clockstamps between the start and it.
 -- The output gained the lines of the clip.
 pub record IsShownClip (bytes : List ℕ) (old new : Places) : Type 0 where
@@ -26,7 +26,7 @@ pub record IsShownClip (bytes : List ℕ) (old new : Places) : Type 0 where
   pub end : Framed × Packet
   pub cut : clip_cutting bytes (before ++ start ∷ (within ++ end ∷ [])) None
   pub starts : CanStart before start
-  pub first : (earlier later : List (Framed × Packet)) (item : Framed × Packet) → before ≡ earlier ++ item ∷ later → can_start (packets_of (reverse earlier)) item.1 ≡ false
+  pub first : AllByRecursion (λ item. is_start (role_of item.1) ≡ false) before
   pub ends : is_end (role_of end.1) ≡ true
   pub none_before : AllByRecursion (λ item. is_end (role_of item.1) ≡ false) within
   pub stands : (earlier later : List (Framed × Packet)) (item : Framed × Packet) → within ++ end ∷ [] ≡ earlier ++ item ∷ later →

@@ -28,10 +28,10 @@ const HEADER_SIZE: u64 = 8;
 /// the eight bytes `SMF2CLIP` and packets whose words have their most significant byte first (own rule; M2-104-UM, Delta Clockstamps,
 /// Start of Clip and End of Clip). Takes no memory.
 ///
-/// `Refused` comes for `NotClip`, at 0, where the input doesn't begin with the header; at the first packet that is refused, for
-/// `Truncated`, `InputTooLong`, `BadCount`, `HighBit`, `NoResolution` and `AfterEnd`, with the number of bytes before it; and at the
-/// input's length for `NoEnd`, where the input ends before the clip. `ReadFault` and `OutputFault` come only where the count of that
-/// object rose. The lanes and the notes stay as they are.
+/// `Refused` comes for `NotClip`, at 0, where the input doesn't begin with the header; for `Truncated`, `InputTooLong`, `BadCount`,
+/// `HighBit`, `NoResolution` and `AfterEnd`, with the number of bytes before what is refused, those of the header among them; and for
+/// `NoEnd`, with the number of all bytes, where the input ends before the clip. `ReadFault` and `OutputFault` come only where the count
+/// of that object rose. The lanes and the notes stay as they are.
 pub fn run_clip<S: Source, L: Lanes, W: Sink, N: Sink>(
     input: &mut S,
     lanes: &mut L,

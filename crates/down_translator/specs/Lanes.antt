@@ -103,7 +103,7 @@ abbrev pub after_system : System → LaneState → LaneState
 after_system system.Reset lane = new_lane
 after_system message lane = record { running = running_after (message_of message) lane.running; channels = lane.channels }
 
--- the lane into which a packet is written, if it is written into one
+-- the lane whose state a packet may change, if there is one
 abbrev pub lane_written : Option (List ℕ) → Packet → Option ℕ
 lane_written whole (packet.System group message) = Some group
 lane_written whole (packet.Voice1 group message) = Some group
@@ -129,12 +129,13 @@ module _ (paired : Bool) where
   needed_in plain_style registers message = voice_messages paired message
   needed_in compact_style registers message = needed_voice paired registers message
 
-  -- The piece of a packet, with the bytes of the exclusive that it ends, if it ends one. The status byte of a system message or of an
-  -- exclusive is never the running status.
+  -- the piece of a voice message
   abbrev pub voice_piece : Style → LaneState → Packet → List ℕ
   voice_piece plain_style lane packet = plain_piece paired None packet
   voice_piece compact_style lane packet = compact_by paired lane None packet
 
+  -- The piece of a packet, with the bytes of the exclusive that it ends, if it ends one. The status byte of a system message or of an
+  -- exclusive is never the running status.
   abbrev pub piece_by : Style → LaneState → Option (List ℕ) → Packet → List ℕ
   piece_by style lane whole (packet.Voice1 group message) = voice_piece style lane (packet.Voice1 group message)
   piece_by style lane whole (packet.Voice2 group message) = voice_piece style lane (packet.Voice2 group message)

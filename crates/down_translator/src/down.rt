@@ -55,8 +55,8 @@ impl Down {
     ghost use Rattle.down_translator.specs.Step.{Translates};
 
     /// A translator that writes in this style, in which nothing is open, with paired controllers or without (own rule). Reserves
-    /// memory for what is kept of the lanes, and for exclusives of `room` bytes between F0 and F7 in each group, 6 to 1,048,576; no
-    /// other call takes any. `NoMemory` when there isn't that much.
+    /// memory for what is kept of the lanes, and for exclusives of `room` bytes between F0 and F7 in each group, 6 to 1,048,576 (own
+    /// rule); no other call takes any. `NoMemory` when there isn't that much.
     pub fn new(alloc: Global, room: u32, style: Style, paired: bool) -> Result<Down, NoMemory>
         requires least { 6 ≤ room }
         requires most { room ≤ 1048576 }

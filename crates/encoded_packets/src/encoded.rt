@@ -43,8 +43,9 @@ impl Model for EncodedPacket {
 
 impl EncodedPacket {
     /// The packet that the words encode (M2-104-UM); they are as many as the type in the first one has. `Err(BadCount)` is returned
-    /// exactly when a 7-bit exclusive counts more than six bytes, and `Err(HighBit)` exactly when another packet has a byte of 128
-    /// or more in a place of seven bits.
+    /// exactly when a 7-bit exclusive of form 0 to 3 counts more than six bytes, and `Err(HighBit)` exactly when another packet has
+    /// a byte of 128 or more that carries seven bits: of an exclusive those that it counts, of a program's bank those of a bank that
+    /// is there.
     #[inline(always)]
     pub fn new(framed: &Framed) -> Result<EncodedPacket, Bad>
         requires { IsWhole framed.now.words }

@@ -9,8 +9,8 @@ pub struct ExclusivePart {
     pub group: U4,
     /// Which part of an exclusive it is.
     pub form: Form,
-    /// How many bytes it has.
+    /// How many bytes it has, 0 to 6.
     pub count: usize,
-    /// The bytes in its places.
+    /// The bytes in its places, each below 128; those behind the first `count` say nothing.
     pub bytes: [u8; 6],
 }

@@ -63,7 +63,7 @@ abbrev pub are_distinct : List ℕ → Bool
 are_distinct [] = true
 are_distinct (n ∷ ns) = not (list_any (λ m. m == n) ns) && are_distinct ns
 
--- what the rules guarantee of a block's keys
+-- a block's keys keep the rules that are named here
 pub record IsBlock (b : Block) : Type 0 where
   pub named : (0 < length b.name) × (length b.name ≤ 91)
   pub hint : b.hint ≤ 3

@@ -41,7 +41,7 @@ endpoint_of setup =
       fixed = fixed;
     })))))))))))))))
 
--- what the rules guarantee of an endpoint's keys
+-- an endpoint's keys keep the rules that are named here
 pub record IsEndpoint (e : Endpoint) : Type 0 where
   pub named : (0 < length e.name) × (length e.name ≤ 98)
   pub identified : (0 < length e.id) × (length e.id ≤ 42)

@@ -75,7 +75,7 @@ abbrev pub has_place_in : Option Block → Place → Bool
 has_place_in None place = false
 has_place_in (Some block) place = has_place block place
 
--- what the rules guarantee of a profile: its block is there, and its place is one of that block
+-- a profile keeps the rules that its block is there and that its place is one of that block
 pub record IsProfile (blocks : List Block) (profile : Profile) : Type 0 where
   pub block : profile.block < length blocks
   pub placed : has_place_in (slice_get blocks profile.block) profile.place ≡ true

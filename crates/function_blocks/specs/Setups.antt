@@ -48,7 +48,7 @@ setup_of text = holds rule.TextIsShort (nat_le (length text) 65536) (setup_at (t
 abbrev pub MeetsRead : Read Facts → Result Facts SetupFault → Type 0
 MeetsRead read result = MatchResult result (λ setup. read ≡ Ok setup) (λ e. (e ≡ NoMemory) ⊎ (read ≡ Err e))
 
--- what the rules guarantee of a setup
+-- a setup keeps the rules that are named here
 pub record IsSetup (facts : Facts) : Type 0 where
   pub endpoint : IsEndpoint facts.endpoint
   pub few_blocks : length facts.blocks ≤ 32

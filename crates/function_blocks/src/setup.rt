@@ -81,6 +81,7 @@ pub enum Place {
 pub struct Profile {
     /// The number of its block, counted from 0.
     pub block: u8,
+    /// Where in the block it applies.
     pub place: Place,
     /// Its id (M2-101-UM, profile id).
     pub id: [U7; 5],
@@ -102,7 +103,7 @@ pub struct Identity {
     pub revision: [u8; 4],
 }
 
-/// The stream configuration that is in force.
+/// The stream configuration that is in force (M2-104-UM, Stream Configuration Notification).
 #[derive(Clone, Copy, Debug, PartialEq, Eq)]
 pub struct Config {
     /// 1 for MIDI 1.0, 2 for MIDI 2.0.

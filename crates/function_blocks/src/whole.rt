@@ -7,8 +7,8 @@ ghost use Rattle.function_blocks.specs.Setups.{in_two_bytes as two_bytes_of};
 use crate::setup::{Block, Config, Endpoint, Identity, Profile};
 use std::marker::Model;
 
-/// The setup of an endpoint, which keeps all rules. A contract sees it as the record of the endpoint's own keys, the blocks and
-/// the profiles, each in the order of the text.
+/// The setup of an endpoint, which keeps the rules that `IsSetup` names. A contract sees it as the record of the endpoint's own keys,
+/// the blocks and the profiles, each in the order of the text.
 #[derive(Drop)]
 pub struct Setup {
     pub(crate) endpoint: Endpoint,

@@ -12,7 +12,7 @@ use midi_pass::places::put_notes;
 use up_translator::ByteLines;
 use voice_state::Listed;
 
-/// Puts a line of the listing in the notes.
+/// Puts a line of the listing in the notes. An `Err` is `NoteFault`, and comes only where the count of the notes' faults rose.
 #[inline(never)]
 pub fn put_line<L: Lanes, W: Sink, N: Sink>(
     listed: &Listed,
@@ -29,7 +29,8 @@ pub fn put_line<L: Lanes, W: Sink, N: Sink>(
     put_notes(line.as_slice(), lanes, output, notes)
 }
 
-/// Puts a line of the listing in the notes, if there is one. Mostly there is none, so only that question stands at each call.
+/// Puts a line of the listing in the notes, if there is one. An `Err` is `NoteFault`, and comes only where the count of the notes'
+/// faults rose. Mostly there is no line, so only that question stands at each call.
 #[inline(always)]
 pub fn put_listed<L: Lanes, W: Sink, N: Sink>(
     listed: Option<Listed>,
@@ -47,7 +48,8 @@ pub fn put_listed<L: Lanes, W: Sink, N: Sink>(
     }
 }
 
-/// Puts the lines of a byte in the notes, in order. Most bytes have none, so that is asked first.
+/// Puts the lines of a byte in the notes, in order. An `Err` is `NoteFault`, and comes only where the count of the notes' faults rose.
+/// Most bytes have no line, so that is asked first.
 #[inline(always)]
 pub fn put_lines<L: Lanes, W: Sink, N: Sink>(
     lines: &ByteLines,

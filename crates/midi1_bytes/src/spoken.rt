@@ -21,8 +21,8 @@ pub struct VoiceBytes {
     ghost second_below: { second < 128 },
 }
 
-/// The bytes of a system common message: a status byte F1, F2, F3 or F6 and zero, one or two data bytes, 0 to 7F (MIDI 1.0
-/// Detailed Specification, system common messages).
+/// The bytes of a system common message: a status byte F1, F2 or F3 and one or two data bytes, 0 to 7F; any other status byte stands
+/// for F6, a tune request (MIDI 1.0 Detailed Specification, system common messages).
 #[derive(Clone, Copy, Debug)]
 pub struct CommonBytes {
     status: u8,
@@ -32,8 +32,8 @@ pub struct CommonBytes {
     ghost second_below: { second < 128 },
 }
 
-/// The status byte of a system Real Time message: F8, FA, FB, FC, FE or FF (MIDI 1.0 Detailed Specification, system Real Time
-/// messages).
+/// The status byte of a system Real Time message: F8, FA, FB, FC or FE; any other byte stands for FF, System Reset (MIDI 1.0
+/// Detailed Specification, system Real Time messages).
 #[derive(Clone, Copy, Debug)]
 pub struct RealTimeByte {
     status: u8,

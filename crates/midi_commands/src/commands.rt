@@ -89,13 +89,13 @@ use usb_engines::{PackRun, run_pack, run_split};
 /// first 1,048,576; with `--little` each word has its least significant byte first.
 ///
 /// `Done` says that the input was read to its end, or that the line of a self test was put. `Refused` comes at the first packet, byte
-/// or event that is refused, with its reason and its offset, the number of input bytes before it; a clip that doesn't end is refused at
-/// the end of the input. `ReadFault`, `LaneFault`, `OutputFault`, `NoteFault` and `ShelfFault` come only for an object that the
-/// command names and whose count of faults rose in this call. `Usage` comes where the words are no command, `SetupSyntax` where the
-/// text of the setup isn't UTF-8 or no TOML, `SetupField` with the number of the first rule that it breaks (`function_blocks::Rule`).
-/// `NoMemory` is free in its cause, and comes before the first read, but for `--state`. What stands in the lanes, the output and the
-/// notes after each of these is told by the clauses; docs/passes.md has it as a table. Whatever the status but `Done` and
-/// `NoteFault`, a last line in the notes tells it.
+/// or event that is refused, with its reason and its offset, the number of input bytes before it; a clip file without its header is
+/// refused at 0, and a clip that doesn't end at the end of the input. `ReadFault`, `LaneFault`, `OutputFault`, `NoteFault` and
+/// `ShelfFault` come only for an object that the command names and whose count of faults rose in this call. `Usage` comes where the
+/// words are no command, `SetupSyntax` where the text of the setup isn't UTF-8 or no TOML, `SetupField` with the number of the first
+/// rule that it breaks (`function_blocks::Rule`). `NoMemory` is free in its cause, and comes before the first read, but for
+/// `--state`. What stands in the lanes, the output and the notes after each of these is told by the clauses; docs/passes.md has it as
+/// a table. Whatever the status but `Done` and `NoteFault`, a last line in the notes tells it.
 pub fn run<S: Source, L: Lanes, W: Sink, N: Sink, K: Shelf>(
     alloc: Global,
     words: &[String],

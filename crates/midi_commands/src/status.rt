@@ -9,8 +9,8 @@ use midi_pass::Reason;
 pub enum Status {
     /// The input was read to its end; a self test, which reads none, has put its line.
     Done,
-    /// What stands at this offset is refused: a packet, a byte, an event, a clip that doesn't end, or the input where it ends too
-    /// early or passes its limit. The offset is the number of input bytes before it.
+    /// What stands at this offset is refused: a packet, a byte, an event, the input where it ends within one or passes its limit, or
+    /// a clip that doesn't begin or end as it should. The offset is the number of input bytes before it.
     Refused { reason: Reason, offset: u64 },
     /// A read failed.
     ReadFault,

@@ -1,8 +1,6 @@
 // What holds of all inputs.
 ghost use Rattle.midi_pass.specs.Bytes.{byte_cutting};
 ghost use Rattle.midi_pass.specs.FirstRefusal.{HasOneFirstRefusal};
-ghost use Rattle.midi_pass.specs.Pass.{CutsOnce};
-ghost use Rattle.ump_words.specs.declared.words.Order.{Order};
 ghost use Rattle.midi_engines.specs.Back.{returning};
 ghost use Rattle.midi_engines.specs.Down.{carrying};
 ghost use Rattle.midi_engines.specs.Endpoint.{answering};
@@ -14,13 +12,6 @@ ghost use Rattle.midi_engines.specs.Up.{raising};
 
 use midi_pass::laws::bytes_are_cut_once;
 use packet_items::packets_are_cut_once;
-
-/// A recording is cut into its packets in one way, and a front of it begins as it does.
-pub fn recordings_are_cut_once()
-    ensures { (order : Order) → CutsOnce (packet_cutting order) }
-{
-    packets_are_cut_once();
-}
 
 /// A recording has one first refusal: after packets that are accepted it is refused at one offset and for one reason, whichever
 /// cutting tells it.

@@ -43,9 +43,10 @@ impl Model for ShowRun {
 }
 
 impl ShowRun {
-    /// Lines of packets, whose words have this order, or of the bytes of a MIDI 1.0 stream, which has no words; with `state` those
-    /// of what the input leaves come at the end. `room` is the most bytes of an exclusive between F0 and F7, 6 to 1,048,576, for
-    /// which each group, or the stream, reserves memory; `NoMemory` where there isn't so much. Only a state takes more later.
+    /// With `bytes` lines of the bytes of a MIDI 1.0 stream, which has no words, else of packets, whose words have this order; with
+    /// `state` those of what the input leaves come at the end. `room` is the most bytes of an exclusive between F0 and F7, 6 to
+    /// 1,048,576 (own rule), for which each group, or the stream, reserves memory; `NoMemory` where there isn't so much. Only a state
+    /// takes more later.
     pub fn new(
         alloc: Global,
         bytes: bool,

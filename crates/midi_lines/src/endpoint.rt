@@ -89,19 +89,10 @@ pub fn protocol_line(protocol: u8) -> Line
     ensures some { 0 < length result }
 {
     let mut line = Line::new();
-    fill_protocol_line(&mut line, protocol);
+    put_text(&mut line, "protocol ");
+    put_decimal(&mut line, u64::from(protocol));
+    put_text(&mut line, "\n");
     line
-}
-
-/// Makes the line that of the protocol in force, as `protocol_line` does, in the place of another one (own rule).
-pub fn fill_protocol_line(line: &mut Line, protocol: u8)
-    ensures text { line.new ≡ protocol_text protocol }
-    ensures some { 0 < length line.new }
-{
-    line.clear();
-    put_text(line, "protocol ");
-    put_decimal(line, protocol as u64);
-    put_text(line, "\n");
 }
 
 /// The line of a function block: its number, and its MUID in decimal digits, or `silent` where it has none (own rule).
@@ -110,21 +101,12 @@ pub fn block_line(number: u8, muid: Option<u32>) -> Line
     ensures some { 0 < length result }
 {
     let mut line = Line::new();
-    fill_block_line(&mut line, number, muid);
+    put_text(&mut line, "block ");
+    put_decimal(&mut line, u64::from(number));
+    put_text(&mut line, " ");
+    put_muid(&mut line, muid);
+    put_text(&mut line, "\n");
     line
-}
-
-/// Makes the line that of a function block, as `block_line` does, in the place of another one (own rule).
-pub fn fill_block_line(line: &mut Line, number: u8, muid: Option<u32>)
-    ensures text { line.new ≡ block_text number muid }
-    ensures some { 0 < length line.new }
-{
-    line.clear();
-    put_text(line, "block ");
-    put_decimal(line, number as u64);
-    put_text(line, " ");
-    put_muid(line, muid);
-    put_text(line, "\n");
 }
 
 /// The line of a profile: the number of its function block, its place, its ID in ten hexadecimal digits, and whether it is on
@@ -134,25 +116,16 @@ pub fn profile_line(profile: &Profile, on: bool) -> Line
     ensures some { 0 < length result }
 {
     let mut line = Line::new();
-    fill_profile_line(&mut line, profile, on);
+    put_text(&mut line, "profile ");
+    put_decimal(&mut line, u64::from(profile.block));
+    put_text(&mut line, " ");
+    put_place(&mut line, profile.place);
+    put_text(&mut line, " ");
+    put_id(&mut line, &profile.id);
+    put_text(&mut line, " ");
+    put_text(&mut line, state_name(on));
+    put_text(&mut line, "\n");
     line
-}
-
-/// Makes the line that of a profile, as `profile_line` does, in the place of another one (own rule).
-pub fn fill_profile_line(line: &mut Line, profile: &Profile, on: bool)
-    ensures text { line.new ≡ profile_text profile.now on }
-    ensures some { 0 < length line.new }
-{
-    line.clear();
-    put_text(line, "profile ");
-    put_decimal(line, profile.block as u64);
-    put_text(line, " ");
-    put_place(line, profile.place);
-    put_text(line, " ");
-    put_id(line, &profile.id);
-    put_text(line, " ");
-    put_text(line, state_name(on));
-    put_text(line, "\n");
 }
 
 // A MUID, or that there is none.

@@ -7,7 +7,8 @@ use std::marker::Model;
 /// How many bytes a line holds.
 pub const CAPACITY: usize = 256;
 
-/// A line of at most 256 bytes, with the line feed at its end. To a contract it is the list of its bytes.
+/// A line of text, or what there is of it so far: at most 256 bytes, the last of a whole one a line feed. To a contract it is the list of
+/// its bytes.
 #[derive(Drop)]
 pub struct Line {
     bytes: [u8; CAPACITY],

@@ -35,10 +35,9 @@ ghost use Rattle.sysex8_engine.specs.JoiningMeans.{joins_mean, joins_named, open
 use crate::lines::{Kind8, kind_line, whole_line};
 use listing_puts::refused;
 use midi_edge::{Lanes, NoMemory, Sink, Source, U4};
-use midi_engines::laws::recordings_are_cut_once;
 use midi_pass::places::{put_lane, put_notes};
 use midi_pass::{Engine, RunEnd, drive};
-use packet_items::PacketReader;
+use packet_items::{PacketReader, packets_are_cut_once};
 use std::alloc::Global;
 use std::marker::Model;
 use sysex8_streams::{Fed8, Streams, fed_streams_are_the_definition, read8};
@@ -144,9 +143,9 @@ impl Engine<Framed, Packet> for Sysex8Engine {
 /// it has none, and then in the notes its line; a line for what is left out, stray, cut off or has no slot; and at the end those of the
 /// exclusives that are still open, by group, then stream. Other packets give nothing. Takes no memory.
 ///
-/// `Refused` comes at the first packet that is refused, for `Truncated`, `InputTooLong`, `BadCount`, `HighBit` and, where an exclusive
-/// has more bytes than its room, for `ExclusiveTooLong`, with the number of input bytes before it. `ReadFault`, `LaneFault` and
-/// `NoteFault` come only where the count of that object rose. The output stays as it is.
+/// `Refused` comes for `Truncated`, `InputTooLong`, `BadCount`, `HighBit` and, where an exclusive has more bytes than its room,
+/// `ExclusiveTooLong`, with the number of bytes before what is refused. `ReadFault`, `LaneFault` and `NoteFault` come only where the
+/// count of that object rose. The output stays as it is.
 pub fn run_sysex8<S: Source, L: Lanes, W: Sink, N: Sink>(
     engine: Sysex8Run,
     input: &mut S,
@@ -165,7 +164,7 @@ pub fn run_sysex8<S: Source, L: Lanes, W: Sink, N: Sink>(
         (seen S.Source L.Lanes W.Sink N.Sink input.old lanes.old output.old notes.old)
         (seen S.Source L.Lanes W.Sink N.Sink input.new lanes.new output.new notes.new) result }
 {
-    recordings_are_cut_once();
+    packets_are_cut_once();
     fed_streams_are_the_definition();
     let Sysex8Run { streams, order } = engine;
     let reader = PacketReader::new(order);

@@ -5,7 +5,7 @@ ghost use Rattle.sysex8_engine.specs.Joining.{joining};
 ghost use Rattle.sysex8_engine.specs.Laws.{DoneJoinsTheInput};
 ghost use Rattle.sysex8_engine.specs.Options.{Sysex8Options};
 
-use midi_engines::laws::recordings_are_cut_once;
+use packet_items::packets_are_cut_once;
 
 /// A recording whose 8-bit exclusives are joined has one first refusal: after packets that are accepted it is refused at one offset and
 /// for one reason, whichever cutting tells it.
@@ -13,7 +13,7 @@ pub fn a_join_has_one_first_refusal()
     ensures { (options : Sysex8Options) →
         HasOneFirstRefusal (packet_cutting options.order) (joining options) }
 {
-    recordings_are_cut_once();
+    packets_are_cut_once();
 }
 
 /// Where a join is done, the pieces that were put are exactly the bytes of the exclusives that the packets of the whole input complete,

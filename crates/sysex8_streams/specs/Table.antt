@@ -38,7 +38,7 @@ begun_among key (slot ∷ slots) = if is_of key slot then option_map (λ stream.
 abbrev pub begun8_in : Table8 → ℕ → Option Begun
 begun8_in table key = begun_among key table.slots
 
--- whether a slot is idle
+-- the first slot that is idle
 abbrev pub idle_slot : List Slot8 → Option ℕ
 idle_slot slots = position is_none slots
 

@@ -13,9 +13,13 @@ use voice_messages::Form;
 /// What one packet has of the exclusive of a stream, which is named by a group and a stream id.
 #[derive(Debug, PartialEq, Eq, Drop)]
 pub struct Part8 {
+    /// The group.
     pub group: U4,
+    /// Which part of an exclusive it is.
     pub form: Form,
+    /// The stream id, 0 to 255.
     pub stream: u8,
+    /// Its bytes, 0 to 13, each 00 to FF.
     pub bytes: ShortList<u8, 13>,
 }
 

@@ -43,8 +43,8 @@ impl Groups {
     ghost use Rattle.std.specs.Borrow.{sem};
     ghost use Rattle.std.specs.Option.{option_map};
 
-    /// Sixteen groups in which nothing is open. Reserves memory for `room` bytes between F0 and F7 in each, 6 to 1,048,576; no
-    /// other call takes any. `NoMemory` when there isn't that much.
+    /// Sixteen groups in which nothing is open. Reserves memory for `room` bytes between F0 and F7 in each, 6 to 1,048,576 (own
+    /// rule); no other call takes any. `NoMemory` when there isn't that much.
     pub fn new(alloc: Global, room: u32) -> Result<Groups, NoMemory>
         requires least { 6 ≤ room }
         requires most { room ≤ 1048576 }
@@ -65,7 +65,8 @@ impl Groups {
     }
 
     /// Takes one more part of a group's exclusive: the payload bytes of a packet, at most 6, and the packet's offset (M2-104-UM,
-    /// system exclusive 7-bit messages). What is lent is the exclusive from F0 to F7. All other groups stay as they are.
+    /// system exclusive 7-bit messages). The offset, in bytes from the start of the input, is only kept, and given back as the start
+    /// of what the packet begins; any number will do. What is lent is the exclusive from F0 to F7. All other groups stay as they are.
     pub fn feed(&mut self, group: U4, form: Form, bytes: &[u8], offset: u64) -> Fed<'_>
         requires few { length bytes.now ≤ 6 }
         requires data_bytes { IsData bytes.now }

@@ -1,6 +1,6 @@
 // The answer to one more part of a text.
 
-/// What a part of a text did to what was open.
+/// What a part of a text did to what was open (M2-104-UM, UMP stream messages).
 #[derive(Clone, Copy, Debug, PartialEq, Eq)]
 pub enum Joined<'a> {
     /// The part is kept: it begins a text or continues one.

@@ -7,8 +7,9 @@ use midi_edge::ShortList;
 use std::marker::Model;
 use voice_messages::Form;
 
-/// Joins the texts of one kind from the parts in their packets, without memory from an allocator. A contract sees it as the kind,
-/// and either nothing or the block that the open text's parts name together with the bytes joined so far.
+/// Joins the texts of one kind from the parts in their packets (M2-104-UM, UMP stream messages), without memory from an allocator. A
+/// contract sees it as the kind, and either nothing or the block that the open text's parts name together with the bytes joined so
+/// far.
 #[derive(Drop)]
 pub struct TextJoin {
     kind: TextKind,

@@ -12,7 +12,9 @@ pub enum StreamMessage {
         minor: u8,
         filter: u8,
     },
-    /// Endpoint Info, with the number of function blocks, 0 to 127. They are `fixed` if they don't change.
+    /// Endpoint Info, with the version of the format and the number of function blocks, 0 to 127. They are `fixed` if they don't
+    /// change. `midi1` and `midi2` are the protocols that the endpoint supports, `receives_jr` and `sends_jr` whether it receives and
+    /// sends JR Timestamps.
     Info {
         major: u8,
         minor: u8,
@@ -40,7 +42,7 @@ pub enum StreamMessage {
         form: Form,
         text: [u8; 14],
     },
-    /// Stream Configuration Request: protocol 1 is MIDI 1.0, 2 is MIDI 2.0.
+    /// Stream Configuration Request: protocol 1 is MIDI 1.0, 2 is MIDI 2.0, and `jr` has the bits for JR Timestamps.
     ConfigRequest {
         protocol: u8,
         jr: u8,
@@ -56,7 +58,11 @@ pub enum StreamMessage {
         block: u8,
         filter: u8,
     },
-    /// Function Block Info: `block` is 0 to 127, `hint`, `midi1` and `direction` are 0 to 3.
+    /// Function Block Info of the block of this number, 0 to 127. `hint`, 0 to 3, is what it mainly does: 0 undeclared, 1 receives, 2
+    /// sends, 3 both. `midi1`, 0 to 3, is the MIDI 1.0 port behind it: 0 none, 1 one without a limit of speed, 2 one at 31.25 kbit/s.
+    /// `direction`, 0 to 3, is which way its messages go: 1 it only receives, 2 it only sends, 3 both. `first` is its first group,
+    /// counted from 0, `count` the number of its groups, `ci` the version of MIDI-CI, 0 for none, and `sysex8` how many System
+    /// Exclusive 8 streams it takes at a time, 0 for none.
     BlockInfo {
         active: bool,
         block: u8,
@@ -82,7 +88,7 @@ pub enum StreamMessage {
     Other,
 }
 
-/// A message of one packet has a format other than 0.
+/// A message of one packet has a format other than 0 (M2-104-UM, UMP stream messages).
 #[derive(Clone, Copy, Debug, PartialEq, Eq, Error)]
 #[error("a stream message of one packet has a format other than complete")]
 pub struct BadFormat;

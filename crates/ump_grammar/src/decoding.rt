@@ -21,8 +21,9 @@ use ump_words::{Framed, Words};
 use voice_messages::Form;
 
 /// The packet that the words spell (M2-104-UM); they are as many as the type in the first one has. `Err(BadCount)` is returned
-/// exactly when a 7-bit exclusive counts more than six bytes, and `Err(HighBit)` exactly when another packet has a byte of 128 or
-/// more in a place of seven bits.
+/// exactly when a 7-bit exclusive of form 0 to 3 counts more than six bytes, and `Err(HighBit)` exactly when another packet has a
+/// byte of 128 or more that carries seven bits: of an exclusive those that it counts, of a program's bank those of a bank that is
+/// there.
 #[tactic(auto, using(crate::proofs::Fitting::decoded_fits))]
 #[inline(always)]
 pub fn decode(framed: &Framed) -> Result<Packet, Bad>

@@ -14,7 +14,8 @@ pub enum ParamKind {
     Assignable,
 }
 
-/// A registered or assignable parameter, by the MSB (`bank`) and the LSB (`index`) of its number.
+/// A registered or assignable parameter, by the MSB (`bank`) and the LSB (`index`) of its number (MIDI 1.0 Detailed Specification,
+/// registered and non-registered parameter numbers).
 #[derive(Clone, Copy, Debug, PartialEq, Eq)]
 pub struct Param {
     pub kind: ParamKind,
@@ -22,7 +23,7 @@ pub struct Param {
     pub index: U7,
 }
 
-/// The bank of a program.
+/// The bank of a program (MIDI 1.0 Detailed Specification, bank select).
 #[derive(Clone, Copy, Debug, PartialEq, Eq)]
 pub struct Bank {
     pub msb: U7,
@@ -30,7 +31,7 @@ pub struct Bank {
 }
 
 /// A channel voice message of the MIDI 2.0 protocol (M2-104-UM, MIDI 2.0 channel voice messages). Velocities and attributes have
-/// 16 bits, and values have 32; a bend has its centre at 80000000.
+/// 16 bits, and values have 32; a bend has its centre at 80000000. A note whose `attribute_type` is 0 has no attribute.
 #[derive(Clone, Copy, Debug, PartialEq, Eq)]
 pub enum Voice2 {
     /// Opcode 8.
@@ -103,7 +104,7 @@ pub enum Voice2 {
         note: U7,
         value: u32,
     },
-    /// Opcode F.
+    /// Opcode F, with its byte of option flags.
     NoteManagement {
         channel: U4,
         note: U7,

@@ -1,4 +1,5 @@
--- The indexes of each role (MIDI 1.0 Detailed Specification, the table of controller numbers).
+-- The indexes that a role may have, as far as the answers to a control change tell them apart (MIDI 1.0 Detailed Specification, the
+-- table of controller numbers).
 use Rattle.std.specs.Prelude.{◌≡◌, ℕ, ◌≤◌, ◌⊎◌, Bool, true, false}
 use Rattle.voice_state.specs.Controllers.{Role, bank_msb, bank_lsb, data_msb, data_lsb, data_increment, data_decrement, number_msb, number_lsb, reset_all, channel_mode, coarse, fine, plain}
 

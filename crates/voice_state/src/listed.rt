@@ -52,7 +52,8 @@ pub enum Kind {
 /// A line of the listing.
 #[derive(Clone, Copy, Debug, PartialEq, Eq)]
 pub struct Listed {
-    /// The number of input bytes before what is listed.
+    /// The number of input bytes before what it tells of: of a message or exclusive that is cut off or open its start, of a data
+    /// entry the byte that completes it.
     pub offset: u64,
     /// Its group, where it has one.
     pub group: Option<U4>,

@@ -20,7 +20,8 @@ use voice_messages::{System, Voice1, Voice2};
 
 /// What the messages of a MIDI 1.0 stream, or the packets of a recording, have left in a receiver: the states of sixteen groups,
 /// with counts in place of the lists of system messages. To a contract it is what is kept of each group; `Keeps` says which
-/// states that stands for. One state takes either messages, of 7 and 14 bits, or packets, of 16 and 32 bits.
+/// states that stands for. One state takes either messages, of 7 and 14 bits, or packets, of 16 and 32 bits; what one that
+/// took both stands for isn't promised.
 ///
 /// Notes and channel mode messages are kept as the list of all that came, and parameters in a map by their numbers. All other
 /// memory is taken when it is made.

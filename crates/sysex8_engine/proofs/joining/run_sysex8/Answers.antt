@@ -26,8 +26,8 @@ returns-clause-ends g c =
 
 pub returns-clause-complete : goal.returns-clause-complete
 returns-clause-complete g c =
-    is_done_unless (packet_cutting c.args.engine.order) (joining c.args.engine) (c.recordings_are_cut_once.ensures c.args.engine.order) _ _ c.drive.result (returns-clause-ends g c)
+    is_done_unless (packet_cutting c.args.engine.order) (joining c.args.engine) (c.packets_are_cut_once.ensures c.args.engine.order 0) _ _ c.drive.result (returns-clause-ends g c)
 
 pub returns-clause-refused : goal.returns-clause-refused
 returns-clause-refused g c =
-    is_refused_where (packet_cutting c.args.engine.order) (joining c.args.engine) (c.recordings_are_cut_once.ensures c.args.engine.order) _ _ c.drive.result (returns-clause-ends g c)
+    is_refused_where (packet_cutting c.args.engine.order) (joining c.args.engine) (c.packets_are_cut_once.ensures c.args.engine.order 0) _ _ c.drive.result (returns-clause-ends g c)

@@ -4,4 +4,4 @@ use Rattle.sysex8_engine.specs.Joining.{joining}
 use Rattle.sysex8_engine.proofs.laws.a_join_has_one_first_refusal.Goals as goal
 
 pub returns : goal.returns
-returns c = λ options. one_refusal (packet_cutting options.order) (joining options) (c.recordings_are_cut_once.ensures options.order)
+returns c = λ options. one_refusal (packet_cutting options.order) (joining options) (c.packets_are_cut_once.ensures options.order 0)
