@@ -1,6 +1,6 @@
 -- Exclusives in the packets of groups (M2-104-UM, system exclusive 7-bit messages), looking back over the parts that came.
 use Rattle.std.specs.Prelude.{ℕ, ◌≡◌, ◌<◌, ◌==◌, nat_le, All, Bool, true, false, if◌then◌else◌, List, [], ◌∷◌, ◌++◌, length, filter, reverse, Option, Some, None, is_some}
-use Rattle.std.specs.List.{flat_map}
+use Rattle.std.specs.List.{AllByRecursion, flat_map}
 use Rattle.std.specs.Option.{option_map, option_and_then}
 use Rattle.voice_messages.specs.declared.voice2.Form.{Form}
 use Rattle.voice_messages.specs.declared.voice2.Form.TheVariants as form
@@ -52,6 +52,19 @@ within room parts = if fits room (length (bytes_of parts)) then Some parts else 
 -- the parts of the exclusive that a group has open, after these parts of all groups, newest first
 abbrev pub opened : Room → ℕ → List Part → Option (List Part)
 opened room group past = option_and_then (within room) (since_start (of_group group past))
+
+-- These are the parts of the exclusive that a group has open after the others, by their places: it began with a Start of the group,
+-- every part of the group since then is a Continue, and their bytes are within the limit.
+pub record IsOpenedBy (room : Room) (group : ℕ) (past parts : List Part) : Type 0 where
+  pub before : List Part
+  pub start : Part
+  pub after : List Part
+  pub split : past ≡ after ++ start ∷ before
+  pub own_start : start.group ≡ group
+  pub starts : start.form ≡ form.Start
+  pub continues : AllByRecursion (λ part. part.group ≡ group → part.form ≡ form.Continue) after
+  pub own : parts ≡ of_group group after ++ start ∷ []
+  pub within : fits room (length (bytes_of parts)) ≡ true
 
 -- the bytes of the exclusive that a group has open
 abbrev pub joined : Room → ℕ → List Part → Option (List ℕ)

@@ -1,7 +1,7 @@
 -- What holds of all exclusives.
 use Rattle.std.specs.Prelude.{◌≡◌, ◌≢◌, ◌<◌, ◌≤◌, ◌+◌, ◌==◌, ◌∷◌, ◌++◌, if◌then◌else◌, ℕ, List, Some, None, IsTrue, length}
 use Rattle.sysex_groups.specs.Cut.{part_count, sent_part, sent}
-use Rattle.sysex_groups.specs.Exclusives.{Part, Room, of_group, bytes_of, fits, opened, ended, answer_at}
+use Rattle.sysex_groups.specs.Exclusives.{Part, Room, of_group, bytes_of, fits, opened, IsOpenedBy, ended, answer_at}
 use Rattle.sysex_groups.specs.Table.{Table, AreParts, begun_in, begun_after, begun_behind, answer_to, with_part, table_after}
 
 -- What one more part does, whatever the limit. A part of another group is none of a group's parts, and leaves open what the group
@@ -16,6 +16,11 @@ pub record PartsOfOneGroup : Type 0 where
       opened room group (part ∷ past) ≡ opened room group past
   pub begun : (room : Room) (group : ℕ) (part : Part) (past : List Part) → part.group ≡ group → IsTrue (fits room (length part.bytes)) →
       begun_behind room group (part ∷ past) ≡ begun_after room (begun_behind room group past) part.form part.bytes part.offset
+
+-- What a group has open is what the places of its parts say.
+pub record OpenedByPlaces : Type 0 where
+  pub opens : (room : Room) (group : ℕ) (past parts : List Part) → IsOpenedBy room group past parts → opened room group past ≡ Some parts
+  pub is_opened : (room : Room) (group : ℕ) (past parts : List Part) → opened room group past ≡ Some parts → IsOpenedBy room group past parts
 
 pub record FedPartsAreTheDefinition : Type 0 where
   pub begun : (room : ℕ) (past : List Part) → 6 ≤ room → AreParts past → (group : ℕ) →

@@ -1,10 +1,16 @@
 // Laws over the definitions alone.
-ghost use Rattle.sysex_groups.specs.Laws.{CutPayloadIsJoined, FedPartsAreTheDefinition, PartsOfOneGroup};
+ghost use Rattle.sysex_groups.specs.Laws.{CutPayloadIsJoined, FedPartsAreTheDefinition, OpenedByPlaces, PartsOfOneGroup};
 
 /// What one more part does to the parts of a group, to their bytes and to what the group has open, with any limit or none: a part of
 /// another group changes nothing, and one of the group's own comes last.
 pub fn parts_of_one_group()
     ensures { PartsOfOneGroup }
+{}
+
+/// What a group has open is what the places of its parts say: an exclusive is open exactly where the group sent a Start, nothing but
+/// Continues since then, and no more bytes than the limit (M2-104-UM, system exclusive 7-bit messages).
+pub fn opened_by_places()
+    ensures { OpenedByPlaces }
 {}
 
 /// Feeding any parts of all groups to a new table agrees with the definition that looks back over them: on what each group has
