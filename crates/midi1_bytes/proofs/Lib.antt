@@ -1,4 +1,5 @@
 pub mod CountLaws
+pub mod DataLaws
 pub mod OpenLaws
 pub mod ParserLaws
 pub mod Ranges

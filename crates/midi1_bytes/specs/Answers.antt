@@ -4,7 +4,7 @@ use Rattle.midi1_bytes.specs.declared.step.Step.{Step}
 use Rattle.midi1_bytes.specs.declared.step.Step.TheVariants as step
 use Rattle.midi1_bytes.specs.declared.step.AfterCut.{AfterCut}
 use Rattle.midi1_bytes.specs.declared.step.CutKind.{CutKind}
-use Rattle.midi1_bytes.specs.Messages.{voice, common, exclusive, real_time}
+use Rattle.midi1_bytes.specs.Messages.{voice, common, exclusive, real_time, AreData}
 use Rattle.midi1_bytes.specs.Spoken.{voice_in, common_in, real_time_in}
 use Rattle.midi1_bytes.specs.Steps as steps
 
@@ -30,6 +30,11 @@ step_view step.TooLong = steps.too_long
 abbrev pub LendsFramed : Step → Type 0
 LendsFramed (step.Exclusive bytes) = bytes.now ≡ framed (payload_of bytes.now)
 LendsFramed _ = Unit {0}
+
+-- an exclusive that is lent has data bytes alone between its F0 and its F7
+abbrev pub LendsData : Step → Type 0
+LendsData (step.Exclusive bytes) = AreData (payload_of bytes.now)
+LendsData _ = Unit {0}
 
 -- what a status byte does: where something is open it cuts that off and does `besides`, and else it does `alone`
 abbrev pub cut_off_by : Option (ℕ × CutKind) → AfterCut → steps.Step → steps.Step

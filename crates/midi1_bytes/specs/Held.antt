@@ -4,6 +4,7 @@ use Rattle.midi1_bytes.specs.declared.begun.Begun.{Begun}
 use Rattle.midi1_bytes.specs.declared.begun.Begun.TheVariants as begun
 use Rattle.midi1_bytes.specs.declared.begun.Running.{Running}
 use Rattle.midi1_bytes.specs.declared.begun.Running.TheVariants as running
+use Rattle.midi1_bytes.specs.Messages.{AreData}
 use Rattle.midi1_bytes.specs.Parsing as parsing
 use Rattle.midi1_bytes.specs.Sorts.{one, two, voice_status, count_of, sort_of}
 
@@ -28,6 +29,14 @@ IsKept room (begun.Only start status) size = count_of (sort_of status) ≡ Some 
 IsKept room (begun.First start status) size = count_of (sort_of status) ≡ Some two
 IsKept room (begun.Second start status first) size = (count_of (sort_of status) ≡ Some two) × (first < 128)
 IsKept room (begun.Exclusive start) size = size ≤ room + 1
+
+-- an open exclusive has data bytes alone after its F0
+abbrev pub HoldsData : Begun → List ℕ → Type 0
+HoldsData begun.Nothing bytes = Unit {0}
+HoldsData (begun.Only start status) bytes = Unit {0}
+HoldsData (begun.First start status) bytes = Unit {0}
+HoldsData (begun.Second start status first) bytes = Unit {0}
+HoldsData (begun.Exclusive start) bytes = AreData (drop 1 bytes)
 
 -- the messages of the running status have as many data bytes as it says
 abbrev pub IsCounted : Running → Type 0

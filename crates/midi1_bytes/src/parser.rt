@@ -1,7 +1,7 @@
 // The parser of a MIDI 1.0 stream.
 ghost use Rattle.std.specs.Prelude.{◌≡◌, ◌<◌, ◌≤◌, [], ◌∷◌, ◌++◌, Some, None, IfOk, vec_len, vec_capacity};
 ghost use Rattle.std.specs.Option.{option_map, ForSome};
-ghost use Rattle.midi1_bytes.specs.Answers.{step_view, LendsFramed, cut_off_by};
+ghost use Rattle.midi1_bytes.specs.Answers.{step_view, LendsData, LendsFramed, cut_off_by};
 ghost use Rattle.midi1_bytes.specs.Sorts.{count_of, data_byte, one, sort_of, two};
 
 use crate::begun::{Begun, Running};
@@ -27,9 +27,11 @@ fn append(bytes: &mut Vec<u8>, byte: u8)
 // What a status byte does: where something is open it cuts that off and does `besides`, and else it does `alone`.
 #[inline(always)]
 fn cut_off<'a>(begun: Option<(u64, CutKind)>, besides: AfterCut, alone: Step<'a>) -> Step<'a>
-    requires { LendsFramed alone }
+    requires framed { LendsFramed alone }
+    requires data_bytes { LendsData alone }
     ensures step { step_view result ≡ cut_off_by begun besides (step_view alone.entry) }
     ensures framed { LendsFramed result }
+    ensures data_bytes { LendsData result }
 {
     match begun {
         Some((start, what)) => Step::Cut {
@@ -55,7 +57,7 @@ pub struct Parser {
 impl Model for Parser {
     ghost use Rattle.std.specs.Prelude.{◌≡◌, ◌≤◌, ◌+◌, [], ◌∷◌, length, take, vec_capacity};
     ghost use Rattle.midi1_bytes.specs.Parsing.{Parsing};
-    ghost use Rattle.midi1_bytes.specs.Held.{begun_view, running_view, IsCounted, IsKept};
+    ghost use Rattle.midi1_bytes.specs.Held.{begun_view, running_view, HoldsData, IsCounted, IsKept};
 
     ghost Value = { Parsing };
 
@@ -68,6 +70,7 @@ impl Model for Parser {
     ghost invariant = { λ p. (p.room + 2 ≤ vec_capacity p.bytes)
         × (take 1 p.bytes.items ≡ 240 ∷ [])
         × IsKept p.room p.begun (length p.bytes.items)
+        × HoldsData p.begun p.bytes.items
         × IsCounted p.running };
 }
 
@@ -164,6 +167,7 @@ impl Parser {
         }
     }
 
+    #[tactic(auto, using(crate::proofs::DataLaws::no_data))]
     #[inline(always)]
     fn begin_exclusive(&mut self, start: u64)
         ensures { self.new ≡ beginning self.old.room None (begun_exclusive start []) }
@@ -174,12 +178,15 @@ impl Parser {
     }
 
     // A data byte of an exclusive.
+    #[tactic(auto, using(crate::proofs::DataLaws::more_data))]
     #[inline(always)]
     fn exclusive_data<'a>(&mut self, start: u64, byte: u8) -> Step<'a>
-        requires { self.old.begun ≡ Some (begun_exclusive start (bytes_begun self.old)) }
+        requires begun { self.old.begun ≡ Some (begun_exclusive start (bytes_begun self.old)) }
+        requires below { byte < 128 }
         ensures step { step_view result ≡
             data_step self.old.room (begun_exclusive start (bytes_begun self.old)) byte }
         ensures framed { LendsFramed result }
+        ensures data_bytes { LendsData result }
         ensures after { self.new ≡ record self.old {
           begun = begun_after
               (data_step self.old.room (begun_exclusive start (bytes_begun self.old)) byte)
@@ -203,6 +210,7 @@ impl Parser {
         requires below { only < 128 }
         ensures step { step_view result ≡ message_step (sort_of status) status None only }
         ensures framed { LendsFramed result }
+        ensures data_bytes { LendsData result }
         ensures after { self.new ≡ record self.old { begun = None } }
     {
         self.begun = Begun::Nothing;
@@ -222,6 +230,7 @@ impl Parser {
         requires second_below { second < 128 }
         ensures step { step_view result ≡ message_step (sort_of status) status (Some first) second }
         ensures framed { LendsFramed result }
+        ensures data_bytes { LendsData result }
         ensures after { self.new ≡ record self.old { begun = None } }
     {
         self.begun = Begun::Nothing;
@@ -240,6 +249,7 @@ impl Parser {
         requires below { byte < 128 }
         ensures step { step_view result ≡ (parse_under data_byte self.old offset byte).step }
         ensures framed { LendsFramed result }
+        ensures data_bytes { LendsData result }
         ensures after { self.new ≡ (parse_under data_byte self.old offset byte).after }
     {
         match self.running {
@@ -263,6 +273,7 @@ impl Parser {
         requires { byte < 128 }
         ensures step { step_view result ≡ (parse_under data_byte self.old offset byte).step }
         ensures framed { LendsFramed result }
+        ensures data_bytes { LendsData result }
         ensures after { self.new ≡ (parse_under data_byte self.old offset byte).after }
     {
         match self.begun {
@@ -289,6 +300,7 @@ impl Parser {
         requires most { status < 240 }
         ensures step { step_view result ≡ (parse self.old offset status).step }
         ensures framed { LendsFramed result }
+        ensures data_bytes { LendsData result }
         ensures after { self.new ≡ (parse self.old offset status).after }
     {
         let begun = self.end();
@@ -304,6 +316,7 @@ impl Parser {
         requires most { status < 247 }
         ensures step { step_view result ≡ (parse self.old offset status).step }
         ensures framed { LendsFramed result }
+        ensures data_bytes { LendsData result }
         ensures after { self.new ≡ (parse self.old offset status).after }
     {
         let begun = self.end();
@@ -328,10 +341,12 @@ impl Parser {
     }
 
     // F7.
+    #[tactic(auto, using(crate::proofs::DataLaws::lent_data))]
     #[inline(always)]
     fn end_exclusive(&mut self) -> Step<'_>
         ensures step { step_view result ≡ ended_by self.old.begun }
         ensures framed { LendsFramed result }
+        ensures data_bytes { LendsData result }
         ensures* after { sem 𝓛 (KeepsParser self.entry (idle self.old.room)) }
     {
         let begun = self.begun;
@@ -364,6 +379,7 @@ impl Parser {
     pub fn byte(&mut self, byte: u8, offset: u64) -> Step<'_>
         ensures step { step_view result ≡ (parse self.old offset byte).step }
         ensures framed { LendsFramed result }
+        ensures data_bytes { LendsData result }
         ensures* after { sem 𝓛 (KeepsParser self.entry (parse self.old offset byte).after) }
     {
         // Most bytes are data bytes, and most others begin voice messages, so these come first.
