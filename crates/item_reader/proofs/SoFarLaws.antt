@@ -1,4 +1,4 @@
--- What the items that a reader has given so far are with one more of them, and at the end.
+-- What the items that a reader has given so far are with one more of them, after a failed read, and at the end.
 use Rattle.std.proofs.Common.{◌≡◌, ◌+◌, ◌≤◌, ℕ, List, [], ◌∷◌, ◌++◌, length, Option, None, Some, refl, ap, sym, ◌∙◌, arith, subst, zero-add}
 use Rattle.std.specs.Prelude.{IfSome}
 use Rattle.std.specs.List.{concat, AllByRecursion}
@@ -6,7 +6,7 @@ use Rattle.std.proofs.lemmas.List.{append_assoc, append-nil, length-append, nil_
 use Rattle.item_reader.specs.Cut.{IsItem, IsCutInto, IsLength, items_from, Ends}
 use Rattle.item_reader.specs.CutLaws.{ItemsAreReadInOrder}
 use Rattle.midi_edge.specs.Outside.{Loses, ahead}
-use Rattle.item_reader.specs.Reading.{Reading, Gives, Finishes, cursor}
+use Rattle.item_reader.specs.Reading.{Reading, Gives, Waits, Finishes, cursor}
 use Rattle.midi_edge.specs.Runs.{runs_are_lost}
 use Rattle.item_reader.specs.SoFar.{ReadSoFar, StandsBehind, given}
 use Rattle.item_reader.specs.declared.cutting.Tail.{Tail}
@@ -68,6 +68,19 @@ module _ {How Item : Type 0} (asked : List ℕ → ℕ) (lengths : IsLength aske
         within = omega (arith, len, fits);
         each = AllByRecursion-append (IsItem asked) p.chunks (chunk ∷ []) p.each (gives.is_item, tt);
         lost = subst L (sym whole) (runs_are_lost.both before (ahead reader.pending now) (ahead reader'.pending now') (concat p.chunks) chunk p.lost gives.lost);
+      }
+
+  -- the same items, after a failed read
+  waits : (reader' : Reading How) (now' : Option (List ℕ)) → Waits asked (cursor reader now) (cursor reader' now') → ReadSoFar asked item_of how limit reader' (given before now' read)
+  waits reader' now' kept =
+      let L : Option (List ℕ) → Type 0 = λ rest. Loses before rest (concat so_far.chunks) in
+      record {
+        chunks = so_far.chunks;
+        same = so_far.same;
+        place = kept.goes_on ∙ ap (λ r. record { how = r.how; pending = reader'.pending; offset = r.offset; limit = r.limit; end = r.end }) so_far.place;
+        within = so_far.within;
+        each = so_far.each;
+        lost = subst L (sym kept.same) so_far.lost;
       }
 
   -- where the source tells what it has left, the bytes are the items so far and what is ahead
@@ -193,6 +206,9 @@ module _ {How Item : Type 0} (asked : How → List ℕ → ℕ) (lengths : (how 
         step = λ how limit reader before now read so_far reader' now' item gives.
             let G : How → Type 0 = λ h. Gives (asked h) (cursor reader now) (cursor reader' now') (item_of h) item in
             step (asked how) (lengths how) (item_of how) how limit reader before now read so_far reader' now' item (subst G (how-is how limit reader before now read so_far) gives);
+        waits = λ how limit reader before now read so_far reader' now' kept.
+            let W : How → Type 0 = λ h. Waits (asked h) (cursor reader now) (cursor reader' now') in
+            waits (asked how) (lengths how) (item_of how) how limit reader before now read so_far reader' now' (subst W (how-is how limit reader before now read so_far) kept);
         stands_behind = λ how limit reader before now read so_far reader' now' item gives.
             let G : How → Type 0 = λ h. Gives (asked h) (cursor reader now) (cursor reader' now') (item_of h) item in
             stands_behind (asked how) (lengths how) (item_of how) how limit reader before now read so_far reader' now' item (subst G (how-is how limit reader before now read so_far) gives);

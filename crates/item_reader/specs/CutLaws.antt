@@ -1,7 +1,7 @@
 -- What holds of all streams, however they are cut into items.
 use Rattle.std.specs.Prelude.{◌≡◌, ℕ, List, [], ◌∷◌, ◌++◌, Option, Some, IfSome}
 use Rattle.item_reader.specs.Cut.{Cuts, IsCutInto}
-use Rattle.item_reader.specs.Reading.{Reading, Gives, Finishes, cursor}
+use Rattle.item_reader.specs.Reading.{Reading, Gives, Waits, Finishes, cursor}
 use Rattle.item_reader.specs.SoFar.{ReadSoFar, StandsBehind, given}
 use Rattle.item_reader.specs.declared.cutting.Tail.{Tail}
 use Rattle.item_reader.specs.declared.cutting.Tail.TheVariants.{End}
@@ -28,14 +28,19 @@ pub record CutsStreams (asked : List ℕ → ℕ) : Type 0 where
   pub some : EveryStreamIsCut asked
 
 -- By what a reader that goes on has given of a stream (`before`, of which `now` is left), and by its next answer: with one more
--- item it has given that too, and it stands in the stream after the others; at the end the stream is cut into its items, and
--- where it ends with the last of them nothing is left.
+-- item it has given that too, and it stands in the stream after the others; where a read failed it has given the same, and goes
+-- on; at the end the stream is cut into its items, and where it ends with the last of them nothing is left.
 pub record ItemsAreReadInOrder {How Item : Type 0} (asked : How → List ℕ → ℕ) (item_of : How → ℕ → List ℕ → Item) : Type 0 where
   pub step : (how : How) (limit : ℕ) (reader : Reading How) (before now : Option (List ℕ)) (read : List Item) →
       ReadSoFar (asked how) (item_of how) how limit reader (given before now read) →
       (reader' : Reading How) (now' : Option (List ℕ)) (item : Item) →
       Gives (asked reader.how) (cursor reader now) (cursor reader' now') (item_of reader.how) item →
       ReadSoFar (asked how) (item_of how) how limit reader' (given before now' (read ++ item ∷ []))
+  pub waits : (how : How) (limit : ℕ) (reader : Reading How) (before now : Option (List ℕ)) (read : List Item) →
+      ReadSoFar (asked how) (item_of how) how limit reader (given before now read) →
+      (reader' : Reading How) (now' : Option (List ℕ)) →
+      Waits (asked reader.how) (cursor reader now) (cursor reader' now') →
+      ReadSoFar (asked how) (item_of how) how limit reader' (given before now' read)
   pub stands_behind : (how : How) (limit : ℕ) (reader : Reading How) (before now : Option (List ℕ)) (read : List Item) →
       ReadSoFar (asked how) (item_of how) how limit reader (given before now read) →
       (reader' : Reading How) (now' : Option (List ℕ)) (item : Item) →

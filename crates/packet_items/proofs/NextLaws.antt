@@ -24,8 +24,8 @@ use Rattle.ump_grammar.specs.Reading.{Decodes}
 use Rattle.ump_grammar.specs.declared.packet.Bad.{Bad}
 use Rattle.ump_grammar.specs.declared.packet.Bad.TheVariants as bad
 use Rattle.ump_grammar.specs.declared.packet.Packet.{Packet}
-use Rattle.packet_items.specs.Packets.{GivenAfter, MovesOn, RefusesBytes, GivesNextPacket, framed_after, next_of_stop, packets_after, reason_for}
-use Rattle.packet_items.proofs.PacketLaws.{all_read, at-place, at_end, at_fault, at_tail, at_words, front_more, given_more, going, is_within, part-sum, size, some, sum-is}
+use Rattle.packet_items.specs.Packets.{GivenAfter, MovesOn, RefusesBytes, GivesNextPacket, WhereFailed, framed_after, next_of_stop, packets_after, reason_for}
+use Rattle.packet_items.proofs.PacketLaws.{all_read, at-place, at_end, at_fault, at_tail, at_words, front_more, given_more, going, is_within, part-sum, size, some, still_given, sum-is}
 
 -- what is given out for words by what they are read into
 abbrev pub next_of : Framed → Result Packet Bad → Next Framed Packet
@@ -48,6 +48,10 @@ comes-nearer framed (Err why) old new less = tt
 has-cause : (framed : Framed) (read : Result Packet Bad) (old new : ℕ) → new ≡ old → NextCause old new (next_of framed read)
 has-cause framed (Ok packet) old new same = same
 has-cause framed (Err why) old new same = same
+
+no-fault : (framed : Framed) (read : Result Packet Bad) (P : Type 0) → WhereFailed (next_of framed read) P
+no-fault framed (Ok packet) P = tt
+no-fault framed (Err why) P = tt
 
 -- a reader that gives out words had not ended
 goes-on : {S : Type 0} (framed : Framed) (words words' : Reading) (input input' : S) (end : Option tails.Tail)
@@ -123,6 +127,7 @@ module _ {S : Type 0} (s : source.Ghosts S) (before : ℕ) (few : before ≤ lim
           answer = by_words;
           place = λ order all items so_far. moves order all items so_far read;
           reason = refuses-bytes (shifted before framed) read;
+          kept = λ order all items so_far. no-fault (shifted before framed) read (GivenAfter order before words' (given all left' items));
           nearer = comes-nearer (shifted before framed) read (words.limit - words.offset) (words'.limit - words'.offset) less;
           cause = has-cause (shifted before framed) read (s.faults input) (s.faults input') (subst (ReadCause (s.faults input) (s.faults input')) is cause);
         }
@@ -135,6 +140,7 @@ module _ {S : Type 0} (s : source.Ghosts S) (before : ℕ) (few : before ≤ lim
         answer = λ order all items so_far. at_end order before laws words all left items so_far words' left' (subst A is (answer (going order before laws words all left items so_far)));
         place = λ order all items so_far. all_read order before laws words all left items so_far words' left' (subst A is (answer (going order before laws words all left items so_far)));
         reason = tt;
+        kept = λ order all items so_far. tt;
         nearer = tt;
         cause = subst (ReadCause (s.faults input) (s.faults input')) is cause;
       }
@@ -147,6 +153,7 @@ module _ {S : Type 0} (s : source.Ghosts S) (before : ℕ) (few : before ≤ lim
         answer = λ order all items so_far. at_fault order before laws words all left items so_far words' left' (subst A is (answer (going order before laws words all left items so_far)));
         place = λ order all items so_far. tt;
         reason = tt;
+        kept = λ order all items so_far. still_given order before laws words all left items so_far words' left' (subst A is (answer (going order before laws words all left items so_far)));
         nearer = tt;
         cause = (subst (ReadCause (s.faults input) (s.faults input')) is cause).1;
       }
@@ -160,6 +167,7 @@ module _ {S : Type 0} (s : source.Ghosts S) (before : ℕ) (few : before ≤ lim
             subst G (sym (part-sum order before laws words all left items so_far words' left' at ends few)) (at_tail order before laws words all left items so_far words' left' (tail.Truncated at) ends);
         place = λ order all items so_far. tt;
         reason = tt;
+        kept = λ order all items so_far. tt;
         nearer = tt;
         cause = subst (ReadCause (s.faults input) (s.faults input')) is cause;
       }
@@ -171,6 +179,7 @@ module _ {S : Type 0} (s : source.Ghosts S) (before : ℕ) (few : before ≤ lim
             at_tail order before laws words all left items so_far words' left' tail.TooLong (subst A is (answer (going order before laws words all left items so_far)));
         place = λ order all items so_far. tt;
         reason = tt;
+        kept = λ order all items so_far. tt;
         nearer = tt;
         cause = subst (ReadCause (s.faults input) (s.faults input')) is cause;
       }

@@ -184,6 +184,11 @@ module _ (order : Order) (before : ℕ) (laws : ItemsAreReadInOrder bytes_asked 
       let W : ℕ → Type 0 = λ n. n ≤ room_after before in
       whole-sum at before (subst W (sym ends.held.0) within) few
 
+  -- where a read failed, the same packets are given, and no byte is lost
+  pub still_given : (reader' : Reading) (left' : Option (List ℕ)) → Waits (cursor reader left) (cursor reader' left') → GivenAfter order before reader' (given all left' items)
+  still_given reader' left' waits =
+      record { read = laws.waits order (room_after before) reader all left (framed_of items) so_far.read reader' left' waits; are = so_far.are }
+
   -- a read failed
   pub at_fault : (reader' : Reading) (left' : Option (List ℕ)) → Waits (cursor reader left) (cursor reader' left') → IfSome all (λ bytes. HasGivenUp (packets_after order before) bytes left' items)
   at_fault reader' left' waits =

@@ -8,7 +8,7 @@ use midi_pass::{LIMIT, Next, Reason};
 use ump_grammar::Bad;
 use ump_words::Framed;
 
-/// Where the words at this offset spell no packet (M2-104-UM, message types).
+/// Where the words at this offset are refused (M2-104-UM, message types).
 #[inline(always)]
 pub(crate) fn refused<P>(bad: Bad, offset: u64) -> Next<Framed, P>
     ensures { result ≡ next.Refused (reason_for bad) offset }

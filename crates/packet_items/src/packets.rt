@@ -18,8 +18,10 @@ use midi_pass::{Items, LIMIT, Next};
 use ump_grammar::{Packet, decode};
 use ump_words::{Framed, Order, WordReader};
 
-/// The next packet (M2-104-UM, message types) of an input in which so many bytes stand before the first word. They count in each offset and
-/// in the limit, which is 4,294,967,296 bytes (own rule).
+/// The next packet (M2-104-UM, message types) of an input in which `before` bytes stand before the first word. They count in each
+/// offset and in the limit of the whole input, 4,294,967,296 bytes (own rule): so the reader is one that
+/// `WordReader::new(order, LIMIT - before)` gave, from which only this call has read, and which has not ended. After `Next::Failed` no
+/// byte is lost, and a later call goes on from there.
 #[inline(always)]
 pub fn next_packet<S: Source>(
     words: &mut WordReader,
