@@ -1,7 +1,7 @@
 -- What the translator answers to a byte, by what it holds.
 use Rattle.std.specs.Prelude.{◌≡◌, ℕ, Bool, List, map, Option, Some, None, IfSome, Result, Ok, Err}
 use Rattle.ump_grammar.specs.Ranges.{IsPacket}
-use Rattle.midi1_bytes.specs.Messages.{Message, exclusive}
+use Rattle.midi1_bytes.specs.Messages.{Message, exclusive, AreData}
 use Rattle.midi1_bytes.specs.Steps.{Step, completed_by}
 use Rattle.voice_state.specs.declared.listed.BadStep.{BadStep}
 use Rattle.voice_state.specs.State.{GroupState}
@@ -25,14 +25,15 @@ abbrev pub payload_by : Option Message → Option (List ℕ)
 payload_by (Some (exclusive bytes)) = Some bytes
 payload_by _ = None
 
--- A step is accepted in the group, with the payload of its exclusive, and with what is raised of it from each
--- state that is kept; its packet is one that some words spell.
+-- A step is accepted in the group, with the payload of its exclusive, which has data bytes alone, and with what is raised of it
+-- from each state that is kept; its packet is one that some words spell.
 pub record Accepts (holding : Holding) (group offset : ℕ) (step : Step) (raised : Raised) : Type 0 where
   pub accepted : refusal_of_step step ≡ None
   pub grouped : group_in raised ≡ group
   pub apart : IsApart raised
   pub in_order : IsInOrder raised.lines
   pub payload : payload_in raised ≡ payload_by (completed_by step)
+  pub data_bytes : IfSome (payload_in raised) AreData
   pub spelled : IfSome (packet_in raised) IsPacket
   pub raised_of : (state : GroupState) → Keeps holding state → IsRaised holding.paired state group offset step raised
 

@@ -5,7 +5,8 @@ use voice_state::{Kind, Listed};
 /// One of them. Its group is that of the byte.
 #[derive(Clone, Copy, Debug)]
 pub struct Line {
-    /// The offset at which what it tells of starts.
+    /// The number of input bytes before what it tells of: of a message or exclusive that is cut or open its start, of an ignored data
+    /// entry the byte that completes it, of a stray or undefined byte that byte.
     pub offset: u64,
     /// What it tells.
     pub kind: Kind,
@@ -38,8 +39,9 @@ impl ByteLines {
 
     /// These lines in this group, 0 to 15. There is a second only where there is a first.
     pub fn new(group: U4, first: Option<Line>, second: Option<Line>) -> ByteLines
+        requires { AreInOrder first second }
         ensures group { group_of result ≡ group }
-        ensures order { AreInOrder first second → IsInOrder result }
+        ensures order { IsInOrder result }
         ensures lines { lines_in result ≡
             map (line_up group) (map told_of (option_to_list first ++ option_to_list second)) }
     {

@@ -32,8 +32,9 @@ impl<'a> Raised<'a> {
 
     /// Lines alone, at most two, in order.
     pub(crate) fn only_listed(group: U4, first: Option<Line>, second: Option<Line>) -> Raised<'a>
+        requires { AreInOrder first second }
         ensures group { group_in result ≡ group }
-        ensures order { AreInOrder first second → IsInOrder result.lines }
+        ensures order { IsInOrder result.lines }
         ensures apart { IsApart result }
         ensures packet { packet_in result ≡ None }
         ensures payload { payload_in result ≡ None }

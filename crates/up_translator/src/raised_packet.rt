@@ -1,5 +1,5 @@
 // The packet of a message, as it is written.
-ghost use Rattle.std.specs.Prelude.{◌≡◌, MatchOption, false};
+ghost use Rattle.std.specs.Prelude.{◌≡◌, MatchOption, false, true};
 ghost use Rattle.encoded_packets.specs.ValueMessages.{has_value, is_value_voice};
 ghost use Rattle.ump_grammar.specs.Ranges.{IsPacket};
 ghost use Rattle.ump_grammar.specs.Reading.{Encodes};
@@ -140,7 +140,8 @@ impl RaisedPacket {
     /// other packets, whose words `words` gives.
     #[inline(always)]
     pub fn pair(&self) -> Option<[u32; 2]>
-        ensures { MatchOption result (has_value self.now ≡ false) (λ pair. Encodes self.now pair) }
+        ensures { MatchOption result (has_value self.now ≡ false)
+            (λ pair. (has_value self.now ≡ true) × Encodes self.now pair) }
     {
         match &self.form {
             PacketForm::Value(words) => Some(words.pair()),

@@ -5,7 +5,7 @@ use Rattle.midi1_bytes.specs.Answers.{framed}
 use Rattle.midi1_bytes.specs.Messages.{Message, exclusive}
 use Rattle.midi1_bytes.specs.Steps.{Step, completed_by, too_long}
 use Rattle.voice_state.specs.StepListing.{kinds_of_step, line_up}
-use Rattle.up_translator.specs.ByteLines.{group_of, lines_in}
+use Rattle.up_translator.specs.ByteLines.{group_of, lines_in, IsInOrder}
 use Rattle.usb_midi1.specs.Held.{PackerState, step_in}
 use Rattle.usb_midi1.specs.Packing.{events_by, exclusive_events}
 use Rattle.usb_midi1.specs.declared.packed.Packed.{Packed}
@@ -43,9 +43,12 @@ IsApart packed = AreApart packed.event (whole_in packed)
 
 -- ---- of a step
 
--- a step within the limit, with the events of the message that it completes, a whole exclusive by itself, and its lines
+-- a step within the limit, with the packer's cable, the events of the message that it completes, a whole exclusive by itself, and its
+-- lines in order
 pub record IsPacked (cable offset : ℕ) (step : Step) (packed : Packed) : Type 0 where
   pub within : step ≢ too_long
+  pub cabled : cable_in packed ≡ cable
+  pub in_order : IsInOrder packed.lines
   pub apart : IsApart packed
   pub whole : whole_in packed ≡ whole_of (completed_by step)
   pub events : events_in packed ≡ events_by cable (completed_by step)

@@ -24,12 +24,15 @@ impl<'a> Packed<'a> {
     ghost use Rattle.std.specs.Prelude.{◌≡◌, ◌++◌, [], ◌∷◌, map, Some, None};
     ghost use Rattle.std.specs.Option.{option_to_list};
     ghost use Rattle.voice_state.specs.StepListing.{line_up};
-    ghost use Rattle.up_translator.specs.ByteLines.{lines_in, told_of};
+    ghost use Rattle.up_translator.specs.ByteLines.{lines_in, told_of, AreInOrder, IsInOrder};
     ghost use Rattle.usb_midi1.specs.Packed.{cable_in, events_in, whole_in, IsApart};
     ghost use Rattle.usb_midi1.specs.Packing.{exclusive_events};
 
     /// Lines alone, at most two, in order.
     pub(crate) fn only_listed(cable: U4, first: Option<Line>, second: Option<Line>) -> Packed<'a>
+        requires { AreInOrder first second }
+        ensures cable { cable_in result ≡ cable }
+        ensures order { IsInOrder result.lines }
         ensures apart { IsApart result }
         ensures whole { whole_in result ≡ None }
         ensures events { events_in result ≡ [] }
@@ -45,6 +48,8 @@ impl<'a> Packed<'a> {
 
     /// An event, and a line if there is one.
     pub(crate) fn of_event(cable: U4, event: [u8; 4], first: Option<Line>) -> Packed<'a>
+        ensures cable { cable_in result ≡ cable }
+        ensures order { IsInOrder result.lines }
         ensures apart { IsApart result }
         ensures whole { whole_in result ≡ None }
         ensures events { events_in result ≡ event ∷ [] }
@@ -59,6 +64,8 @@ impl<'a> Packed<'a> {
 
     /// An exclusive from F0 to F7.
     pub(crate) fn of_whole(cable: U4, whole: &'a [u8]) -> Packed<'a>
+        ensures cable { cable_in result ≡ cable }
+        ensures order { IsInOrder result.lines }
         ensures apart { IsApart result }
         ensures whole { whole_in result ≡ Some whole.now }
         ensures events { events_in result ≡ exclusive_events cable whole.now }

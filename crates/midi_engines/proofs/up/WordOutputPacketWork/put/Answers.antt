@@ -4,7 +4,7 @@ use Rattle.midi_engines.proofs.WrittenLaws.{words_carry_out}
 use Rattle.midi_engines.proofs.up.WordOutputPacketWork.put.Goals as goal
 
 pub returns-in-Some : goal.returns-in-Some
-returns-in-Some g c = words_carry_out c.args.self.now c.args.self.now.order c.args.packet.now c.in-Some.pair c.in-Some.ensures _ _ c.put_encoded.result c.put_encoded.ensures
+returns-in-Some g c = words_carry_out c.args.self.now c.args.self.now.order c.args.packet.now c.in-Some.pair c.in-Some.ensures.1 _ _ c.put_encoded.result c.put_encoded.ensures
 
 pub returns-in-None : goal.returns-in-None
 returns-in-None g c =

@@ -1,10 +1,10 @@
 use Rattle.std.proofs.Common.{◌≡◌, ◌∙◌, ap, sym, subst, refl, [], ◌∷◌, map, true, Option, Some}
-use Rattle.std.specs.Prelude.{IfSome}
+use Rattle.std.specs.Prelude.{IfSome, List, ℕ}
 use Rattle.voice_messages.specs.declared.voice1.Voice1.{Voice1}
 use Rattle.ump_grammar.specs.Ranges.{IsPacket}
 use Rattle.ump_grammar.specs.declared.packet.Packet.{Packet}
 use Rattle.ump_grammar.specs.declared.packet.Packet.TheVariants as packet
-use Rattle.midi1_bytes.specs.Messages.{voice}
+use Rattle.midi1_bytes.specs.Messages.{voice, AreData}
 use Rattle.midi1_bytes.specs.Spoken.{voice_in}
 use Rattle.encoded_packets.specs.declared.value_message.ValueMessage.{ValueMessage}
 use Rattle.encoded_packets.specs.ValueMessages.{message_of}
@@ -43,6 +43,7 @@ returns-then-stands_alone c =
           apart = c.give.ensures.apart;
           in_order = c.give.ensures.order;
           payload = c.give.ensures.payload;
+          data_bytes = subst (λ (o : Option (List ℕ)). IfSome o AreData) (sym c.give.ensures.payload) tt;
           spelled = subst (λ (o : Option Packet). IfSome o IsPacket) (sym c.give.ensures.packet) (subst IsPacket (sym c.of_value.ensures) (fits m c.raise_alone-message.ensures.bare));
           raised_of = λ kept_state keeps. record {
             packets =
