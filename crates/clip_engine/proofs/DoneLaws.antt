@@ -182,9 +182,10 @@ no-starts : (past : List Item) → NoneStarts (packets_of past) → AreAccepted 
 no-starts [] none accepted = tt
 no-starts (item ∷ past) none accepted =
     let before = earlier-ones item.1 (packets_of past) none in
-    let S : Option (List Packet) → Type 0 = λ since. refusal_by (step_since (resolution_at (packets_of past)) since item.1) item.0.offset ≡ None in
-    (no-start-by (resolution_at (packets_of past)) (role_of item.1) false 0 item.0.offset (none [] (packets_of past) item.1 refl) (subst S (not-started (packets_of past) before) accepted.0),
-    no-starts past before accepted.1)
+    let S : Option (List Packet) → Type 0 = λ since. refusal_by (step_since (resolution_at (packets_of past)) since item.1) item.0.offset ≡ None in (
+      no-start-by (resolution_at (packets_of past)) (role_of item.1) false 0 item.0.offset (none [] (packets_of past) item.1 refl) (subst S (not-started (packets_of past) before) accepted.0),
+      no-starts past before accepted.1,
+    )
 
 accepted-before : (later earlier : List Item) → AreAccepted clipping (later ++ earlier) → AreAccepted clipping earlier
 accepted-before [] earlier accepted = accepted

@@ -1,8 +1,5 @@
 // Tests over the objects in memory.
-mod clip;
 mod clip_file;
-mod given;
-mod rehearsal;
+mod passes;
+mod places;
 mod stream_faults;
-mod sysex8;
-mod usb;

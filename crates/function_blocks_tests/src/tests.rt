@@ -524,6 +524,13 @@ fn requests_put_a_supported_protocol_in_force(rt: HostRuntime) {
     let request = StreamMessage::ConfigRequest { protocol: 1, jr: 0 };
     assert!(rt; is_answered(&new, &mut config, &request, &[0xF006_0200, 0, 0, 0]));
     assert_eq!(rt; config, Config { protocol: 2 });
+    let discovery = StreamMessage::Discovery {
+        major: 1,
+        minor: 1,
+        filter: 1,
+    };
+    let info = [0xF001_0101, 0x8000_0200, 0, 0];
+    assert!(rt; is_answered(&new, &mut config, &discovery, &info));
 }
 
 #[test]

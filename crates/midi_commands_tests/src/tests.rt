@@ -18,6 +18,7 @@ mod show_rows;
 mod state_rows;
 mod sysex8_rows;
 mod up_rows;
+mod usb_fault_rows;
 mod usb_rows;
 mod word_rows;
 

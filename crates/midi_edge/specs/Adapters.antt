@@ -1,7 +1,8 @@
 -- What a clause reads of the adapters.
-use Rattle.std.specs.Prelude.{◌≡◌, ◌<◌, ℕ, List, [], All, length, take, Option, Result, MatchResult, Some, slice_get, slice_set}
+use Rattle.std.specs.Prelude.{◌≡◌, ◌⊎◌, ◌<◌, ℕ, List, [], All, length, take, Option, Result, MatchResult, Some, slice_get, slice_set}
 use Rattle.std.specs.List.{AllZip}
 use Rattle.std.specs.Io.KnownBytes.{Appends, Keeps, append_known}
+use Rattle.midi_edge.specs.Outside.{Rose}
 use Rattle.midi_edge.specs.declared.adapters.write_sink.WriteSink.{WriteSink}
 use Rattle.midi_edge.specs.declared.adapters.folder_lanes.FolderLanes.{FolderLanes}
 use Rattle.midi_edge.specs.declared.adapters.read_source.ReadSource.{ReadSource}
@@ -30,6 +31,14 @@ KeepsEach contents old new = AllZip (λ before after. Keeps (accepted contents b
 -- there are as many lanes as before, and each keeps what it has accepted
 abbrev pub KeepsLanes : {R F A : Type 0} → (F → Option (List ℕ)) → FolderLanes R F A → FolderLanes R F A → Type 0
 KeepsLanes contents old new = KeepsEach contents old.lanes.items new.lanes.items
+
+-- there are as many sinks as before, and each has nothing left to write out, or its own count of faults rose
+abbrev pub TriesEach : {W : Type 0} → List (WriteSink W) → List (WriteSink W) → Type 0
+TriesEach old new = AllZip (λ before after. (unwritten after ≡ []) ⊎ Rose before.faults after.faults) old new
+
+-- each lane has nothing left to write out, or its own count of faults rose
+abbrev pub TriesLanes : {R F A : Type 0} → FolderLanes R F A → FolderLanes R F A → Type 0
+TriesLanes old new = TriesEach old.lanes.items new.lanes.items
 
 -- no lane holds bytes that are not yet written out
 abbrev pub IsWrittenOut : {R F A : Type 0} → FolderLanes R F A → Type 0

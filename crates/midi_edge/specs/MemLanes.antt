@@ -15,7 +15,7 @@ pub record LanesState : Type 0 where
   pub calls : ℕ
   pub faults : ℕ
 
--- with one more piece, where it isn't empty and there is room for one
+-- with one more piece, after a put that succeeds
 abbrev pub with_piece : LanesState → ℕ → List ℕ → LanesState
 with_piece s lane piece = record s { pieces = s.pieces ++ (lane, piece) ∷ []; size = s.size + length piece; calls = one_more s.calls }
 

@@ -18,7 +18,7 @@ pub struct NoMemory;
 /// Why a folder or a text was not opened.
 #[derive(Clone, Copy, Debug, PartialEq, Eq, Error)]
 pub enum OpenFault {
-    /// It is not there, or cannot be opened.
+    /// It is not there, or can't be opened or read.
     #[error("the folder or file cannot be opened")]
     Failed,
     /// There was no memory for it.

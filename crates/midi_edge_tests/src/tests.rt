@@ -2,6 +2,9 @@
 mod adapters;
 mod byte_reader;
 mod errors;
+mod fetching;
 mod file_shelf;
+mod folder_lanes;
+mod folders;
 mod mem_shelf;
 mod scripted;

@@ -79,6 +79,36 @@ fn messages_of_one_packet(rt: HostRuntime) {
 }
 
 #[test]
+fn bits_and_bytes_are_told_apart(rt: HostRuntime) {
+    let info = StreamMessage::Info {
+        major: 1,
+        minor: 2,
+        fixed: false,
+        blocks: 5,
+        midi2: true,
+        midi1: false,
+        receives_jr: false,
+        sends_jr: true,
+    };
+    let packet = stream(0, 0x001, 0x0102, 0x0500_0201, 0, 0);
+    assert!(rt; is_row([0xF001_0102, 0x0500_0201, 0, 0], &packet, &info));
+    let identity = StreamMessage::Identity {
+        manufacturer: [1, 2, 3],
+        family: [4, 5],
+        model: [6, 7],
+        revision: [8, 9, 10, 11],
+    };
+    let packet = stream(0, 0x002, 0, 0x0001_0203, 0x0405_0607, 0x0809_0A0B);
+    assert!(rt;
+        is_row(
+            [0xF002_0000, 0x0001_0203, 0x0405_0607, 0x0809_0A0B],
+            &packet,
+            &identity
+        )
+    );
+}
+
+#[test]
 fn messages_of_blocks_and_clips(rt: HostRuntime) {
     let discovery = StreamMessage::BlockDiscovery {
         block: 255,
@@ -104,14 +134,14 @@ fn messages_of_blocks_and_clips(rt: HostRuntime) {
         block: 127,
         hint: 1,
         midi1: 2,
-        direction: 1,
+        direction: 2,
         first: 15,
         count: 1,
         ci: 1,
         sysex8: 255,
     };
-    let packet = stream(0, 0x011, 0x7F19, 0x0F01_01FF, 0, 0);
-    assert!(rt; is_row([0xF011_7F19, 0x0F01_01FF, 0, 0], &packet, &odd));
+    let packet = stream(0, 0x011, 0x7F1A, 0x0F01_01FF, 0, 0);
+    assert!(rt; is_row([0xF011_7F1A, 0x0F01_01FF, 0, 0], &packet, &odd));
     let start = stream(0, 0x020, 0, 0, 0, 0);
     assert!(rt; is_row([0xF020_0000, 0, 0, 0], &start, &StreamMessage::StartClip));
     let end = stream(0, 0x021, 0, 0, 0, 0);

@@ -1,5 +1,6 @@
 // Each fault of a run up and of a run back in turn: what stands afterwards.
-use midi_edge::{MemLanes, MemSink, MemSource, PlainSource, Source, U4};
+use super::places::{Places, places_with};
+use midi_edge::{MemSource, NoMemory, PlainSource, Source, U4};
 use midi_engines::{BackRun, UpRun, run_back, run_up};
 use midi_pass::RunEnd;
 use std::alloc::{AllocError, Global};
@@ -50,31 +51,26 @@ enum Pass {
     Back,
 }
 
-// Which calls fail.
-#[derive(Drop)]
-struct Faults {
-    output: Vec<(u64, usize)>,
-    notes: Vec<(u64, usize)>,
-}
-
-// What a place holds once these are put before number `failed`, of which so many bytes are kept.
-fn held(
-    alloc: Global,
-    puts: &[Put<'_>],
-    place: Place,
-    failed: usize,
-    kept: usize,
-) -> Result<Vec<u8>, AllocError> {
-    let mut bytes = Vec::new(alloc);
+// A place holds the puts before number `failed`, and so many bytes of that one.
+fn holds(held: &[u8], puts: &[Put<'_>], place: Place, failed: usize, kept: usize) -> bool {
+    let mut rest = held;
     for (number, put) in puts.iter().enumerate() {
-        if put.place == place && number < failed {
-            bytes.extend_from_slice(put.bytes)?;
-        }
-        if put.place == place && number == failed {
-            bytes.extend_from_slice(&put.bytes[..kept.min(put.bytes.len())])?;
+        if put.place == place && number <= failed {
+            let part = if number < failed {
+                put.bytes
+            } else {
+                &put.bytes[..kept.min(put.bytes.len())]
+            };
+            let Some((front, more)) = rest.split_at_checked(part.len()) else {
+                return false;
+            };
+            if front != part {
+                return false;
+            }
+            rest = more;
         }
     }
-    Ok(bytes)
+    rest.is_empty()
 }
 
 // How many of the first puts go to this place.
@@ -99,101 +95,118 @@ fn count_before(puts: &[Put<'_>], bytes: usize) -> usize {
     count
 }
 
-// A run into group 0, with words in big endian and at most eight bytes in an exclusive, ends so, and leaves the first puts and so
-// many bytes of the next.
-fn leaves<S: Source>(
-    rt: &impl Abort,
+// The first puts of a run, and so many bytes of the next.
+#[derive(Clone, Copy)]
+struct Front<'a> {
+    puts: &'a [Put<'a>],
+    failed: usize,
+    kept: usize,
+}
+
+// How a run into group 0 ends, with words in big endian and at most eight bytes in an exclusive.
+fn end_of<S: Source>(
     alloc: Global,
     pass: Pass,
     input: &mut S,
-    faults: Faults,
-    end: RunEnd,
-    puts: &[Put<'_>],
-    failed: usize,
-    kept: usize,
-) -> Result<(), Fail> {
-    let mut lanes = MemLanes::new(alloc, 0, 0, Vec::new(alloc))?;
-    let mut output = MemSink::new(alloc, 256, faults.output)?;
-    let mut notes = MemSink::new(alloc, 256, faults.notes)?;
-    let ended = match pass {
+    places: &mut Places,
+) -> Result<RunEnd, NoMemory> {
+    let Places {
+        lanes,
+        output,
+        notes,
+    } = places;
+    match pass {
         Pass::Up => {
             let engine = UpRun::new(alloc, U4::low_bits(0), Order::Big, 8, false)?;
-            run_up(engine, input, &mut lanes, &mut output, &mut notes)
+            Ok(run_up(engine, input, lanes, output, notes))
         }
         Pass::Back => {
             let engine = BackRun::new(alloc, U4::low_bits(0), 8, false)?;
-            run_back(engine, input, &mut lanes, &mut output, &mut notes)
-        }
-    };
-    assert_eq!(rt; ended, end);
-    let words = held(alloc, puts, Place::Output, failed, kept)?;
-    assert_eq!(rt; output.held(), words.as_slice());
-    let lines = held(alloc, puts, Place::Notes, failed, kept)?;
-    assert_eq!(rt; notes.held(), lines.as_slice());
-    Ok(())
-}
-
-fn stream(alloc: Global) -> Result<Vec<u8>, AllocError> {
-    let mut bytes = Vec::new(alloc);
-    bytes.extend_from_slice(&STREAM)?;
-    Ok(bytes)
-}
-
-// Nothing fails; each put fails in turn, and keeps no byte or one; each read of one byte fails in turn, the last of them at the end.
-// A read after the end would fail too, and isn't made.
-fn each_fault(rt: &impl Abort, alloc: Global, pass: Pass, puts: &[Put<'_>]) -> Result<(), Fail> {
-    let faults = Faults {
-        output: Vec::new(alloc),
-        notes: Vec::new(alloc),
-    };
-    let mut input = PlainSource::new(stream(alloc)?);
-    leaves(
-        rt,
-        alloc,
-        pass,
-        &mut input,
-        faults,
-        RunEnd::Done,
-        puts,
-        puts.len(),
-        0,
-    )?;
-    for (failed, put) in puts.iter().enumerate() {
-        for kept in 0..2usize {
-            let number = count_in(puts, put.place, failed);
-            let mut faults = Faults {
-                output: Vec::new(alloc),
-                notes: Vec::new(alloc),
-            };
-            let end = match put.place {
-                Place::Output => {
-                    faults.output.push((number, kept))?;
-                    RunEnd::OutputFault
-                }
-                Place::Notes => {
-                    faults.notes.push((number, kept))?;
-                    RunEnd::NoteFault
-                }
-            };
-            let mut input = PlainSource::new(stream(alloc)?);
-            leaves(rt, alloc, pass, &mut input, faults, end, puts, failed, kept)?;
+            Ok(run_back(engine, input, lanes, output, notes))
         }
     }
-    for given in 0..30usize {
-        let end = if given < 29 {
+}
+
+// How a run ends, and whether the output and the notes hold this front.
+type Left = (RunEnd, bool, bool);
+
+fn left_in(end: RunEnd, places: &Places, front: Front<'_>) -> Left {
+    let Front { puts, failed, kept } = front;
+    (
+        end,
+        holds(places.output.held(), puts, Place::Output, failed, kept),
+        holds(places.notes.held(), puts, Place::Notes, failed, kept),
+    )
+}
+
+// What is left where these puts fail.
+fn left_by_puts(
+    alloc: Global,
+    pass: Pass,
+    output: Option<(u64, usize)>,
+    notes: Option<(u64, usize)>,
+    front: Front<'_>,
+) -> Result<Left, Fail> {
+    let mut input = PlainSource::new(Vec::from_slice(alloc, &STREAM)?);
+    let mut places = places_with(alloc, 0, output, notes)?;
+    let end = end_of(alloc, pass, &mut input, &mut places)?;
+    Ok(left_in(end, &places, front))
+}
+
+// What is left where this read fails, the input coming byte by byte.
+fn left_by_read(alloc: Global, pass: Pass, read: u64, front: Front<'_>) -> Result<Left, Fail> {
+    let mut input = byte_by_byte(alloc, read)?;
+    let mut places = places_with(alloc, 0, None, None)?;
+    let end = end_of(alloc, pass, &mut input, &mut places)?;
+    Ok(left_in(end, &places, front))
+}
+
+fn byte_by_byte(alloc: Global, read: u64) -> Result<MemSource, AllocError> {
+    let bytes = Vec::from_slice(alloc, &STREAM)?;
+    let cuts = vec![in alloc; 1usize; 28]?;
+    let reads = vec![in alloc; read]?;
+    Ok(MemSource::new(bytes, cuts, reads))
+}
+
+// Nothing fails, and then each put fails in turn, of which no byte is kept, and then one; and then each read.
+fn each_fault(rt: &impl Abort, alloc: Global, pass: Pass, puts: &[Put<'_>]) -> Result<(), Fail> {
+    let all = Front {
+        puts,
+        failed: puts.len(),
+        kept: 0,
+    };
+    let left = left_by_puts(alloc, pass, None, None, all)?;
+    assert_eq!(rt; left, (RunEnd::Done, true, true), "nothing fails");
+    for (failed, put) in puts.iter().enumerate() {
+        let number = count_in(puts, put.place, failed);
+        for kept in 0..2usize {
+            let at = Some((number, kept));
+            let (output, notes, end) = match put.place {
+                Place::Output => (at, None, RunEnd::OutputFault),
+                Place::Notes => (None, at, RunEnd::NoteFault),
+            };
+            let front = Front { puts, failed, kept };
+            let left = left_by_puts(alloc, pass, output, notes, front)?;
+            assert_eq!(rt;
+                left,
+                (end, true, true),
+                "put {failed} fails, {kept} bytes kept"
+            );
+        }
+    }
+    for read in 0..30usize {
+        let end = if read < 29 {
             RunEnd::ReadFault
         } else {
             RunEnd::Done
         };
-        let faults = Faults {
-            output: Vec::new(alloc),
-            notes: Vec::new(alloc),
+        let front = Front {
+            puts,
+            failed: count_before(puts, read),
+            kept: 0,
         };
-        let cuts = vec![in alloc; 1usize; 28]?;
-        let reads = vec![in alloc; given as u64]?;
-        let mut input = MemSource::new(stream(alloc)?, cuts, reads);
-        let whole = count_before(puts, given);
-        leaves(rt, alloc, pass, &mut input, faults, end, puts, whole, 0)?;
+        let left = left_by_read(alloc, pass, read as u64, front)?;
+        assert_eq!(rt; left, (end, true, true), "read {read} fails");
     }
     Ok(())
 }

@@ -77,6 +77,86 @@ output 6 peer
 output 9 asked
 output 12 answered
 output-cut |15 t|
+note output write failed
+
+# nothing is held at first
+run rehearse a.toml
+demo-setup
+leaves Done
+output held 0 unknown
+output profile 0 channel 0 2 7E00010100 off
+
+# what is asked isn't held, and an inventory tells that it is off
+run rehearse a.toml
+input 000000 010000 020000 000002 000001 010002 020001
+demo-setup
+leaves Done
+output 0 asked
+output 3 answered
+output 6 peer
+output 9 asked
+output 12 asked
+output 15 answered
+output 18 inventory
+output held 0 off
+output profile 0 channel 0 2 7E00010100 off
+
+# the first event has no kind
+run rehearse a.toml
+input 030000
+demo-setup
+leaves Refused { reason: BadEvent, offset: 0 }
+note refused BadEvent at 0
+
+# an answer is heard before any was given
+run rehearse a.toml
+input 020000
+demo-setup
+leaves Refused { reason: BadEvent, offset: 0 }
+note refused BadEvent at 0
+
+# a question that was not put is answered
+run rehearse a.toml
+input 000000 010001
+demo-setup
+leaves Refused { reason: BadEvent, offset: 3 }
+output 0 asked
+note refused BadEvent at 3
+
+# the last event has one byte
+run rehearse a.toml
+input 000000 01
+demo-setup
+leaves Refused { reason: Truncated, offset: 3 }
+output 0 asked
+note refused Truncated at 3
+
+# read 4 of a rehearsal fails
+run rehearse a.toml
+input 000000 010000 020000 000002 010001 020001
+demo-setup
+cuts-of-one 18
+read-fails 4
+leaves ReadFault
+output 0 asked
+note read failed
+
+# put 1 of a rehearsal fails, of which 2 bytes stand
+run rehearse a.toml
+input 000000 010000 020000 000002 010001 020001
+demo-setup
+output-fails 1 2
+leaves OutputFault
+output 0 asked
+output-cut |3 |
+note output write failed
+
+# the first line of a profile at the end is not put
+run rehearse a.toml
+demo-setup
+output-fails 1 0
+leaves OutputFault
+output held 0 unknown
 note output write failed";
 
 #[test]

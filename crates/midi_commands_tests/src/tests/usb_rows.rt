@@ -59,7 +59,58 @@ input 90 3C 64 F0 7E 7F F8 06 01 F7 3E 90 3E
 leaves Done
 output 09903C64 0FF80000 04F07E7F 070601F7
 note 10 0 stray
-note 11 0 open-message";
+note 11 0 open-message
+
+# no events
+run usb split --folder F
+leaves Done
+
+# common messages of one, two and three bytes on cable 15
+run usb split --folder F
+input F1903C64 F2F10500 F5F60000
+leaves Done
+lane 15 F1 05
+lane 15 F6
+note 0 15 reserved-event
+
+# a stream on cable 0, with room for eight bytes
+run usb pack --cable 0 --room 8
+input 90 3C 64 3E F8 64
+leaves Done
+output 09903C64 0FF80000 09903E64
+
+# an exclusive on cable 2, with room for eight bytes
+run usb pack --cable 2 --room 8
+input F0 01 02 03 F7
+leaves Done
+output 24F00102 2603F700
+
+# an exclusive of one byte, a tune request and a program change
+run usb pack --cable 1 --room 8
+input F0 01 F7 F6 C5 07
+leaves Done
+output 17F001F7 15F60000 1CC50700
+
+# what gives no event is listed
+run usb pack --cable 15 --room 8
+input F0 01 F6 05 F4 90
+leaves Done
+output F5F60000
+note 0 15 cut-exclusive
+note 3 15 stray
+note 4 15 undefined
+note 5 15 open-message
+
+# an empty stream
+run usb pack --cable 0 --room 8
+leaves Done
+
+# an exclusive of nine bytes does not fit a room of eight
+run usb pack --cable 0 --room 8
+input FE F0 01 02 03 04 05 06 07 08 09
+leaves Refused { reason: ExclusiveTooLong, offset: 10 }
+output 0FFE0000
+note refused ExclusiveTooLong at 10";
 
 #[test]
 fn events_are_split_and_packed(rt: HostRuntime) -> Result<(), Fail> {

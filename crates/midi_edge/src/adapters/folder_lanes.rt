@@ -1,6 +1,6 @@
 // Lanes over a folder.
 ghost use Rattle.std.specs.Prelude.{◌≡◌, ◌<◌, ◌==◌, None, Err, true, false, [], All, length, vec_len, IfOk, OnOk, OnErr, Some};
-ghost use Rattle.midi_edge.specs.Adapters.{IsWrittenOut, AcceptsInLane, KeepsEach, KeepsLanes, unwritten};
+ghost use Rattle.midi_edge.specs.Adapters.{IsWrittenOut, AcceptsInLane, KeepsEach, KeepsLanes, TriesEach, TriesLanes, unwritten};
 ghost use Rattle.midi_edge.specs.Outside.{HasCause, HasOpenCause, PutsPair, kept_bytes};
 
 use super::write_sink::WriteSink;
@@ -12,11 +12,12 @@ use std::fs;
 use std::io::Write;
 use std::rt::Files;
 
-/// Sixteen files in a folder, one for each lane, each with an empty buffer of 8,192 bytes that `begin` takes. An empty path is no
-/// folder, so opening it fails; where there is no memory to open the files, the answer is `NoMemory`. A small piece is gathered in
-/// the buffer, and written out when a later one doesn't fit. So an `Ok` of `put` says that the piece was accepted, and a fault shows
-/// at the `put` that writes out, or at `flush`. A fault takes nothing from what was accepted before: what it left unwritten is
-/// written out by the next call that writes to this lane. Call `flush` when all is put, since the drop of the lanes tells no fault.
+/// Sixteen files in a folder, `group-00.midi1` to `group-15.midi1`, one for each lane. `begin` creates or empties them; the folder
+/// must exist. It takes an empty buffer of 8,192 bytes for each file. An empty path is no folder, so opening it fails; where there
+/// is no memory to open the files, the answer is `NoMemory`. A small piece is gathered in the buffer, and written out when a later
+/// one doesn't fit. So an `Ok` of `put` says that the piece was accepted, and a fault shows at the `put` that writes out, or at
+/// `flush`. A fault takes nothing from what was accepted before: what it left unwritten is written out by the next call that writes
+/// to this lane. What is still gathered when the lanes are dropped is lost, so call `flush` when all is put.
 #[derive(Drop)]
 pub struct FolderLanes<R: Files + AllocGlobal> {
     rt: R,
@@ -60,6 +61,7 @@ impl<R: Files + AllocGlobal> FolderLanes<R> {
             (⟦<FolderLanes<R> as Lanes>⟧.faults self.new) result }
         ensures keeps { KeepsLanes ⟦<R::File as Write>⟧.contents self.old self.new }
         ensures written { OnOk result (IsWrittenOut self.new) }
+        ensures tried { TriesLanes self.old self.new }
     {
         let answer = flush_each(&mut self.lanes);
         counted(answer, &mut self.faults)
@@ -71,6 +73,7 @@ fn flush_each<W: Write>(sinks: &mut [WriteSink<W>]) -> Result<(), Failed>
     ensures count { length sinks.new ≡ length sinks.old }
     ensures keeps { KeepsEach W.contents sinks.old sinks.new }
     ensures written { OnOk result (All (λ s. unwritten s ≡ []) sinks.new) }
+    ensures tried { TriesEach sinks.old sinks.new }
 {
     let mut outcome = Ok(());
     for sink in sinks {

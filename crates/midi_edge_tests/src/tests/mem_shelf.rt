@@ -1,11 +1,28 @@
 // What a shelf fetches, with memory for all that it is asked.
-use midi_edge::{MemShelf, OpenFault, Shelf};
+ghost use Rattle.std.specs.Prelude.{◌≡◌, IfOk, None};
+
+use super::fetching::fetches;
+use midi_edge::{MemShelf, OpenFault};
 use std::alloc::Global;
-use std::process::Abort;
 use std::test::Fail;
 
-// A text of nine bytes, one of three and one of none, and a later text of the first one's name.
-fn texts_of(alloc: Global) -> Result<Vec<(String, Vec<u8>)>, Fail> {
+fn add_text(
+    texts: &mut Vec<(String, Vec<u8>)>,
+    alloc: Global,
+    name: &str,
+    text: &str,
+) -> Result<(), Fail> {
+    let name = String::from_str(alloc, name)?;
+    let text = Vec::from_slice(alloc, text.as_bytes())?;
+    texts.push((name, text))?;
+    Ok(())
+}
+
+// A shelf with a text of nine bytes, one of three and one of none, and a later text of the first one's name.
+fn shelf_of(alloc: Global, fails: &[u64]) -> Result<MemShelf, Fail>
+    ensures { IfOk result (λ shelf. shelf.asked ≡ None) }
+{
+    let fails = Vec::from_slice(alloc, fails)?;
     let mut texts = Vec::new(alloc);
     for (name, text) in [
         ("long", "nine long"),
@@ -13,35 +30,31 @@ fn texts_of(alloc: Global) -> Result<Vec<(String, Vec<u8>)>, Fail> {
         ("empty", ""),
         ("long", "another"),
     ] {
-        let text = Vec::from_slice(alloc, text.as_bytes())?;
-        texts.push((String::from_str(alloc, name)?, text))?;
+        add_text(&mut texts, alloc, name, text)?;
     }
-    Ok(texts)
+    Ok(MemShelf::new(texts, fails))
 }
 
-// Fetches at most four bytes behind two that stand already.
-fn check_fetch(
-    rt: &impl Abort,
+// Whether a fetch of at most four bytes, of a shelf that fails at these calls, answers so, and these bytes stand then.
+fn is_row(
     alloc: Global,
     fails: &[u64],
     name: &str,
     answer: Result<(), OpenFault>,
     bytes: &[u8],
-) -> Result<(), Fail> {
-    let mut shelf = MemShelf::new(texts_of(alloc)?, Vec::from_slice(alloc, fails)?);
+) -> Result<bool, Fail> {
     let mut into = Vec::from_slice(alloc, b"> ")?;
-    assert_eq!(rt; shelf.fetch(name, 4, &mut into), answer);
-    assert_eq!(rt; into.as_slice(), bytes);
-    assert_eq!(rt; shelf.faults(), u64::from(answer.is_err()));
-    Ok(())
+    let mut shelf = shelf_of(alloc, fails)?;
+    let fetched = fetches(&mut shelf, name, 4, &mut into, answer, bytes);
+    Ok(fetched && shelf.faults() == u64::from(answer.is_err()))
 }
 
 #[test]
 fn a_text_is_fetched_up_to_the_limit(rt: HostRuntime) -> Result<(), Fail> {
     let alloc = rt.alloc();
-    check_fetch(&rt, alloc, &[], "long", Ok(()), b"> nine")?;
-    check_fetch(&rt, alloc, &[], "short", Ok(()), b"> two")?;
-    check_fetch(&rt, alloc, &[1], "empty", Ok(()), b"> ")?;
+    assert!(rt; is_row(alloc, &[], "long", Ok(()), b"> nine")?);
+    assert!(rt; is_row(alloc, &[], "short", Ok(()), b"> two")?);
+    assert!(rt; is_row(alloc, &[1], "empty", Ok(()), b"> ")?);
     Ok(())
 }
 
@@ -49,8 +62,8 @@ fn a_text_is_fetched_up_to_the_limit(rt: HostRuntime) -> Result<(), Fail> {
 fn a_missing_name_and_a_listed_call_fail(rt: HostRuntime) -> Result<(), Fail> {
     let alloc = rt.alloc();
     let failed = Err(OpenFault::Failed);
-    check_fetch(&rt, alloc, &[], "lon", failed, b"> ")?;
-    check_fetch(&rt, alloc, &[], "", failed, b"> ")?;
-    check_fetch(&rt, alloc, &[0], "long", failed, b"> ")?;
+    assert!(rt; is_row(alloc, &[], "lon", failed, b"> ")?);
+    assert!(rt; is_row(alloc, &[], "", failed, b"> ")?);
+    assert!(rt; is_row(alloc, &[0], "long", failed, b"> ")?);
     Ok(())
 }

@@ -1,12 +1,11 @@
 // A reader and a writer that fail as they are told to, and files that are read so.
 ghost use Rattle.std.specs.Prelude.{◌≤◌, IfOk};
 
-use std::alloc::{Allocator, Global};
-use std::cell::{Cell, RefCell};
+use std::alloc::Allocator;
+use std::cell::Cell;
 use std::fs::{Metadata, OpenFile, OpenOptions};
 use std::io::{self, ErrorKind, Read, Seek, SeekFrom, Write};
 use std::rt::Files;
-use std::test::Fail;
 
 // What a call does.
 #[derive(Clone, Copy)]
@@ -15,48 +14,45 @@ pub(super) enum Step {
     Fails(ErrorKind),
 }
 
-// How often it was called and flushed, and what was written.
+// How often it was called and flushed, and how many bytes were written.
 #[derive(Drop)]
 pub(super) struct Log {
     calls: Cell<usize>,
     flushes: Cell<usize>,
-    moved: RefCell<Vec<u8>>,
+    moved: Cell<usize>,
 }
 
 impl Log {
-    pub(super) fn new(alloc: Global) -> Self {
+    pub(super) fn new() -> Self {
         Log {
             calls: Cell::new(0),
             flushes: Cell::new(0),
-            moved: RefCell::new(Vec::new(alloc)),
+            moved: Cell::new(0),
         }
     }
 
-    pub(super) fn calls(&self) -> usize {
-        self.calls.get()
-    }
-
-    pub(super) fn flushes(&self) -> usize {
-        self.flushes.get()
-    }
-
-    pub(super) fn moved(&self, alloc: Global) -> Result<Vec<u8>, Fail> {
-        let moved = self.moved.try_borrow()?;
-        let copy = Vec::from_slice(alloc, moved.as_slice())?;
-        Ok(copy)
+    // How often it was called, how often flushed, and how many bytes were written.
+    pub(super) fn counts(&self) -> [usize; 3] {
+        [self.calls.get(), self.flushes.get(), self.moved.get()]
     }
 }
 
-// Moves at most so many bytes at each call, and all of them behind the last step.
+// Moves at most so many bytes at each call, and all of them behind the last step. A write of other bytes than those that are awaited
+// next fails.
 #[derive(Clone, Copy)]
 pub(super) struct Scripted<'a> {
     steps: &'a [Step],
+    awaited: &'a [u8],
     log: &'a Log,
 }
 
 impl<'a> Scripted<'a> {
-    pub(super) fn new(steps: &'a [Step], log: &'a Log) -> Self {
-        Scripted { steps, log }
+    pub(super) fn new(steps: &'a [Step], awaited: &'a [u8], log: &'a Log) -> Self {
+        Scripted {
+            steps,
+            awaited,
+            log,
+        }
     }
 
     fn next_count(&mut self, most: usize) -> io::Result<usize>
@@ -75,10 +71,11 @@ impl<'a> Scripted<'a> {
 impl Write for Scripted<'_> {
     fn write(&mut self, buf: &[u8]) -> io::Result<usize> {
         let count = self.next_count(buf.len())?;
-        let Ok(mut moved) = self.log.moved.try_borrow_mut() else {
-            return Err(io::Error::from(ErrorKind::Other));
-        };
-        moved.extend_from_slice(&buf[..count])?;
+        let moved = self.log.moved.get();
+        if moved > self.awaited.len() || !self.awaited[moved..].starts_with(&buf[..count]) {
+            return Err(io::Error::from(ErrorKind::InvalidData));
+        }
+        self.log.moved.set(moved.saturating_add(count));
         Ok(count)
     }
 

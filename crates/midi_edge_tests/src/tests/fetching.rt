@@ -1,0 +1,20 @@
+// What a shelf fetches behind two bytes that stand already.
+ghost use Rattle.std.specs.Prelude.{◌≡◌, None};
+
+use midi_edge::{OpenFault, Shelf};
+
+// Whether the shelf answers so, and these bytes stand then.
+pub(super) fn fetches<S: Shelf>(
+    shelf: &mut S,
+    name: &str,
+    limit: usize,
+    into: &mut Vec<u8>,
+    answer: Result<(), OpenFault>,
+    bytes: &[u8],
+) -> bool
+    requires { S.asked shelf.old ≡ None }
+{
+    into.truncate(2);
+    let fetched = shelf.fetch(name, limit, into);
+    fetched == answer && into.as_slice() == bytes
+}
