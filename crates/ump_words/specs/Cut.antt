@@ -58,10 +58,6 @@ IsRest order bytes = cut.IsRest (bytes_asked order) bytes
 abbrev pub framed_at : Order → ℕ → List ℕ → Framed
 framed_at order at chunk = record { offset = at; words = words_of order chunk }
 
--- the packets as they are handed out, the first of them at this offset
-abbrev pub framed_from : Order → ℕ → List (List ℕ) → List Framed
-framed_from order at chunks = cut.items_from (framed_at order) at chunks
-
 -- The bytes of a whole stream are these packets, and then what makes the tail.
 abbrev pub Cuts : Order → ℕ → List ℕ → List (List ℕ) → Tail → Type 0
 Cuts order limit bytes chunks tail = cut.Cuts (bytes_asked order) limit bytes chunks tail

@@ -1,6 +1,6 @@
 -- Which packets are carried to MIDI 1.0, and how the others are listed (M2-104-UM, default translation; what it leaves out is
 -- listed by own rule).
-use Rattle.std.specs.Prelude.{ℕ, ◌==◌, not, IsTrue, if◌then◌else◌, Bool, true, false, List, [], ◌∷◌, ◌++◌, reverse, Option, Some, None, is_some}
+use Rattle.std.specs.Prelude.{ℕ, ◌==◌, not, if◌then◌else◌, Bool, true, false, List, [], ◌∷◌, ◌++◌, reverse, Option, Some, None, is_some}
 use Rattle.std.specs.List.{flat_map}
 use Rattle.std.specs.Option.{option_map, option_to_list}
 use Rattle.voice_messages.specs.declared.voice2.Form.{Form}
@@ -15,7 +15,7 @@ use Rattle.voice_state.specs.declared.listed.Kind.TheVariants as kinds
 use Rattle.voice_state.specs.declared.listed.Listed.{Listed}
 use Rattle.voice_state.specs.Registers.{is_null}
 use Rattle.voice_state.specs.Controllers.{Role, data_increment, data_decrement, reset_all, channel_mode, coarse, fine, plain, role_of, pairing}
-use Rattle.voice_state.specs.Parts.{Placed, group_of, parts_of, whole_by}
+use Rattle.voice_state.specs.Parts.{Placed, group_of, parts_of}
 
 -- ---- carried
 
@@ -97,10 +97,6 @@ module _ (paired : Bool) where
   is_carried whole (packet.Exclusive group form bytes) = is_some whole
   is_carried whole (packet.Voice2 group message) = is_carried_voice message
   is_carried whole _ = false
-
-  -- after these parts of exclusives, newest first
-  abbrev pub IsCarried : Room → List Part → Packet → Type 0
-  IsCarried room parts packet = IsTrue (is_carried (whole_by room parts packet) packet)
 
   -- ---- listed
 

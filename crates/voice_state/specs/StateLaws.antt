@@ -6,11 +6,9 @@ use Rattle.ump_grammar.specs.declared.packet.Packet.{Packet}
 use Rattle.ump_grammar.specs.declared.packet.Packet.TheVariants as packet
 use Rattle.midi1_bytes.specs.Messages.{Message, exclusive}
 use Rattle.midi1_bytes.specs.Steps.{completed_by, step_of}
-use Rattle.voice_state.specs.declared.fact.Fact.{Fact}
-use Rattle.voice_state.specs.Facts.{facts_of}
 use Rattle.voice_state.specs.Kept.{Keeps, KeptGroup}
-use Rattle.voice_state.specs.Messages.{as_they_come, mean1, meaning1, raised}
-use Rattle.voice_state.specs.Packets.{mean2, meaning2}
+use Rattle.voice_state.specs.Messages.{as_they_come, meaning1, raised}
+use Rattle.voice_state.specs.Packets.{meaning2}
 use Rattle.voice_state.specs.Parts.{whole_of}
 use Rattle.voice_state.specs.State.{with_common}
 use Rattle.voice_state.specs.States.{after_message, after_packet, at_group, first_states, states_of_stream}
@@ -34,10 +32,3 @@ pub record BytesAreKept : Type 0 where
   pub completing : (kept : List KeptGroup) (past : List ℕ) (byte : ℕ) (message : Message) → completed_by (step_of None past byte) ≡ Some message →
       Keeps as_they_come kept (after_message 0 message (states_of_stream (meaning1 false past))) →
       Keeps as_they_come kept (states_of_stream (meaning1 false (byte ∷ past)))
-
--- what is told of a recording, and of a MIDI 1.0 stream, both in the order in which they came
-abbrev pub facts_of_packets : List Packet → List Fact
-facts_of_packets packets = facts_of raised (mean2 false packets)
-
-abbrev pub facts_of_bytes : List ℕ → List Fact
-facts_of_bytes bytes = facts_of as_they_come (states_of_stream (mean1 false bytes))

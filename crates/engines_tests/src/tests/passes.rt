@@ -2,6 +2,7 @@
 // `midi_commands_tests` tell of the rest.
 use super::places::{Places, places_with};
 use clip_engine::run_clip;
+use endpoint_fixtures::DEMO_SETUP;
 use function_blocks::Setup;
 use midi_edge::{PlainSource, U4};
 use midi_pass::RunEnd;
@@ -51,41 +52,8 @@ fn a_clip_is_shown(rt: HostRuntime) -> Result<(), Fail> {
     Ok(())
 }
 
-// A block with MIDI-CI on group 0, and a profile of it.
-const SETUP: &str = "\
-[endpoint]
-name = \"Demo Endpoint X\"
-id = \"SN-0001\"
-manufacturer = [125, 0, 0]
-family = 1
-model = 2
-revision = [1, 0, 0, 0]
-midi1 = true
-midi2 = true
-protocol = 2
-static = true
-[[block]]
-active = true
-name = \"Main\"
-hint = 3
-midi1 = 0
-direction = 3
-first = 0
-count = 1
-ci = 2
-sysex8 = 0
-muids = [19088743, 300]
-[[profile]]
-block = 0
-place = \"channel\"
-group = 0
-channel = 2
-id = [126, 0, 1, 1, 0]
-on = false
-";
-
 fn rehearsal(alloc: Global) -> Result<RehearseRun, Fail> {
-    let setup = Setup::read(alloc, SETUP.as_bytes())?;
+    let setup = Setup::read(alloc, DEMO_SETUP.as_bytes())?;
     Ok(RehearseRun::new(alloc, setup)?)
 }
 
