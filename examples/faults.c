@@ -1,6 +1,7 @@
 // A library to load before a program: the call that FAULT names fails or moves one byte, as "write:3:short" has the third write move one.
-// A call is alloc, open, read or write; what becomes of it is fail, short, again (interrupted) or none (nothing is written). At the end the
-// number of such calls, and the file descriptor of the one that FAULT named, or -1, is written to the file COUNTS.
+// A call is alloc, open, read or write; what becomes of it is fail, short, again (interrupted), none (nothing is written) or rest (it fails,
+// and so does each later one). At the end the number of such calls, and the file descriptor of the one that FAULT named, or -1, is written
+// to the file COUNTS. The folder / can always be opened: it stands in the place of standard streams that are closed.
 #define _GNU_SOURCE
 #include <dlfcn.h>
 #include <errno.h>
@@ -16,9 +17,9 @@ static int met = -1, ready;
 
 static int is_now(const char *call, int fd) {
     if (!ready || strcmp(call, call_named)) return 0;
-    if (++count != number) return 0;
-    met = fd;
-    return 1;
+    if (++count > number) return !strcmp(becomes, "rest");
+    if (count == number) met = fd;
+    return count == number;
 }
 
 __attribute__((constructor)) static void begin(void) {
@@ -44,7 +45,7 @@ int posix_memalign(void **at, size_t to, size_t size) { REAL(posix_memalign); re
 #define OPENS(NAME, TAKES, GIVES) \
     int NAME TAKES { \
         REAL(NAME); \
-        if (is_now("open", 0)) { errno = EACCES; return -1; } \
+        if (strcmp(path, "/") && is_now("open", 0)) { errno = EACCES; return -1; } \
         return real GIVES; \
     }
 OPENS(open, (const char *path, int flags, ...), (path, flags, 0666))

@@ -1,8 +1,10 @@
 #!/usr/bin/env python3
-"""faults.py PROGRAM: runs each command with each of its allocations, openings, reads and writes failing in turn, and each read and write
-cut to one byte, interrupted, or taking nothing, by a library that is loaded before the program (faults.c, built by `cc`). What the run leaves is
-compared with the table of ends in the README: the exit code, the last line, and files that begin as those of the run without a fault, or
-are the same. It isn't part of the gate. The exit code is the number of commands in which something differs."""
+"""faults.py PROGRAM: runs each command with each of its allocations, openings, reads and writes failing in turn, with no memory from each
+allocation on, and with each read and write cut to one byte, interrupted, or taking nothing, by a library that is loaded before the program
+(faults.c, built by `cc`). What the run leaves is compared with the table of ends in the README: the exit code, the last line, and files that
+begin as those of the run without a fault, or are the same. Then come the other ends of that table, arguments that aren't UTF-8 among them,
+and standard streams that are closed. It isn't part of the gate. The exit code is how many differ: each command counts as one, and so do the
+other ends together."""
 import os
 import subprocess
 import sys
@@ -46,11 +48,35 @@ COMMANDS = [
     (["selftest", "7", "--packets", "50"], b""),
 ]
 
+USAGE = b"usage: translate, show, endpoint or selftest\n"
+SETUPS = {"no-toml": b"hint =\n", "no-text": b"# \xff\n", "rule-1": b"endpoint = 1\n", "too-long": b"#" * 65537}
+ENDS = [
+    (["show"], words("20903C80"), 1, b"refused HighBit at 0\n"),
+    (["translate", "sideways"], b"", 7, USAGE),
+    (["show", b"\xff"], b"", 7, USAGE),
+    ([], b"", 7, USAGE),
+    (["endpoint", "no-toml"], b"", 8, b"setup is not TOML\n"),
+    (["endpoint", "no-text"], b"", 8, b"setup is not TOML\n"),
+    (["endpoint", "rule-1"], b"", 9, b"setup field 1\n"),
+    (["endpoint", "too-long"], b"", 9, b"setup field 0\n"),
+]
+
+# A standard stream that is closed, and the exit code: it fails when it is read or written, and no file stands in its place.
+CLOSED = [
+    (["translate", "down", "--folder", "F"], example("mixed.ump"), 0, 2),
+    (["translate", "down", "--folder", "F"], example("mixed.ump"), 1, 0),
+    (["translate", "down", "--folder", "F"], example("mixed.ump"), 2, 5),
+    (["translate", "up"], example("old-keyboard.bytes"), 0, 2),
+    (["translate", "up"], example("old-keyboard.bytes"), 1, 4),
+    (["translate", "up"], example("old-keyboard.bytes"), 2, 5),
+    (["endpoint", SETUP], example("peer.ump"), 0, 2),
+]
+
 
 class Left:
     """What a run leaves: the exit code, the bytes of each lane, of standard output and of standard error."""
 
-    def __init__(self, room, program, library, arguments, given, fault):
+    def __init__(self, room, program, library, arguments, given, fault, closed=None):
         folder, counts = f"{room}/F", f"{room}/counts"
         subprocess.run(["rm", "-rf", folder, counts], check=True)
         os.mkdir(folder)
@@ -58,7 +84,8 @@ class Left:
             it.write(given)
         env = {"LD_PRELOAD": library, "FAULT": fault, "COUNTS": counts}
         with open(f"{room}/given", "rb") as source, open(f"{room}/output", "wb") as output, open(f"{room}/notes", "wb") as notes:
-            ran = subprocess.run([program, *arguments], cwd=room, env=env, stdin=source, stdout=output, stderr=notes, check=False)
+            close = None if closed is None else lambda: os.close(closed)
+            ran = subprocess.run([program, *arguments], cwd=room, env=env, stdin=source, stdout=output, stderr=notes, preexec_fn=close, check=False)
         self.code = ran.returncode
         with open(counts, encoding="ascii") as it:
             self.calls, self.met = map(int, it.read().split())
@@ -83,7 +110,7 @@ def differs(whole, left, call, becomes, arguments):
     is_same = (left.code, left.files) == (whole.code, whole.files)
     if becomes in ("short", "again"):
         return None if is_same else "not as without a fault"
-    if call == "alloc" and is_same:
+    if becomes == "fail" and call == "alloc" and is_same:
         return None
     wanted = EXIT_CODES[object_of(call, left.met)]
     if call in ("open", "read") and "F" not in arguments and left.code == EXIT_CODES["setup"]:
@@ -107,7 +134,7 @@ def check(room, program, library, arguments, given):
     """Tries each fault of a command; says how many there were, and what differs."""
     whole = Left(room, program, library, arguments, given, "none:0:none")
     tried, wrong = {}, []
-    for call, ends in (("alloc", ["fail"]), ("open", ["fail"]), ("read", ["fail", "short", "again"]), ("write", ["fail", "none", "short", "again"])):
+    for call, ends in (("alloc", ["fail", "rest"]), ("open", ["fail"]), ("read", ["fail", "short", "again"]), ("write", ["fail", "none", "short", "again"])):
         for becomes in ends:
             for number in range(1, 100000):
                 left = Left(room, program, library, arguments, given, f"{call}:{number}:{becomes}")
@@ -117,6 +144,23 @@ def check(room, program, library, arguments, given):
                 if why := differs(whole, left, call, becomes, arguments):
                     wrong.append(f"{call} {number} {becomes}: {why}")
     return tried, wrong
+
+
+def ends_otherwise(room, program, library):
+    """The other ends that differ from the table."""
+    for name, text in SETUPS.items():
+        with open(f"{room}/{name}", "wb") as it:
+            it.write(text)
+    for arguments, given, code, last in ENDS:
+        left = Left(room, program, library, arguments, given, "none:0:none")
+        if (left.code, left.files) != (code, {"output": b"", "notes": last}):
+            yield f"{arguments}: exit code {left.code}, {left.files}"
+    for arguments, given, closed, code in CLOSED:
+        whole = Left(room, program, library, arguments, given, "none:0:none")
+        left = Left(room, program, library, arguments, given, "none:0:none", closed)
+        held = {name: text for name, text in left.files.items() if name != "notes"}
+        if left.code != code or not all(whole.files.get(name, b"").startswith(text) for name, text in held.items()):
+            yield f"{arguments} with {closed} closed: exit code {left.code}, {left.files}"
 
 
 def main(program):
@@ -129,6 +173,9 @@ def main(program):
             told = ", ".join(f"{count} of {call}" for call, count in tried.items())
             print(" ".join(os.path.basename(it) for it in arguments) + f": {told}", *wrong, sep="\n  ", flush=True)
             differ += bool(wrong)
+        wrong = list(ends_otherwise(room, program, library))
+        print(f"other ends: {len(ENDS)}, with a stream closed: {len(CLOSED)}", *wrong, sep="\n  ")
+        differ += bool(wrong)
     return differ
 
 

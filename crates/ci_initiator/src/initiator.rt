@@ -39,8 +39,8 @@ impl Model for Initiator {
 }
 
 impl Initiator {
-    /// An initiator with a MUID of its own, below 0FFFFF00, and at most 64 watches that are all different. At first no peer is
-    /// known, and nothing is held. Takes all memory that it ever takes; `NoMemory` where there isn't so much.
+    /// An initiator with a MUID of its own, below 0FFFFF00, and at most 64 watches that are all different (`watches_differ`). At first
+    /// no peer is known, and nothing is held. Takes all memory that it ever takes; `NoMemory` where there isn't so much.
     pub fn new(alloc: Global, muid: u32, watches: &[Watch]) -> Result<Initiator, NoMemory>
         requires muid { muid < 0x0FFFFF00 }
         requires few { length watches.now ≤ 64 }
@@ -180,9 +180,10 @@ impl Initiator {
         self.watched[k].held
     }
 
-    /// The peer's MUID. `None` exactly where no peer is known.
+    /// The peer's MUID, below 2^28. `None` exactly where no peer is known.
     pub fn peer(&self) -> Option<u32>
-        ensures { result ≡ self.now.peer }
+        ensures value { result ≡ self.now.peer }
+        ensures fits { IfSome result (λ muid. muid < 2 ^ 28) }
     {
         self.peer
     }

@@ -18,4 +18,4 @@ pub use crate::event::{EventFault, Told};
 pub use crate::initiator::Initiator;
 pub use crate::noted::Noted;
 pub use crate::rehearsal::Rehearsal;
-pub use crate::watch::Watch;
+pub use crate::watch::{Watch, watches_differ};

@@ -1,11 +1,17 @@
 // What an initiator watches.
+ghost use Rattle.std.specs.Prelude.{◌≡◌, ◌≤◌, length};
+ghost use Rattle.std.specs.List.{list_any};
+ghost use Rattle.ci_initiator.specs.Known.{are_different, same_watch};
+
 use ci_messages::{Address, ProfileId};
 use voice_messages::U4;
 
 /// A profile of a peer that an initiator watches: its address on a group, and its id (M2-101-UM, profile configuration).
 #[derive(Clone, Copy, Debug, PartialEq, Eq)]
 pub struct Watch {
+    /// The group on which it is asked for and told of, 0 to 15.
     pub group: U4,
+    /// The channel, the group or the function block whose profile it is (M2-101-UM, device id).
     pub address: Address,
     /// Its id (M2-101-UM, profile id).
     pub id: ProfileId,
@@ -17,4 +23,29 @@ pub struct Watched {
     pub watch: Watch,
     /// Whether the peer has last told that the profile is on; `None` where it has told nothing.
     pub held: Option<bool>,
+}
+
+/// Whether these watches, at most 64, are all different, as `Initiator::new` asks of them.
+pub fn watches_differ(watches: &[Watch]) -> bool
+    requires { length watches.now ≤ 64 }
+    ensures { result ≡ are_different watches.now }
+{
+    match watches {
+        [] => true,
+        [first, rest @ ..] => !is_among(first, rest) && watches_differ(rest),
+    }
+}
+
+// Whether a watch is one of these.
+fn is_among(watch: &Watch, others: &[Watch]) -> bool
+    ensures { result ≡ list_any (same_watch watch.now) others.now }
+{
+    others.iter().any(|other| is_same(watch, other))
+}
+
+// Whether two watches are the same: the group, the address and the id.
+fn is_same(one: &Watch, other: &Watch) -> bool
+    ensures { result ≡ same_watch one.now other.now }
+{
+    one.group == other.group && one.address == other.address && one.id.bytes == other.id.bytes
 }

@@ -1,7 +1,7 @@
 // Messages by hand from the tables of M2-101-UM, and rehearsals with a responder of one block and one profile.
-use ci_initiator::{Ask, EventFault, Initiator, Noted, Rehearsal, Told, Watch};
+use ci_initiator::{Ask, EventFault, Initiator, Noted, Rehearsal, Told, Watch, watches_differ};
 use ci_messages::laws::views_that_are_read_fit;
-use ci_messages::{Address, read};
+use ci_messages::{Address, ProfileId, read};
 use ci_responder::{Heard, Key};
 use endpoint_fixtures::{
     BROADCAST, CiMessage, DEMO_SETUP, DISCOVERY_REPLY, Muid, OTHER_PROFILE, PROFILE, SECOND_MUID,
@@ -11,7 +11,7 @@ use function_blocks::{Place, Setup};
 use midi_edge::ShortList;
 use std::alloc::Global;
 use std::test::Fail;
-use voice_messages::U4;
+use voice_messages::{U4, U7};
 
 fn opened(alloc: Global) -> Option<Rehearsal> {
     let setup = Setup::read(alloc, DEMO_SETUP.as_bytes()).ok()?;
@@ -183,19 +183,53 @@ fn noted(initiator: &mut Initiator, came: &CiMessage<'_>) -> Option<Noted> {
     noted_on(initiator, 0, came)
 }
 
+fn watch_of(group: u32, address: Address, id: ProfileId) -> Watch {
+    Watch {
+        group: U4::low_bits(group),
+        address,
+        id,
+    }
+}
+
+fn channel_2() -> Address {
+    Address::Channel(U4::low_bits(2))
+}
+
+fn another_id() -> ProfileId {
+    ProfileId {
+        bytes: [U7::low_bits(1); 5],
+    }
+}
+
+fn watch_of_channel() -> Watch {
+    watch_of(0, channel_2(), profile_id())
+}
+
+fn watch_of_group() -> Watch {
+    watch_of(0, Address::Group, profile_id())
+}
+
 // An initiator of the MUID 1 that watches one profile of channel 2 on group 0, and the same of that group.
 fn watching(alloc: Global) -> Option<Initiator> {
-    let channel = Watch {
-        group: U4::low_bits(0),
-        address: Address::Channel(U4::low_bits(2)),
-        id: profile_id(),
-    };
-    let group = Watch {
-        group: U4::low_bits(0),
-        address: Address::Group,
-        id: profile_id(),
-    };
-    Initiator::new(alloc, 1, &[channel, group]).ok()
+    let watches = [watch_of_channel(), watch_of_group()];
+    if watches_differ(&watches) {
+        Initiator::new(alloc, 1, &watches).ok()
+    } else {
+        None
+    }
+}
+
+#[test]
+fn watches_differ_in_the_group_the_address_or_the_id(rt: HostRuntime) {
+    let differing = [
+        watch_of_channel(),
+        watch_of_group(),
+        watch_of(1, channel_2(), profile_id()),
+        watch_of(0, channel_2(), another_id()),
+    ];
+    assert_eq!(rt; watches_differ(&differing), true);
+    let twice = [watch_of_group(), watch_of_channel(), watch_of_group()];
+    assert_eq!(rt; watches_differ(&twice), false);
 }
 
 // The same of an initiator.

@@ -15,7 +15,9 @@ use midi_pass::places::{put_notes, put_output};
 /// Where a line is put.
 #[derive(Clone, Copy, Debug, PartialEq, Eq)]
 pub enum LinePlace {
+    /// In the output, among what the command puts there.
     Output,
+    /// In the notes, among the lines of the listing.
     Notes,
 }
 

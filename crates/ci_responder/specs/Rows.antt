@@ -9,7 +9,7 @@ use Rattle.ci_responder.specs.Messages.{Said, Message, Told, key_at, discovery, 
 abbrev pub broadcast : ℕ
 broadcast = 0x0FFFFFFF
 
--- a reply, a report, an ACK or a NAK
+-- a reply, a report, an ACK or a NAK; the replies of Process Inquiry aren't among them (own rule)
 abbrev pub is_report : ℕ → Bool
 is_report sub =
     sub == 0x71 || sub == 0x73 || sub == 0x21 || (nat_le 0x24 sub && nat_le sub 0x27) || sub == 0x29

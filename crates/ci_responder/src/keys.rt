@@ -8,7 +8,9 @@ use std::hash::{Hash, Hasher};
 pub struct Key {
     /// The number of the function block, counted from 0.
     pub block: u8,
+    /// The block itself, one of its groups, or a channel of one.
     pub place: Place,
+    /// Its id (M2-101-UM, profile id).
     pub id: ProfileId,
 }
 

@@ -1,5 +1,5 @@
 // The responder.
-ghost use Rattle.std.specs.Prelude.{◌≡◌, ◌≤◌, [], true, length, is_some, IfOk};
+ghost use Rattle.std.specs.Prelude.{◌≡◌, ◌<◌, ◌≤◌, [], true, length, is_some, IfOk, IfSome};
 ghost use Rattle.ump_grammar.specs.Replies.{AddsPackets};
 ghost use Rattle.ci_messages.specs.Writing.{IsView};
 ghost use Rattle.ci_responder.specs.declared.heard.Heard.TheVariants as heard;
@@ -93,10 +93,11 @@ impl Responder {
         })
     }
 
-    /// The MUID in force of a function block, counted from 0. `None` exactly where it has no MIDI-CI or has used up its MUIDs,
-    /// or where there is no such block.
+    /// The MUID in force of a function block, counted from 0; it is below 0FFFFF00. `None` exactly where the block has no MIDI-CI or
+    /// has used up its MUIDs, or where there is no such block.
     pub fn muid(&self, block: u8) -> Option<u32>
-        ensures { result ≡ muid_in self.now.blocks block }
+        ensures value { result ≡ muid_in self.now.blocks block }
+        ensures fits { IfSome result (λ muid. muid < 0x0FFFFF00) }
     {
         muid_of(self.blocks.as_slice(), block as usize)
     }

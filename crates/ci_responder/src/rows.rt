@@ -18,7 +18,7 @@ use ci_messages::{Body, CiView};
 /// The destination of a message for all.
 pub(crate) const BROADCAST: u32 = 0x0FFF_FFFF;
 
-// Whether this is the sub-id of a reply, a report, an ACK or a NAK.
+// Whether this is the sub-id of a reply, a report, an ACK or a NAK, Process Inquiry's replies apart (own rule).
 fn is_report(sub: u8) -> bool
     ensures { result ≡ is_report_of sub }
 {

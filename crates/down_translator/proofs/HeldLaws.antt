@@ -1,5 +1,5 @@
 -- What is held is the definition that looks back over the packets.
-use Rattle.std.proofs.Common.{ℕ, ◌≡◌, ◌<◌, ◌≤◌, ◌∙◌, ap, refl, List, [], ◌∷◌, ◌++◌, length, Option, Some, None, Bool, true, false, cond}
+use Rattle.std.proofs.Common.{ℕ, ◌≡◌, ◌≢◌, ◌<◌, ◌≤◌, ◌∙◌, ap, refl, List, [], ◌∷◌, ◌++◌, length, Option, Some, None, Bool, true, false, cond}
 use Rattle.std.proofs.lemmas.List.Elements.{recursion_from_All}
 use Rattle.std.specs.Option.{option_map}
 use Rattle.voice_messages.specs.declared.voice2.Form.{Form}
@@ -7,16 +7,18 @@ use Rattle.voice_messages.specs.declared.voice2.Form.TheVariants as form
 use Rattle.ump_grammar.specs.declared.packet.Packet.{Packet}
 use Rattle.ump_grammar.specs.declared.packet.Packet.TheVariants as packet
 use Rattle.ump_grammar.specs.Ranges.{IsPacket}
-use Rattle.sysex_groups.specs.Exclusives.{Part, Room, opened, joined, started, ended_by, passes_by, fits, goes_on, bytes_of, start_of, answer_from}
-use Rattle.sysex_groups.specs.Table.{Begun, begun_in, begun_of, table_after, AreParts}
+use Rattle.sysex_groups.specs.Exclusives.{Answer, held, whole, stray, restarted, restarted_whole, too_long, Part, Room, opened, joined, started, ended_by, passes_by, fits, goes_on, bytes_of, start_of, answer_from}
+use Rattle.sysex_groups.specs.Table.{Begun, answer_to, begun_in, begun_of, table_after, AreParts}
 use Rattle.sysex_groups.specs.Laws.{FedPartsAreTheDefinition}
+use Rattle.voice_state.specs.declared.listed.BadStep.{BadStep}
 use Rattle.voice_state.specs.declared.listed.BadStep.TheVariants as bad
 use Rattle.voice_state.specs.Parts.{Placed, parts_of, whole_by}
 use Rattle.voice_state.specs.Packets.{IsInRange}
 use Rattle.voice_state.specs.Listing.{begun_before}
 use Rattle.voice_state.specs.Refusal.{bad_step}
 use Rattle.voice_state.specs.Styles.{Style}
-use Rattle.down_translator.specs.Held.{whole_in, begun_at_in, bad_answer, refusal_in, down_after}
+use Rattle.down_translator.specs.Held.{DownState, whole_in, begun_at_in, bad_answer, refusal_in, down_after, unless_refused}
+use Rattle.down_translator.specs.Lanes.{lanes_after}
 use Rattle.down_translator.specs.Recording.{AreInRange, state_of}
 
 -- ---- ranges
@@ -62,14 +64,14 @@ begun-start None = refl
 begun-start (Some parts) = refl
 
 -- an answer is that the exclusive is too long exactly when the part exceeds the limit
-bad-answer : (room : Room) (f : Form) (start : Option ℕ) (before : Option (List ℕ)) (bytes : List ℕ) (stray : Bool) →
-    bad_answer (answer_from (cond (goes_on f) None start) (ended_by room f before bytes) (cond (goes_on f) (passes_by room before bytes) false) (cond (goes_on f) stray false)) ≡
+bad-answer : (room : Room) (f : Form) (start : Option ℕ) (before : Option (List ℕ)) (bytes : List ℕ) (alone : Bool) →
+    bad_answer (answer_from (cond (goes_on f) None start) (ended_by room f before bytes) (cond (goes_on f) (passes_by room before bytes) false) (cond (goes_on f) alone false)) ≡
     cond (cond (goes_on f) (passes_by room before bytes) false) (Some bad.ExclusiveTooLong) None
-bad-answer room form.Complete None before bytes stray = refl
-bad-answer room form.Complete (Some start) before bytes stray = refl
-bad-answer room form.Start None before bytes stray = refl
-bad-answer room form.Start (Some start) before bytes stray = refl
-bad-answer room form.Continue start before bytes stray = go (passes_by room before bytes) stray
+bad-answer room form.Complete None before bytes alone = refl
+bad-answer room form.Complete (Some start) before bytes alone = refl
+bad-answer room form.Start None before bytes alone = refl
+bad-answer room form.Start (Some start) before bytes alone = refl
+bad-answer room form.Continue start before bytes alone = go (passes_by room before bytes) alone
   where
     go : (t u : Bool) → bad_answer (answer_from None None t u) ≡ cond t (Some bad.ExclusiveTooLong) None
     go true u = refl
@@ -77,7 +79,7 @@ bad-answer room form.Continue start before bytes stray = go (passes_by room befo
     go false false = refl
 bad-answer room form.End start None bytes true = refl
 bad-answer room form.End start None bytes false = refl
-bad-answer room form.End start (Some before) bytes stray = go (fits room (length (before ++ bytes))) stray
+bad-answer room form.End start (Some before) bytes alone = go (fits room (length (before ++ bytes))) alone
   where
     go : (t u : Bool) → bad_answer (answer_from None (cond t (Some (before ++ bytes)) None) (cond t false true) u) ≡ cond (cond t false true) (Some bad.ExclusiveTooLong) None
     go true u = refl
@@ -130,3 +132,29 @@ module _ (paired : Bool) where
       go offset (packet.Flex g w) = refl
       go offset (packet.Stream f s l w x y) = refl
       go offset (packet.Reserved w) = refl
+
+-- ---- what is refused
+
+only-too-long : (a : Answer) (why : BadStep) → bad_answer a ≡ Some why → why ≢ bad.ExclusiveTooLong → ⊥
+only-too-long held why is other = let e = is in cc
+only-too-long (whole bytes) why is other = let e = is in cc
+only-too-long stray why is other = let e = is in cc
+only-too-long (restarted start) why is other = let e = is in cc
+only-too-long (restarted_whole start bytes) why is other = let e = is in cc
+only-too-long too_long why is other = other (let e = is in cc)
+
+-- a refused data increment or decrement leaves the translator as it was
+pub unchanged : (state : DownState) (offset : ℕ) (p : Packet) (why : BadStep) → refusal_in state p ≡ Some why → why ≢ bad.ExclusiveTooLong → down_after offset p state ≡ state
+unchanged state offset (packet.Voice1 g m) why is other =
+    ap (λ r. record { exclusives = state.exclusives; lanes = lanes_after (unless_refused r (Some g)) None (packet.Voice1 g m) state.lanes }) is
+unchanged state offset (packet.Voice2 g m) why is other =
+    ap (λ r. record { exclusives = state.exclusives; lanes = lanes_after (unless_refused r (Some g)) None (packet.Voice2 g m) state.lanes }) is
+unchanged state offset (packet.Exclusive g f bytes) why is other =
+    let part : Part = record { group = g; form = f; bytes = bytes; offset = 0 } in
+    absurd (only-too-long (answer_to state.exclusives part) why is other)
+unchanged state offset (packet.Utility s v) why is other = absurd (let e = is in cc)
+unchanged state offset (packet.System g m) why is other = absurd (let e = is in cc)
+unchanged state offset (packet.Data8 g w) why is other = absurd (let e = is in cc)
+unchanged state offset (packet.Flex g w) why is other = absurd (let e = is in cc)
+unchanged state offset (packet.Stream f s l w x y) why is other = absurd (let e = is in cc)
+unchanged state offset (packet.Reserved w) why is other = absurd (let e = is in cc)

@@ -26,7 +26,7 @@ use Rattle.voice_state.specs.LaneState.{LaneState, at_registers_of, channels_aft
 use Rattle.voice_state.specs.Styles.{Style, plain_style, compact_style}
 use Rattle.down_translator.specs.declared.statuses.Statuses.{Statuses}
 use Rattle.down_translator.specs.declared.statuses.Statuses.TheVariants.{All, Changes}
-use Rattle.down_translator.specs.Lanes.{IsAlone, Lanes, after_system, is_pair, is_single, is_there, kept_by, lane_at, lanes_after, needed_in, piece_by, statuses_in, unless_there, with_lane}
+use Rattle.down_translator.specs.Lanes.{IsAlone, Lanes, after_system, is_pair, is_single, is_there, kept_by, lane_at, lanes_after, piece_by, statuses_in, unless_there, with_lane}
 use Rattle.down_translator.specs.Statuses.{statuses_after, statuses_after_all, written_all, written_in}
 
 written_plain : (messages : List Message) → written_all All messages ≡ flat_map spelled messages
@@ -177,6 +177,11 @@ no_control _ channel index value some is = refl
 unchanged_control : (paired : Bool) (role : Role) (channel index value : ℕ) (channels : List Registers) → length (control_messages (pairing paired role) channel index value) ≢ 1 → channels ≡ channels_after_control2 role channel channels
 unchanged_control paired reset_all channel index value channels some = absurd (some refl)
 unchanged_control paired _ channel index value channels some = refl
+
+-- the messages of a MIDI 2.0 voice message
+abbrev pub needed_in : Bool → Style → (ℕ → Registers) → Voice2 → List Message
+needed_in paired plain_style registers message = voice_messages paired message
+needed_in paired compact_style registers message = needed_voice paired registers message
 
 -- ---- with paired controllers or without
 

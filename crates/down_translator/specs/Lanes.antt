@@ -10,8 +10,7 @@ use Rattle.midi1_bytes.specs.Messages.{Message, message_of}
 use Rattle.midi1_bytes.specs.RunningStatus.{running_after}
 use Rattle.voice_state.specs.Controllers.{Role, channel_mode, coarse, plain, reset_all}
 use Rattle.voice_state.specs.Registers.{Registers}
-use Rattle.voice_state.specs.Plain.{plain_piece, voice_messages}
-use Rattle.voice_state.specs.Compact.{needed_voice}
+use Rattle.voice_state.specs.Plain.{plain_piece}
 use Rattle.voice_state.specs.LaneState.{LaneState, compact_by, lane_state_after, new_lane}
 use Rattle.voice_state.specs.Styles.{Style, plain_style, compact_style}
 use Rattle.down_translator.specs.declared.style.Style.{Style as NamedStyle}
@@ -124,11 +123,6 @@ with_exclusive group lanes = with_lane group (record { running = None; channels 
 -- ---- with paired controllers or without
 
 module _ (paired : Bool) where
-  -- the messages of a MIDI 2.0 voice message
-  abbrev pub needed_in : Style → (ℕ → Registers) → Voice2 → List Message
-  needed_in plain_style registers message = voice_messages paired message
-  needed_in compact_style registers message = needed_voice paired registers message
-
   -- the piece of a voice message
   abbrev pub voice_piece : Style → LaneState → Packet → List ℕ
   voice_piece plain_style lane packet = plain_piece paired None packet

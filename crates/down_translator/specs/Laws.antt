@@ -1,7 +1,9 @@
 -- What holds of all recordings. Packets are listed newest first.
-use Rattle.std.specs.Prelude.{◌≡◌, ◌≤◌, ◌<◌, ℕ, List, ◌∷◌, reverse, Some, None, Bool}
+use Rattle.std.specs.Prelude.{◌≡◌, ◌≢◌, ◌≤◌, ◌<◌, ℕ, List, ◌∷◌, reverse, Some, None, Bool}
 use Rattle.ump_grammar.specs.declared.packet.Packet.{Packet}
 use Rattle.ump_grammar.specs.Ranges.{IsPacket}
+use Rattle.voice_state.specs.declared.listed.BadStep.{BadStep}
+use Rattle.voice_state.specs.declared.listed.BadStep.TheVariants as bad
 use Rattle.voice_state.specs.Parts.{Placed, parts_of, whole_by}
 use Rattle.voice_state.specs.Packets.{IsInRange}
 use Rattle.voice_state.specs.Listing.{begun_before, line_of}
@@ -12,7 +14,7 @@ use Rattle.voice_state.specs.Plain.{plain_piece}
 use Rattle.voice_state.specs.Refusal.{bad_step}
 use Rattle.down_translator.specs.declared.carried.Carried.{Carried}
 use Rattle.down_translator.specs.Carried.{line_in}
-use Rattle.down_translator.specs.Held.{paired_of, style_of, whole_in, begun_at_in, refusal_in, down_after}
+use Rattle.down_translator.specs.Held.{DownState, paired_of, style_of, whole_in, begun_at_in, refusal_in, down_after}
 use Rattle.down_translator.specs.Lanes.{lane_at}
 use Rattle.down_translator.specs.Step.{piece_of, IsStep}
 use Rattle.down_translator.specs.Recording.{packets_of, AreInRange, state_of, AreAccepted, pair_put}
@@ -34,6 +36,9 @@ module _ (paired : Bool) where
         refusal_in (state_of paired style room past) packet ≡ bad_step (Some room) (parts_of past) packet
     pub behind : (style : Style) (room : ℕ) (past : List Placed) (placed : Placed) →
         down_after placed.offset placed.packet (state_of paired style room past) ≡ state_of paired style room (placed ∷ past)
+    -- a data increment or decrement, which is refused, leaves the translator as it was
+    pub unchanged : (state : DownState) (offset : ℕ) (packet : Packet) (why : BadStep) →
+        refusal_in state packet ≡ Some why → why ≢ bad.ExclusiveTooLong → down_after offset packet state ≡ state
 
   -- What is kept of a lane in compact style, after packets that are accepted, is what the meaning gives on the lane's bytes after the
   -- last System Reset; each of these that is set is what the meaning gives on all of them.

@@ -301,8 +301,8 @@ impl Down {
         Ok(Carried::new(message.lane, &self.message[..count], listed))
     }
 
-    /// The same for a packet that is held as its words. It is taken apart, unless it is a part of an exclusive whose bytes are read
-    /// from the words, or in compact style a message that is written from the words.
+    /// Answers a packet that is held as its words as `packet` does. It is taken apart, unless it is a part of an exclusive whose bytes
+    /// are read from the words, or in compact style a message that is written from the words.
     #[inline(always)]
     pub fn encoded(&mut self, packet: &EncodedPacket, offset: u64) -> Result<Carried<'_>, BadStep>
         ensures answer { Translates self.old offset packet.now result }

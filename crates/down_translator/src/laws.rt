@@ -42,15 +42,15 @@ pub fn spelled_packets_are_in_range()
 
 /// What the translator holds after any packets tells of one more packet what the definitions tell, which look back over the
 /// packets: the exclusive that it ends, where the exclusive that its group has open started, and why it is refused. What is held
-/// after it is what is held after all of them.
+/// after it is what is held after all of them. A data increment or decrement, which is refused, leaves the translator as it was.
 pub fn what_is_held_is_the_definition()
     ensures { (paired : Bool) → WhatIsHeldIsTheDefinition paired }
 {
     fed_parts_are_the_definition();
 }
 
-/// In compact style the translator keeps, of the lane of each group, the running status and the registers that the lane's bytes
-/// after the last System Reset leave; each of these that is set is what all the lane's bytes leave.
+/// In compact style, after packets of which none was refused, the translator keeps, of the lane of each group, the running status and
+/// the registers that the lane's bytes after the last System Reset leave; each of these that is set is what all the lane's bytes leave.
 pub fn what_is_kept_is_the_meaning()
     ensures { (paired : Bool) → WhatIsKeptIsTheMeaning paired }
 {

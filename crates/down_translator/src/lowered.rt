@@ -7,6 +7,7 @@ ghost use Rattle.down_translator.specs.Lowered.{bytes_of, first_by, has_attribut
 use bit_scaling::{down7, down14, velocity_down};
 use encoded_packets::ValueMessage;
 use midi_edge::U4;
+use voice_messages::U7;
 
 /// A MIDI 1.0 channel voice message, which alone carries a message of the MIDI 2.0 protocol and has its status byte.
 #[derive(Clone, Copy, Debug)]
@@ -15,36 +16,32 @@ pub struct LoweredMessage {
     pub lane: U4,
     /// The status byte, 80 to BF, or D0 to EF.
     pub status: u8,
-    /// The first data byte, 0 to 127.
-    pub first: u8,
-    /// The second data byte, 0 to 127; none exactly in a channel pressure.
-    pub second: Option<u8>,
+    /// The first data byte.
+    pub first: U7,
+    /// The second data byte; none exactly in a channel pressure.
+    pub second: Option<U7>,
     /// Whether it leaves out the attribute of a note, which is listed.
     pub has_attribute: bool,
 }
 
 // The first data byte: the value of a channel pressure, the low seven bits of a bend's, or else the note or the index.
 #[inline(always)]
-fn first_byte(opcode: u8, message: &ValueMessage) -> u8
+fn first_byte(opcode: u8, message: &ValueMessage) -> U7
     ensures { result ≡ first_by opcode message.now }
 {
-    let upper = down7(message.value).get();
-    let middle = (down14(message.value).get() % 128) as u8;
-    let first = if opcode == 0xE {
-        middle
-    } else {
-        message.index.get()
-    };
+    let upper = down7(message.value);
+    let middle = U7::low_bits(u32::from(down14(message.value).get()));
+    let first = if opcode == 0xE { middle } else { message.index };
     if opcode == 0xD { upper } else { first }
 }
 
 // The second data byte: the value, of a bend its high seven bits.
 #[inline(always)]
-fn second_byte(opcode: u8, message: &ValueMessage) -> Option<u8>
+fn second_byte(opcode: u8, message: &ValueMessage) -> Option<U7>
     ensures { result ≡ second_by opcode message.now }
 {
-    let upper = down7(message.value).get();
-    let velocity = velocity_down((message.value >> 16) as u16).get();
+    let upper = down7(message.value);
+    let velocity = velocity_down((message.value >> 16) as u16);
     let second = if opcode == 0x9 { velocity } else { upper };
     if opcode == 0xD { None } else { Some(second) }
 }

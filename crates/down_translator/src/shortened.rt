@@ -34,10 +34,10 @@ fn write_data(bytes: &mut Bytes, message: &LoweredMessage) -> usize
     ensures count { result ≤ 3 }
     ensures bytes { take result bytes.new ≡ message.now.first ∷ option_to_list message.now.second }
 {
-    bytes[0] = message.first;
+    bytes[0] = message.first.get();
     match message.second {
         Some(second) => {
-            bytes[1] = second;
+            bytes[1] = second.get();
             2
         }
         None => 1,
@@ -52,10 +52,10 @@ fn write_whole(bytes: &mut Bytes, message: &LoweredMessage) -> usize
     ensures bytes { take result bytes.new ≡ bytes_of message.now }
 {
     bytes[0] = message.status;
-    bytes[1] = message.first;
+    bytes[1] = message.first.get();
     match message.second {
         Some(second) => {
-            bytes[2] = second;
+            bytes[2] = second.get();
             3
         }
         None => 2,

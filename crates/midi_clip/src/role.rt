@@ -13,7 +13,7 @@ pub enum Role {
     EndOfClip,
     /// Delta Clockstamp Ticks Per Quarter Note, with so many.
     Resolution(u16),
-    /// Delta Clockstamp, with so many ticks.
+    /// Delta Clockstamp, with so many ticks: 0 to 1,048,575 in a decoded packet.
     Delta(u32),
     /// Anything else.
     Other,

@@ -1,5 +1,5 @@
 // The program over the objects that it is handed.
-ghost use Rattle.std.specs.Prelude.{◌≡◌, ◌≤◌, ◌<◌, None, Some, false, map, string_bytes};
+ghost use Rattle.std.specs.Prelude.{◌≡◌, ◌≤◌, ◌<◌, None, Some, map, string_bytes};
 ghost use Rattle.command_line.specs.Asked.{IsInRange, IsRoom, IsRoom8, IsStreamCount, asked_of};
 ghost use Rattle.command_line.specs.Rules.{command_of};
 ghost use Rattle.down_translator.specs.Lanes.{style_in};
@@ -65,7 +65,8 @@ use sysex8_engine::{Sysex8Run, run_sysex8};
 use ump_words::Order;
 use usb_engines::{PackRun, run_pack, run_split};
 
-/// Does what the words of a command line, without the program's name, ask for (own rules). All objects are new ones.
+/// Does what the words of a command line, without the program's name, ask for (own rules). The lanes have no folder yet,
+/// and the shelf has been asked for no name.
 ///
 /// `translate down --folder F` turns the recording of Universal MIDI Packets in `input` into a MIDI 1.0 stream for each group, in
 /// `lanes`, and lists in `notes` what has no counterpart; with `--compact` what the receiver of a lane already has since the lane's
@@ -106,7 +107,6 @@ pub fn run<S: Source, L: Lanes, W: Sink, N: Sink, K: Shelf>(
     shelf: &mut K,
 ) -> Status
     requires folder { L.folder lanes.old ≡ None }
-    requires begun { L.begun lanes.old ≡ false }
     requires asked { K.asked shelf.old ≡ None }
 
     // What the words ask for is done, as far as the status says; then comes the last line. `Done`: the input was read to its end,

@@ -29,7 +29,7 @@ pub fn unread_words<N: Write>(kind: ErrorKind, notes: &mut WriteSink<N>) -> Stat
 
 /// Writes out what the objects have gathered, whatever the status, the notes last, since the last line stands there, and gives the
 /// exit code. A fault at this writing turns `Done` alone into the fault of that object (own rule), the first of the lanes, the output
-/// and the notes that failed, whose last line is put. What was put before stays.
+/// and the notes that failed, whose last line, if it has one, is put. What was put before stays.
 pub fn finish<R: Files + AllocGlobal, O: Write, N: Write>(
     status: Status,
     lanes: &mut FolderLanes<R>,

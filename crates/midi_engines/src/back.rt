@@ -109,8 +109,9 @@ fn put_message<L: Lanes, W: Sink, N: Sink>(
         second,
         ..
     } = *message;
+    let first = first.get();
     match second {
-        Some(second) => put_output(&[status, first, second], lanes, output, notes),
+        Some(second) => put_output(&[status, first, second.get()], lanes, output, notes),
         None => put_output(&[status, first], lanes, output, notes),
     }
 }

@@ -289,8 +289,9 @@ fn put_message<L: Lanes, W: Sink, N: Sink>(
         second,
         ..
     } = *message;
+    let first = first.get();
     match second {
-        Some(second) => put_three(lane, status, first, second, lanes, output, notes),
+        Some(second) => put_three(lane, status, first, second.get(), lanes, output, notes),
         None => put_two(lane, status, first, lanes, output, notes),
     }
 }

@@ -74,7 +74,11 @@ module _ {How Item : Type 0} (asked : How → List ℕ → ℕ) (item_of : How �
       both all (λ bytes. item_cutting (asked how) (item_of how) bytes items None) (λ bytes. left' ≡ Some [])
       (at_tail reader' left' tail.End ends) (laws.nothing_left how limit reader all left items so_far reader' left' ends)
 
-  -- a read failed
+  -- a read failed, and the same is given still
+  still_given : (reader' : Reading How) (left' : Option (List ℕ)) → Waits (asked reader.how) (cursor reader left) (cursor reader' left')
+      → ReadSoFar (asked how) (item_of how) how limit reader' (given all left' items)
+  still_given reader' left' waits = laws.waits how limit reader all left items so_far reader' left' waits
+
   at_fault : (reader' : Reading How) (left' : Option (List ℕ)) → Waits (asked reader.how) (cursor reader left) (cursor reader' left')
       → IfSome all (λ bytes. HasGivenUp (item_cutting (asked how) (item_of how)) bytes left' items)
   at_fault reader' left' waits =
@@ -126,5 +130,6 @@ taken_in_order asked item_of laws =
       front_more = λ how reader all left items so_far. front_more asked item_of laws how reader all left items so_far;
       at_tail = λ how reader all left items so_far. at_tail asked item_of laws how reader all left items so_far;
       at_end = λ how reader all left items so_far. at_end asked item_of laws how reader all left items so_far;
+      still_given = λ how reader all left items so_far. still_given asked item_of laws how reader all left items so_far;
       at_fault = λ how reader all left items so_far. at_fault asked item_of laws how reader all left items so_far;
     }

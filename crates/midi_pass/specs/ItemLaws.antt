@@ -8,8 +8,8 @@ use Rattle.midi_pass.specs.Items.{item_cutting, limit, refusal_at}
 use Rattle.midi_pass.specs.Pass.{HasGivenUp, IsFront}
 
 -- Of a reader that has given these items of all that there was and goes on: one more item stands after the others at the front of the
--- input; where it ends, the items are those of the input, which ends so; where a read failed, they are those that lie wholly in what
--- was given.
+-- input; where it ends, the items are those of the input, which ends so; where a read failed, it has given the same and goes on, and
+-- the items are those that lie wholly in what was given.
 pub record ItemsAreTakenInOrder {How Item : Type 0} (asked : How → List ℕ → ℕ) (item_of : How → ℕ → List ℕ → Item) : Type 0 where
   pub given_more : (how : How) (reader : Reading How) (all left : Option (List ℕ)) (items : List Item) →
       ReadSoFar (asked how) (item_of how) how limit reader (given all left items) →
@@ -31,6 +31,11 @@ pub record ItemsAreTakenInOrder {How Item : Type 0} (asked : How → List ℕ �
       (reader' : Reading How) (left' : Option (List ℕ)) →
       Finishes (asked reader.how) (cursor reader left) (cursor reader' left') End →
       IfSome all (λ bytes. item_cutting (asked how) (item_of how) bytes items None × (left' ≡ Some []))
+  pub still_given : (how : How) (reader : Reading How) (all left : Option (List ℕ)) (items : List Item) →
+      ReadSoFar (asked how) (item_of how) how limit reader (given all left items) →
+      (reader' : Reading How) (left' : Option (List ℕ)) →
+      Waits (asked reader.how) (cursor reader left) (cursor reader' left') →
+      ReadSoFar (asked how) (item_of how) how limit reader' (given all left' items)
   pub at_fault : (how : How) (reader : Reading How) (all left : Option (List ℕ)) (items : List Item) →
       ReadSoFar (asked how) (item_of how) how limit reader (given all left items) →
       (reader' : Reading How) (left' : Option (List ℕ)) →

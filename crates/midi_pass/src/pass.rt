@@ -40,7 +40,7 @@ pub trait Items<A, I> {
     /// How far the end may be.
     ghost to_go: { Self → ℕ };
 
-    /// What comes next.
+    /// What comes next. After `Next::Failed` nothing is lost, and a later call goes on from there.
     fn next<S: Source>(&mut self, input: &mut S) -> Next<A, I>
         ensures answer { (first : Self) (all : Option (List ℕ)) (items : List (A × I)) →
             HasGiven first self.old (given all (S.left input.old) items) →

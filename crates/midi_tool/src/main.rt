@@ -4,29 +4,40 @@
 
 use midi_commands::{finish, run, unread_words};
 use midi_edge::{FileShelf, FolderLanes, ReadSource, WriteSink};
+use std::fs::File;
 use std::process::ExitCode;
 use std::{env, io};
 
+// The words of the command line, without the program's name.
+fn words(rt: &HostRuntime) -> io::Result<Vec<String>> {
+    Ok(env::args(rt)?.skip(1).collect(rt.alloc())?)
+}
+
+// The root of the files, where it can be opened.
+fn open_root(rt: &HostRuntime) -> Option<File> {
+    File::open(rt, "/").ok()
+}
+
 fn main(rt: HostRuntime) -> io::Result<ExitCode> {
+    // A folder that is open can be neither read nor written. Where standard streams are closed, these take their numbers, so that such a
+    // stream fails, and no file of a lane stands in its place.
+    let _in_place_of_closed = [open_root(&rt), open_root(&rt), open_root(&rt)];
     let alloc = rt.alloc();
     let mut input = ReadSource::new(rt.stdin());
     let mut lanes = FolderLanes::new(rt.clone()?);
     let mut output = WriteSink::new(rt.stdout());
     let mut notes = WriteSink::new(rt.stderr());
     let mut shelf = FileShelf::new(rt.clone()?);
-    let status = match env::args(&rt) {
-        Ok(words) => {
-            let words: Vec<String> = words.skip(1).collect(alloc)?;
-            run(
-                alloc,
-                &words,
-                &mut input,
-                &mut lanes,
-                &mut output,
-                &mut notes,
-                &mut shelf,
-            )
-        }
+    let status = match words(&rt) {
+        Ok(words) => run(
+            alloc,
+            &words,
+            &mut input,
+            &mut lanes,
+            &mut output,
+            &mut notes,
+            &mut shelf,
+        ),
         Err(error) => unread_words(error.kind(), &mut notes),
     };
     let code = finish(status, &mut lanes, &mut output, &mut notes);

@@ -24,7 +24,7 @@ use Rattle.ump_grammar.specs.Reading.{Decodes}
 use Rattle.ump_grammar.specs.declared.packet.Bad.{Bad}
 use Rattle.ump_grammar.specs.declared.packet.Bad.TheVariants as bad
 use Rattle.ump_grammar.specs.declared.packet.Packet.{Packet}
-use Rattle.packet_items.specs.Packets.{GivenAfter, MovesOn, RefusesBytes, GivesNextPacket, WhereFailed, framed_after, next_of_stop, packets_after, reason_for}
+use Rattle.packet_items.specs.Packets.{GivenAfter, MovesOn, RefusesBytes, GivesNextPacket, framed_after, next_of_stop, packets_after, reason_for}
 use Rattle.packet_items.proofs.PacketLaws.{all_read, at-place, at_end, at_fault, at_tail, at_words, front_more, given_more, going, is_within, part-sum, size, some, still_given, sum-is}
 
 -- what is given out for words by what they are read into
@@ -48,10 +48,6 @@ comes-nearer framed (Err why) old new less = tt
 has-cause : (framed : Framed) (read : Result Packet Bad) (old new : ℕ) → new ≡ old → NextCause old new (next_of framed read)
 has-cause framed (Ok packet) old new same = same
 has-cause framed (Err why) old new same = same
-
-no-fault : (framed : Framed) (read : Result Packet Bad) (P : Type 0) → WhereFailed (next_of framed read) P
-no-fault framed (Ok packet) P = tt
-no-fault framed (Err why) P = tt
 
 -- a reader that gives out words had not ended
 goes-on : {S : Type 0} (framed : Framed) (words words' : Reading) (input input' : S) (end : Option tails.Tail)
@@ -127,7 +123,6 @@ module _ {S : Type 0} (s : source.Ghosts S) (before : ℕ) (few : before ≤ lim
           answer = by_words;
           place = λ order all items so_far. moves order all items so_far read;
           reason = refuses-bytes (shifted before framed) read;
-          kept = λ order all items so_far. no-fault (shifted before framed) read (GivenAfter order before words' (given all left' items));
           nearer = comes-nearer (shifted before framed) read (words.limit - words.offset) (words'.limit - words'.offset) less;
           cause = has-cause (shifted before framed) read (s.faults input) (s.faults input') (subst (ReadCause (s.faults input) (s.faults input')) is cause);
         }
@@ -140,7 +135,6 @@ module _ {S : Type 0} (s : source.Ghosts S) (before : ℕ) (few : before ≤ lim
         answer = λ order all items so_far. at_end order before laws words all left items so_far words' left' (subst A is (answer (going order before laws words all left items so_far)));
         place = λ order all items so_far. all_read order before laws words all left items so_far words' left' (subst A is (answer (going order before laws words all left items so_far)));
         reason = tt;
-        kept = λ order all items so_far. tt;
         nearer = tt;
         cause = subst (ReadCause (s.faults input) (s.faults input')) is cause;
       }
@@ -150,10 +144,12 @@ module _ {S : Type 0} (s : source.Ghosts S) (before : ℕ) (few : before ≤ lim
   gives_stop (stop.Read failed) is =
       let A : Result (Option Framed) ReadStop → Type 0 = Answers (cursor words left) (cursor words' left') in
       record {
-        answer = λ order all items so_far. at_fault order before laws words all left items so_far words' left' (subst A is (answer (going order before laws words all left items so_far)));
+        answer =
+            λ order all items so_far.
+            let waits = subst A is (answer (going order before laws words all left items so_far)) in
+            (still_given order before laws words all left items so_far words' left' waits, at_fault order before laws words all left items so_far words' left' waits);
         place = λ order all items so_far. tt;
         reason = tt;
-        kept = λ order all items so_far. still_given order before laws words all left items so_far words' left' (subst A is (answer (going order before laws words all left items so_far)));
         nearer = tt;
         cause = (subst (ReadCause (s.faults input) (s.faults input')) is cause).1;
       }
@@ -167,7 +163,6 @@ module _ {S : Type 0} (s : source.Ghosts S) (before : ℕ) (few : before ≤ lim
             subst G (sym (part-sum order before laws words all left items so_far words' left' at ends few)) (at_tail order before laws words all left items so_far words' left' (tail.Truncated at) ends);
         place = λ order all items so_far. tt;
         reason = tt;
-        kept = λ order all items so_far. tt;
         nearer = tt;
         cause = subst (ReadCause (s.faults input) (s.faults input')) is cause;
       }
@@ -179,7 +174,6 @@ module _ {S : Type 0} (s : source.Ghosts S) (before : ℕ) (few : before ≤ lim
             at_tail order before laws words all left items so_far words' left' tail.TooLong (subst A is (answer (going order before laws words all left items so_far)));
         place = λ order all items so_far. tt;
         reason = tt;
-        kept = λ order all items so_far. tt;
         nearer = tt;
         cause = subst (ReadCause (s.faults input) (s.faults input')) is cause;
       }

@@ -127,14 +127,9 @@ abbrev pub RefusesBytes : Next Framed Packet → Type 0
 RefusesBytes (next.Refused reason offset) = IsOfBytes reason
 RefusesBytes _ = Unit {0}
 
--- where a read failed, this holds
-abbrev pub WhereFailed : Next Framed Packet → Type 0 → Type 0
-WhereFailed next.Failed P = P
-WhereFailed _ P = Unit {0}
-
 -- What is given out next of an input in which so many bytes stand before the first word: by what was given before, where a
--- packet stands, for what bytes are refused, what stays given where a read failed, how the end comes nearer, and when the source
--- failed. The second reader and the second source are those after it.
+-- packet stands, for what bytes are refused, how the end comes nearer, and when the source failed. The second reader and the second
+-- source are those after it.
 pub record GivesNextPacket {S : Type 0} (source : source.Ghosts S) (before : ℕ) (words words' : Reading)
     (input input' : S) (result : Next Framed Packet) : Type 0 where
   pub answer : (order : Order) (all : Option (List ℕ)) (items : List (Framed × Packet))
@@ -144,9 +139,6 @@ pub record GivesNextPacket {S : Type 0} (source : source.Ghosts S) (before : ℕ
   pub place : (order : Order) (all : Option (List ℕ)) (items : List (Framed × Packet))
       → GivenAfter order before words (given all (source.left input) items) → MovesOn before words words' all result
   pub reason : RefusesBytes result
-  pub kept : (order : Order) (all : Option (List ℕ)) (items : List (Framed × Packet))
-      → GivenAfter order before words (given all (source.left input) items)
-      → WhereFailed result (GivenAfter order before words' (given all (source.left input') items))
   pub nearer : ComesNearer (words.limit - words.offset) (words'.limit - words'.offset) result
   pub cause : NextCause (source.faults input) (source.faults input') result
 

@@ -122,7 +122,7 @@ pub data Answer : Type 0 where
 abbrev pub framed : List ℕ → List ℕ
 framed bytes = 240 ∷ bytes ++ 247 ∷ []
 
--- data bytes are below 80
+-- data bytes are below 128
 abbrev pub IsData : List ℕ → Type 0
 IsData bytes = All (λ byte. byte < 128) bytes
 

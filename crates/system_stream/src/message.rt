@@ -42,7 +42,8 @@ pub enum StreamMessage {
         form: Form,
         text: [u8; 14],
     },
-    /// Stream Configuration Request: protocol 1 is MIDI 1.0, 2 is MIDI 2.0, and `jr` has the bits for JR Timestamps.
+    /// Stream Configuration Request: protocol 1 is MIDI 1.0, 2 is MIDI 2.0, and `jr` has the bits for JR
+    /// Timestamps, bit 1 to receive them and bit 0 to send them.
     ConfigRequest {
         protocol: u8,
         jr: u8,

@@ -201,7 +201,8 @@ fn pair_bytes(first: u32, second: u32, order: Order) -> [u8; 8]
     bytes
 }
 
-/// Puts the bytes of these words, one to four, one word after the other, in a single put.
+/// Puts the bytes of these words, one to four, one word after the other, in a single put. At an `Err`, which comes only where the count
+/// of the output's faults rose, a front of them that isn't all of them may have been put.
 #[inline(always)]
 pub fn put_words<W: Sink>(words: &[u32], order: Order, output: &mut W) -> Result<(), Failed>
     requires { (0 < length words.now) × (length words.now ≤ 4) }

@@ -2,7 +2,7 @@
 use midi_edge::{LentU4, U4};
 use voice_state::{Kind, Listed};
 
-/// One of them. Its group is that of the byte.
+/// A line of the listing that a byte has (own rule). Its group is that of the byte.
 #[derive(Clone, Copy, Debug)]
 pub struct Line {
     /// The number of input bytes before what it tells of: of a message or exclusive that is cut or open its start, of an ignored data

@@ -38,13 +38,14 @@ pub record ExclusiveEventsComeInOrder : Type 0 where
   pub next : (cable : ℕ) (whole : List ℕ) (k : ℕ) (event : List ℕ) → first_event cable (drop (3 * k) whole) ≡ Some event →
       exclusive_events cable (drop (3 * k) whole) ≡ event ∷ exclusive_events cable (drop (3 * (k + 1)) whole)
 
--- The events that a stream is cut into are those of its bytes, four by four; what is left at its end is no event.
+-- The events that a stream within the limit is cut into are those of its bytes, four by four; what is left at its end is no event.
 abbrev pub EventsAreThoseOfTheBytes : Type 0
 EventsAreThoseOfTheBytes =
     (limit : ℕ) (bytes : List ℕ) (items : List (Event × ℕ)) (tail : Tail) →
     IsCutInto four_bytes event_at limit bytes items tail → tail ≢ TooLong → events_in bytes ≡ map (λ item. item.0) items
 
--- What the events of a stream carry is all on their cable, and completes the messages that the stream completes, in the same order.
+-- What the events of a stream carry is all on their cable. Where no exclusive passes the room, it completes the messages that the stream
+-- completes, in the same order.
 pub record SplitEventsMeanTheBytes : Type 0 where
   pub cable : (room cable : ℕ) (past : List ℕ) → cable < 16 →
       AllByRecursion (λ piece. piece.0 ≡ cable) (split (concat (stream_events (Some room) cable past)))

@@ -31,12 +31,13 @@ pub fn exclusive_events_come_in_order()
     ensures { ExclusiveEventsComeInOrder }
 {}
 
-/// The events that a reader gives out of a stream are those of its bytes, four by four.
+/// The events that a reader gives out of a stream, unless that has more bytes than the limit, are those of its bytes, four by four.
 pub fn events_are_those_of_the_bytes()
     ensures { EventsAreThoseOfTheBytes }
 {}
 
-/// What the events of a stream carry is all on their cable, and completes the messages that the stream completes, in the same order.
+/// What the events of a stream carry is all on their cable. Where no exclusive of the stream is longer than the limit, it completes the
+/// messages that the stream completes, in the same order.
 pub fn split_events_mean_the_bytes()
     ensures { SplitEventsMeanTheBytes }
 {

@@ -31,7 +31,7 @@ pub struct Bank {
 }
 
 /// A channel voice message of the MIDI 2.0 protocol (M2-104-UM, MIDI 2.0 channel voice messages). Velocities and attributes have
-/// 16 bits, and values have 32; a bend has its centre at 80000000. A note whose `attribute_type` is 0 has no attribute.
+/// 16 bits, and values have 32; a bend has its centre at 0x8000_0000. A note whose `attribute_type` is 0 has no attribute.
 #[derive(Clone, Copy, Debug, PartialEq, Eq)]
 pub enum Voice2 {
     /// Opcode 8.

@@ -1,34 +1,39 @@
 -- One more packet, with its compact piece, keeps what a lane denotes, and what is relied on.
-use Rattle.std.proofs.Common.{ℕ, ◌≡◌, ◌<◌, ◌∙◌, ap, sym, refl, subst, List, [], ◌∷◌, ◌++◌, reverse, length, Option, Some, None, Bool, true, false, cond, arith, ◌⊎◌, inl, inr}
+use Rattle.std.proofs.Common.{ℕ, ◌≡◌, ◌<◌, ◌/◌, ◌%◌, ◌∙◌, ap, sym, refl, subst, List, [], ◌∷◌, ◌++◌, reverse, length, drop, Option, Some, None, Bool, true, false, cond, arith, ◌⊎◌, inl, inr}
 use Rattle.std.proofs.lemmas.Bool.{cond_both, ne_eqb}
+use Rattle.std.proofs.lemmas.List.{append-nil}
 use Rattle.std.specs.List.{fold, AllByRecursion}
 use mathlib.Core.List.{reverse_aux}
 use mathlib.Core.Path.{subst₂}
 use lib.Dec.{eqb}
 use Rattle.voice_messages.specs.declared.voice1.System.{System}
 use Rattle.voice_messages.specs.declared.voice1.System.TheVariants as system
+use Rattle.voice_messages.specs.declared.voice1.Voice1.{Voice1}
 use Rattle.voice_messages.specs.declared.voice1.Voice1.TheVariants as voice1
+use Rattle.voice_messages.specs.declared.voice2.Bank.{Bank}
 use Rattle.voice_messages.specs.declared.voice2.Form.{Form}
+use Rattle.voice_messages.specs.declared.voice2.Param.{Param}
 use Rattle.voice_messages.specs.declared.voice2.Voice2.{Voice2}
 use Rattle.voice_messages.specs.declared.voice2.Voice2.TheVariants as voice2
 use Rattle.ump_grammar.specs.declared.packet.Packet.{Packet}
 use Rattle.ump_grammar.specs.declared.packet.Packet.TheVariants as packet
 use Rattle.bit_scaling.specs.Scaling.{down14}
 use Rattle.midi1_bytes.specs.Laws.{StatusesThatRunCanBeLeftOut}
-use Rattle.midi1_bytes.specs.Messages.{Message, voice, common, exclusive, real_time, spelled, IsMessage}
+use Rattle.midi1_bytes.specs.Messages.{Message, voice, common, exclusive, real_time, spelled, spelled_voice, IsMessage}
 use Rattle.midi1_bytes.specs.RunningStatus.{IsKnownIn, is_running, without_status, written_after}
 use Rattle.midi1_bytes.specs.Steps.{ReadsAs}
 use Rattle.midi1_bytes.specs.Stream.{open_in, running}
-use Rattle.voice_state.specs.Registers.{Pair, is_null}
+use Rattle.voice_state.specs.Registers.{Pair, Registers, is_null}
 use Rattle.voice_state.specs.Controllers.{Role, channel_mode, reset_all, coarse, plain, role_of, pairing}
 use Rattle.voice_state.specs.Parts.{whole_of}
 use Rattle.voice_state.specs.State.{GroupState}
 use Rattle.voice_state.specs.Messages.{meaning1, step1}
 use Rattle.voice_state.specs.Packets.{meaning2, step2, IsInRange}
 use Rattle.voice_state.specs.Listing.{is_carried}
-use Rattle.voice_state.specs.Plain.{control_messages, set_messages, voice_messages, ended_messages, plain_messages, plain_piece}
+use Rattle.voice_state.specs.Plain.{control_messages, program_messages, set_messages, voice_messages, ended_messages, plain_messages, plain_piece}
 use Rattle.voice_state.specs.Lanes.{Denotes}
-use Rattle.voice_state.specs.Compact.{after_reset, registers_in, needed_messages, compact_piece}
+use Rattle.voice_state.specs.Compact.{after_reset, has_bank, is_selected, registers_in, needed_messages, needed_set, compact_piece}
+use Rattle.voice_state.specs.StyleLaws.{selects}
 use Rattle.voice_state.specs.Relied.{PairIsSameIn, AreSameIn, IsRelied}
 use Rattle.voice_state.proofs.Induction.{plain_is_message, matches_of, meaning1-piece}
 use Rattle.voice_state.proofs.Joined.{whole_data}
@@ -253,3 +258,68 @@ module _ (paired : Bool) where
   pub exclusive_plain : StatusesThatRunCanBeLeftOut → (past : List ℕ) (whole : Option (List ℕ)) (gr : ℕ) (f : Form) (bytes : List ℕ) → compact_piece paired past whole (packet.Exclusive gr f bytes) ≡ plain_piece paired whole (packet.Exclusive gr f bytes)
   exclusive_plain rules past None gr f bytes = refl
   exclusive_plain rules past (Some js) gr f bytes = ap (λ l. l ++ []) (rules.exclusive js (after_reset past))
+
+  -- ---- what is left out
+
+  pub midi1_written : (past : List ℕ) (whole : Option (List ℕ)) (gr : ℕ) (m : Voice1)
+      → compact_piece paired past whole (packet.Voice1 gr m) ≡ without_status (running (after_reset past)) (spelled_voice m)
+  midi1_written past whole gr m = append-nil (without_status (running (after_reset past)) (spelled_voice m))
+
+  pub other_written : (past : List ℕ) (whole : Option (List ℕ)) (p : Packet) → selects p ≡ false
+      → compact_piece paired past whole p ≡ written_after (after_reset past) (plain_messages paired whole p)
+  other_written past whole (packet.Utility s v) isnt = refl
+  other_written past whole (packet.System gr m) isnt = refl
+  other_written past whole (packet.Voice1 gr m) isnt = refl
+  other_written past whole (packet.Exclusive gr f bytes) isnt = refl
+  other_written past whole (packet.Voice2 gr (voice2.NoteOff ch n v t a)) isnt = refl
+  other_written past whole (packet.Voice2 gr (voice2.NoteOn ch n v t a)) isnt = refl
+  other_written past whole (packet.Voice2 gr (voice2.PolyPressure ch n v)) isnt = refl
+  other_written past whole (packet.Voice2 gr (voice2.Control ch i v)) isnt = refl
+  other_written past whole (packet.Voice2 gr (voice2.Set ch p v)) isnt = absurd (let e = isnt in cc)
+  other_written past whole (packet.Voice2 gr (voice2.Shift ch p v)) isnt = refl
+  other_written past whole (packet.Voice2 gr (voice2.Program ch n None)) isnt = refl
+  other_written past whole (packet.Voice2 gr (voice2.Program ch n (Some b))) isnt = absurd (let e = isnt in cc)
+  other_written past whole (packet.Voice2 gr (voice2.Pressure ch v)) isnt = refl
+  other_written past whole (packet.Voice2 gr (voice2.Bend ch v)) isnt = refl
+  other_written past whole (packet.Voice2 gr (voice2.NoteController ch k n i v)) isnt = refl
+  other_written past whole (packet.Voice2 gr (voice2.NoteBend ch n v)) isnt = refl
+  other_written past whole (packet.Voice2 gr (voice2.NoteManagement ch n flags)) isnt = refl
+  other_written past whole (packet.Data8 gr w) isnt = refl
+  other_written past whole (packet.Flex gr w) isnt = refl
+  other_written past whole (packet.Stream f s l w x y) isnt = refl
+  other_written past whole (packet.Reserved w) isnt = refl
+
+  pub new_parameter_written : (past : List ℕ) (whole : Option (List ℕ)) (gr ch v : ℕ) (p : Param)
+      → is_selected (registers_in paired (after_reset past) ch) p ≡ false
+      → compact_piece paired past whole (packet.Voice2 gr (voice2.Set ch p v)) ≡
+      written_after (after_reset past) (plain_messages paired whole (packet.Voice2 gr (voice2.Set ch p v)))
+  new_parameter_written past whole gr ch v p isnt =
+      let ms : List Message = set_messages ch p (down14 v) in
+      ap (λ t. written_after (after_reset past) (cond (is_null p) [] (cond t (drop 2 ms) ms))) isnt
+
+  pub new_bank_written : (past : List ℕ) (whole : Option (List ℕ)) (gr ch program : ℕ) (b : Bank)
+      → has_bank (registers_in paired (after_reset past) ch) b ≡ false
+      → compact_piece paired past whole (packet.Voice2 gr (voice2.Program ch program (Some b))) ≡
+      written_after (after_reset past) (plain_messages paired whole (packet.Voice2 gr (voice2.Program ch program (Some b))))
+  new_bank_written past whole gr ch program b isnt =
+      let ms : List Message = program_messages ch program (Some b) in
+      ap (λ t. written_after (after_reset past) (cond t (drop 2 ms) ms)) isnt
+
+  pub parameter_written : (past : List ℕ) (whole : Option (List ℕ)) (gr ch v : ℕ) (p : Param)
+      → is_null p ≡ false → is_selected (registers_in paired (after_reset past) ch) p ≡ true
+      → compact_piece paired past whole (packet.Voice2 gr (voice2.Set ch p v)) ≡
+      written_after (after_reset past) (voice (voice1.Control ch 6 (down14 v / 128)) ∷ voice (voice1.Control ch 38 (down14 v % 128)) ∷ [])
+  parameter_written past whole gr ch v p some is =
+      let ms : List Message = set_messages ch p (down14 v) in
+      let rs : Registers = registers_in paired (after_reset past) ch in
+      ap (λ t. written_after (after_reset past) (cond t [] (needed_set rs ch p (down14 v)))) some
+      ∙ ap (λ t. written_after (after_reset past) (cond t (drop 2 ms) ms)) is
+
+  pub program_written : (past : List ℕ) (whole : Option (List ℕ)) (gr ch program : ℕ) (b : Bank)
+      → has_bank (registers_in paired (after_reset past) ch) b ≡ true
+      → compact_piece paired past whole (packet.Voice2 gr (voice2.Program ch program (Some b))) ≡
+      without_status (running (after_reset past)) (spelled_voice (voice1.Program ch program))
+  program_written past whole gr ch program b is =
+      let ms : List Message = program_messages ch program (Some b) in
+      ap (λ t. written_after (after_reset past) (cond t (drop 2 ms) ms)) is
+      ∙ append-nil (without_status (running (after_reset past)) (spelled_voice (voice1.Program ch program)))

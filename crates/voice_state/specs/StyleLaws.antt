@@ -1,24 +1,38 @@
 -- What holds of all recordings in either style.
-use Rattle.std.specs.Prelude.{◌≡◌, ◌↔◌, ◌<◌, ℕ, List, [], ◌∷◌, ◌++◌, length, reverse, Option, None, IsTrue, IfSome, Bool}
+use Rattle.std.specs.Prelude.{◌≡◌, ◌↔◌, ◌<◌, ◌/◌, ◌%◌, ℕ, List, [], ◌∷◌, ◌++◌, length, reverse, Option, None, Some, IsTrue, IfSome, Bool, true, false}
 use Rattle.std.specs.List.{AllByRecursion}
 use Rattle.voice_messages.specs.declared.voice1.System.{System}
+use Rattle.voice_messages.specs.declared.voice1.Voice1.{Voice1}
+use Rattle.voice_messages.specs.declared.voice1.Voice1.TheVariants as voice1
+use Rattle.voice_messages.specs.declared.voice2.Bank.{Bank}
 use Rattle.voice_messages.specs.declared.voice2.Form.{Form}
+use Rattle.voice_messages.specs.declared.voice2.Param.{Param}
+use Rattle.voice_messages.specs.declared.voice2.Voice2.TheVariants as voice2
 use Rattle.ump_grammar.specs.declared.packet.Packet.{Packet}
 use Rattle.ump_grammar.specs.declared.packet.Packet.TheVariants as packet
-use Rattle.midi1_bytes.specs.Messages.{AreData}
-use Rattle.midi1_bytes.specs.Stream.{open_in}
+use Rattle.bit_scaling.specs.Scaling.{down14}
+use Rattle.midi1_bytes.specs.Messages.{AreData, spelled_voice, voice}
+use Rattle.midi1_bytes.specs.RunningStatus.{without_status, written_after}
+use Rattle.midi1_bytes.specs.Stream.{open_in, running}
 use Rattle.voice_state.specs.Agreement.{SameRegisters}
-use Rattle.voice_state.specs.Compact.{compact_piece}
+use Rattle.voice_state.specs.Compact.{after_reset, compact_piece, has_bank, is_selected, registers_in}
 use Rattle.voice_state.specs.LaneState.{LaneState, compact_by, lane_state_after, lane_state_behind, new_lane}
 use Rattle.voice_state.specs.Lanes.{lane_bytes, pairs_behind}
 use Rattle.voice_state.specs.Listing.{is_carried}
 use Rattle.voice_state.specs.Messages.{mean1}
 use Rattle.voice_state.specs.Packets.{mean2, IsInRange}
 use Rattle.voice_state.specs.Parts.{whole_of}
-use Rattle.voice_state.specs.Plain.{plain_piece}
+use Rattle.voice_state.specs.Plain.{plain_messages, plain_piece}
+use Rattle.voice_state.specs.Registers.{is_null}
 use Rattle.voice_state.specs.Relied.{IsLaneOf, IsRelied}
 use Rattle.voice_state.specs.Styles.{Style, plain_style, compact_style, piece_in, styled_behind, styled_pair, styled_pairs}
 use Rattle.voice_state.specs.Translation.{IsTranslation}
+
+-- whether a packet selects a parameter or a bank
+abbrev pub selects : Packet → Bool
+selects (packet.Voice2 group (voice2.Set channel param value)) = true
+selects (packet.Voice2 group (voice2.Program channel program (Some bank))) = true
+selects packet = false
 
 module _ (paired : Bool) where
   abbrev pub StyledPairsAreATranslation : Type 0
@@ -44,6 +58,34 @@ module _ (paired : Bool) where
     pub exclusive : (past : List ℕ) (whole : Option (List ℕ)) (group : ℕ) (form : Form) (bytes : List ℕ) →
         compact_piece paired past whole (packet.Exclusive group form bytes) ≡
         plain_piece paired whole (packet.Exclusive group form bytes)
+
+  -- What is left out, and no more: of a MIDI 1.0 voice message, also of a control change that selects what is selected already, the
+  -- status byte alone, where it equals the running status; of a parameter that is selected the two control changes that select it, too;
+  -- of a program whose bank is held the two that select the bank. All other packets have their plain messages.
+  pub record CompactLeavesOutWhatIsHeld : Type 0 where
+    pub midi1 : (past : List ℕ) (whole : Option (List ℕ)) (group : ℕ) (message : Voice1) →
+        compact_piece paired past whole (packet.Voice1 group message) ≡
+        without_status (running (after_reset past)) (spelled_voice message)
+    pub other : (past : List ℕ) (whole : Option (List ℕ)) (packet : Packet) → selects packet ≡ false →
+        compact_piece paired past whole packet ≡ written_after (after_reset past) (plain_messages paired whole packet)
+    pub new_parameter : (past : List ℕ) (whole : Option (List ℕ)) (group channel value : ℕ) (param : Param) →
+        is_selected (registers_in paired (after_reset past) channel) param ≡ false →
+        compact_piece paired past whole (packet.Voice2 group (voice2.Set channel param value)) ≡
+        written_after (after_reset past) (plain_messages paired whole (packet.Voice2 group (voice2.Set channel param value)))
+    pub new_bank : (past : List ℕ) (whole : Option (List ℕ)) (group channel program : ℕ) (bank : Bank) →
+        has_bank (registers_in paired (after_reset past) channel) bank ≡ false →
+        compact_piece paired past whole (packet.Voice2 group (voice2.Program channel program (Some bank))) ≡
+        written_after (after_reset past)
+        (plain_messages paired whole (packet.Voice2 group (voice2.Program channel program (Some bank))))
+    pub parameter : (past : List ℕ) (whole : Option (List ℕ)) (group channel value : ℕ) (param : Param) →
+        is_null param ≡ false → is_selected (registers_in paired (after_reset past) channel) param ≡ true →
+        compact_piece paired past whole (packet.Voice2 group (voice2.Set channel param value)) ≡
+        written_after (after_reset past)
+        (voice (voice1.Control channel 6 (down14 value / 128)) ∷ voice (voice1.Control channel 38 (down14 value % 128)) ∷ [])
+    pub program : (past : List ℕ) (whole : Option (List ℕ)) (group channel program : ℕ) (bank : Bank) →
+        has_bank (registers_in paired (after_reset past) channel) bank ≡ true →
+        compact_piece paired past whole (packet.Voice2 group (voice2.Program channel program (Some bank))) ≡
+        without_status (running (after_reset past)) (spelled_voice (voice1.Program channel program))
 
   -- what the bytes of a lane leave in a receiver
   pub record StyledLanesLeaveTheRegisters : Type 0 where

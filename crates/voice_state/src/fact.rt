@@ -50,7 +50,7 @@ pub enum Fact {
         channel: U4,
         value: u32,
     },
-    /// The bend, where it isn't at its centre: 8,192 of 14 bits, 80000000 of 32.
+    /// The bend, where it isn't at its centre: 8,192 of 14 bits, 0x8000_0000 of 32.
     Bend {
         group: U4,
         channel: U4,

@@ -1,6 +1,7 @@
 // What holds of all recordings in either style, with paired controllers or without.
 ghost use Rattle.std.specs.Prelude.{Bool};
 ghost use Rattle.voice_state.specs.StyleLaws.{
+  CompactLeavesOutWhatIsHeld,
   KeptLanesAreThoseOfTheBytes,
   KeptLanesAreThoseOfTheRecording,
   StyledLanesLeaveTheRegisters,
@@ -42,6 +43,13 @@ pub fn system_pieces_are_plain()
 {
     statuses_that_run_can_be_left_out();
 }
+
+/// What a receiver of the lane's bytes has since the last System Reset is left out, and nothing else. A MIDI 1.0 voice message, also a
+/// control change that selects what is selected already, is always written, and at most its status byte is left out, where it equals the
+/// running status. No parameter that is selected is selected again, and no bank that is held.
+pub fn compact_leaves_out_what_is_held()
+    ensures { (paired : Bool) → CompactLeavesOutWhatIsHeld paired }
+{}
 
 /// The bytes of a lane, in either style, leave the registers that the packets of its group leave, and nothing is open in them. In
 /// compact style the running status and each half of a register that the bytes after the last System Reset leave is what all

@@ -125,5 +125,5 @@ returns-in-Failed g c =
     let old : Seen = with_header (seen g.S.Source g.L.Lanes g.W.Sink g.N.Sink c.args.input.now c.args.lanes.now c.args.output.now c.args.notes.now) in
     let new : Seen = seen g.S.Source g.L.Lanes g.W.Sink g.N.Sink c.next_packet.new.input c.loop-at.lanes c.loop-at.output c.loop-at.notes in
     let stands = ends_failed clip_cutting clipping _ _ old _ i (λ past puts holds accepted put. text-is past puts put) new
-    (fault_of_clip after i.items new.left (c.in-Failed.ensures.answer Big after i.items i.has.packets)) refl c.in-Failed.ensures.cause in
+    (fault_of_clip after i.items new.left (c.in-Failed.ensures.answer Big after i.items i.has.packets).1) refl c.in-Failed.ensures.cause in
     (stands-so old new ReadFault tt stands, (stands_ends clip_cutting clipping puts-named last-named old new ReadFault stands).1)

@@ -7,7 +7,7 @@ use Rattle.down_translator.specs.Held.{DownState, paired_of, whole_in}
 use Rattle.down_translator.specs.Lanes.{piece_by}
 use Rattle.down_translator.specs.Recording.{state_of}
 use Rattle.down_translator.specs.Step.{lane_before, piece_of}
-use Rattle.down_translator.proofs.HeldLaws.{held-told, held-behind}
+use Rattle.down_translator.proofs.HeldLaws.{held-told, held-behind, unchanged}
 use Rattle.down_translator.proofs.LaneLaws.{lanes-whole}
 use Rattle.down_translator.proofs.StyledLaws.{plain_is}
 use Rattle.down_translator.proofs.laws.what_is_held_is_the_definition.Goals as goal
@@ -31,4 +31,5 @@ returns c = λ paired.
       begun = λ style room past least a packet. (held-told paired fed style room past least a packet).begun;
       refusal = λ style room past least a packet. (held-told paired fed style room past least a packet).refusal;
       behind = held-behind paired;
+      unchanged = unchanged;
     }

@@ -39,8 +39,9 @@ returns-clause-answer g c = λ first all items given_so_far.
           subst G (sym w.result-is)
           (laws.at_end first.how reader all left items so_far reader' left' (subst K w.in-Ok-None.field-0-is (w.in-Ok-None.ensures.answer goes_on)))
       | in-Err-Read w ↦
+          let waits = subst E w.in-Err-Read.field-0-is (w.in-Err-Read.ensures.answer goes_on) in
           subst G (sym w.result-is)
-          (laws.at_fault first.how reader all left items so_far reader' left' (subst E w.in-Err-Read.field-0-is (w.in-Err-Read.ensures.answer goes_on)))
+          (laws.still_given first.how reader all left items so_far reader' left' waits, laws.at_fault first.how reader all left items so_far reader' left' waits)
       | in-Err-Truncated w ↦
           subst G (sym w.result-is)
           (laws.at_tail first.how reader all left items so_far reader' left' (tail.Truncated w.in-Err-Truncated.offset)

@@ -1,7 +1,7 @@
 use Rattle.std.proofs.Common.{ℕ, ◌∙◌, ◌++◌, ◌<◌, ap, sym, subst, map, append-nil}
 use Rattle.voice_state.specs.declared.param_map.ParamState.{ParamState}
-use Rattle.voice_state.specs.Params.{entry_fact, IsOf}
-use Rattle.voice_state.proofs.Entries.{keys_left, params_told, told_next}
+use Rattle.voice_state.specs.Params.{IsOf}
+use Rattle.voice_state.proofs.Entries.{entry_fact, keys_left, params_told, told_next}
 use Rattle.voice_state.proofs.param_map.ParamMap.put_facts.Goals as goal
 
 pub loop-number-preserved : goal.loop-number-preserved

@@ -1,6 +1,6 @@
 use Rattle.std.proofs.Common.{◌≡◌, ◌++◌, ◌<◌, map, All}
 use Rattle.std.specs.Map.{keys_of}
-use Rattle.voice_state.specs.Params.{entry_fact}
+use Rattle.voice_state.proofs.Entries.{entry_fact}
 use Rattle.voice_state.proofs.param_map.ParamMap.put_facts.Given as goal
 
 abbrev pub invariant-loop-number : goal.invariant-loop-number
