@@ -59,9 +59,9 @@ module _ (paired : Bool) where
         compact_piece paired past whole (packet.Exclusive group form bytes) ≡
         plain_piece paired whole (packet.Exclusive group form bytes)
 
-  -- What is left out, and no more: of a MIDI 1.0 voice message, also of a control change that selects what is selected already, the
-  -- status byte alone, where it equals the running status; of a parameter that is selected the two control changes that select it, too;
-  -- of a program whose bank is held the two that select the bank. All other packets have their plain messages.
+  -- What is left out, and no more: each status byte that equals the running status; of a Set whose parameter is selected the two control
+  -- changes that select it, and of a Program whose bank is held the two that select the bank. A MIDI 1.0 voice message, also a control
+  -- change that selects what is selected already, loses at most its status byte; all other packets have their plain messages.
   pub record CompactLeavesOutWhatIsHeld : Type 0 where
     pub midi1 : (past : List ℕ) (whole : Option (List ℕ)) (group : ℕ) (message : Voice1) →
         compact_piece paired past whole (packet.Voice1 group message) ≡

@@ -44,9 +44,9 @@ pub fn system_pieces_are_plain()
     statuses_that_run_can_be_left_out();
 }
 
-/// What a receiver of the lane's bytes has since the last System Reset is left out, and nothing else. A MIDI 1.0 voice message, also a
-/// control change that selects what is selected already, is always written, and at most its status byte is left out, where it equals the
-/// running status. No parameter that is selected is selected again, and no bank that is held.
+/// Of what a receiver of the lane's bytes has since the last System Reset three things are left out, and nothing else: a status byte
+/// that equals the running status, and, of a MIDI 2.0 packet, the selection of a parameter that is selected and of a bank that is held. A
+/// MIDI 1.0 voice message, also a control change that selects what is selected already, is always written, at most without its status byte.
 pub fn compact_leaves_out_what_is_held()
     ensures { (paired : Bool) → CompactLeavesOutWhatIsHeld paired }
 {}
