@@ -10,7 +10,7 @@ use Rattle.ci_messages.specs.declared.view.Address.TheVariants as address
 use Rattle.ci_messages.specs.declared.view.ProfileId.{ProfileId}
 use Rattle.ci_messages.specs.Fields.{Value, list, number}
 use Rattle.ci_messages.specs.Reading.{address_of}
-use Rattle.ci_messages.specs.Writing.{address_number}
+use Rattle.ci_messages.specs.Writing.{address_number, channels_of}
 use Rattle.function_blocks.specs.declared.setup.Place.{Place}
 use Rattle.function_blocks.specs.declared.setup.Profile.{Profile}
 use Rattle.function_blocks.specs.Profiles.{is_same_profile, profiles_are_distinct, same_place}
@@ -23,7 +23,7 @@ use Rattle.ci_responder.specs.Keys.{first_states, key_of, same_key, state_in}
 use Rattle.ci_responder.specs.SameKeys.{key-is, key-itself, left, right}
 use Rattle.ci_responder.specs.Messages as said
 use Rattle.ci_responder.specs.Messages.{Said, Told, key_at, place_at}
-use Rattle.ci_responder.specs.Replies.{Sender, payload as reply-bytes, answer_to, channels_of, ids_of, is_listed, listed, message_of_payload, reply_by, reply_to}
+use Rattle.ci_responder.specs.Replies.{Sender, payload as reply-bytes, answer_to, ids_of, is_listed, listed, message_of_payload, reply_by, reply_to}
 use Rattle.ci_responder.proofs.Histories.{on-same, states_with}
 use Rattle.ci_responder.specs.Rows.{broadcast, heard_by, is_answered, is_discovery, is_for, is_invalidate, is_of_another, is_property, is_report, names, row_of}
 use Rattle.ci_initiator.specs.declared.watch.Watch.{Watch}

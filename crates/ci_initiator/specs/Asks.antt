@@ -8,8 +8,8 @@ use Rattle.ci_messages.specs.declared.view.Address.TheVariants as address
 use Rattle.ci_messages.specs.Places.{bytes4}
 use Rattle.ci_messages.specs.Fields.{Value, number, list, nothing, bytes_of_fields}
 use Rattle.ci_messages.specs.Messages.{fields_of}
-use Rattle.ci_messages.specs.Writing.{address_number}
-use Rattle.ci_responder.specs.Replies.{channels_of, message_of_payload}
+use Rattle.ci_messages.specs.Writing.{address_number, channels_of}
+use Rattle.ci_responder.specs.Replies.{message_of_payload}
 use Rattle.ci_responder.specs.Rows.{broadcast}
 use Rattle.ci_initiator.specs.declared.ask.Ask.{Ask}
 use Rattle.ci_initiator.specs.declared.ask.Ask.TheVariants as ask

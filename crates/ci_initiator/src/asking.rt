@@ -1,40 +1,18 @@
 // The messages that ask (M2-101-UM).
 ghost use Rattle.std.specs.Prelude.{◌≡◌, ◌<◌, ◌^◌, [], length};
-ghost use Rattle.ci_messages.specs.Fields.{IsData};
-ghost use Rattle.ci_messages.specs.Writing.{IsAddress};
-ghost use Rattle.ci_responder.specs.Replies.{IsMessage, channels_of};
+ghost use Rattle.ci_responder.specs.Replies.{IsMessage};
 ghost use Rattle.ci_initiator.specs.Asks.{discovery, inquiry, set_off, set_on};
 
-use crate::rows::BROADCAST;
 use crate::watch::Watch;
-use ci_messages::{Address, Body, CiView};
+use ci_messages::{Address, BROADCAST, Body, CiView, PROFILE_CONFIGURATION};
 use ci_responder::put_message;
 use midi_edge::ShortList;
 
 /// The version of the message format.
 const VERSION: u8 = 2;
 
-/// The bit of the profiles among the categories of MIDI-CI.
-const PROFILES: u8 = 4;
-
 /// The most bytes of a System Exclusive message that is taken.
 const MOST_BYTES: u32 = 512;
-
-// The number of channels of an address: one of a channel, none of a group or a function block.
-fn channels_at(address: Address) -> u16
-    ensures value { result ≡ channels_of address }
-    ensures few { result < 2 }
-    ensures address { IsAddress address }
-{
-    match address {
-        Address::Channel(channel) => {
-            channel.get();
-            1
-        }
-        Address::Group => 0,
-        Address::Block => 0,
-    }
-}
 
 /// Writes Discovery into an empty list.
 pub(crate) fn put_discovery(muid: u32, into: &mut ShortList<u8, 512>)
@@ -54,7 +32,7 @@ pub(crate) fn put_discovery(muid: u32, into: &mut ShortList<u8, 512>)
             family: [0; 2],
             model: [0; 2],
             revision: [0; 4],
-            category: PROFILES,
+            category: PROFILE_CONFIGURATION,
             size: MOST_BYTES,
             path: 0,
         },
@@ -70,7 +48,8 @@ pub(crate) fn put_inquiry(muid: u32, peer: u32, watch: &Watch, into: &mut ShortL
     ensures bytes { into.new ≡ inquiry muid peer watch.now }
     ensures message { IsMessage into.new }
 {
-    channels_at(watch.address);
+    // tells that the channel of the address is below 16
+    watch.address.channels();
     let view = CiView {
         address: watch.address,
         sub: 0x20,
@@ -91,8 +70,9 @@ pub(crate) fn put_set_on(muid: u32, peer: u32, watch: &Watch, into: &mut ShortLi
     ensures message { IsMessage into.new }
 {
     let id = watch.id;
+    // tells that the id is five data bytes
     id.data_bytes();
-    let channels = channels_at(watch.address);
+    let channels = watch.address.channels();
     let view = CiView {
         address: watch.address,
         sub: 0x22,
@@ -113,8 +93,10 @@ pub(crate) fn put_set_off(muid: u32, peer: u32, watch: &Watch, into: &mut ShortL
     ensures message { IsMessage into.new }
 {
     let id = watch.id;
+    // tells that the id is five data bytes
     id.data_bytes();
-    channels_at(watch.address);
+    // tells that the channel of the address is below 16
+    watch.address.channels();
     let view = CiView {
         address: watch.address,
         sub: 0x23,

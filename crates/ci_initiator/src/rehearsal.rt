@@ -138,6 +138,7 @@ impl Rehearsal {
         ensures distinct { IfOk result (λ rehearsal. profiles_are_distinct setup.now.profiles ≡ true) }
         ensures ids { IfOk result (λ rehearsal. HasIds setup.now.profiles) }
     {
+        // tells that no two profiles have the same block, place and id
         let _distinct = setup.profile_count();
         let watches = watches(alloc, setup)?;
         Ok(Rehearsal {

@@ -23,11 +23,8 @@ ghost use Rattle.ci_initiator.specs.Rows.{
 
 use crate::noted::Noted;
 use crate::watch::{Watch, Watched};
-use ci_messages::{Body, CiView, ProfileId};
+use ci_messages::{BROADCAST, Body, CiView, ProfileId};
 use voice_messages::U4;
-
-/// The destination of a message for all.
-pub(crate) const BROADCAST: u32 = 0x0FFF_FFFF;
 
 /// How many bytes the id of a profile has.
 const ID_BYTES: usize = 5;
@@ -43,10 +40,7 @@ fn is_at(watch: &Watch, group: U4, view: &CiView<'_>) -> bool
 fn is_from(peer: Option<u32>, source: u32) -> bool
     ensures { result ≡ is_from_peer peer source }
 {
-    match peer {
-        Some(peer) => source == peer,
-        None => false,
-    }
+    peer == Some(source)
 }
 
 // Whether this id stands at a place of some bytes.

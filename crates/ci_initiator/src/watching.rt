@@ -130,6 +130,7 @@ fn id_of(profile: &Profile) -> ProfileId
 {
     let bytes = profile.id;
     let id = ProfileId { bytes };
+    // tells that the id has five bytes
     id.data_bytes();
     id
 }

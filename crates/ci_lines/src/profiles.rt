@@ -104,10 +104,7 @@ pub fn put_profiles<P: ProfileStates, L: Lanes, W: Sink, N: Sink>(
 {
     for k in 0..setup.profile_count() {
         match setup.profile(k) {
-            Some(profile) => match put_profile(known, profile, place, lanes, output, notes) {
-                Ok(()) => {}
-                Err(end) => return Err(end),
-            },
+            Some(profile) => put_profile(known, profile, place, lanes, output, notes)?,
             None => unreachable!(),
         }
     }

@@ -19,6 +19,11 @@ abbrev pub IsAddress : Address → Type 0
 IsAddress (address.Channel channel) = channel < 16
 IsAddress _ = Unit {0}
 
+-- the number of channels of a profile at an address; at a channel it is one (own rule)
+abbrev pub channels_of : Address → ℕ
+channels_of (address.Channel channel) = 1
+channels_of _ = 0
+
 -- what a body says fits its fields
 abbrev pub FitsBody : Format → Body → Type 0
 FitsBody form body = FitsFields (fields_of form (body_kind body)) (values_of body)

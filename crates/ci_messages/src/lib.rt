@@ -9,5 +9,7 @@ pub mod view;
 pub mod writing;
 
 pub use crate::reading::read;
-pub use crate::view::{Address, Body, CiFault, CiView, ProfileId};
+pub use crate::view::{
+    Address, BROADCAST, Body, CiFault, CiView, NO_BLOCK, PROFILE_CONFIGURATION, ProfileId,
+};
 pub use crate::writing::write;

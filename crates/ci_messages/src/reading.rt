@@ -31,7 +31,7 @@ ghost use Rattle.ci_messages.specs.Reading.{
 
 use crate::kind::{Format, Kind};
 use crate::places::{array, number_of_four, number_of_two, part, profile_id};
-use crate::view::{Address, Body, CiFault, CiView, ProfileId};
+use crate::view::{Address, Body, CiFault, CiView, NO_BLOCK, ProfileId};
 use voice_messages::U4;
 
 /// The first of the MUIDs that no device may have as its own.
@@ -42,9 +42,6 @@ const BODY: usize = 14;
 
 /// The bytes of a message without a body: those before it, and F7.
 const SHORTEST: usize = 15;
-
-/// The number that stands for no function block.
-const NO_BLOCK: u8 = 0x7F;
 
 // The address of a number; `None` exactly when there is none.
 fn address(number: u8) -> Option<Address>

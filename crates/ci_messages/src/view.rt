@@ -2,6 +2,15 @@
 use thiserror::Error;
 use voice_messages::{U4, U7};
 
+/// The destination of a message that is for all (M2-101-UM, MUID).
+pub const BROADCAST: u32 = 0x0FFF_FFFF;
+
+/// The number that stands for no function block (M2-101-UM, Reply to Discovery).
+pub const NO_BLOCK: u8 = 0x7F;
+
+/// The bit of Profile Configuration among the categories of MIDI-CI that a device supports (M2-101-UM, Discovery).
+pub const PROFILE_CONFIGURATION: u8 = 4;
+
 /// What a message is about (M2-101-UM, device id).
 #[derive(Clone, Copy, Debug, PartialEq, Eq)]
 pub enum Address {
@@ -11,6 +20,29 @@ pub enum Address {
     Group,
     /// 7F: the function block.
     Block,
+}
+
+impl Address {
+    ghost use Rattle.std.specs.Prelude.{◌≡◌, ◌<◌};
+    ghost use Rattle.ci_messages.specs.Writing.{IsAddress, channels_of};
+
+    /// The number of channels of a profile at this address: one for a channel (own rule), and none for the group or the function
+    /// block (M2-101-UM, profile configuration).
+    pub fn channels(self) -> u16
+        ensures value { result ≡ channels_of self }
+        ensures few { result < 2 }
+        ensures address { IsAddress self }
+    {
+        match self {
+            Address::Channel(channel) => {
+                // tells that the channel is below 16
+                channel.get();
+                1
+            }
+            Address::Group => 0,
+            Address::Block => 0,
+        }
+    }
 }
 
 /// The id of a profile, five data bytes.

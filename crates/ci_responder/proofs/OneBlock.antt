@@ -1,7 +1,7 @@
 -- The block of a group is the one that has it.
-use Rattle.std.proofs.Common.{arith, ◌≡◌, ◌<◌, ◌+◌, ◌∙◌, ap, sym, refl, ℕ, zero, suc, Bool, true, false, cond, not, ◌&&◌, nat_le, nat_lt, List, [], ◌∷◌, length, slice_get, Option, None, Some, unwrap_or, true≢false}
-use Rattle.std.proofs.lemmas.Bool.{le-leb, leb-true, lt-ltb, ltb-true}
-use Rattle.std.specs.List.{list_all, position, position_or_len}
+use Rattle.std.proofs.Common.{arith, ◌≡◌, ◌<◌, ◌+◌, ◌∙◌, ap, sym, refl, ℕ, zero, suc, Bool, true, false, cond, not, ◌&&◌, nat_le, nat_lt, List, [], ◌∷◌, length, slice_get, None, Some, unwrap_or, true≢false}
+use Rattle.std.proofs.lemmas.Bool.{leb-true, lt-ltb, ltb-true}
+use Rattle.std.specs.List.{list_all, position_or_len}
 use Rattle.function_blocks.specs.declared.setup.Block.{Block}
 use Rattle.function_blocks.specs.Blocks.{are_apart, has_ci, shares_group}
 use Rattle.function_blocks.specs.Setups.{Facts}

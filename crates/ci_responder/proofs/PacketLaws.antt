@@ -1,6 +1,6 @@
 -- Packets that are added to replies.
-use Rattle.std.proofs.Common.{ℕ, ◌≡◌, ◌<◌, ◌+◌, ◌*◌, ◌∙◌, refl, List, [], ◌∷◌, ◌++◌, arith, suc, subst, Some, drop}
-use Rattle.std.proofs.lemmas.Bool.{lt-ltb}
+use Rattle.std.proofs.Common.{ℕ, ◌≡◌, ◌<◌, ◌≤◌, ◌+◌, ◌*◌, ◌∙◌, refl, sym, List, [], ◌∷◌, ◌++◌, arith, suc, subst, None, Some, drop, length, nat_lt, inl, inr}
+use Rattle.std.proofs.lemmas.Bool.{cases_Bool, lt-ltb, ltb-false, ltb-true}
 use Rattle.std.proofs.lemmas.List.Elements.{All-drop, All-take}
 use Rattle.std.specs.Fork.{slice_chunk}
 use Rattle.std.specs.List.{All}
@@ -25,6 +25,26 @@ pub part-cut : (bytes : List ℕ) (k : ℕ) (p : Form × List ℕ) → k < part_
 part-cut bytes k p within is =
     let found : Some p ≡ Some (part bytes k) = is ∙ rw (lt-ltb k (part_count bytes) within) refl in
     cc
+
+none-some : (p : Form × List ℕ) → None ≡ Some p → ⊥
+none-some p e = cc
+
+-- a packet that is there is one of the count, and behind the last one there is none
+pub part-within : (bytes : List ℕ) (k : ℕ) (p : Form × List ℕ) → Some p ≡ part_at bytes k → k < part_count bytes
+part-within bytes k p is = elim (cases_Bool (nat_lt k (part_count bytes))) [
+  | inl some ↦ ltb-true k (part_count bytes) some
+  | inr past ↦ absurd (none-some p (sym (is ∙ rw past refl)))
+]
+
+pub part-past : (bytes : List ℕ) (k : ℕ) → None ≡ part_at bytes k → part_count bytes ≤ k
+part-past bytes k none = elim (cases_Bool (nat_lt k (part_count bytes))) [
+  | inl some ↦ absurd (none-some (part bytes k) (none ∙ rw some refl))
+  | inr past ↦ omega (arith, ltb-false k (part_count bytes) past)
+]
+
+-- at most 57 packets have at most 342 bytes
+pub part-few : (bytes : List ℕ) → length bytes ≤ 342 → part_count bytes ≤ 57
+part-few bytes few = omega (arith, few)
 
 -- one more packet of a payload
 pub first-more : (group : ℕ) (bytes : List ℕ) (k : ℕ) (p : Form × List ℕ) (now new : List ℕ) → p ≡ part bytes k →

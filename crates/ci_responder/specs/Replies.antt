@@ -15,7 +15,7 @@ use Rattle.ci_messages.specs.Places.{bytes4}
 use Rattle.ci_messages.specs.Fields.{Value, number, list, bytes_of_fields}
 use Rattle.ci_messages.specs.Messages.{fields_of, format_of}
 use Rattle.ci_messages.specs.Reading.{IsExclusive, ci_fault}
-use Rattle.ci_messages.specs.Writing.{address_number, body_bytes}
+use Rattle.ci_messages.specs.Writing.{address_number, body_bytes, channels_of}
 use Rattle.function_blocks.specs.declared.setup.Identity.{Identity}
 use Rattle.function_blocks.specs.declared.setup.Place.{Place}
 use Rattle.function_blocks.specs.Profiles.{same_place}
@@ -64,11 +64,6 @@ listed on block place state = if is_listed on block place state then state.0.id.
 -- the ids of the profiles of a place that are on, or off, in the setup's order
 abbrev pub ids_of : Bool → ℕ → Place → List (Key × Bool) → List ℕ
 ids_of on block place states = flat_map (listed on block place) states
-
--- a profile of a channel is for one channel (own rule)
-abbrev pub channels_of : Address → ℕ
-channels_of (address.Channel channel) = 1
-channels_of _ = 0
 
 -- the reply to what is answered; 04 is the category of profiles
 abbrev pub answer_to : Sender → Told → Said → Option (List ℕ)

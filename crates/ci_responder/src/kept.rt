@@ -10,7 +10,7 @@ pub struct CiBlock {
     pub first: u8,
     /// The number of its groups; `first + count` is at most 16.
     pub count: u8,
-    /// The MUIDs that it takes one after the other, each below 2^28.
+    /// The MUIDs that it takes one after the other, each below 0FFFFF00.
     pub muids: ShortList<u32, 16>,
     /// How many of them are used up.
     pub spent: usize,

@@ -19,9 +19,6 @@ use midi_edge::{ShortList, U4};
 use sysex_groups::part;
 use ump_grammar::{Packet, Replies};
 
-/// How many bytes of an exclusive a packet has at most.
-const PACKET_BYTES: usize = 6;
-
 /// Writes a message of version 01 or above, whose source is below 0FFFFF00, of at most 342 bytes between F0 and F7, into an empty
 /// list (M2-101-UM). `ci_messages::read` takes it.
 pub fn put_message(view: &CiView<'_>, into: &mut ShortList<u8, 512>)
@@ -45,13 +42,12 @@ fn push_payload(replies: &mut Replies, group: U4, payload: &[u8])
     ensures packets { AddsPackets (packets_of group payload.now) [] replies.new }
     ensures few { length replies.new ≤ 114 }
 {
+    // tells that the group is below 16
     group.get();
-    let count = payload.len().div_ceil(PACKET_BYTES).max(1);
-    for k in 0..count {
-        match part(payload, k) {
-            Some((form, bytes)) => replies.push(&Packet::Exclusive { group, form, bytes }),
-            None => unreachable!(),
-        }
+    let mut k = 0;
+    while let Some((form, bytes)) = part(payload, k) {
+        replies.push(&Packet::Exclusive { group, form, bytes });
+        k += 1;
     }
 }
 

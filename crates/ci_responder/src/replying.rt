@@ -1,8 +1,9 @@
 // The replies, by the row of the message.
-ghost use Rattle.std.specs.Prelude.{◌≡◌, ◌<◌, ◌≤◌, ◌==◌, ℕ, Some, true, false, [], length};
+ghost use Rattle.std.specs.Prelude.{◌≡◌, ◌<◌, ◌≤◌, ◌==◌, ℕ, Some, true, false, if◌then◌else◌, [], length};
+ghost use Rattle.ci_messages.specs.declared.view.Body.TheVariants as body;
 ghost use Rattle.ci_messages.specs.Fields.{FitsField, IsData, byte, bytes_of_field, number};
 ghost use Rattle.ci_messages.specs.Messages.{channels_in, format_of, full_only};
-ghost use Rattle.ci_messages.specs.Writing.{IsView};
+ghost use Rattle.ci_messages.specs.Writing.{IsView, channels_of};
 ghost use Rattle.ci_responder.specs.Held.{sender_of};
 ghost use Rattle.ci_responder.specs.Messages.{
   discovery,
@@ -15,7 +16,6 @@ ghost use Rattle.ci_responder.specs.Messages.{
 };
 ghost use Rattle.ci_responder.specs.Replies.{
   answer_to,
-  channels_of as channels_of_address,
   IsReply,
   invalidation,
   message_of_payload,
@@ -29,16 +29,9 @@ use crate::heard::Heard;
 use crate::packets::put_message;
 use crate::profiles::{ids_at, place_of};
 use crate::responder::Responder;
-use crate::rows::BROADCAST;
-use ci_messages::{Address, Body, CiView, ProfileId};
+use ci_messages::{Address, BROADCAST, Body, CiView, NO_BLOCK, PROFILE_CONFIGURATION, ProfileId};
 use function_blocks::Identity;
 use midi_edge::{ShortList, U4};
-
-/// The number that stands for no function block.
-const NO_BLOCK: u8 = 0x7F;
-
-/// The bit of the profiles among the categories of MIDI-CI.
-const PROFILES: u8 = 4;
 
 /// The function block that a message is for, with its MUID in force, and the group on which it replies.
 #[derive(Clone, Copy, Debug, PartialEq, Eq)]
@@ -67,20 +60,24 @@ fn placed(version: u8, value: u8, otherwise: u8) -> u8
     if version == 1 { otherwise } else { value }
 }
 
-// The number of channels that a report tells: one for a channel, none for a group or a function block, and none where version
-// 01 has no place for it (own rule).
-fn channels_of(version: u8, address: Address) -> u16
+// The number of channels that a report tells: that of its address, and none where version 01 has no place for it (own rule).
+fn channels_told(version: u8, address: Address) -> u16
     ensures fits { FitsField (channels_in (format_of version)) (number result) }
     ensures bytes { bytes_of_field (channels_in (format_of version)) (number result)
-        ≡ bytes_of_field (channels_in (format_of version)) (number (channels_of_address address)) }
+        ≡ bytes_of_field (channels_in (format_of version)) (number (channels_of address)) }
 {
-    if version == 1 {
-        return 0;
-    }
-    match address {
-        Address::Channel(_) => 1,
-        Address::Group => 0,
-        Address::Block => 0,
+    if version == 1 { 0 } else { address.channels() }
+}
+
+// The sub-id and the body of a report that a profile is on, or that it is off.
+fn report_of(id: ProfileId, channels: u16, on: bool) -> (u8, Body<'static>)
+    ensures { result ≡ (if on then (0x24, body.EnabledReport id channels)
+        else (0x25, body.DisabledReport id channels)) }
+{
+    if on {
+        (0x24, Body::EnabledReport { id, channels })
+    } else {
+        (0x25, Body::DisabledReport { id, channels })
     }
 }
 
@@ -213,7 +210,7 @@ impl Responder {
                 family,
                 model,
                 revision,
-                category: PROFILES,
+                category: PROFILE_CONFIGURATION,
                 size: self.room,
                 path,
                 block,
@@ -293,27 +290,16 @@ impl Responder {
         ensures reply { IsReply reply.new }
     {
         let version = reply_version(view);
-        let channels = channels_of(version, view.address);
-        if on {
-            let message = CiView {
-                address: view.address,
-                sub: 0x24,
-                version,
-                source: owner.muid,
-                destination: BROADCAST,
-                body: Body::EnabledReport { id, channels },
-            };
-            put_message(&message, reply);
-        } else {
-            let message = CiView {
-                address: view.address,
-                sub: 0x25,
-                version,
-                source: owner.muid,
-                destination: BROADCAST,
-                body: Body::DisabledReport { id, channels },
-            };
-            put_message(&message, reply);
-        }
+        let channels = channels_told(version, view.address);
+        let (sub, body) = report_of(id, channels, on);
+        let message = CiView {
+            address: view.address,
+            sub,
+            version,
+            source: owner.muid,
+            destination: BROADCAST,
+            body,
+        };
+        put_message(&message, reply);
     }
 }

@@ -13,10 +13,7 @@ ghost use Rattle.ci_responder.specs.Rows.{
 };
 
 use crate::heard::Heard;
-use ci_messages::{Body, CiView};
-
-/// The destination of a message for all.
-pub(crate) const BROADCAST: u32 = 0x0FFF_FFFF;
+use ci_messages::{BROADCAST, Body, CiView};
 
 // Whether this is the sub-id of a reply, a report, an ACK or a NAK, Process Inquiry's replies apart (own rule).
 fn is_report(sub: u8) -> bool

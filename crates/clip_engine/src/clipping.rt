@@ -12,16 +12,13 @@ ghost use Rattle.clip_engine.specs.Refused.{IsRefusedWhere};
 
 use crate::laws::clip_files_are_cut_once;
 use crate::lines::{end_line, event_line, resolution_line};
-use midi_clip::{Clip, ClipFault, ClipStep, clips_are_the_definition, header};
+use midi_clip::{Clip, ClipFault, ClipStep, HEADER_SIZE, clips_are_the_definition, header};
 use midi_edge::{Lanes, Sink, Source};
 use midi_pass::places::put_output;
 use midi_pass::{LIMIT, Next, Reason, RunEnd};
 use packet_items::next_packet;
 use ump_grammar::Packet;
 use ump_words::{Framed, Order, WordReader};
-
-// How many bytes the header of a clip file has.
-const HEADER_SIZE: u64 = 8;
 
 /// Shows the events of a clip file, to its end or to the first refusal: puts in the output a line for the ticks for a quarter note where
 /// the clip starts, the ticks and the line of the packet for each event, and a line for the ticks at the end of the clip. A clip file is

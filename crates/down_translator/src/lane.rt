@@ -44,23 +44,13 @@ impl Model for Lane {
 fn is_half(half: Option<U7>, other: U7) -> bool
     ensures { result ≡ is_half half other }
 {
-    match half {
-        Some(half) => half.get() == other.get(),
-        None => false,
-    }
+    half == Some(other)
 }
 
 fn is_param(selected: Option<Param>, param: &Param) -> bool
     ensures { result ≡ is_param selected param.now }
 {
-    match selected {
-        Some(selected) => {
-            selected.kind == param.kind
-                && selected.bank.get() == param.bank.get()
-                && selected.index.get() == param.index.get()
-        }
-        None => false,
-    }
+    selected == Some(*param)
 }
 
 impl Lane {

@@ -72,8 +72,8 @@ fn lone_controls(style: Style, paired: bool) -> (LoneControls, LoneControls)
     ensures shortened { result.1 ≡ when_compact (style_in style) paired }
 {
     match style {
-        Style::Plain => (LoneControls::new(Some(paired)), LoneControls::new(None)),
-        Style::Compact => (LoneControls::new(None), LoneControls::new(Some(paired))),
+        Style::Plain => (LoneControls::new(paired), LoneControls::none()),
+        Style::Compact => (LoneControls::none(), LoneControls::new(paired)),
     }
 }
 

@@ -2,6 +2,7 @@
 use Rattle.std.specs.Prelude.{ℕ, ◌≡◌, ◌⊎◌, ◌+◌, ◌<◌, ◌≤◌, Bool, true, ◌==◌, ◌&&◌, ◌||◌, not, nat_le, nat_lt, List, [], ◌∷◌, ◌++◌, length, codes, Result, Ok, Err, MatchResult, Vec}
 use Rattle.std.specs.declared.alloc.Global.{Global}
 use Rattle.std.specs.List.{All, list_all, list_any, flat_map}
+use Rattle.std.specs.Str.{IsUtf8}
 use Rattle.toml.specs.Data.{Members}
 use Rattle.function_blocks.specs.Keys.{limited_text_at, short_numbers_at, number_at, flag_at, entries_at, each}
 use Rattle.function_blocks.specs.Rules.{Read, needs, holds, after}
@@ -9,6 +10,10 @@ use Rattle.function_blocks.specs.declared.rules.Rule.TheVariants as rule
 use Rattle.function_blocks.specs.declared.rules.SetupFault.{SetupFault}
 use Rattle.function_blocks.specs.declared.rules.SetupFault.TheVariants.{NoMemory}
 use Rattle.function_blocks.specs.declared.setup.Block.{Block}
+
+-- a block that names a version of MIDI-CI has a MUID
+abbrev pub has_muid : ℕ → List ℕ → Bool
+has_muid ci muids = ci == 0 || not (length muids == 0)
 
 abbrev pub block_of : Members → Read Block
 block_of table =
@@ -23,7 +28,7 @@ block_of table =
     needs rule.CiIsInRange (number_at 0 2 (codes "ci") table) (λ ci.
     needs rule.Sysex8IsInRange (number_at 0 255 (codes "sysex8") table) (λ sysex8.
     needs rule.MuidsAreInRange (short_numbers_at 16 268435199 (codes "muids") table) (λ muids.
-    holds rule.MuidsAreInRange (ci == 0 || not (length muids == 0)) (
+    holds rule.MuidsAreInRange (has_muid ci muids) (
     Ok (record {
       active = active;
       name = name;
@@ -66,6 +71,7 @@ are_distinct (n ∷ ns) = not (list_any (λ m. m == n) ns) && are_distinct ns
 -- a block's keys keep the rules that are named here
 pub record IsBlock (b : Block) : Type 0 where
   pub named : (0 < length b.name) × (length b.name ≤ 91)
+  pub utf8 : IsUtf8 b.name
   pub hint : b.hint ≤ 3
   pub midi1 : b.midi1 ≤ 2
   pub direction : (1 ≤ b.direction) × (b.direction ≤ 3)
@@ -73,6 +79,7 @@ pub record IsBlock (b : Block) : Type 0 where
   pub ci : b.ci ≤ 2
   pub muids : All (λ muid. muid ≤ 268435199) b.muids
   pub few_muids : length b.muids ≤ 16
+  pub some_muid : has_muid b.ci b.muids ≡ true
 
 -- the items or the fault that was read, unless memory ran out
 abbrev pub Gives : {A : Type 0} → Read (List A) → Result (Vec A Global) SetupFault → Type 0

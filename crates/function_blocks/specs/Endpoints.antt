@@ -1,6 +1,7 @@
 -- The endpoint's own keys.
 use Rattle.std.specs.Prelude.{ℕ, ◌≡◌, ◌<◌, ◌≤◌, ◌^◌, Bool, true, ◌==◌, ◌&&◌, ◌||◌, length, codes, Ok}
 use Rattle.std.specs.List.{All, list_all}
+use Rattle.std.specs.Str.{IsUtf8}
 use Rattle.toml.specs.Data.{Members}
 use Rattle.system_stream.specs.Texts.{is_printable}
 use Rattle.function_blocks.specs.Keys.{table_at, limited_text_at, numbers_at, number_at, flag_at}
@@ -44,6 +45,7 @@ endpoint_of setup =
 -- an endpoint's keys keep the rules that are named here
 pub record IsEndpoint (e : Endpoint) : Type 0 where
   pub named : (0 < length e.name) × (length e.name ≤ 98)
+  pub utf8 : IsUtf8 e.name
   pub identified : (0 < length e.id) × (length e.id ≤ 42)
   pub printable : list_all is_printable e.id ≡ true
   pub manufacturer : (length e.manufacturer ≡ 3) × All (λ byte. byte ≤ 127) e.manufacturer

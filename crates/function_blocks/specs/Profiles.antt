@@ -1,5 +1,5 @@
 -- The profiles of a setup.
-use Rattle.std.specs.Prelude.{ℕ, ◌≡◌, ◌<◌, ◌+◌, ◌-◌, nat_le, nat_lt, length, Bool, true, false, ◌==◌, ◌&&◌, not, List, [], ◌∷◌, codes, Option, Some, None, option_and_then, if◌then◌else◌, slice_get, Ok}
+use Rattle.std.specs.Prelude.{ℕ, ◌≡◌, ◌<◌, ◌+◌, ◌-◌, nat_le, nat_lt, length, Bool, true, false, ◌==◌, ◌&&◌, not, List, [], ◌∷◌, codes, Option, Some, None, is_some, option_and_then, if◌then◌else◌, slice_get, Ok}
 use Rattle.std.specs.List.{list_any}
 use Rattle.std.specs.Str.{bytes_eq}
 use Rattle.toml.specs.Data.{Members}
@@ -14,11 +14,11 @@ use Rattle.function_blocks.specs.declared.profiles.PlaceKind.{PlaceKind}
 use Rattle.function_blocks.specs.declared.profiles.PlaceKind.TheVariants as kind
 
 -- the block of a number, where its `ci` isn't 0
-abbrev pub with_ci : Block → Option Block
-with_ci block = if block.ci == 0 then None else Some block
+abbrev pub naming_ci : Block → Option Block
+naming_ci block = if block.ci == 0 then None else Some block
 
-abbrev pub ci_block : List Block → ℕ → Option Block
-ci_block blocks number = option_and_then with_ci (slice_get blocks number)
+abbrev pub block_naming_ci : List Block → ℕ → Option Block
+block_naming_ci blocks number = option_and_then naming_ci (slice_get blocks number)
 
 -- the kind of a place, by its word
 abbrev pub kind_of : List ℕ → Option PlaceKind
@@ -43,8 +43,8 @@ place_of block table kind.Channel =
 -- there are at most 32 blocks, so no number above 31 is that of a block
 abbrev pub profile_of : List Block → Members → Read Profile
 profile_of blocks table =
-    needs rule.ProfileBlockHasCi (number_at 0 31 (codes "block") table) (λ number.
-    needs rule.ProfileBlockHasCi (ci_block blocks number) (λ block.
+    needs rule.ProfileBlockNamesCi (number_at 0 31 (codes "block") table) (λ number.
+    needs rule.ProfileBlockNamesCi (block_naming_ci blocks number) (λ block.
     needs rule.PlaceIsKnown (option_and_then kind_of (text_at (codes "place") table)) (λ kind.
     after (place_of block table kind) (λ place.
     needs rule.ProfileIdIsFiveNumbers (numbers_at 5 127 (codes "id") table) (λ id.
@@ -75,9 +75,10 @@ abbrev pub has_place_in : Option Block → Place → Bool
 has_place_in None place = false
 has_place_in (Some block) place = has_place block place
 
--- a profile keeps the rules that its block is there and that its place is one of that block
+-- a profile keeps the rules that its block is there, with a `ci` that isn't 0, and that its place is one of that block
 pub record IsProfile (blocks : List Block) (profile : Profile) : Type 0 where
   pub block : profile.block < length blocks
+  pub names_ci : is_some (block_naming_ci blocks profile.block) ≡ true
   pub placed : has_place_in (slice_get blocks profile.block) profile.place ≡ true
 
 -- two profiles of the same block, place and id

@@ -27,7 +27,7 @@ abbrev pub setup_in : Members → Read Facts
 setup_in members =
     after (endpoint_of members) (λ endpoint.
     after (blocks_of members) (λ blocks.
-    holds rule.BlocksWithCiShareNoGroup (are_apart blocks) (
+    holds rule.BlocksThatHaveCiShareNoGroup (are_apart blocks) (
     holds rule.MuidsAreDistinct (are_distinct (muids_of blocks)) (
     after (profiles_of blocks members) (λ profiles.
     holds rule.ProfilesAreDistinct (profiles_are_distinct profiles) (

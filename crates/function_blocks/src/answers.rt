@@ -19,7 +19,7 @@ ghost use Rattle.function_blocks.specs.Replies.{
 use crate::endpoint::is_supported;
 use crate::setup::{Block, Config, Identity};
 use crate::whole::Setup;
-use system_stream::{StreamMessage, TextKind, cut_text, write};
+use system_stream::{StreamMessage, TextKind, cut_text, packet_count, write};
 use ump_grammar::Replies;
 use ump_grammar::fields::bits;
 
@@ -63,8 +63,7 @@ fn push_text(replies: &mut Replies, kind: TextKind, block: u8, text: &[u8])
     ensures pushes { Pushes (text_packets kind block text.now) replies.old replies.new }
     ensures few { length (text_packets kind block text.now) ≤ 7 }
 {
-    let count = text.len().div_ceil(kind.part_size());
-    for k in 0..count {
+    for k in 0..packet_count(kind, text) {
         match cut_text(kind, block, text, k) {
             Some(packet) => replies.push(&packet),
             None => unreachable!(),
@@ -159,8 +158,9 @@ impl Setup {
     ///
     /// Discovery is answered with what its filter asks for: the info, the identity, the name, the product id, and a notice of the
     /// protocol in force. A request for a protocol that the setup supports puts it in force; each request is answered with a
-    /// notice of the one in force then. A discovery of blocks is answered with the info and the name of the named block, or of
-    /// all blocks for the number 255. Nothing else is answered.
+    /// notice of the one in force then. A discovery of blocks is answered with what its filter asks for, the info and the name, of
+    /// the block with its number, or of all blocks for the number 255; with nothing for a number that no block has. Nothing else is
+    /// answered.
     pub fn answer(
         &self,
         message: &StreamMessage,

@@ -15,6 +15,7 @@ ghost use Rattle.std.specs.Prelude.{
 };
 ghost use Rattle.std.specs.List.{All, list_all};
 ghost use Rattle.std.specs.Option.{option_copied};
+ghost use Rattle.std.specs.Str.{IsUtf8};
 ghost use Rattle.toml.specs.Data.{as_table, get_member};
 ghost use Rattle.toml.specs.View.{array_view, items_view, table_view, view};
 ghost use Rattle.function_blocks.specs.Keys.{
@@ -48,37 +49,25 @@ fn value_at<'a>(table: &'a Table, key: &str) -> Option<&'a Value>
 pub(crate) fn table_at<'a>(table: &'a Table, key: &str) -> Option<&'a Table>
     ensures { option_map (λ t. table_view t.now) result ≡ table_of key.now (table_view table.now) }
 {
-    match value_at(table, key) {
-        Some(value) => value.as_table(),
-        None => None,
-    }
+    value_at(table, key)?.as_table()
 }
 
 pub(crate) fn text_at<'a>(table: &'a Table, key: &str) -> Option<&'a str>
     ensures { option_copied result ≡ text_of key.now (table_view table.now) }
 {
-    match value_at(table, key) {
-        Some(value) => value.as_str(),
-        None => None,
-    }
+    value_at(table, key)?.as_str()
 }
 
 pub(crate) fn flag_at(table: &Table, key: &str) -> Option<bool>
     ensures { result ≡ flag_of key.now (table_view table.now) }
 {
-    match value_at(table, key) {
-        Some(value) => value.as_bool(),
-        None => None,
-    }
+    value_at(table, key)?.as_bool()
 }
 
 fn array_at<'a>(table: &'a Table, key: &str) -> Option<&'a Vec<Value>>
     ensures { option_map (λ v. array_view v.now) result ≡ array_of key.now (table_view table.now) }
 {
-    match value_at(table, key) {
-        Some(value) => value.as_array(),
-        None => None,
-    }
+    value_at(table, key)?.as_array()
 }
 
 /// A text of 1 to `N` bytes.
@@ -86,6 +75,7 @@ pub(crate) fn limited_text_at<const N: usize>(table: &Table, key: &str) -> Optio
     ensures value { result ≡ limited_text_of N key.now (table_view table.now) }
     ensures some { IfSome result (λ text. 0 < length text) }
     ensures few { IfSome result (λ text. length text ≤ N) }
+    ensures utf8 { IfSome result (λ text. IsUtf8 text) }
 {
     let text = text_at(table, key)?;
     if text.is_empty() || text.len() > N {
@@ -121,10 +111,7 @@ pub(crate) fn number_at(table: &Table, key: &str, least: u32, most: u32) -> Opti
     ensures least { IfSome result (λ n. least ≤ n) }
     ensures most { IfSome result (λ n. n ≤ most) }
 {
-    match value_at(table, key) {
-        Some(value) => number_in(value, least, most),
-        None => None,
-    }
+    number_in(value_at(table, key)?, least, most)
 }
 
 // The numbers of a list of at most `N`, each from 0 to `most`.
@@ -166,10 +153,7 @@ pub(crate) fn numbers_at<const N: usize>(
     ensures count { IfSome result (λ numbers. length numbers ≡ N) }
     ensures most { IfSome result (λ numbers. All (λ n. n ≤ most) numbers) }
 {
-    match array_at(table, key) {
-        Some(values) => exactly(values, most),
-        None => None,
-    }
+    exactly(array_at(table, key)?, most)
 }
 
 // The numbers of a list of at most `N`, each from 0 to `most`.
@@ -211,20 +195,14 @@ pub(crate) fn short_numbers_at<const N: usize>(
     ensures few { IfSome result (λ numbers. length numbers ≤ N) }
     ensures most { IfSome result (λ numbers. All (λ n. n ≤ most) numbers) }
 {
-    match array_at(table, key) {
-        Some(values) => at_most(values, most),
-        None => None,
-    }
+    at_most(array_at(table, key)?, most)
 }
 
 #[tactic(auto, using(crate::proofs::KeyLaws::list_of_view))]
 fn entries_in(value: &Value) -> Option<&[Value]>
     ensures { option_map (λ s. map view s.now) result ≡ entries_of_value (view value.now) }
 {
-    match value.as_array() {
-        Some(values) => Some(values.as_slice()),
-        None => None,
-    }
+    Some(value.as_array()?.as_slice())
 }
 
 fn are_each_tables(values: &[Value]) -> bool

@@ -7,12 +7,13 @@ mod endpoint;
 mod keys;
 pub mod laws;
 mod profiles;
-mod reading;
+pub mod reading;
 pub mod rules;
 mod setup;
 pub mod whole;
 
 pub use crate::laws::{protocol_follows_the_requests, replies_are_few, replies_have_four_words};
+pub use crate::reading::MOST_BYTES;
 pub use crate::rules::{Rule, SetupFault};
 pub use crate::setup::{Block, Config, Identity, Place, Profile};
 pub use crate::whole::Setup;

@@ -11,6 +11,7 @@ ghost use Rattle.std.specs.Prelude.{
   IfOk,
   IfSome,
   Some,
+  is_some,
   option_and_then,
   option_map,
 };
@@ -27,7 +28,7 @@ ghost use Rattle.function_blocks.specs.Keys.{
 };
 ghost use Rattle.function_blocks.specs.Profiles.{
   IsProfile,
-  ci_block as ci_block_of,
+  block_naming_ci as block_naming_ci_of,
   group_of,
   has_group,
   has_place,
@@ -38,11 +39,10 @@ ghost use Rattle.function_blocks.specs.Profiles.{
   profiles_are_distinct,
   profiles_of,
   same_place,
-  with_ci as with_ci_of,
+  naming_ci as naming_ci_of,
 };
 ghost use Rattle.function_blocks.specs.Rules.{needs};
 ghost use Rattle.function_blocks.specs.declared.rules.Rule.TheVariants as rule;
-ghost use Rattle.function_blocks.specs.declared.setup.Place.TheVariants as place_kinds;
 
 use crate::keys::{entries_at, flag_at, number_at, numbers_at, text_at};
 use crate::rules::{Rule, SetupFault, broken};
@@ -61,17 +61,15 @@ pub enum PlaceKind {
 }
 
 // The block of this number, if its `ci` isn't 0.
-fn ci_block(blocks: &[Block], number: u32) -> Option<&Block>
+fn block_naming_ci(blocks: &[Block], number: u32) -> Option<&Block>
     requires { All IsBlock blocks.now }
-    ensures value { option_map (λ b. b.now) result ≡ ci_block_of blocks.now number }
+    ensures value { option_map (λ b. b.now) result ≡ block_naming_ci_of blocks.now number }
     ensures there { IfSome result (λ b. slice_get blocks.now number ≡ Some b.now) }
     ensures fits { IfSome result (λ b. IsBlock b.now) }
     ensures within { IfSome result (λ b. number < length blocks.now) }
+    ensures names_ci { IfSome result (λ b. is_some (block_naming_ci_of blocks.now number) ≡ true) }
 {
-    match blocks.get(number as usize) {
-        Some(block) => with_ci(block),
-        None => None,
-    }
+    naming_ci(blocks.get(number as usize)?)
 }
 
 fn kind_of(word: &str) -> Option<PlaceKind>
@@ -91,10 +89,7 @@ fn kind_of(word: &str) -> Option<PlaceKind>
 fn kind_at(table: &Table) -> Option<PlaceKind>
     ensures { result ≡ option_and_then kind_of_word (text_of (codes "place") (table_view table.now)) }
 {
-    match text_at(table, "place") {
-        Some(word) => kind_of(word),
-        None => None,
-    }
+    kind_of(text_at(table, "place")?)
 }
 
 // A group of the block.
@@ -105,19 +100,13 @@ fn group_at(table: &Table, block: &Block) -> Option<U4>
 {
     let first = u32::from(block.first);
     let last = first + u32::from(block.count) - 1;
-    match number_at(table, "group", first, last) {
-        Some(group) => Some(U4::low_bits(group)),
-        None => None,
-    }
+    Some(U4::low_bits(number_at(table, "group", first, last)?))
 }
 
 fn channel_at(table: &Table) -> Option<U4>
     ensures { result ≡ number_of_key 0 15 (codes "channel") (table_view table.now) }
 {
-    match number_at(table, "channel", 0, 15) {
-        Some(channel) => Some(U4::low_bits(channel)),
-        None => None,
-    }
+    Some(U4::low_bits(number_at(table, "channel", 0, 15)?))
 }
 
 fn read_place(table: &Table, block: &Block, kind: PlaceKind) -> Result<Place, SetupFault>
@@ -136,8 +125,8 @@ fn read_place(table: &Table, block: &Block, kind: PlaceKind) -> Result<Place, Se
     Ok(Place::Channel(group, channel))
 }
 
-fn with_ci(block: &Block) -> Option<&Block>
-    ensures value { option_map (λ b. b.now) result ≡ with_ci_of block.now }
+fn naming_ci(block: &Block) -> Option<&Block>
+    ensures value { option_map (λ b. b.now) result ≡ naming_ci_of block.now }
     ensures same { IfSome result (λ b. b.now ≡ block.now) }
 {
     if block.ci == 0 { None } else { Some(block) }
@@ -172,10 +161,7 @@ fn id_of(numbers: &ShortList<u8, 5>) -> [U7; 5]
 fn id_at(table: &Table) -> Option<[U7; 5]>
     ensures { result ≡ numbers_of_key 5 127 (codes "id") (table_view table.now) }
 {
-    match numbers_at(table, "id", 127) {
-        Some(numbers) => Some(id_of(&numbers)),
-        None => None,
-    }
+    Some(id_of(&numbers_at(table, "id", 127)?))
 }
 
 /// Reads a profile by the rules of its keys, in their order, and adds it at the end.
@@ -188,8 +174,8 @@ fn add_profile(
     ensures { AddsRead (profile_of blocks.now (table_view table.now)) (IsProfile blocks.now)
         profiles.old.items profiles.new.items result }
 {
-    let number = number_at(table, "block", 0, 31).ok_or(broken(Rule::ProfileBlockHasCi))?;
-    let block = ci_block(blocks, number).ok_or(broken(Rule::ProfileBlockHasCi))?;
+    let number = number_at(table, "block", 0, 31).ok_or(broken(Rule::ProfileBlockNamesCi))?;
+    let block = block_naming_ci(blocks, number).ok_or(broken(Rule::ProfileBlockNamesCi))?;
     let kind = kind_at(table).ok_or(broken(Rule::PlaceIsKnown))?;
     let place = read_place(table, block, kind)?;
     let id = id_at(table).ok_or(broken(Rule::ProfileIdIsFiveNumbers))?;
@@ -249,34 +235,10 @@ pub(crate) fn read_profiles(
     read_each_profile(alloc, values, blocks)
 }
 
-fn is_group(place: &Place, number: u8) -> bool
-    ensures { result ≡ same_place (place_kinds.Group number) place.now }
-{
-    match place {
-        Place::Group(group) => number == group.get(),
-        _ => false,
-    }
-}
-
-fn is_channel(place: &Place, group_number: u8, channel_number: u8) -> bool
-    ensures { result ≡ same_place (place_kinds.Channel group_number channel_number) place.now }
-{
-    match place {
-        Place::Channel(group, channel) => {
-            group_number == group.get() && channel_number == channel.get()
-        }
-        _ => false,
-    }
-}
-
 fn is_same_place(one: &Place, other: &Place) -> bool
     ensures { result ≡ same_place one.now other.now }
 {
-    match one {
-        Place::Function => matches!(other, Place::Function),
-        Place::Group(group) => is_group(other, group.get()),
-        Place::Channel(group, channel) => is_channel(other, group.get(), channel.get()),
-    }
+    one == other
 }
 
 fn is_same_id(one: &[U7; 5], other: &[U7; 5]) -> bool

@@ -11,7 +11,8 @@ use crate::whole::Setup;
 use std::alloc::Global;
 use toml::Table;
 
-const MOST_BYTES: usize = 65_536;
+/// The most bytes that the text of a setup may have (own rule).
+pub const MOST_BYTES: usize = 65_536;
 
 impl Setup {
     /// Reads the setup from a TOML text, by the rules in their order (`Rule`). A number is a TOML integer, and unknown keys are
@@ -54,7 +55,7 @@ fn read_table(alloc: Global, table: &Table) -> Result<Setup, SetupFault>
     let endpoint = read_endpoint(table)?;
     let blocks = read_blocks(alloc, table)?;
     if !are_apart(blocks.as_slice()) {
-        return Err(broken(Rule::BlocksWithCiShareNoGroup));
+        return Err(broken(Rule::BlocksThatHaveCiShareNoGroup));
     }
     if !muids_are_distinct(blocks.as_slice()) {
         return Err(broken(Rule::MuidsAreDistinct));

@@ -53,13 +53,13 @@ pub enum Rule {
     /// `muids` is a list of at most 16 numbers 0 to 268,435,199, with at least one where `ci` isn't 0.
     MuidsAreInRange,
     /// No two active blocks whose `ci` isn't 0 share a group.
-    BlocksWithCiShareNoGroup,
+    BlocksThatHaveCiShareNoGroup,
     /// No number appears twice in all `muids` together.
     MuidsAreDistinct,
     /// `profile` is absent, or a list of at most 64 tables.
     ProfilesAreTables,
     /// `block` is the number of a block whose `ci` isn't 0, counted from 0.
-    ProfileBlockHasCi,
+    ProfileBlockNamesCi,
     /// `place` is `"function"`, `"group"` or `"channel"`.
     PlaceIsKnown,
     /// For a group or a channel, `group` is a group of the block.

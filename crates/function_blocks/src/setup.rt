@@ -50,7 +50,7 @@ pub struct Block {
     pub ci: u8,
     /// How many System Exclusive 8 streams it takes at a time, 0 to 255; 0 is none.
     pub sysex8: u8,
-    /// The MUIDs that the block takes one after the other, each at most 268,435,199.
+    /// The MUIDs that the block takes one after the other, each at most 268,435,199; at least one where `ci` isn't 0.
     pub muids: ShortList<u32, 16>,
 }
 
@@ -79,7 +79,7 @@ pub enum Place {
 /// A profile of a function block.
 #[derive(Debug, PartialEq, Eq, Drop)]
 pub struct Profile {
-    /// The number of its block, counted from 0.
+    /// The number of its block, counted from 0; the block's `ci` isn't 0.
     pub block: u8,
     /// Where in the block it applies.
     pub place: Place,

@@ -78,7 +78,7 @@ impl Setup {
     }
 
     /// Profile `k` in the order of the setup, counted from 0; `None` exactly when `k` is past the last one. Its block is one of
-    /// the setup's blocks, and where its place names a group, that is one of the block's.
+    /// the setup's blocks whose `ci` isn't 0, and where its place names a group, that is one of the block's.
     pub fn profile(&self, k: usize) -> Option<&Profile>
         ensures value { option_map (λ p. p.now) result ≡ slice_get self.now.profiles k }
         ensures block { IfSome result (λ p. p.now.block < length self.now.blocks) }

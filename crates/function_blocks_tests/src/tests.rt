@@ -573,7 +573,7 @@ fn each_fault_has_its_text(rt: HostRuntime) -> Result<(), Fail> {
             "the setup breaks rule 0",
         ),
         (
-            SetupFault::Field(Rule::BlocksWithCiShareNoGroup.number()),
+            SetupFault::Field(Rule::BlocksThatHaveCiShareNoGroup.number()),
             "the setup breaks rule 22",
         ),
         (

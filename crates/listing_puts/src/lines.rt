@@ -64,9 +64,7 @@ pub fn put_lines<L: Lanes, W: Sink, N: Sink>(
     if lines.is_empty() {
         return Ok(());
     }
-    // The second line is asked for once the first is put: nearly all have one.
-    match put_listed(lines.first(), lanes, output, notes) {
-        Ok(()) => put_listed(lines.second(), lanes, output, notes),
-        Err(end) => Err(end),
-    }
+    // The second line is asked for once the first is put: nearly all bytes that have a line have no second.
+    put_listed(lines.first(), lanes, output, notes)?;
+    put_listed(lines.second(), lanes, output, notes)
 }

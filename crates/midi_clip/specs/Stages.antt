@@ -1,5 +1,5 @@
 -- How far a clip is, packet by packet.
-use Rattle.std.specs.Prelude.{ℕ, ◌+◌, List, [], ◌∷◌, Option, Some, None, Result, Ok, Err}
+use Rattle.std.specs.Prelude.{ℕ, ◌+◌, ◌<◌, List, [], ◌∷◌, Option, Some, None, Result, Ok, Err}
 use Rattle.ump_grammar.specs.declared.packet.Packet.{Packet}
 use Rattle.midi_clip.specs.declared.role.Role.{Role}
 use Rattle.midi_clip.specs.declared.role.Role.TheVariants.{StartOfClip, EndOfClip, Resolution, Delta}
@@ -14,6 +14,11 @@ use Rattle.midi_clip.specs.Roles.{role_of}
 -- no packet has come
 abbrev pub new_stage : Stage
 new_stage = NotStarted None
+
+-- ticks for a quarter note that are kept are not 0
+abbrev pub HasTicks : Stage → Type 0
+HasTicks (NotStarted (Some ticks)) = 0 < ticks
+HasTicks stage = Unit {0}
 
 -- the ticks so far
 abbrev pub ticks_of : Stage → ℕ

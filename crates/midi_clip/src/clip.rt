@@ -1,5 +1,5 @@
 // A clip, packet by packet.
-ghost use Rattle.std.specs.Prelude.{◌≡◌, ◌≤◌, ◌^◌, None, OnErr};
+ghost use Rattle.std.specs.Prelude.{◌≡◌, ◌≤◌, ◌<◌, ◌^◌, ℕ, None, Ok, OnErr};
 ghost use Rattle.midi_clip.specs.Roles.{role_of as role_in};
 ghost use Rattle.midi_clip.specs.Stages.{end_of, new_stage, stage_after, step_of, ticks_of};
 
@@ -16,10 +16,13 @@ pub struct Clip {
 
 impl Model for Clip {
     ghost use Rattle.midi_clip.specs.declared.step.Stage.{Stage};
+    ghost use Rattle.midi_clip.specs.Stages.{HasTicks};
 
     ghost Value = { Stage };
 
     ghost view = { λ c. c.stage };
+
+    ghost invariant = { λ c. HasTicks c.stage };
 }
 
 impl Clip {
@@ -41,6 +44,7 @@ impl Clip {
         ensures step { result ≡ step_of self.old (role_in packet.now) }
         ensures stage { self.new ≡ stage_after self.old (role_in packet.now) }
         ensures fault { OnErr result (self.new ≡ self.old) }
+        ensures some { (ticks : ℕ) → result ≡ Ok (ClipStep.Began ticks) → 0 < ticks }
     {
         let role = role_of(packet);
         match self.stage {

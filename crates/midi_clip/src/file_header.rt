@@ -4,6 +4,9 @@ ghost use Rattle.midi_clip.specs.Header.{TakesHeader};
 
 use midi_edge::{Failed, Source};
 
+/// How many bytes the header of a clip file has (own rule).
+pub const HEADER_SIZE: u64 = 8;
+
 /// Takes the first eight bytes that a source has left, or all of them where there are fewer, and no more: whether they are those of
 /// `SMF2CLIP`, with which a clip file begins (own rule).
 ///
@@ -12,9 +15,9 @@ pub fn header<S: Source>(source: &mut S) -> Result<bool, Failed>
     ensures bytes { TakesHeader (S.left source.old) (S.left source.new) result }
     ensures cause { HasCause (S.faults source.old) (S.faults source.new) result }
 {
-    let mut bytes = [0; 8];
+    let mut bytes = [0; HEADER_SIZE as usize];
     let mut count = 0;
-    while count < 8 {
+    while count < bytes.len() {
         match source.take(&mut bytes[count..]) {
             Ok(0) => return Ok(false),
             Ok(more) => count += more,

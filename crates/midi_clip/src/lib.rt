@@ -8,7 +8,7 @@ pub mod role;
 pub mod step;
 
 pub use crate::clip::Clip;
-pub use crate::file_header::header;
+pub use crate::file_header::{HEADER_SIZE, header};
 pub use crate::laws::{clips_are_the_definition, worked_rows};
 pub use crate::role::{Role, role_of};
 pub use crate::step::{ClipFault, ClipStep, Stage};

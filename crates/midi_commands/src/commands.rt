@@ -50,7 +50,7 @@ use crate::status::Status;
 use clip_engine::run_clip;
 use command_line::{Command, WordsFault, command_line};
 use down_translator::Style;
-use function_blocks::{Setup, SetupFault};
+use function_blocks::{MOST_BYTES, Setup, SetupFault};
 use midi_edge::{Lanes, OpenFault, Shelf, Sink, Source, U4};
 use midi_engines::{
     BackRun, DownRun, EndpointRun, ShowRun, UpRun, run_back, run_down, run_endpoint, run_show,
@@ -460,8 +460,8 @@ fn put_byte_lines<S: Source, L: Lanes, W: Sink, N: Sink>(
     }
 }
 
-// The most bytes that are read of a setup: one more than a setup may have.
-const SETUP_LIMIT: usize = 65_537;
+// The most bytes that are read of a setup: one more than a setup may have, so that a longer one is seen to be so.
+const SETUP_LIMIT: usize = MOST_BYTES + 1;
 
 // The setup of the text that the shelf has by a name.
 fn setup_named<K: Shelf>(alloc: Global, name: &str, shelf: &mut K) -> Result<Setup, Status>

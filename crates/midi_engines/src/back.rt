@@ -62,14 +62,9 @@ impl BackRun {
         requires most { room ≤ 1048576 }
         ensures { IfOk result (λ run. run ≡ record { paired = paired; group = group; room = room }) }
     {
-        let up = match Up::new(alloc, group, room, paired) {
-            Ok(up) => up,
-            Err(no_memory) => return Err(no_memory),
-        };
-        match Down::new(alloc, room, Style::Plain, paired) {
-            Ok(down) => Ok(BackRun { up, down }),
-            Err(no_memory) => Err(no_memory),
-        }
+        let up = Up::new(alloc, group, room, paired)?;
+        let down = Down::new(alloc, room, Style::Plain, paired)?;
+        Ok(BackRun { up, down })
     }
 }
 

@@ -76,10 +76,8 @@ impl DownRun {
         ensures { IfOk result (λ engine. engine
             ≡ record { paired = paired; style = style_in style; order = order; room = room }) }
     {
-        match Down::new(alloc, room, style, paired) {
-            Ok(down) => Ok(DownRun { down, order }),
-            Err(no_memory) => Err(no_memory),
-        }
+        let down = Down::new(alloc, room, style, paired)?;
+        Ok(DownRun { down, order })
     }
 }
 
@@ -204,10 +202,8 @@ fn put_carried<L: Lanes, W: Sink, N: Sink>(
         (places L.Lanes W.Sink N.Sink lanes.old output.old notes.old)
         (places L.Lanes W.Sink N.Sink lanes.new output.new notes.new) result }
 {
-    match put_piece(carried, lanes, output, notes) {
-        Ok(()) => put_listed(carried.listed(), lanes, output, notes),
-        Err(end) => Err(end),
-    }
+    put_piece(carried, lanes, output, notes)?;
+    put_listed(carried.listed(), lanes, output, notes)
 }
 
 // Takes one packet down that isn't carried by one message: puts its piece into the lane of its group, and its line into the notes.
@@ -331,15 +327,11 @@ fn put_lowered<L: Lanes, W: Sink, N: Sink>(
         (places L.Lanes W.Sink N.Sink lanes.old output.old notes.old)
         (places L.Lanes W.Sink N.Sink lanes.new output.new notes.new) result }
 {
-    match put_message(message, lanes, output, notes) {
-        Ok(()) => {
-            if message.has_attribute {
-                put_attribute(message.lane, offset, lanes, output, notes)
-            } else {
-                Ok(())
-            }
-        }
-        Err(end) => Err(end),
+    put_message(message, lanes, output, notes)?;
+    if message.has_attribute {
+        put_attribute(message.lane, offset, lanes, output, notes)
+    } else {
+        Ok(())
     }
 }
 
@@ -428,10 +420,7 @@ pub(crate) fn list_open<O: OpenExclusives, L: Lanes, W: Sink, N: Sink>(
         (places L.Lanes W.Sink N.Sink lanes.new output.new notes.new) result }
 {
     for number in 0..16u8 {
-        match list_group(held, U4::low_bits(number as u32), lanes, output, notes) {
-            Ok(()) => {}
-            Err(end) => return Err(end),
-        }
+        list_group(held, U4::low_bits(number as u32), lanes, output, notes)?;
     }
     Ok(())
 }

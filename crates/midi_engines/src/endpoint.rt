@@ -301,10 +301,7 @@ impl EndpointEngine {
             match self.setup.block(number) {
                 Some(block) => {
                     let responder = &self.listener.responder;
-                    match put_block(responder, number, block, lanes, output, notes) {
-                        Ok(()) => {}
-                        Err(end) => return Err(end),
-                    }
+                    put_block(responder, number, block, lanes, output, notes)?;
                 }
                 None => unreachable!(),
             }
@@ -323,17 +320,15 @@ impl EndpointEngine {
             (places L.Lanes W.Sink N.Sink lanes.old output.old notes.old)
             (places L.Lanes W.Sink N.Sink lanes.new output.new notes.new) result }
     {
-        match self.put_blocks(lanes, output, notes) {
-            Ok(()) => put_profiles(
-                &self.setup,
-                &self.listener.responder,
-                LinePlace::Notes,
-                lanes,
-                output,
-                notes,
-            ),
-            Err(end) => Err(end),
-        }
+        self.put_blocks(lanes, output, notes)?;
+        put_profiles(
+            &self.setup,
+            &self.listener.responder,
+            LinePlace::Notes,
+            lanes,
+            output,
+            notes,
+        )
     }
 
     // Puts the line of the protocol in force, and those of the blocks and profiles.
@@ -347,10 +342,8 @@ impl EndpointEngine {
             (places L.Lanes W.Sink N.Sink lanes.old output.old notes.old)
             (places L.Lanes W.Sink N.Sink lanes.new output.new notes.new) result }
     {
-        match put_protocol(self.config.protocol, lanes, output, notes) {
-            Ok(()) => self.put_setup(lanes, output, notes),
-            Err(end) => Err(end),
-        }
+        put_protocol(self.config.protocol, lanes, output, notes)?;
+        self.put_setup(lanes, output, notes)
     }
 
     // Puts the lines of the exclusives that are open, of the protocol in force, and of the blocks and profiles.
@@ -364,10 +357,8 @@ impl EndpointEngine {
             (places L.Lanes W.Sink N.Sink lanes.old output.old notes.old)
             (places L.Lanes W.Sink N.Sink lanes.new output.new notes.new) result }
     {
-        match list_open(&self.listener.groups, lanes, output, notes) {
-            Ok(()) => self.put_state(lanes, output, notes),
-            Err(end) => Err(end),
-        }
+        list_open(&self.listener.groups, lanes, output, notes)?;
+        self.put_state(lanes, output, notes)
     }
 }
 
@@ -404,7 +395,6 @@ pub fn run_endpoint<S: Source, L: Lanes, W: Sink, N: Sink>(
         order,
         listener,
     } = engine;
-    let _profiles = setup.profile_count();
     let config = setup.config();
     let writer = ReplyWriter {
         order,

@@ -166,12 +166,10 @@ pub(crate) fn take_part<L: Lanes, W: Sink, N: Sink>(
             )
         }
         Fed::RestartedWhole { cut_at, whole } => {
-            match answer(
+            answer(
                 responder, writer, offset, group, whole, lanes, output, notes,
-            ) {
-                Ok(()) => put_lost(Kind::CutExclusive, cut_at, group, lanes, output, notes),
-                Err(end) => Err(end),
-            }
+            )?;
+            put_lost(Kind::CutExclusive, cut_at, group, lanes, output, notes)
         }
     }
 }

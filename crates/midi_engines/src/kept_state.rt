@@ -33,10 +33,8 @@ pub(crate) fn new_state(alloc: Global, is_asked: bool) -> Result<Option<VoiceSta
     ensures packets { IfOk result (λ kept. StandsFor raised kept (first_states raised)) }
 {
     if is_asked {
-        match VoiceState::new(alloc) {
-            Ok(state) => Ok(Some(state)),
-            Err(no_memory) => Err(no_memory),
-        }
+        let state = VoiceState::new(alloc)?;
+        Ok(Some(state))
     } else {
         Ok(None)
     }
@@ -47,10 +45,7 @@ fn take_packet(state: &mut VoiceState, packet: &Packet, ended: Option<U4>) -> Re
     ensures { OnOk result ((message : Message) (states : States) → Keeps raised state.old states
         → Keeps raised state.new (after_ending ended packet.now message states)) }
 {
-    match state.apply2(packet) {
-        Ok(()) => {}
-        Err(no_memory) => return Err(no_memory),
-    }
+    state.apply2(packet)?;
     if let Some(group) = ended {
         state.system(group, false);
     }
@@ -145,10 +140,7 @@ pub(crate) fn put_facts<L: Lanes, W: Sink, N: Sink>(
     let mut line = Line::new();
     for fact in facts {
         fill_fact_line(&mut line, fact);
-        match put_output(line.as_slice(), lanes, output, notes) {
-            Ok(()) => {}
-            Err(end) => return Err(end),
-        }
+        put_output(line.as_slice(), lanes, output, notes)?;
     }
     Ok(())
 }

@@ -59,10 +59,8 @@ fn put_payload<P: PacketWork, L: Lanes, W: Sink, N: Sink>(
         match part(payload, k) {
             Some((form, bytes)) => {
                 let packet = RaisedPacket::of_exclusive(group, form, bytes);
-                match work.put(&packet, offset, lanes, output, notes) {
-                    Ok(()) => k += 1,
-                    Err(end) => return Err(end),
-                }
+                work.put(&packet, offset, lanes, output, notes)?;
+                k += 1;
             }
             None => return Ok(()),
         }
@@ -114,10 +112,8 @@ fn put_raised<P: PacketWork, L: Lanes, W: Sink, N: Sink>(
         (places L.Lanes W.Sink N.Sink lanes.old output.old notes.old)
         (places L.Lanes W.Sink N.Sink lanes.new output.new notes.new) result }
 {
-    match put_packets(raised, offset, work, lanes, output, notes) {
-        Ok(()) => put_lines(&raised.lines, lanes, output, notes),
-        Err(end) => Err(end),
-    }
+    put_packets(raised, offset, work, lanes, output, notes)?;
+    put_lines(&raised.lines, lanes, output, notes)
 }
 
 /// Takes one more byte up, does the work on its packets, and puts its lines in the notes.

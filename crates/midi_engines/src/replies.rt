@@ -42,6 +42,7 @@ fn put_packets<L: Lanes, W: Sink, N: Sink>(
     packets_have_their_words();
     let mut rest = words;
     while !rest.is_empty() {
+        // tells that the word is below 2^32, which the law asks for
         let _first = rest[0];
         let (packet, more) = rest.split_at(size);
         match put_words(packet, order, output) {
@@ -91,9 +92,7 @@ impl ReplyWriter {
             (places L.Lanes W.Sink N.Sink lanes.old output.old notes.old)
             (places L.Lanes W.Sink N.Sink lanes.new output.new notes.new) result }
     {
-        match put_packets(self.replies.words(), size, self.order, lanes, output, notes) {
-            Ok(()) => put_name(&mut self.line, offset, group, name, lanes, output, notes),
-            Err(end) => Err(end),
-        }
+        put_packets(self.replies.words(), size, self.order, lanes, output, notes)?;
+        put_name(&mut self.line, offset, group, name, lanes, output, notes)
     }
 }

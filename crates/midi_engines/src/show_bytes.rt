@@ -231,10 +231,8 @@ fn put_cut<L: Lanes, W: Sink, N: Sink>(
         (places L.Lanes W.Sink N.Sink lanes.old output.old notes.old)
         (places L.Lanes W.Sink N.Sink lanes.new output.new notes.new) result }
 {
-    match put_kind(line, kind_of_cut(what), start, lanes, output, notes) {
-        Ok(()) => put_after(line, start, what, after, offset, lanes, output, notes),
-        Err(end) => Err(end),
-    }
+    put_kind(line, kind_of_cut(what), start, lanes, output, notes)?;
+    put_after(line, start, what, after, offset, lanes, output, notes)
 }
 
 // Puts the line of a byte that cut something off, if it has one.
@@ -298,8 +296,6 @@ fn put_end<L: Lanes, W: Sink, N: Sink>(
         (places L.Lanes W.Sink N.Sink lanes.old output.old notes.old)
         (places L.Lanes W.Sink N.Sink lanes.new output.new notes.new) result }
 {
-    match put_open(parser, lanes, output, notes) {
-        Ok(()) => put_facts(facts, lanes, output, notes),
-        Err(end) => Err(end),
-    }
+    put_open(parser, lanes, output, notes)?;
+    put_facts(facts, lanes, output, notes)
 }

@@ -198,10 +198,8 @@ fn put_lines<L: Lanes, W: Sink, N: Sink>(
         (places L.Lanes W.Sink N.Sink lanes.old output.old notes.old)
         (places L.Lanes W.Sink N.Sink lanes.new output.new notes.new) result }
 {
-    match put_packet(line, framed, packet, lanes, output, notes) {
-        Ok(()) => put_text(texts, line, packet, lanes, output, notes),
-        Err(end) => Err(end),
-    }
+    put_packet(line, framed, packet, lanes, output, notes)?;
+    put_text(texts, line, packet, lanes, output, notes)
 }
 
 impl ShowPackets {

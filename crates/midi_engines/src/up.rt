@@ -70,10 +70,8 @@ impl UpRun {
         ensures { IfOk result (λ run. run
             ≡ record { paired = paired; group = group; order = order; room = room }) }
     {
-        match Up::new(alloc, group, room, paired) {
-            Ok(up) => Ok(UpRun { up, order }),
-            Err(no_memory) => Err(no_memory),
-        }
+        let up = Up::new(alloc, group, room, paired)?;
+        Ok(UpRun { up, order })
     }
 }
 

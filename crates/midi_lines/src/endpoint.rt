@@ -42,7 +42,7 @@ pub enum Name {
     NotOurs,
     /// `moved`: the MUID of the block was invalidated, and the block takes its next one or falls silent.
     Moved,
-    /// `report`: the message is itself a reply or a report.
+    /// `report`: the message is itself a reply, a report, an ACK or a NAK; those of Process Inquiry aren't among them.
     Report,
     /// `broadcast`: the message is to all, and it isn't Discovery.
     Broadcast,

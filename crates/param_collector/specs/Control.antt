@@ -22,8 +22,8 @@ answer_by bank_msb index param values controllers = collected.Held
 answer_by bank_lsb index param values controllers = collected.Held
 answer_by data_msb index param values controllers = entered param values
 answer_by data_lsb index param values controllers = entered param values
-answer_by data_increment index param values controllers = collected.DataStep
-answer_by data_decrement index param values controllers = collected.DataStep
+answer_by data_increment index param values controllers = collected.DataIncrement
+answer_by data_decrement index param values controllers = collected.DataDecrement
 answer_by (number_msb kind) index param values controllers = collected.Held
 answer_by (number_lsb kind) index param values controllers = collected.Held
 answer_by reset_all index param values controllers = collected.Plain
@@ -81,7 +81,8 @@ holding_behind plain holding channel index value = holding
 
 -- after these answers nothing has changed
 abbrev pub Leaves : Collected → Holding → Holding → Type 0
-Leaves collected.DataStep old new = new ≡ old
+Leaves collected.DataIncrement old new = new ≡ old
+Leaves collected.DataDecrement old new = new ≡ old
 Leaves collected.Ignored old new = new ≡ old
 Leaves _ old new = Unit {0}
 

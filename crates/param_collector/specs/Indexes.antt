@@ -5,7 +5,8 @@ use Rattle.param_collector.specs.declared.collected.Collected.{Collected}
 use Rattle.param_collector.specs.declared.collected.Collected.TheVariants as collected
 
 abbrev pub IsIndexOf : Bool → Collected → ℕ → Type 0
-IsIndexOf paired collected.DataStep index = (index ≡ 96) ⊎ (index ≡ 97)
+IsIndexOf paired collected.DataIncrement index = index ≡ 96
+IsIndexOf paired collected.DataDecrement index = index ≡ 97
 IsIndexOf paired collected.Held index = IsHalf index
 IsIndexOf paired (collected.Set param value) index = IsDataEntry index
 IsIndexOf paired collected.Ignored index = IsDataEntry index

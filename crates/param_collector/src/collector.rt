@@ -86,18 +86,14 @@ impl Collector {
                 return Err(NoMemory);
             }
         }
-        let Ok(msbs) = Msbs::new(alloc) else {
-            return Err(NoMemory);
-        };
-        match PairMsbs::new(alloc, paired) {
-            Ok(pairs) => Ok(Collector {
-                registers,
-                msbs,
-                paired,
-                pairs,
-            }),
-            Err(NoMemory) => Err(NoMemory),
-        }
+        let msbs = Msbs::new(alloc)?;
+        let pairs = PairMsbs::new(alloc, paired)?;
+        Ok(Collector {
+            registers,
+            msbs,
+            paired,
+            pairs,
+        })
     }
 
     /// Takes one control change (MIDI 1.0 Detailed Specification, control change, bank select, registered and non-registered
@@ -135,7 +131,8 @@ impl Collector {
         match role {
             ControlRole::DataMsb => self.enter_msb(channel, value),
             ControlRole::DataLsb => self.enter_lsb(channel, value),
-            ControlRole::DataIncrement | ControlRole::DataDecrement => Collected::DataStep,
+            ControlRole::DataIncrement => Collected::DataIncrement,
+            ControlRole::DataDecrement => Collected::DataDecrement,
             ControlRole::ResetAll => {
                 self.reset(channel);
                 Collected::Plain

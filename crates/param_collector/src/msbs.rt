@@ -58,10 +58,8 @@ impl Msbs {
         ensures table { IfOk result (λ msbs. msbs ≡ zeros 524288) }
         ensures size { IfOk result (λ msbs. length msbs ≡ 524288) }
     {
-        match zeros(alloc, SIZE) {
-            Ok(table) => Ok(Msbs { table }),
-            Err(NoMemory) => Err(NoMemory),
-        }
+        let table = zeros(alloc, SIZE)?;
+        Ok(Msbs { table })
     }
 
     /// The MSB of a parameter.

@@ -44,10 +44,8 @@ impl PairMsbs {
         ensures size { IfOk result (λ msbs. paired ≡ true → length msbs ≡ 512) }
     {
         let count = if paired { SIZE } else { 0 };
-        match zeros(alloc, count) {
-            Ok(table) => Ok(PairMsbs { table }),
-            Err(NoMemory) => Err(NoMemory),
-        }
+        let table = zeros(alloc, count)?;
+        Ok(PairMsbs { table })
     }
 
     /// The MSB of a pair, by its index.

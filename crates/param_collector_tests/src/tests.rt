@@ -168,8 +168,8 @@ fn ends_of_a_selection(rt: HostRuntime) {
     gives(&rt, collector, 0, (38, 1), Collected::Ignored);
     // steps and other control changes leave it
     holds(&rt, collector, 0, &[(100, 0)]);
-    gives(&rt, collector, 0, (96, 0), Collected::DataStep);
-    gives(&rt, collector, 0, (97, 0), Collected::DataStep);
+    gives(&rt, collector, 0, (96, 0), Collected::DataIncrement);
+    gives(&rt, collector, 0, (97, 0), Collected::DataDecrement);
     for index in [1, 7, 33, 95, 102, 119, 120, 123, 127] {
         gives(&rt, collector, 0, (index, 64), Collected::Plain);
     }

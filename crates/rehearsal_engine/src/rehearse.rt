@@ -187,10 +187,7 @@ impl RehearseEngine {
             (places L.Lanes W.Sink N.Sink lanes.new output.new notes.new) result }
     {
         for k in 0..self.rehearsal.watches() {
-            match put_held(k, self.rehearsal.holds(k), lanes, output, notes) {
-                Ok(()) => {}
-                Err(end) => return Err(end),
-            }
+            put_held(k, self.rehearsal.holds(k), lanes, output, notes)?;
         }
         Ok(())
     }
@@ -206,10 +203,8 @@ impl RehearseEngine {
             (places L.Lanes W.Sink N.Sink lanes.old output.old notes.old)
             (places L.Lanes W.Sink N.Sink lanes.new output.new notes.new) result }
     {
-        match self.put_watches(lanes, output, notes) {
-            Ok(()) => put_profiles(&self.setup, self, LinePlace::Output, lanes, output, notes),
-            Err(end) => Err(end),
-        }
+        self.put_watches(lanes, output, notes)?;
+        put_profiles(&self.setup, self, LinePlace::Output, lanes, output, notes)
     }
 }
 

@@ -80,10 +80,8 @@ impl Sysex8Run {
         requires most { room ≤ 1048576 }
         ensures { IfOk result (λ engine. engine ≡ record { slots = slots; order = order; room = room }) }
     {
-        match Streams::new(alloc, slots, room) {
-            Ok(streams) => Ok(Sysex8Run { streams, order }),
-            Err(no_memory) => Err(no_memory),
-        }
+        let streams = Streams::new(alloc, slots, room)?;
+        Ok(Sysex8Run { streams, order })
     }
 }
 
@@ -248,10 +246,8 @@ fn put_whole<L: Lanes, W: Sink, N: Sink>(
         (places L.Lanes W.Sink N.Sink lanes.old output.old notes.old)
         (places L.Lanes W.Sink N.Sink lanes.new output.new notes.new) result }
 {
-    match put_piece(group, bytes, lanes, output, notes) {
-        Ok(()) => put_size(offset, group, stream, bytes.len(), lanes, output, notes),
-        Err(end) => Err(end),
-    }
+    put_piece(group, bytes, lanes, output, notes)?;
+    put_size(offset, group, stream, bytes.len(), lanes, output, notes)
 }
 
 // Puts the line of an exclusive that is cut off, and that of one that is whole.
@@ -269,10 +265,8 @@ fn put_cut_lines<L: Lanes, W: Sink, N: Sink>(
         (places L.Lanes W.Sink N.Sink lanes.old output.old notes.old)
         (places L.Lanes W.Sink N.Sink lanes.new output.new notes.new) result }
 {
-    match put_kind(Kind8::Cut, cut_at, group, lanes, output, notes) {
-        Ok(()) => put_size(offset, group, stream, size, lanes, output, notes),
-        Err(end) => Err(end),
-    }
+    put_kind(Kind8::Cut, cut_at, group, lanes, output, notes)?;
+    put_size(offset, group, stream, size, lanes, output, notes)
 }
 
 // Puts the bytes of an exclusive that is whole, unless there are none, and then the line of the one that it cuts off and its own.
@@ -291,19 +285,17 @@ fn put_cut<L: Lanes, W: Sink, N: Sink>(
         (places L.Lanes W.Sink N.Sink lanes.old output.old notes.old)
         (places L.Lanes W.Sink N.Sink lanes.new output.new notes.new) result }
 {
-    match put_piece(group, bytes, lanes, output, notes) {
-        Ok(()) => put_cut_lines(
-            cut_at,
-            offset,
-            group,
-            stream,
-            bytes.len(),
-            lanes,
-            output,
-            notes,
-        ),
-        Err(end) => Err(end),
-    }
+    put_piece(group, bytes, lanes, output, notes)?;
+    put_cut_lines(
+        cut_at,
+        offset,
+        group,
+        stream,
+        bytes.len(),
+        lanes,
+        output,
+        notes,
+    )
 }
 
 // Puts what comes of an answer to a part of a stream.
@@ -420,10 +412,7 @@ fn list_group<L: Lanes, W: Sink, N: Sink>(
         (places L.Lanes W.Sink N.Sink lanes.new output.new notes.new) result }
 {
     for number in 0..256u32 {
-        match list_stream(streams, group, number as u8, lanes, output, notes) {
-            Ok(()) => {}
-            Err(end) => return Err(end),
-        }
+        list_stream(streams, group, number as u8, lanes, output, notes)?;
     }
     Ok(())
 }
@@ -440,10 +429,7 @@ fn list_open<L: Lanes, W: Sink, N: Sink>(
         (places L.Lanes W.Sink N.Sink lanes.new output.new notes.new) result }
 {
     for number in 0..16u32 {
-        match list_group(streams, U4::low_bits(number), lanes, output, notes) {
-            Ok(()) => {}
-            Err(end) => return Err(end),
-        }
+        list_group(streams, U4::low_bits(number), lanes, output, notes)?;
     }
     Ok(())
 }

@@ -2,7 +2,7 @@
 ghost use Rattle.std.specs.Prelude.{◌≡◌, ◌<◌, ◌≤◌, length, IfSome};
 ghost use Rattle.std.specs.Fork.{slice_chunk};
 ghost use Rattle.ump_grammar.specs.Ranges.{IsPacket};
-ghost use Rattle.system_stream.specs.Cut.{packet_at, part_bytes as bytes_at};
+ghost use Rattle.system_stream.specs.Cut.{packet_at, part_bytes as bytes_at, part_count};
 ghost use Rattle.system_stream.specs.Texts.{limit_of};
 
 use crate::message::StreamMessage;
@@ -10,6 +10,13 @@ use crate::texts::TextKind;
 use crate::writing::write;
 use ump_grammar::Packet;
 use voice_messages::Form;
+
+/// How many packets a text has (M2-104-UM, UMP stream messages): one for every 14 bytes, or for every 13 of a block's name.
+pub fn packet_count(kind: TextKind, text: &[u8]) -> usize
+    ensures { result ≡ part_count kind text.now }
+{
+    text.len().div_ceil(kind.part_size())
+}
 
 /// Packet `k` (counted from 0) of a text, which has at least one byte and is within the limit of its kind (M2-104-UM, UMP stream
 /// messages). A text is cut every 14 bytes, a block's name every 13, and zeros fill the last packet; a cut may fall inside a
@@ -21,7 +28,7 @@ pub fn cut_text(kind: TextKind, block: u8, text: &[u8], k: usize) -> Option<Pack
     ensures packet { result ≡ packet_at kind block text.now k }
     ensures fits { IfSome result IsPacket }
 {
-    let count = text.len().div_ceil(kind.part_size());
+    let count = packet_count(kind, text);
     if k >= count {
         return None;
     }

@@ -10,7 +10,7 @@ pub mod reading;
 pub mod texts;
 pub mod writing;
 
-pub use crate::cutting::cut_text;
+pub use crate::cutting::{cut_text, packet_count};
 pub use crate::joined::Joined;
 pub use crate::joining::TextJoin;
 pub use crate::laws::{

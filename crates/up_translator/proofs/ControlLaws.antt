@@ -17,7 +17,7 @@ use Rattle.voice_state.proofs.SameParam.{same_param-refl}
 use Rattle.param_collector.specs.Control.{answer_by, answer_of, entered, value_behind}
 use Rattle.param_collector.specs.Holding.{Holding, registers_at, msb_at, pair_at}
 use Rattle.param_collector.specs.Keeps.{meant, control_step, controller_of, value_of}
-use Rattle.up_translator.specs.Outcome.{messages_in, is_ignored_in, refusal_in, outcome_by, bad_data_step, IsRaisedVoice}
+use Rattle.up_translator.specs.Outcome.{messages_in, is_ignored_in, refusal_in, outcome_by, IsRaisedVoice}
 
 -- ---- a channel
 
@@ -95,35 +95,28 @@ raised_as_meant paired state channel index value =
 
 -- ---- refused
 
-refused_by : (role : Role) (o : Option Param) (values : Param → ℕ) (controllers : ℕ → ℕ) (channel index value : ℕ) → (bad_data_step (role_of index) ≡ bad_data_step role) →
+refused_by : (role : Role) (o : Option Param) (values : Param → ℕ) (controllers : ℕ → ℕ) (channel index value : ℕ) →
     refusal_in (outcome_by (answer_by role index o values controllers) channel index value) ≡ bad_role role
-refused_by bank_msb o values controllers channel index value e = refl
-refused_by bank_lsb o values controllers channel index value e = refl
-refused_by data_msb None values controllers channel index value e = refl
-refused_by data_msb (Some q) values controllers channel index value e = refl
-refused_by data_lsb None values controllers channel index value e = refl
-refused_by data_lsb (Some q) values controllers channel index value e = refl
-refused_by data_increment o values controllers channel index value e = ap Some e
-refused_by data_decrement o values controllers channel index value e = ap Some e
-refused_by (number_msb kind) o values controllers channel index value e = refl
-refused_by (number_lsb kind) o values controllers channel index value e = refl
-refused_by reset_all o values controllers channel index value e = refl
-refused_by channel_mode o values controllers channel index value e = refl
-refused_by coarse o values controllers channel index value e = refl
-refused_by fine o values controllers channel index value e = refl
-refused_by plain o values controllers channel index value e = refl
-
-bad_step-pairing : (paired : Bool) (role : Role) → bad_data_step role ≡ bad_data_step (pairing paired role)
-bad_step-pairing true coarse = refl
-bad_step-pairing false coarse = refl
-bad_step-pairing true fine = refl
-bad_step-pairing false fine = refl
-bad_step-pairing paired _ = refl
+refused_by bank_msb o values controllers channel index value = refl
+refused_by bank_lsb o values controllers channel index value = refl
+refused_by data_msb None values controllers channel index value = refl
+refused_by data_msb (Some q) values controllers channel index value = refl
+refused_by data_lsb None values controllers channel index value = refl
+refused_by data_lsb (Some q) values controllers channel index value = refl
+refused_by data_increment o values controllers channel index value = refl
+refused_by data_decrement o values controllers channel index value = refl
+refused_by (number_msb kind) o values controllers channel index value = refl
+refused_by (number_lsb kind) o values controllers channel index value = refl
+refused_by reset_all o values controllers channel index value = refl
+refused_by channel_mode o values controllers channel index value = refl
+refused_by coarse o values controllers channel index value = refl
+refused_by fine o values controllers channel index value = refl
+refused_by plain o values controllers channel index value = refl
 
 pub refused_by_index : (holding : Holding) (channel index value : ℕ) →
     refusal_in (outcome_by (answer_of (pairing holding.paired (role_of index)) holding channel index value) channel index value) ≡ bad_role (role_of index)
 refused_by_index holding channel index value =
     let role : Role = pairing holding.paired (role_of index) in
     refused_by role (selected (registers_at holding channel))
-    (λ param. value_behind role value (msb_at holding channel param)) (λ pair. value_behind role value (pair_at holding channel pair)) channel index value (bad_step-pairing holding.paired (role_of index))
+    (λ param. value_behind role value (msb_at holding channel param)) (λ pair. value_behind role value (pair_at holding channel pair)) channel index value
     ∙ bad-pairing holding.paired (role_of index)

@@ -1,18 +1,21 @@
 -- Which steps F7 does, and which the other bytes do.
-use Rattle.std.proofs.Common.{◌≡◌, ◌≢◌, ℕ, ◌∙◌, sym, subst, refl, List, suc, length, Option, Some, None, Bool, true, false, cond, arith, Bor}
+use Rattle.std.proofs.Common.{◌≡◌, ◌≢◌, ℕ, ◌∙◌, sym, subst, refl, List, suc, length, Option, Some, None, Bool, true, false, cond, arith}
 use Rattle.std.proofs.lemmas.Bool.Decides.{nat_tests}
 use Rattle.midi1_bytes.specs.declared.step.Step.{Step}
-use Rattle.midi1_bytes.specs.declared.step.Step.TheVariants as step
-use Rattle.midi1_bytes.specs.declared.step.CutKind.{CutKind}
 use Rattle.midi1_bytes.specs.declared.step.AfterCut.{AfterCut}
 use Rattle.midi1_bytes.specs.declared.step.AfterCut.TheVariants as after
 use Rattle.voice_messages.specs.declared.voice1.System.TheVariants as system
 use Rattle.midi1_bytes.specs.Sorts.{one, two, Sort, data_byte, voice_status, exclusive_start, common_status, tune_request, undefined_status, exclusive_end, real_time_status, undefined_real_time, sort_of}
-use Rattle.midi1_bytes.specs.Messages.{common, exclusive}
+use Rattle.midi1_bytes.specs.Messages.{Message, common, exclusive}
 use Rattle.midi1_bytes.specs.Stream.{fits, Open}
 use Rattle.midi1_bytes.specs.Steps as steps
 use Rattle.midi1_bytes.specs.Answers.{step_view}
 use Rattle.midi1_bytes.specs.Parsing.{Begun, begun_message, begun_exclusive, Parsing, open_of, cut_by, ended_by, message_step, data_step, parse_data, parse_under, parse}
+use Rattle.voice_state.specs.State.{GroupState}
+use Rattle.voice_state.specs.Messages.{step1}
+use Rattle.param_collector.specs.Holding.{Holding}
+use Rattle.param_collector.specs.Keeps.{is_control_change, Keeps}
+use Rattle.up_translator.specs.Held.{holding_behind_step, KeepsBehind}
 
 abbrev pub EndsNothing : steps.Step → Type 0
 EndsNothing (steps.completes (exclusive bytes)) = ⊥
@@ -71,36 +74,18 @@ no_exclusive s parsing offset byte bytes other is ends = subst EndsNothing (sym 
 
 -- ---- F7
 
-abbrev pub IsEnd : steps.Step → Type 0
-IsEnd (steps.completes (exclusive bytes)) = Unit {0}
-IsEnd steps.stray = Unit {0}
-IsEnd (steps.cut start what after.Stray) = Unit {0}
-IsEnd _ = ⊥
-
-end_of : (begun : Option Begun) → IsEnd (ended_by begun)
-end_of None = tt
-end_of (Some (begun_message start status first)) = tt
-end_of (Some (begun_exclusive start bytes)) = tt
-
 pub end_step : (parsing : Parsing) (offset : ℕ) → (parse parsing offset 247).step ≡ ended_by parsing.begun
 unfolding sort_of
 end_step parsing offset = refl
 
--- the cut that F7 does leaves it stray
-pub cut_by_end : (begun : Option Begun) (start : ℕ) (what : CutKind) (besides : AfterCut) → steps.cut start what besides ≡ ended_by begun → besides ≡ after.Stray
-cut_by_end begun start what after.Begins is = absurd (subst IsEnd (sym is) (end_of begun))
-cut_by_end begun start what after.Tune is = absurd (subst IsEnd (sym is) (end_of begun))
-cut_by_end begun start what after.Undefined is = absurd (subst IsEnd (sym is) (end_of begun))
-cut_by_end begun start what after.Stray is = refl
+-- what it ends is no control change
+pub held_behind_end : (holding : Holding) (begun : Option Begun) → holding_behind_step holding (ended_by begun) ≡ holding
+held_behind_end holding None = refl
+held_behind_end holding (Some (begun_message start status first)) = refl
+held_behind_end holding (Some (begun_exclusive start bytes)) = refl
 
-pub only_ends : (s : Step) (begun : Option Begun) → step_view s ≡ ended_by begun →
-    ((bytes : Bor (List ℕ)) → s ≡ step.Exclusive bytes → ⊥) → (s ≡ step.Stray → ⊥) → ((start : ℕ) (what : CutKind) (besides : AfterCut) → s ≡ step.Cut start what besides → ⊥) → ⊥
-only_ends step.Held begun is a b c = subst IsEnd (sym is) (end_of begun)
-only_ends (step.Voice bytes) begun is a b c = subst IsEnd (sym is) (end_of begun)
-only_ends (step.Common bytes) begun is a b c = subst IsEnd (sym is) (end_of begun)
-only_ends (step.RealTime byte) begun is a b c = subst IsEnd (sym is) (end_of begun)
-only_ends (step.Exclusive bytes) begun is a b c = a bytes refl
-only_ends step.Stray begun is a b c = b refl
-only_ends step.Undefined begun is a b c = subst IsEnd (sym is) (end_of begun)
-only_ends (step.Cut start what besides) begun is a b c = c start what besides refl
-only_ends step.TooLong begun is a b c = subst IsEnd (sym is) (end_of begun)
+pub kept_behind_end : ((holding : Holding) (group : GroupState) (message : Message) → is_control_change message ≡ false → Keeps holding group → Keeps holding (step1 holding.paired group message)) →
+    (holding : Holding) (begun : Option Begun) → KeepsBehind holding (ended_by begun)
+kept_behind_end law holding None state keeps = keeps
+kept_behind_end law holding (Some (begun_message start status first)) state keeps = keeps
+kept_behind_end law holding (Some (begun_exclusive start bytes)) state keeps = law holding state (exclusive bytes) refl keeps

@@ -9,7 +9,7 @@ use Rattle.encoded_packets.specs.ValueMessages.{is_value_voice}
 use Rattle.bit_scaling.specs.Scaling.{up}
 use Rattle.voice_state.specs.declared.listed.BadStep.{BadStep}
 use Rattle.voice_state.specs.declared.listed.BadStep.TheVariants as bad
-use Rattle.voice_state.specs.Controllers.{Role, data_decrement, pairing, role_of}
+use Rattle.voice_state.specs.Controllers.{pairing, role_of}
 use Rattle.voice_state.specs.State.{GroupState}
 use Rattle.voice_state.specs.Messages.{channel_of}
 use Rattle.voice_state.specs.Raising.{raised_voice}
@@ -49,14 +49,10 @@ pub record IsRaisedVoice (paired : Bool) (state : GroupState) (message : Voice1)
 
 -- ---- a control change
 
--- why a data increment or decrement is refused
-abbrev pub bad_data_step : Role → BadStep
-bad_data_step data_decrement = bad.DataDecrement
-bad_data_step _ = bad.DataIncrement
-
 -- by the collector's answer to it
 abbrev pub outcome_by : Collected → ℕ → ℕ → ℕ → Outcome
-outcome_by collected.DataStep channel index value = outcome.Refused (bad_data_step (role_of index))
+outcome_by collected.DataIncrement channel index value = outcome.Refused bad.DataIncrement
+outcome_by collected.DataDecrement channel index value = outcome.Refused bad.DataDecrement
 outcome_by collected.Held channel index value = outcome.Nothing
 outcome_by (collected.Set param entered) channel index value = outcome.Message (voice2.Set channel param (up entered 14 32))
 outcome_by collected.Ignored channel index value = outcome.Ignored

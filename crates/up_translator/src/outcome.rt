@@ -13,7 +13,6 @@ ghost use Rattle.up_translator.specs.Outcome.{
   messages_in,
   refusal_in,
   outcome_by,
-  bad_data_step,
   holding_with,
   FitsVoice2,
   IsRaisedVoice,
@@ -24,7 +23,7 @@ use bit_scaling::{up7, up14};
 use param_collector::laws::other_messages_change_nothing_kept;
 use param_collector::{Collected, Collector};
 use voice_messages::{U4, U7, Voice1, Voice2};
-use voice_state::{BadStep, ControlRole};
+use voice_state::BadStep;
 
 /// What comes of a voice message.
 #[derive(Debug, Drop)]
@@ -41,16 +40,6 @@ pub enum Outcome {
     Refused(BadStep),
 }
 
-// Why a data increment or decrement is refused.
-fn bad_step(index: U7) -> BadStep
-    ensures { result ≡ bad_data_step (role_of index) }
-{
-    match ControlRole::of(index) {
-        ControlRole::DataDecrement => BadStep::DataDecrement,
-        _ => BadStep::DataIncrement,
-    }
-}
-
 // What comes of a control change that the collector has answered.
 #[inline(always)]
 fn outcome_of(collected: Collected, channel: U4, index: U7, value: U7) -> Outcome
@@ -58,7 +47,8 @@ fn outcome_of(collected: Collected, channel: U4, index: U7, value: U7) -> Outcom
     ensures fits { FitsVoice2 result }
 {
     match collected {
-        Collected::DataStep => Outcome::Refused(bad_step(index)),
+        Collected::DataIncrement => Outcome::Refused(BadStep::DataIncrement),
+        Collected::DataDecrement => Outcome::Refused(BadStep::DataDecrement),
         Collected::Held => Outcome::Nothing,
         Collected::Set(param, entered) => {
             Outcome::Message(raise_data_entry(channel, param, entered))

@@ -26,7 +26,7 @@ use voice_state::{BadStep, LoneControls};
 fn system_fits(group: U4, message: &System)
     ensures { IsPacket (packet.System group message.now) }
 {
-    group.get();
+    // each `get` tells that its number is in range
     match *message {
         System::Quarter(value) | System::Song(value) => {
             value.get();
@@ -85,7 +85,7 @@ impl Raiser {
         Raiser {
             group,
             collector,
-            lone: LoneControls::new(Some(paired)),
+            lone: LoneControls::new(paired),
             packet: RaisedPacket::of_system(group, System::Tune),
         }
     }

@@ -1,7 +1,11 @@
 // The translator up.
-ghost use Rattle.std.specs.Prelude.{◌≡◌, ◌≢◌, ◌≤◌, [], map, IfOk};
+ghost use Rattle.std.specs.Prelude.{◌≡◌, ◌≢◌, ◌≤◌, [], map, IfOk, Option};
 ghost use Rattle.std.specs.Option.{option_map, option_to_list};
+ghost use Rattle.midi1_bytes.specs.Answers.{step_view, LendsData, LendsFramed};
+ghost use Rattle.midi1_bytes.specs.Parsing.{ended_by, Begun};
 ghost use Rattle.voice_state.specs.StepListing.{kinds_at_end, line_up};
+ghost use Rattle.param_collector.specs.Holding.{Holding};
+ghost use Rattle.up_translator.specs.Step.{Accepts};
 
 use crate::lines::{cut_off, kind_of_open, stray, undefined};
 use crate::raised::Raised;
@@ -14,6 +18,29 @@ use std::alloc::Global;
 use std::marker::Model;
 use voice_messages::END_OF_EXCLUSIVE;
 use voice_state::{BadStep, Listed};
+
+// What F7 gives: the exclusive that it ends, or the lines of what it cuts off and of F7 itself, which then is stray.
+#[inline(always)]
+fn raised_end<'a>(group: U4, step: Step<'a>, offset: u64) -> Raised<'a>
+    requires ended { (begun : Option Begun) × (step_view step ≡ ended_by begun) }
+    requires framed { LendsFramed step }
+    requires data_bytes { LendsData step }
+    ensures { (holding : Holding) → Accepts holding group offset (step_view step.entry) result }
+{
+    match step {
+        Step::Exclusive(bytes) => Raised::of_exclusive(group, bytes),
+        Step::Cut { start, what, .. } => {
+            Raised::only_listed(group, Some(cut_off(start, what)), Some(stray(offset)))
+        }
+        Step::Stray => Raised::only_listed(group, Some(stray(offset)), None),
+        Step::Held
+        | Step::Voice(_)
+        | Step::Common(_)
+        | Step::RealTime(_)
+        | Step::Undefined
+        | Step::TooLong => unreachable!(),
+    }
+}
 
 /// Translates the bytes of one MIDI 1.0 stream to packets of one group. A contract sees the group, what is open of a message or
 /// an exclusive, and what control changes have set.
@@ -54,17 +81,12 @@ impl Up {
             up ≡ record { group = group; parsing = idle room; holding = fresh paired }) }
         ensures holds { IfOk result (HoldsUp paired room group []) }
     {
-        let parser = match Parser::new(alloc, room) {
-            Ok(parser) => parser,
-            Err(NoMemory) => return Err(NoMemory),
-        };
-        match Collector::new(alloc, paired) {
-            Ok(collector) => Ok(Up {
-                parser,
-                raiser: Raiser::new(group, collector, paired),
-            }),
-            Err(NoMemory) => Err(NoMemory),
-        }
+        let parser = Parser::new(alloc, room)?;
+        let collector = Collector::new(alloc, paired)?;
+        Ok(Up {
+            parser,
+            raiser: Raiser::new(group, collector, paired),
+        })
     }
 
     // Takes F7. It ends an exclusive, cuts a message off, or is stray.
@@ -76,16 +98,7 @@ impl Up {
     {
         other_messages_change_nothing_kept();
         let group = self.raiser.group();
-        match self.parser.byte(END_OF_EXCLUSIVE, offset) {
-            Step::Exclusive(bytes) => return Ok(Raised::of_exclusive(group, bytes)),
-            Step::Cut { start, what, .. } => {
-                let (first, second) = (cut_off(start, what), stray(offset));
-                return Ok(Raised::only_listed(group, Some(first), Some(second)));
-            }
-            Step::Stray => return Ok(Raised::only_listed(group, Some(stray(offset)), None)),
-            // never comes
-            _ => return Ok(Raised::only_listed(group, None, None)),
-        }
+        Ok(raised_end(group, self.parser.byte(END_OF_EXCLUSIVE, offset), offset))
     }
 
     // Takes any other byte, which ends no exclusive.

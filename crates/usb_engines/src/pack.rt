@@ -57,10 +57,8 @@ impl PackRun {
         requires most { room ≤ 1048576 }
         ensures { IfOk result (λ run. run ≡ record { cable = cable; room = room }) }
     {
-        match Packer::new(alloc, cable, room) {
-            Ok(packer) => Ok(PackRun { packer }),
-            Err(no_memory) => Err(no_memory),
-        }
+        let packer = Packer::new(alloc, cable, room)?;
+        Ok(PackRun { packer })
     }
 }
 
@@ -187,10 +185,8 @@ fn put_packed<L: Lanes, W: Sink, N: Sink>(
         (places L.Lanes W.Sink N.Sink lanes.old output.old notes.old)
         (places L.Lanes W.Sink N.Sink lanes.new output.new notes.new) result }
 {
-    match put_events(*packed, lanes, output, notes) {
-        Ok(()) => put_lines(&packed.lines, lanes, output, notes),
-        Err(end) => Err(end),
-    }
+    put_events(*packed, lanes, output, notes)?;
+    put_lines(&packed.lines, lanes, output, notes)
 }
 
 // Puts the events of a byte.
@@ -232,10 +228,8 @@ fn put_exclusive<L: Lanes, W: Sink, N: Sink>(
     exclusive_events_come_in_order();
     let mut k = 0;
     while let Some(event) = exclusive_event(cable, whole, k) {
-        match put_output(&event, lanes, output, notes) {
-            Ok(()) => k += 1,
-            Err(end) => return Err(end),
-        }
+        put_output(&event, lanes, output, notes)?;
+        k += 1;
     }
     Ok(())
 }

@@ -60,10 +60,8 @@ impl Packer {
         requires most { room ≤ 1048576 }
         ensures { IfOk result (λ packer. packer ≡ record { cable = cable; parsing = idle room }) }
     {
-        match Parser::new(alloc, room) {
-            Ok(parser) => Ok(Packer { parser, cable }),
-            Err(NoMemory) => Err(NoMemory),
-        }
+        let parser = Parser::new(alloc, room)?;
+        Ok(Packer { parser, cable })
     }
 
     /// The events of one more byte (USB Device Class Definition for MIDI Devices 1.0, code index numbers), each with its status byte,
@@ -77,6 +75,7 @@ impl Packer {
         ensures* after { sem 𝓛 (KeepsPacker self.entry (packer_behind self.old offset byte)) }
     {
         let cable = self.cable;
+        // Each arm returns, so that its answer is proved by itself: of all arms at once the search for a proof finds no end.
         match self.parser.byte(byte, offset) {
             Step::Held => return Ok(Packed::only_listed(cable, None, None)),
             Step::Voice(bytes) => {

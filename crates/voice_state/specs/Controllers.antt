@@ -51,7 +51,7 @@ is_lone channel_mode = true
 is_lone plain = true
 is_lone _ = false
 
--- the same by the index, where controllers are paired or aren't; none where that isn't told
+-- the same by the index, where controllers are paired or aren't; of None no control change is
 abbrev pub is_lone_in : Option Bool → ℕ → Bool
 is_lone_in None index = false
 is_lone_in (Some paired) index = is_lone (pairing paired (role_of index))

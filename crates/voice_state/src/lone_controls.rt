@@ -1,5 +1,5 @@
 // Which control changes stand alone.
-ghost use Rattle.std.specs.Prelude.{◌≡◌, ◌<◌, ℕ, false, slice_index_or};
+ghost use Rattle.std.specs.Prelude.{◌≡◌, ◌<◌, ℕ, None, Some, false, slice_index_or};
 ghost use Rattle.voice_state.specs.Controllers.{is_lone_in};
 
 use crate::role::ControlRole;
@@ -27,18 +27,15 @@ impl Model for LoneControls {
 }
 
 // Whether the control change with this index is lone.
-fn is_lone(paired: Option<bool>, index: U7) -> bool
-    ensures { result ≡ is_lone_in paired index }
+fn is_lone(paired: bool, index: U7) -> bool
+    ensures { result ≡ is_lone_in (Some paired) index }
 {
-    match paired {
-        Some(paired) => ControlRole::of(index).pairing(paired).is_lone(),
-        None => false,
-    }
+    ControlRole::of(index).pairing(paired).is_lone()
 }
 
 // The marks of all indexes.
-fn marks(paired: Option<bool>) -> [bool; 128]
-    ensures { (index : ℕ) → index < 128 → slice_index_or result index false ≡ is_lone_in paired index }
+fn marks(paired: bool) -> [bool; 128]
+    ensures { (index : ℕ) → index < 128 → slice_index_or result index false ≡ is_lone_in (Some paired) index }
 {
     let mut marked = [false; 128];
     for index in 0..128u8 {
@@ -48,13 +45,23 @@ fn marks(paired: Option<bool>) -> [bool; 128]
 }
 
 impl LoneControls {
-    /// Marks them where controllers are paired or aren't (own rule); none where that isn't told.
-    pub fn new(paired: Option<bool>) -> LoneControls
-        ensures { result ≡ paired }
+    /// Marks those that are lone where controllers are paired, or where they aren't (own rule).
+    pub fn new(paired: bool) -> LoneControls
+        ensures { result ≡ Some paired }
     {
         LoneControls {
-            paired,
+            paired: Some(paired),
             marked: marks(paired),
+        }
+    }
+
+    /// Marks none.
+    pub fn none() -> LoneControls
+        ensures { result ≡ None }
+    {
+        LoneControls {
+            paired: None,
+            marked: [false; 128],
         }
     }
 

@@ -82,6 +82,18 @@ fn a_fault_is_told_and_takes_nothing_away(rt: HostRuntime) {
     }
 }
 
+// All is written out before the writer is flushed, and what it answers then is told.
+#[test]
+fn a_writer_that_cannot_be_flushed_is_a_fault(rt: HostRuntime) {
+    let log = Log::new();
+    let mut sink = WriteSink::new(Scripted::unflushed(&[], b"one", &log));
+    let put = sink.put(b"one");
+    let flushed = sink.flush();
+    assert!(rt; [put, flushed] == [Ok(()), Err(Failed)]);
+    assert!(rt; log.counts() == [1, 1, 3]);
+    assert!(rt; sink.faults() == 1);
+}
+
 // Whether a source that fails so tells it at once.
 fn source_tells(kind: ErrorKind) -> bool {
     let steps = [Step::Fails(kind)];

@@ -44,6 +44,7 @@ pub(super) struct Scripted<'a> {
     steps: &'a [Step],
     awaited: &'a [u8],
     log: &'a Log,
+    flushes: bool,
 }
 
 impl<'a> Scripted<'a> {
@@ -52,6 +53,17 @@ impl<'a> Scripted<'a> {
             steps,
             awaited,
             log,
+            flushes: true,
+        }
+    }
+
+    // One that can't be flushed.
+    pub(super) fn unflushed(steps: &'a [Step], awaited: &'a [u8], log: &'a Log) -> Self {
+        Scripted {
+            steps,
+            awaited,
+            log,
+            flushes: false,
         }
     }
 
@@ -82,7 +94,11 @@ impl Write for Scripted<'_> {
     fn flush(&mut self) -> io::Result<()> {
         let flushes = self.log.flushes.get();
         self.log.flushes.set(flushes.saturating_add(1));
-        Ok(())
+        if self.flushes {
+            Ok(())
+        } else {
+            Err(io::Error::from(ErrorKind::Other))
+        }
     }
 }
 

@@ -1,4 +1,4 @@
-use Rattle.std.proofs.Common.{◌≡◌, ◌*◌, ◌∙◌, length, arith, subst, sym, ℕ}
+use Rattle.std.proofs.Common.{◌*◌, ◌∙◌, arith, subst, sym, ℕ}
 use Rattle.ci_initiator.specs.Watching.{IsLeastUnnamed}
 use Rattle.ci_initiator.proofs.SetupLaws.{found-is-own, least-of-setup}
 use Rattle.ci_initiator.proofs.watching.own_muid.Goals as goal

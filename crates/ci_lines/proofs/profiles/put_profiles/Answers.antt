@@ -1,4 +1,5 @@
 use Rattle.std.proofs.Common.{◌≡◌, ◌++◌, ◌+◌, ℕ, List, take, drop, suc, ap, sym, ◌∙◌, subst, arith}
+use Rattle.std.proofs.lemmas.Result.{err_from_is_err_and}
 use Rattle.std.specs.Option.{option_map}
 use Rattle.midi_pass.specs.Places.{FailsAt, after_puts, places}
 use Rattle.midi_pass.specs.Put.{Put}
@@ -23,10 +24,11 @@ loop-k-preserved g c =
     let put = profile_line_of c.args.place (g.P.ProfileStates.states c.args.known.now) in
     let D : List Put → Type 0 = λ puts. new ≡ after_puts puts old in
     subst D (sym (next_each put all n one (sym c.in-Some.ensures.value)))
-    (then_put (for_each put 0 (take n all)) (put n one) old mid new c.loop-k.invariant c.in-Ok.ensures)
+    (then_put (for_each put 0 (take n all)) (put n one) old mid new c.loop-k.invariant c.in_ok-put_profile-in-Some.ensures)
 
-pub returns-in-Err : goal.returns-in-Err
-returns-in-Err g c =
+pub returns-in_err-put_profile-in-Some : goal.returns-in_err-put_profile-in-Some
+returns-in_err-put_profile-in-Some g c =
+    let end = c.in_err-put_profile-in-Some.field-0.0 in
     let old = places g.L.Lanes g.W.Sink g.N.Sink c.args.lanes.now c.args.output.now c.args.notes.now in
     let mid = places g.L.Lanes g.W.Sink g.N.Sink c.loop-k.lanes c.loop-k.output c.loop-k.notes in
     let new = places g.L.Lanes g.W.Sink g.N.Sink c.put_profile.new.lanes c.put_profile.new.output c.put_profile.new.notes in
@@ -34,8 +36,9 @@ returns-in-Err g c =
     let all = c.args.setup.now.profiles in
     let one = c.in-Some.profile.now in
     let put = profile_line_of c.args.place (g.P.ProfileStates.states c.args.known.now) in
-    let F : List Put → Type 0 = λ puts. FailsAt puts c.in-Err.end old new in
+    let F : List Put → Type 0 = λ puts. FailsAt puts end old new in
     let rest : List Put = for_each put (n + 1) (drop (suc n) all) in
-    subst F (sym (all_each put all n one (sym c.in-Some.ensures.value)))
-    (then_stops (for_each put 0 (take n all)) (put n one ++ rest) c.in-Err.end old mid new c.loop-k.invariant
-    (stops_more (put n one) rest c.in-Err.end mid new c.in-Err.ensures))
+    let p = err_from_is_err_and c.from_residual.result c.from_residual.ensures.1 in
+    rw (p.1, p.2) (subst F (sym (all_each put all n one (sym c.in-Some.ensures.value)))
+    (then_stops (for_each put 0 (take n all)) (put n one ++ rest) end old mid new c.loop-k.invariant
+    (stops_more (put n one) rest end mid new c.in_err-put_profile-in-Some.ensures)))

@@ -1,4 +1,4 @@
-use Rattle.std.proofs.Common.{◌≡◌, ◌<◌, ◌≤◌, ◌-◌, ◌∙◌, ◌∷◌, ◌++◌, [], ◌⊎◌, inl, inr, List, ℕ, arith, sym, refl, subst, ap, take, drop, length, Option, Some, None}
+use Rattle.std.proofs.Common.{◌≡◌, ◌<◌, ◌-◌, [], inl, inr, List, ℕ, arith, sym, subst, ap, take, drop, length, Option, Some, None}
 use Rattle.std.specs.List.{All}
 use Rattle.ump_grammar.specs.Replies.{AddsPackets}
 use Rattle.ci_messages.specs.Reading.{IsExclusive}

@@ -1,7 +1,7 @@
-use Rattle.std.proofs.Common.{◌≡◌, ◌≤◌, ◌<◌, ◌∷◌, ◌++◌, [], ◌∙◌, List, ℕ, arith, refl, sym, ap, subst, length, length-append, Option, Some, None}
+use Rattle.std.proofs.Common.{◌≡◌, ◌≤◌, ◌∷◌, [], List, ℕ, arith, refl, sym, subst, length, length-append, Option, Some, None}
 use Rattle.std.specs.Prelude.{Err}
 use Rattle.ci_messages.specs.declared.view.CiFault.{CiFault}
-use Rattle.ci_messages.specs.Reading.{IsExclusive, Reads, ci_fault}
+use Rattle.ci_messages.specs.Reading.{IsExclusive, ci_fault}
 use Rattle.ci_messages.specs.Writing.{message_bytes}
 use Rattle.ci_responder.specs.Replies.{IsMessage, payload_of}
 use Rattle.ci_responder.proofs.packets.put_message.Goals as goal

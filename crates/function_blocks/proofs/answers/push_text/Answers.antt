@@ -1,5 +1,4 @@
-use Rattle.std.proofs.Common.{◌≡◌, ◌<◌, ◌≤◌, ◌∙◌, ap, length, arith}
-use Rattle.std.specs.Int.{div_ceil}
+use Rattle.std.proofs.Common.{◌≡◌, ◌<◌, ◌≤◌, ◌∙◌, ap, arith}
 use Rattle.ump_grammar.specs.Replies.{word_count}
 use Rattle.system_stream.specs.Cut.{form_at, part_bytes, part_count}
 use Rattle.system_stream.specs.Texts.{part_size}
@@ -13,7 +12,7 @@ push-requires-clause-fits c =
     let text = c.args.text.now in
     let k = c.loop-k.k in
     let few : part_count kind text ≤ 7 = few_parts kind text c.requires.limit in
-    let counted : c.div_ceil-count.result ≡ part_count kind text = c.div_ceil-count.ensures ∙ ap (div_ceil (length text)) c.part_size.ensures.value in
+    let counted : c.packet_count-k-end.result ≡ part_count kind text = c.packet_count-k-end.ensures in
     let within : k < part_count kind text = omega (arith, counted, c.loop-k-test.true) in
     let four : word_count c.in-Some.packet ≡ 4 = ap word_count (packet-cut kind block text k c.in-Some.packet within c.in-Some.ensures.packet)
     ∙ part_four_words kind (form_at (part_count kind text) k) block (part_bytes (part_size kind) text k) in
@@ -23,7 +22,7 @@ pub loop-k-preserved : goal.loop-k-preserved
 loop-k-preserved c =
     let kind = c.args.kind in
     let text = c.args.text.now in
-    let counted : c.div_ceil-count.result ≡ part_count kind text = c.div_ceil-count.ensures ∙ ap (div_ceil (length text)) c.part_size.ensures.value in
+    let counted : c.packet_count-k-end.result ≡ part_count kind text = c.packet_count-k-end.ensures in
     let within : c.loop-k.k < part_count kind text = omega (arith, counted, c.loop-k-test.true) in
     text-more kind c.args.block text c.loop-k.k c.in-Some.packet c.args.replies.now c.loop-k.replies c.push.new.self within c.in-Some.ensures.packet c.loop-k.invariant c.push.ensures.added c.push.ensures.length
 

@@ -16,15 +16,15 @@ returns-then-is_empty g c =
     let P : List Listed → Type 0 = λ lines. Puts (line_puts lines) old old (Ok tt) in
     subst P (sym (none-lines c.args.lines.now (sym c.is_empty.ensures ∙ c.if-is_empty.true))) (sym (after_puts-none old))
 
-pub returns-in-Ok : goal.returns-in-Ok
-returns-in-Ok g c =
+pub returns : goal.returns
+returns g c =
     let old = places g.L.Lanes g.W.Sink g.N.Sink c.args.lanes.now c.args.output.now c.args.notes.now in
     let mid = places g.L.Lanes g.W.Sink g.N.Sink c.put_listed.new.lanes c.put_listed.new.output c.put_listed.new.notes in
-    let new = places g.L.Lanes g.W.Sink g.N.Sink c.put_listed-in-Ok.new.lanes c.put_listed-in-Ok.new.output c.put_listed-in-Ok.new.notes in
+    let new = places g.L.Lanes g.W.Sink g.N.Sink c.put_listed-2.new.lanes c.put_listed-2.new.output c.put_listed-2.new.notes in
     let first : List Listed = option_to_list (first_in c.args.lines.now) in
     let second : List Listed = option_to_list (second_in c.args.lines.now) in
     let F : Option Listed → Type 0 = λ listed. mid ≡ after_puts (line_puts (option_to_list listed)) old in
-    let S : Option Listed → Type 0 = λ listed. Puts (line_puts (option_to_list listed)) mid new c.put_listed-in-Ok.result in
-    let P : List Put → Type 0 = λ puts. Puts puts old new c.put_listed-in-Ok.result in
+    let S : Option Listed → Type 0 = λ listed. Puts (line_puts (option_to_list listed)) mid new c.put_listed-2.result in
+    let P : List Put → Type 0 = λ puts. Puts puts old new c.put_listed-2.result in
     subst P (sym (lines-then first second))
-    (then_puts (line_puts first) (line_puts second) old mid new c.put_listed-in-Ok.result (subst F c.first.ensures c.in-Ok.ensures) (subst S c.second.ensures c.put_listed-in-Ok.ensures))
+    (then_puts (line_puts first) (line_puts second) old mid new c.put_listed-2.result (subst F c.first.ensures c.in_ok-put_listed.ensures) (subst S c.second.ensures c.put_listed-2.ensures))

@@ -1,4 +1,5 @@
 use Rattle.std.proofs.Common.{Bool, [], ◌∷◌, sym, subst}
+use Rattle.std.proofs.lemmas.Result.{err_from_is_err_and}
 use Rattle.std.specs.Option.{option_to_list}
 use Rattle.down_translator.specs.Lowered.{attribute_line, bytes_of}
 use Rattle.midi_pass.specs.Places.{Puts, places}
@@ -14,12 +15,13 @@ returns-then-message g c =
     let new = places g.L.Lanes g.W.Sink g.N.Sink c.put_attribute.new.lanes c.put_attribute.new.output c.put_attribute.new.notes in
     let m = c.args.message.now in
     let S : Bool → Type 0 = λ left_out. Puts (line_puts (option_to_list (attribute_line c.args.offset m.lane left_out))) mid new c.put_attribute.result in
-    then_puts (in_lane m.lane (bytes_of m) ∷ []) (line_puts (option_to_list (attribute_line c.args.offset m.lane m.has_attribute))) old mid new c.put_attribute.result c.in-Ok.ensures
+    then_puts (in_lane m.lane (bytes_of m) ∷ []) (line_puts (option_to_list (attribute_line c.args.offset m.lane m.has_attribute))) old mid new c.put_attribute.result c.in_ok-put_message.ensures
     (subst S (sym c.if-message.true) c.put_attribute.ensures)
 
-pub returns-in-Err : goal.returns-in-Err
-returns-in-Err g c =
+pub returns-in_err-put_message : goal.returns-in_err-put_message
+returns-in_err-put_message g c =
     let old = places g.L.Lanes g.W.Sink g.N.Sink c.args.lanes.now c.args.output.now c.args.notes.now in
     let mid = places g.L.Lanes g.W.Sink g.N.Sink c.put_message.new.lanes c.put_message.new.output c.put_message.new.notes in
     let m = c.args.message.now in
-    stops_more (in_lane m.lane (bytes_of m) ∷ []) (line_puts (option_to_list (attribute_line c.args.offset m.lane m.has_attribute))) c.in-Err.end old mid c.in-Err.ensures
+    let p = err_from_is_err_and c.from_residual.result c.from_residual.ensures.1 in
+    rw (p.1, p.2) (stops_more (in_lane m.lane (bytes_of m) ∷ []) (line_puts (option_to_list (attribute_line c.args.offset m.lane m.has_attribute))) _ old mid c.in_err-put_message.ensures)

@@ -1,4 +1,5 @@
 use Rattle.std.proofs.Common.{◌≡◌, ◌∷◌, [], subst}
+use Rattle.std.proofs.lemmas.Result.{err_from_is_err_and}
 use Rattle.voice_state.specs.declared.listed.Kind.{Kind}
 use Rattle.voice_state.specs.StepListing.{cut_kind}
 use Rattle.midi_lines.specs.StepLines.{byte_listing_text}
@@ -8,18 +9,20 @@ use Rattle.midi_pass.specs.PutLaws.{then_puts, stops_more}
 use Rattle.midi_engines.specs.ShowBytes.{puts_after}
 use Rattle.midi_engines.proofs.show_bytes.put_cut.Goals as goal
 
-pub returns-in-Ok : goal.returns-in-Ok
-returns-in-Ok g c =
+pub returns : goal.returns
+returns g c =
     let old = places g.L.Lanes g.W.Sink g.N.Sink c.args.lanes.now c.args.output.now c.args.notes.now in
     let mid = places g.L.Lanes g.W.Sink g.N.Sink c.put_kind.new.lanes c.put_kind.new.output c.put_kind.new.notes in
     let K : Kind → Type 0 = λ kind. mid ≡ after_puts (in_output (byte_listing_text kind c.args.start) ∷ []) old in
     then_puts (in_output (byte_listing_text (cut_kind c.args.what) c.args.start) ∷ []) (puts_after c.args.start c.args.what c.args.after c.args.offset) old mid _ _
-    (subst K c.kind_of_cut.ensures c.in-Ok.ensures) c.put_after.ensures
+    (subst K c.kind_of_cut.ensures c.in_ok-put_kind.ensures) c.put_after.ensures
 
-pub returns-in-Err : goal.returns-in-Err
-returns-in-Err g c =
+pub returns-in_err-put_kind : goal.returns-in_err-put_kind
+returns-in_err-put_kind g c =
+    let end = c.in_err-put_kind.field-0.0 in
     let old = places g.L.Lanes g.W.Sink g.N.Sink c.args.lanes.now c.args.output.now c.args.notes.now in
     let mid = places g.L.Lanes g.W.Sink g.N.Sink c.put_kind.new.lanes c.put_kind.new.output c.put_kind.new.notes in
-    let K : Kind → Type 0 = λ kind. FailsAt (in_output (byte_listing_text kind c.args.start) ∷ []) c.in-Err.end old mid in
-    stops_more (in_output (byte_listing_text (cut_kind c.args.what) c.args.start) ∷ []) (puts_after c.args.start c.args.what c.args.after c.args.offset) c.in-Err.end old mid
-    (subst K c.kind_of_cut.ensures c.in-Err.ensures)
+    let K : Kind → Type 0 = λ kind. FailsAt (in_output (byte_listing_text kind c.args.start) ∷ []) end old mid in
+    let p = err_from_is_err_and c.from_residual.result c.from_residual.ensures.1 in
+    rw (p.1, p.2) (stops_more (in_output (byte_listing_text (cut_kind c.args.what) c.args.start) ∷ []) (puts_after c.args.start c.args.what c.args.after c.args.offset) end old mid
+    (subst K c.kind_of_cut.ensures c.in_err-put_kind.ensures))

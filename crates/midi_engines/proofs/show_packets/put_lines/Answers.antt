@@ -1,4 +1,5 @@
 use Rattle.std.proofs.Common.{[], ◌∷◌}
+use Rattle.std.proofs.lemmas.Result.{err_from_is_err_and}
 use Rattle.midi_lines.specs.PacketLines.{packet_text}
 use Rattle.midi_pass.specs.Places.{places}
 use Rattle.midi_pass.specs.Put.{in_output}
@@ -6,17 +7,19 @@ use Rattle.midi_pass.specs.PutLaws.{stops_more, then_puts}
 use Rattle.midi_engines.specs.Texts.{line_of_text, text_of, text_puts}
 use Rattle.midi_engines.proofs.show_packets.put_lines.Goals as goal
 
-pub returns-in-Ok-clause-puts : goal.returns-in-Ok-clause-puts
-returns-in-Ok-clause-puts g c =
+pub returns-clause-puts : goal.returns-clause-puts
+returns-clause-puts g c =
     let packet = c.args.packet.now in
     let framed = c.args.framed.now in
     then_puts (in_output (packet_text packet framed.words framed.offset) ∷ []) (text_puts (line_of_text (text_of packet) c.args.texts.now))
     (places g.L.Lanes g.W.Sink g.N.Sink c.args.lanes.now c.args.output.now c.args.notes.now)
-    (places g.L.Lanes g.W.Sink g.N.Sink c.put_packet.new.lanes c.put_packet.new.output c.put_packet.new.notes) _ _ c.in-Ok.ensures c.put_text.ensures.puts
+    (places g.L.Lanes g.W.Sink g.N.Sink c.put_packet.new.lanes c.put_packet.new.output c.put_packet.new.notes) _ _ c.in_ok-put_packet.ensures c.put_text.ensures.puts
 
-pub returns-in-Err-clause-puts : goal.returns-in-Err-clause-puts
-returns-in-Err-clause-puts g c =
+pub returns-in_err-put_packet-clause-puts : goal.returns-in_err-put_packet-clause-puts
+returns-in_err-put_packet-clause-puts g c =
+    let end = c.in_err-put_packet.field-0.0 in
     let packet = c.args.packet.now in
     let framed = c.args.framed.now in
-    stops_more (in_output (packet_text packet framed.words framed.offset) ∷ []) (text_puts (line_of_text (text_of packet) c.args.texts.now)) c.in-Err.end
-    (places g.L.Lanes g.W.Sink g.N.Sink c.args.lanes.now c.args.output.now c.args.notes.now) _ c.in-Err.ensures
+    let p = err_from_is_err_and c.from_residual.result c.from_residual.ensures.1 in
+    rw (p.1, p.2) (stops_more (in_output (packet_text packet framed.words framed.offset) ∷ []) (text_puts (line_of_text (text_of packet) c.args.texts.now)) end
+    (places g.L.Lanes g.W.Sink g.N.Sink c.args.lanes.now c.args.output.now c.args.notes.now) _ c.in_err-put_packet.ensures)

@@ -1,4 +1,5 @@
 use Rattle.std.proofs.Common.{ℕ, List, arith}
+use Rattle.std.proofs.lemmas.Result.{err_from_is_err_and}
 use Rattle.midi_pass.specs.Places.{places}
 use Rattle.midi_pass.specs.Put.{Put}
 use Rattle.sysex8_streams.specs.History.{key_of}
@@ -14,9 +15,11 @@ loop-number-init g c =
 pub loop-number-preserved : goal.loop-number-preserved
 loop-number-preserved g c =
     let puts : ℕ → List Put = λ stream. open_put c.args.group (starts_in c.args.streams.now (key_of c.args.group stream)) in
-    one-more puts c.loop-number.number (places g.L.Lanes g.W.Sink g.N.Sink c.args.lanes.now c.args.output.now c.args.notes.now) _ _ c.loop-number.invariant c.in-Ok.ensures
+    one-more puts c.loop-number.number (places g.L.Lanes g.W.Sink g.N.Sink c.args.lanes.now c.args.output.now c.args.notes.now) _ _ c.loop-number.invariant c.in_ok-list_stream.ensures
 
-pub returns-in-Err : goal.returns-in-Err
-returns-in-Err g c =
+pub returns-in_err-list_stream : goal.returns-in_err-list_stream
+returns-in_err-list_stream g c =
+    let end = c.in_err-list_stream.field-0.0 in
     let puts : ℕ → List Put = λ stream. open_put c.args.group (starts_in c.args.streams.now (key_of c.args.group stream)) in
-    one-fails puts c.loop-number.number 256 (omega arith) c.in-Err.end (places g.L.Lanes g.W.Sink g.N.Sink c.args.lanes.now c.args.output.now c.args.notes.now) _ _ c.loop-number.invariant c.in-Err.ensures
+    let p = err_from_is_err_and c.from_residual.result c.from_residual.ensures.1 in
+    rw (p.1, p.2) (one-fails puts c.loop-number.number 256 (omega arith) end (places g.L.Lanes g.W.Sink g.N.Sink c.args.lanes.now c.args.output.now c.args.notes.now) _ _ c.loop-number.invariant c.in_err-list_stream.ensures)

@@ -1,4 +1,5 @@
 use Rattle.std.proofs.Common.{◌≡◌, ◌<◌, ℕ, arith, subst}
+use Rattle.std.proofs.lemmas.Result.{err_from_is_err_and}
 use Rattle.midi_pass.specs.Places.{FailsAt, after_puts, places}
 use Rattle.sysex8_engine.specs.Held.{starts_in}
 use Rattle.sysex8_engine.specs.Joining.{group_puts}
@@ -15,14 +16,16 @@ loop-number-preserved g c =
     let mid = places g.L.Lanes g.W.Sink g.N.Sink c.loop-number.lanes c.loop-number.output c.loop-number.notes in
     let new = places g.L.Lanes g.W.Sink g.N.Sink c.list_group.new.lanes c.list_group.new.output c.list_group.new.notes in
     let N : ℕ → Type 0 = λ group. new ≡ after_puts (group_puts (starts_in c.args.streams.now) group) mid in
-    one-more (group_puts (starts_in c.args.streams.now)) n (places g.L.Lanes g.W.Sink g.N.Sink c.args.lanes.now c.args.output.now c.args.notes.now) mid new c.loop-number.invariant (subst N number c.in-Ok.ensures)
+    one-more (group_puts (starts_in c.args.streams.now)) n (places g.L.Lanes g.W.Sink g.N.Sink c.args.lanes.now c.args.output.now c.args.notes.now) mid new c.loop-number.invariant (subst N number c.in_ok-list_group.ensures)
 
-pub returns-in-Err : goal.returns-in-Err
-returns-in-Err g c =
+pub returns-in_err-list_group : goal.returns-in_err-list_group
+returns-in_err-list_group g c =
+    let end = c.in_err-list_group.field-0.0 in
     let n : ℕ = c.loop-number.number in
     let below : n < 16 = omega arith in
     let number : c.low_bits.result ≡ n = omega (arith, c.low_bits.ensures) in
     let mid = places g.L.Lanes g.W.Sink g.N.Sink c.loop-number.lanes c.loop-number.output c.loop-number.notes in
     let new = places g.L.Lanes g.W.Sink g.N.Sink c.list_group.new.lanes c.list_group.new.output c.list_group.new.notes in
-    let N : ℕ → Type 0 = λ group. FailsAt (group_puts (starts_in c.args.streams.now) group) c.in-Err.end mid new in
-    one-fails (group_puts (starts_in c.args.streams.now)) n 16 below c.in-Err.end (places g.L.Lanes g.W.Sink g.N.Sink c.args.lanes.now c.args.output.now c.args.notes.now) mid new c.loop-number.invariant (subst N number c.in-Err.ensures)
+    let N : ℕ → Type 0 = λ group. FailsAt (group_puts (starts_in c.args.streams.now) group) end mid new in
+    let p = err_from_is_err_and c.from_residual.result c.from_residual.ensures.1 in
+    rw (p.1, p.2) (one-fails (group_puts (starts_in c.args.streams.now)) n 16 below end (places g.L.Lanes g.W.Sink g.N.Sink c.args.lanes.now c.args.output.now c.args.notes.now) mid new c.loop-number.invariant (subst N number c.in_err-list_group.ensures))

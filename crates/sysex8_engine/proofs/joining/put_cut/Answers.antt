@@ -1,17 +1,20 @@
 use Rattle.std.proofs.Common.{length}
+use Rattle.std.proofs.lemmas.Result.{err_from_is_err_and}
 use Rattle.midi_pass.specs.Places.{places}
 use Rattle.midi_pass.specs.PutLaws.{stops_more, then_puts}
 use Rattle.sysex8_engine.specs.Joining.{cut_lines, piece_puts}
 use Rattle.sysex8_engine.proofs.joining.put_cut.Goals as goal
 
-pub returns-in-Ok : goal.returns-in-Ok
-returns-in-Ok g c =
+pub returns : goal.returns
+returns g c =
     then_puts (piece_puts c.args.group c.args.bytes.now) (cut_lines c.args.cut_at c.args.offset c.args.group c.args.stream (length c.args.bytes.now))
     (places g.L.Lanes g.W.Sink g.N.Sink c.args.lanes.now c.args.output.now c.args.notes.now)
-    (places g.L.Lanes g.W.Sink g.N.Sink c.put_piece.new.lanes c.put_piece.new.output c.put_piece.new.notes) _ _ c.in-Ok.ensures c.put_cut_lines.ensures
+    (places g.L.Lanes g.W.Sink g.N.Sink c.put_piece.new.lanes c.put_piece.new.output c.put_piece.new.notes) _ _ c.in_ok-put_piece.ensures c.put_cut_lines.ensures
 
-pub returns-in-Err : goal.returns-in-Err
-returns-in-Err g c =
-    stops_more (piece_puts c.args.group c.args.bytes.now) (cut_lines c.args.cut_at c.args.offset c.args.group c.args.stream (length c.args.bytes.now)) c.in-Err.end
+pub returns-in_err-put_piece : goal.returns-in_err-put_piece
+returns-in_err-put_piece g c =
+    let end = c.in_err-put_piece.field-0.0 in
+    let p = err_from_is_err_and c.from_residual.result c.from_residual.ensures.1 in
+    rw (p.1, p.2) (stops_more (piece_puts c.args.group c.args.bytes.now) (cut_lines c.args.cut_at c.args.offset c.args.group c.args.stream (length c.args.bytes.now)) end
     (places g.L.Lanes g.W.Sink g.N.Sink c.args.lanes.now c.args.output.now c.args.notes.now)
-    (places g.L.Lanes g.W.Sink g.N.Sink c.put_piece.new.lanes c.put_piece.new.output c.put_piece.new.notes) c.in-Err.ensures
+    (places g.L.Lanes g.W.Sink g.N.Sink c.put_piece.new.lanes c.put_piece.new.output c.put_piece.new.notes) c.in_err-put_piece.ensures)

@@ -1,4 +1,4 @@
-use Rattle.std.proofs.Common.{◌∷◌, ◌++◌, ◌%◌, ◌/◌, ◌+◌, ◌≤◌, ◌==◌, [], List, ℕ, arith, sym, subst, length, length-append}
+use Rattle.std.proofs.Common.{◌∷◌, ◌++◌, ◌%◌, ◌/◌, ◌≤◌, ◌==◌, [], List, ℕ, arith, sym, subst, length, length-append}
 use Rattle.ci_messages.specs.declared.kind.Kind.TheVariants as kind
 use Rattle.ci_messages.specs.Fields.{number, bytes_of_fields}
 use Rattle.ci_messages.specs.Messages.{block_in, format_of, path_in}

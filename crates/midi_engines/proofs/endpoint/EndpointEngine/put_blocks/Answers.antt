@@ -1,5 +1,6 @@
 use Rattle.std.proofs.Common.{◌≡◌, ◌++◌, ◌+◌, ℕ, List, take, drop, suc, ap, sym, ◌∙◌, subst, arith}
 use Rattle.std.specs.Option.{option_map}
+use Rattle.std.proofs.lemmas.Result.{err_from_is_err_and}
 use Rattle.ci_responder.specs.Held.{muid_in}
 use Rattle.midi_pass.specs.Places.{FailsAt, after_puts, places}
 use Rattle.midi_pass.specs.Put.{Put}
@@ -24,10 +25,11 @@ loop-number-preserved g c =
     let put = block_line_of (muid_in c.args.self.now.listener.responder.blocks) in
     let D : List Put → Type 0 = λ puts. new ≡ after_puts puts old in
     subst D (sym (next_each put all n one (sym c.in-Some.ensures.value)))
-    (then_put (for_each put 0 (take n all)) (put n one) old mid new c.loop-number.invariant c.in-Ok.ensures)
+    (then_put (for_each put 0 (take n all)) (put n one) old mid new c.loop-number.invariant c.in_ok-put_block-in-Some.ensures)
 
-pub returns-in-Err : goal.returns-in-Err
-returns-in-Err g c =
+pub returns-in_err-put_block-in-Some : goal.returns-in_err-put_block-in-Some
+returns-in_err-put_block-in-Some g c =
+    let end = c.in_err-put_block-in-Some.field-0.0 in
     let old = places g.L.Lanes g.W.Sink g.N.Sink c.args.lanes.now c.args.output.now c.args.notes.now in
     let mid = places g.L.Lanes g.W.Sink g.N.Sink c.loop-number.lanes c.loop-number.output c.loop-number.notes in
     let new = places g.L.Lanes g.W.Sink g.N.Sink c.put_block.new.lanes c.put_block.new.output c.put_block.new.notes in
@@ -35,8 +37,9 @@ returns-in-Err g c =
     let all = c.args.self.now.setup.blocks in
     let one = c.in-Some.block.now in
     let put = block_line_of (muid_in c.args.self.now.listener.responder.blocks) in
-    let F : List Put → Type 0 = λ puts. FailsAt puts c.in-Err.end old new in
+    let F : List Put → Type 0 = λ puts. FailsAt puts end old new in
     let rest : List Put = for_each put (n + 1) (drop (suc n) all) in
-    subst F (sym (all_each put all n one (sym c.in-Some.ensures.value)))
-    (then_stops (for_each put 0 (take n all)) (put n one ++ rest) c.in-Err.end old mid new c.loop-number.invariant
-    (stops_more (put n one) rest c.in-Err.end mid new c.in-Err.ensures))
+    let p = err_from_is_err_and c.from_residual.result c.from_residual.ensures.1 in
+    rw (p.1, p.2) (subst F (sym (all_each put all n one (sym c.in-Some.ensures.value)))
+    (then_stops (for_each put 0 (take n all)) (put n one ++ rest) end old mid new c.loop-number.invariant
+    (stops_more (put n one) rest end mid new c.in_err-put_block-in-Some.ensures)))

@@ -1,4 +1,5 @@
 use Rattle.std.proofs.Common.{◌≡◌, ◌++◌, ◌+◌, ◌∷◌, [], ℕ, List, take, drop, suc, sym, refl, subst, Option, Some, None, Bool, slice_get, option_map}
+use Rattle.std.proofs.lemmas.Result.{err_from_is_err_and}
 use Rattle.ci_initiator.specs.declared.watch.Watched.{Watched}
 use Rattle.midi_pass.specs.Places.{FailsAt, after_puts, places}
 use Rattle.midi_pass.specs.Put.{Put, in_output}
@@ -24,19 +25,21 @@ loop-k-preserved g c =
     let D : List Put → Type 0 = λ puts. new ≡ after_puts puts old in
     let H : Option Bool → Type 0 = λ held. new ≡ after_puts (in_output (held_text n held) ∷ []) mid in
     subst D (sym (next_each held_line all n one.0 one.1))
-    (then_put (for_each held_line 0 (take n all)) (held_line n one.0) old mid new c.loop-k.invariant (subst H (sym one.2) c.in-Ok.ensures))
+    (then_put (for_each held_line 0 (take n all)) (held_line n one.0) old mid new c.loop-k.invariant (subst H (sym one.2) c.in_ok-put_held.ensures))
 
-pub returns-in-Err : goal.returns-in-Err
-returns-in-Err g c =
+pub returns-in_err-put_held : goal.returns-in_err-put_held
+returns-in_err-put_held g c =
+    let end = c.in_err-put_held.field-0.0 in
     let old = places g.L.Lanes g.W.Sink g.N.Sink c.args.lanes.now c.args.output.now c.args.notes.now in
     let mid = places g.L.Lanes g.W.Sink g.N.Sink c.loop-k.lanes c.loop-k.output c.loop-k.notes in
     let new = places g.L.Lanes g.W.Sink g.N.Sink c.put_held.new.lanes c.put_held.new.output c.put_held.new.notes in
     let n : ℕ = c.loop-k.k in
     let all = c.args.self.now.rehearsal.initiator.watched in
     let one = watched-of (slice_get all n) c.holds.result c.holds.ensures in
-    let F : List Put → Type 0 = λ puts. FailsAt puts c.in-Err.end old new in
-    let H : Option Bool → Type 0 = λ held. FailsAt (in_output (held_text n held) ∷ []) c.in-Err.end mid new in
+    let F : List Put → Type 0 = λ puts. FailsAt puts end old new in
+    let H : Option Bool → Type 0 = λ held. FailsAt (in_output (held_text n held) ∷ []) end mid new in
     let rest : List Put = for_each held_line (n + 1) (drop (suc n) all) in
-    subst F (sym (all_each held_line all n one.0 one.1))
-    (then_stops (for_each held_line 0 (take n all)) (held_line n one.0 ++ rest) c.in-Err.end old mid new c.loop-k.invariant
-    (stops_more (held_line n one.0) rest c.in-Err.end mid new (subst H (sym one.2) c.in-Err.ensures)))
+    let p = err_from_is_err_and c.from_residual.result c.from_residual.ensures.1 in
+    rw (p.1, p.2) (subst F (sym (all_each held_line all n one.0 one.1))
+    (then_stops (for_each held_line 0 (take n all)) (held_line n one.0 ++ rest) end old mid new c.loop-k.invariant
+    (stops_more (held_line n one.0) rest end mid new (subst H (sym one.2) c.in_err-put_held.ensures))))

@@ -1,18 +1,21 @@
-use Rattle.std.proofs.Common.{◌≡◌, ◌∙◌, ap, sym, rules}
-use Rattle.midi1_bytes.specs.declared.step.AfterCut.{AfterCut}
-use Rattle.midi1_bytes.specs.declared.step.AfterCut.TheVariants as after
-use Rattle.midi1_bytes.specs.Answers.{step_view}
+use Rattle.std.proofs.Common.{◌≡◌, ◌∙◌, ap, sym, subst, rules}
 use Rattle.midi1_bytes.specs.Parsing.{parse}
-use Rattle.midi1_bytes.specs.Steps.{cut}
-use Rattle.up_translator.proofs.StepLaws.{end_step, only_ends, cut_by_end}
+use Rattle.midi1_bytes.specs.Steps.{Step}
+use Rattle.up_translator.specs.Held.{holding_behind_step, KeepsBehind}
+use Rattle.up_translator.specs.Step.{Accepts}
+use Rattle.up_translator.proofs.StepLaws.{end_step, held_behind_end, kept_behind_end}
 use Rattle.up_translator.proofs.up.Up.end_exclusive.Goals as goal
 
-pub returns-in-Cut : goal.returns-in-Cut
-returns-in-Cut c =
-    let is : cut c.in-Cut.start c.in-Cut.what c.in-Cut.after ≡ (parse c.self.inside.parser c.args.offset 247).step = sym (ap step_view c.in-Cut.is) ∙ c.byte.ensures.step in
-    let besides : c.in-Cut.after ≡ after.Stray = cut_by_end c.self.inside.parser.begun c.in-Cut.start c.in-Cut.what c.in-Cut.after (is ∙ end_step c.self.inside.parser c.args.offset) in
-    let e : cut c.in-Cut.start c.in-Cut.what after.Stray ≡ (parse c.self.inside.parser c.args.offset 247).step = ap (λ (x : AfterCut). cut c.in-Cut.start c.in-Cut.what x) (sym besides) ∙ is in
-    search (rules, e)
+pub raised_end-requires-clause-ended : goal.raised_end-requires-clause-ended
+raised_end-requires-clause-ended c = (c.self.inside.parser.begun, c.byte.ensures.step ∙ end_step c.self.inside.parser c.args.offset)
 
-pub returns-in_default : goal.returns-in_default
-returns-in_default c = absurd (only_ends c.byte.result c.self.inside.parser.begun (c.byte.ensures.step ∙ end_step c.self.inside.parser c.args.offset) c.in_default.not-Exclusive c.in_default.not-Stray c.in_default.not-Cut)
+pub returns : goal.returns
+returns c =
+    let step : Step = (parse c.self.inside.parser c.args.offset 247).step in
+    let answer : Accepts c.self.inside.raiser.holding c.group-group.result c.args.offset step c.raised_end.result =
+    subst (λ (s : Step). Accepts c.self.inside.raiser.holding c.group-group.result c.args.offset s c.raised_end.result) c.byte.ensures.step (c.raised_end.ensures c.self.inside.raiser.holding) in
+    let kept : KeepsBehind c.self.inside.raiser.holding step =
+    subst (KeepsBehind c.self.inside.raiser.holding) (sym (end_step c.self.inside.parser c.args.offset)) (kept_behind_end c.other_messages_change_nothing_kept.ensures c.self.inside.raiser.holding c.self.inside.parser.begun) in
+    let held : holding_behind_step c.self.inside.raiser.holding step ≡ c.self.inside.raiser.holding =
+    ap (holding_behind_step c.self.inside.raiser.holding) (end_step c.self.inside.parser c.args.offset) ∙ held_behind_end c.self.inside.raiser.holding c.self.inside.parser.begun in
+    search (rules, answer, kept, held)
