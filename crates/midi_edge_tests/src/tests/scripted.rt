@@ -44,7 +44,7 @@ pub(super) struct Scripted<'a> {
     steps: &'a [Step],
     awaited: &'a [u8],
     log: &'a Log,
-    flushes: bool,
+    can_flush: bool,
 }
 
 impl<'a> Scripted<'a> {
@@ -53,7 +53,7 @@ impl<'a> Scripted<'a> {
             steps,
             awaited,
             log,
-            flushes: true,
+            can_flush: true,
         }
     }
 
@@ -63,7 +63,7 @@ impl<'a> Scripted<'a> {
             steps,
             awaited,
             log,
-            flushes: false,
+            can_flush: false,
         }
     }
 
@@ -94,7 +94,7 @@ impl Write for Scripted<'_> {
     fn flush(&mut self) -> io::Result<()> {
         let flushes = self.log.flushes.get();
         self.log.flushes.set(flushes.saturating_add(1));
-        if self.flushes {
+        if self.can_flush {
             Ok(())
         } else {
             Err(io::Error::from(ErrorKind::Other))
