@@ -2,15 +2,13 @@
 ghost use Rattle.std.specs.Prelude.{◌≡◌, ◌<◌, Bool, [], ◌∷◌, Option, length, unwrap_or};
 ghost use Rattle.ci_responder.specs.Keys.{key_of, state_in};
 ghost use Rattle.ci_responder.specs.declared.keys.Key.{Key};
-ghost use Rattle.midi_pass.specs.Places.{Puts, places};
+ghost use Rattle.midi_pass.specs.Places.{Puts};
 ghost use Rattle.ci_lines.specs.Profiles.{profile_line_of, profile_lines, put_at};
 
 use ci_responder::{Key, ProfileId, Responder};
 use function_blocks::{Profile, Setup};
-use midi_edge::{Lanes, Sink};
 use midi_lines::profile_line;
-use midi_pass::RunEnd;
-use midi_pass::places::{put_notes, put_output};
+use midi_pass::{Outputs, RunEnd};
 
 /// Where a line is put.
 #[derive(Clone, Copy, Debug, PartialEq, Eq)]
@@ -53,58 +51,44 @@ fn is_on<P: ProfileStates>(known: &P, profile: &Profile) -> bool
 }
 
 // Puts a line, which isn't empty, in the output or in the notes.
-fn put_line<L: Lanes, W: Sink, N: Sink>(
-    place: LinePlace,
-    line: &[u8],
-    lanes: &mut L,
-    output: &mut W,
-    notes: &mut N,
-) -> Result<(), RunEnd>
+fn put_line<O: Outputs>(place: LinePlace, line: &[u8], outputs: &mut O) -> Result<(), RunEnd>
     requires { 0 < length line.now }
-    ensures { Puts (put_at place line.now ∷ [])
-        (places L.Lanes W.Sink N.Sink lanes.old output.old notes.old)
-        (places L.Lanes W.Sink N.Sink lanes.new output.new notes.new) result }
+    ensures { Puts (put_at place line.now ∷ []) (O.places outputs.old) (O.places outputs.new) result }
 {
     match place {
-        LinePlace::Output => put_output(line, lanes, output, notes),
-        LinePlace::Notes => put_notes(line, lanes, output, notes),
+        LinePlace::Output => outputs.put_output(line),
+        LinePlace::Notes => outputs.put_notes(line),
     }
 }
 
 // Puts the line of a profile.
-fn put_profile<P: ProfileStates, L: Lanes, W: Sink, N: Sink>(
+fn put_profile<P: ProfileStates, O: Outputs>(
     known: &P,
     profile: &Profile,
     place: LinePlace,
-    lanes: &mut L,
-    output: &mut W,
-    notes: &mut N,
+    outputs: &mut O,
 ) -> Result<(), RunEnd>
     ensures { Puts (profile_line_of place (P.states known.now) 0 profile.now)
-        (places L.Lanes W.Sink N.Sink lanes.old output.old notes.old)
-        (places L.Lanes W.Sink N.Sink lanes.new output.new notes.new) result }
+        (O.places outputs.old) (O.places outputs.new) result }
 {
     let line = profile_line(profile, is_on(known, profile));
-    put_line(place, line.as_slice(), lanes, output, notes)
+    put_line(place, line.as_slice(), outputs)
 }
 
 /// Puts the line of each profile of a setup, in its order: whether it is on, as `known` tells, else as the setup says (own rule). An
 /// `Err` is the fault of the place, `OutputFault` or `NoteFault`, and comes only where the place's count of faults rose.
-pub fn put_profiles<P: ProfileStates, L: Lanes, W: Sink, N: Sink>(
+pub fn put_profiles<P: ProfileStates, O: Outputs>(
     setup: &Setup,
     known: &P,
     place: LinePlace,
-    lanes: &mut L,
-    output: &mut W,
-    notes: &mut N,
+    outputs: &mut O,
 ) -> Result<(), RunEnd>
     ensures { Puts (profile_lines place (P.states known.now) setup.now.profiles)
-        (places L.Lanes W.Sink N.Sink lanes.old output.old notes.old)
-        (places L.Lanes W.Sink N.Sink lanes.new output.new notes.new) result }
+        (O.places outputs.old) (O.places outputs.new) result }
 {
     for k in 0..setup.profile_count() {
         match setup.profile(k) {
-            Some(profile) => put_profile(known, profile, place, lanes, output, notes)?,
+            Some(profile) => put_profile(known, profile, place, outputs)?,
             None => unreachable!(),
         }
     }

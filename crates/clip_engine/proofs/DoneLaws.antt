@@ -1,5 +1,5 @@
 -- Where the pass is done, the input is a whole clip file, and its lines were put.
-use Rattle.std.proofs.Common.{◌≡◌, ◌+◌, ℕ, Bool, true, false, List, [], ◌∷◌, ◌++◌, is_some, Option, None, Some, refl, ap, sym, ◌∙◌, subst, arith}
+use Rattle.std.proofs.Common.{◌≡◌, ◌+◌, ℕ, Bool, true, false, List, [], ◌∷◌, ◌++◌, is_some, Option, None, Some, refl, ap, sym, ◌∙◌, subst, arith, inl, inr}
 use Rattle.std.specs.Prelude.{IfSome, Result, Ok, reverse, ◌&&◌}
 use Rattle.std.specs.List.{AllByRecursion, sum_by}
 use Rattle.std.specs.Option.{option_and_then}
@@ -17,8 +17,8 @@ use Rattle.midi_clip.specs.declared.step.ClipStep.{ClipStep}
 use Rattle.midi_pass.specs.Pass.{AreAccepted, IsDone, Seen}
 use Rattle.midi_pass.specs.Places.{with_more}
 use Rattle.midi_pass.specs.Put.{output_in}
-use Rattle.midi_pass.specs.declared.ends.RunEnd.TheVariants.{Done}
-use Rattle.clip_engine.specs.Clipping.{clip_text, clipping, refusal_by}
+use Rattle.midi_pass.specs.declared.ends.RunEnd.TheVariants.{Done, ReadFault}
+use Rattle.clip_engine.specs.Clipping.{end_refusal, size_after, clip_text, clipping, refusal_by}
 use Rattle.clip_engine.specs.Cutting.{clip_cutting, packets_of}
 use Rattle.clip_engine.specs.Ends.{ClipEnds}
 use Rattle.clip_engine.specs.Laws.{CanStart, IsShownClip}
@@ -328,13 +328,18 @@ module _ (laws : ClipsAreTheDefinition) (old new : Seen) (bytes : List ℕ) (tol
         output =
             ap (λ s. s.output) done.places
             ∙ ap (with_more old.places.output)
-            (ap (λ last. output_in (done.puts ++ last)) done.at_end.0
+            (ap (λ last. output_in (done.puts ++ last)) done.at_end
             ∙ ap output_in (append-nil done.puts)
             ∙ done.done.meaning
             ∙ ap (λ items. clip_text (reverse items)) whole);
       }
 
+ended-fine : (ended : Bool) (size : ℕ) → end_refusal ended size ≡ None → ended ≡ true
+ended-fine true size fine = refl
+ended-fine false size fine = absurd cc
+
 pub shows_the_clip : (laws : ClipsAreTheDefinition) (old new : Seen) (bytes : List ℕ) → old.left ≡ Some bytes → ClipEnds old new Done → IsShownClip bytes old.places new.places
-shows_the_clip laws old new bytes told ends =
-    let done : IsDone clip_cutting clipping old new = ends.0 in
-    shown laws old new bytes told done (reverse done.items) refl done.done.accepted done.at_end.1
+shows_the_clip laws old new bytes told (inr fails) = absurd (let e : Done ≡ ReadFault = fails.0 in cc)
+shows_the_clip laws old new bytes told (inl ends) =
+    let done : IsDone clip_cutting clipping old new = ends.any.0 in
+    shown laws old new bytes told done (reverse done.items) refl done.done.accepted (ended-fine (is_ended (packets_of (reverse done.items))) (size_after (reverse done.items)) done.fine)

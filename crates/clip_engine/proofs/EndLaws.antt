@@ -1,25 +1,25 @@
--- What stands where the pass over a clip file ends otherwise than any pass does, and that it is done unless something fails.
+-- What stands where the pass over a clip file ends, and which end it is where nothing fails.
 use Rattle.std.proofs.Common.{◌≡◌, ◌+◌, ◌≤◌, ◌<◌, ℕ, true, false, List, [], ◌++◌, length, take, Option, None, Some, refl, ap, sym, ◌∙◌, subst, arith, inl, inr}
-use Rattle.std.specs.Prelude.{IfSome, ◌≢◌, reverse}
+use Rattle.std.specs.Prelude.{IfSome}
 use Rattle.std.proofs.lemmas.List.{length-append, take_at}
 use Rattle.midi_clip.specs.Header.{HasTaken, header_bytes}
-use Rattle.midi_clip.specs.History.{is_ended}
 use Rattle.midi_edge.specs.Outside.{Loses, ahead}
-use Rattle.midi_pass.specs.NamedLaws.{are_named, spares_put}
-use Rattle.midi_pass.specs.DoneLaws.{done_unless}
-use Rattle.midi_pass.specs.Pass.{CutsOnce, HasNoRefusal, NothingFails, Seen, Stands}
+use Rattle.midi_pass.specs.Borrowed.{ends_as, ends_keep, given_back, seen_back}
+use Rattle.midi_pass.specs.DoneLaws.{is_done_unless}
+use Rattle.midi_pass.specs.NamedLaws.{stands_ends}
+use Rattle.midi_pass.specs.Pass.{CutsOnce, HasNoRefusal, IsDoneUnless, IsFirstRefusal, NothingFails, Seen, Stands}
 use Rattle.midi_pass.specs.Places.{Places}
 use Rattle.midi_pass.specs.PutLaws.{after_puts-none}
+use Rattle.midi_pass.specs.Refused.{HasFirstRefusal, IsRefusedWhere}
+use Rattle.midi_pass.specs.RefusedLaws.{is_refused_where}
 use Rattle.midi_pass.specs.declared.ends.Reason.{Reason}
 use Rattle.midi_pass.specs.declared.ends.Reason.TheVariants as reason
 use Rattle.midi_pass.specs.declared.ends.RunEnd.{RunEnd}
-use Rattle.midi_pass.specs.declared.ends.RunEnd.TheVariants.{Done, Refused, ReadFault, LaneFault, OutputFault, NoteFault, NoMemory}
-use Rattle.ump_words.specs.declared.words.Framed.{Framed}
-use Rattle.ump_grammar.specs.declared.packet.Packet.{Packet}
+use Rattle.midi_pass.specs.declared.ends.RunEnd.TheVariants.{Done, Refused}
 use Rattle.clip_engine.specs.Clipping.{clipping}
-use Rattle.clip_engine.specs.Cutting.{clip_cutting, packets_of}
-use Rattle.clip_engine.specs.Ends.{ClipEnds, ClipStands, FailsInHeader, IsDoneUnless, IsNoClip, IsUnended, IsWholeClip, with_header}
-use Rattle.clip_engine.proofs.StepLaws.{puts-named}
+use Rattle.clip_engine.specs.Cutting.{clip_cutting}
+use Rattle.clip_engine.specs.Ends.{ClipEnds, IsNoClip, IsUnended, with_header}
+use Rattle.clip_engine.proofs.StepLaws.{last-named, puts-named}
 
 -- ---- the header
 
@@ -39,43 +39,8 @@ pub seen-before : (old mid : Seen) → HasTaken old.left mid.left true → mid.r
 seen-before old mid is reads places =
     ap (λ left. made mid.places left mid.reads) (header-taken old.left mid.left is) ∙ ap (made mid.places old.left) reads ∙ ap (λ p. made p old.left old.reads) places
 
-not-lane : (why : Reason) (offset : ℕ) → Refused why offset ≢ LaneFault
-not-lane why offset e = let f : Refused why offset ≡ LaneFault = e in cc
-
-not-output : (why : Reason) (offset : ℕ) → Refused why offset ≢ OutputFault
-not-output why offset e = let f : Refused why offset ≡ OutputFault = e in cc
-
-not-note : (why : Reason) (offset : ℕ) → Refused why offset ≢ NoteFault
-not-note why offset e = let f : Refused why offset ≡ NoteFault = e in cc
-
-pub no-clip : (old new : Seen) → IsNoClip 0 old new → ClipEnds old new (Refused reason.NotClip 0)
-no-clip old new is = (
-  is,
-  spares_put clipping.names [] (Refused reason.NotClip 0) old.places new.places tt (is.places ∙ sym (after_puts-none old.places)) (not-lane reason.NotClip 0) (not-output reason.NotClip 0) (not-note reason.NotClip 0),
-)
-
-pub header-fails : (old new : Seen) → FailsInHeader old new → ClipEnds old new ReadFault
-header-fails old new is = (
-  inl is,
-  spares_put clipping.names [] ReadFault old.places new.places tt (is.places ∙ sym (after_puts-none old.places))
-      (λ e. (let f : ReadFault ≡ LaneFault = e in cc)) (λ e. (let f : ReadFault ≡ OutputFault = e in cc)) (λ e. (let f : ReadFault ≡ NoteFault = e in cc)),
-)
-
-pub unended : (offset : ℕ) (old new : Seen) → IsUnended offset old new → ClipEnds old new (Refused reason.NoEnd offset)
-unended offset old new is = (
-  is,
-  spares_put clipping.names is.puts (Refused reason.NoEnd offset) old.places new.places (are_named clipping puts-named (reverse is.items) is.puts is.done.put) is.places (not-lane reason.NoEnd offset) (not-output reason.NoEnd offset) (not-note reason.NoEnd offset),
-)
-
-pub whole_file : (all : Option (List ℕ)) (items : List (Framed × Packet)) (left : Option (List ℕ)) (end : ℕ) → IfSome all (λ bytes. clip_cutting bytes items None × (left ≡ Some [])) → IfSome all (λ bytes. end ≡ length bytes)
-    → IfSome all (λ bytes. clip_cutting bytes items None × (left ≡ Some []) × (end ≡ length bytes))
-whole_file None items left end cut size = tt
-whole_file (Some bytes) items left end cut size = (cut.0, cut.1, size)
-
--- ---- done unless something fails
-
 -- what was taken of a file with a header are the bytes of the header
-pub all-taken : (bytes after : List ℕ) (new : Option (List ℕ)) → bytes ≡ header_bytes ++ after → HasTaken (Some bytes) new false → ⊥
+all-taken : (bytes after : List ℕ) (new : Option (List ℕ)) → bytes ≡ header_bytes ++ after → HasTaken (Some bytes) new false → ⊥
 all-taken bytes after None parts is = is.lost
 all-taken bytes after (Some left) parts is =
     let size : length bytes ≡ 8 + length after = ap length parts ∙ length-append header_bytes after in
@@ -88,44 +53,84 @@ all-taken bytes after (Some left) parts is =
     eight : (n : ℕ) → n ≤ 8 → (n < 8 → ⊥) → n ≡ 8
     eight n most not = omega arith
 
-module _ (cuts : CutsOnce clip_cutting) (old new : Seen) (bytes : List ℕ) (told : old.left ≡ Some bytes) (whole : IsWholeClip bytes) (well : NothingFails old new) where
-  none : HasNoRefusal clip_cutting clipping bytes
-  none = (whole.items, whole.cut, whole.accepted)
+-- so a file of which others were taken has none
+no-header : (old new : Option (List ℕ)) → HasTaken old new false → IfSome old (λ bytes. IsFirstRefusal clip_cutting clipping bytes [] reason.NotClip 0)
+no-header None new is = tt
+no-header (Some bytes) new is = inl (inr (refl, refl, λ after parts. all-taken bytes after new parts is))
 
-  any : (end : RunEnd) → Stands clip_cutting clipping old new end → end ≡ Done
-  any end stands = done_unless clip_cutting clipping cuts old new end bytes told none well stands
+-- ---- each end
 
-  pub done : (end : RunEnd) → ClipStands old new end → end ≡ Done
-  done Done stands = refl
-  done ReadFault (inl fails) = absurd (well.0 fails.reads)
-  done ReadFault (inr fails) = any ReadFault fails
-  done LaneFault stands = any LaneFault stands
-  done OutputFault stands = any OutputFault stands
-  done NoteFault stands = any NoteFault stands
-  done NoMemory stands = any NoMemory stands
-  done (Refused reason.NotClip offset) stands =
-      let T : Option (List ℕ) → Type 0 = λ all. HasTaken all new.left false in
-      absurd (all-taken bytes whole.cut.0 new.left whole.cut.1 (subst T told stands.taken))
-  done (Refused reason.NoEnd offset) stands =
-      let C : Option (List ℕ) → Type 0 = λ all. IfSome all (λ b. clip_cutting b stands.items None × (new.left ≡ Some []) × (offset ≡ length b)) in
-      let same = cuts.one bytes stands.items whole.items None None (subst C told stands.cut).0 whole.cut in
-      let e : false ≡ true = sym stands.goes_on ∙ ap (λ (items : List (Framed × Packet)). is_ended (packets_of (reverse items))) same.0 ∙ whole.ended in
-      absurd cc
-  done (Refused reason.Truncated offset) stands = any (Refused reason.Truncated offset) stands
-  done (Refused reason.InputTooLong offset) stands = any (Refused reason.InputTooLong offset) stands
-  done (Refused reason.BadCount offset) stands = any (Refused reason.BadCount offset) stands
-  done (Refused reason.HighBit offset) stands = any (Refused reason.HighBit offset) stands
-  done (Refused reason.DataIncrement offset) stands = any (Refused reason.DataIncrement offset) stands
-  done (Refused reason.DataDecrement offset) stands = any (Refused reason.DataDecrement offset) stands
-  done (Refused reason.ExclusiveTooLong offset) stands = any (Refused reason.ExclusiveTooLong offset) stands
-  done (Refused reason.BadEvent offset) stands = any (Refused reason.BadEvent offset) stands
-  done (Refused reason.TooManyMessages offset) stands = any (Refused reason.TooManyMessages offset) stands
-  done (Refused reason.NoResolution offset) stands = any (Refused reason.NoResolution offset) stands
-  done (Refused reason.AfterEnd offset) stands = any (Refused reason.AfterEnd offset) stands
+abbrev offset_of : RunEnd → ℕ
+offset_of (Refused why offset) = offset
+offset_of _ = 0
 
-pub is_done : (cuts : CutsOnce clip_cutting) (old new : Seen) (end : RunEnd) → ClipEnds old new end → IsDoneUnless old new end
-is_done cuts old new end ends = by_told old.left refl
+-- what stands is what any pass says, where no such end is one of the two that only a clip file has
+pub as_any : (Is : RunEnd → Type 0) → ((offset : ℕ) → Is (Refused reason.NotClip offset) → ⊥) → ((offset : ℕ) → Is (Refused reason.NoEnd offset) → ⊥)
+    → (old new : Seen) (end : RunEnd) → Is end → Stands clip_cutting clipping old new end → ClipEnds old new end
+as_any Is no_clip unended old new end is stands =
+    inl (record {
+      any = stands_ends clip_cutting clipping puts-named last-named old new end stands;
+      no_clip = λ offset e. absurd (no_clip offset (subst Is e is));
+      unended = λ offset e. absurd (unended offset (subst Is e is));
+    })
+
+pub no-clip : (old new : Seen) → IsNoClip 0 old new → ClipEnds old new (Refused reason.NotClip 0)
+no-clip old new is =
+    let I : ℕ → Type 0 = λ offset. IsNoClip offset old new in
+    inl (record {
+      any = stands_ends clip_cutting clipping puts-named last-named old new (Refused reason.NotClip 0)
+          (record {
+            items = [];
+            puts = [];
+            first = no-header old.left new.left is.taken;
+            done = record { accepted = tt; put = refl; meaning = refl };
+            places = is.places ∙ sym (after_puts-none old.places);
+            reads = is.reads;
+          });
+      no_clip = λ offset e. subst I (ap offset_of e) is;
+      unended = λ offset e. absurd (let f : Refused reason.NotClip 0 ≡ Refused reason.NoEnd offset = e in cc);
+    })
+
+pub unended : (at : ℕ) (old new : Seen) → Stands clip_cutting clipping old new (Refused reason.NoEnd at) → IsUnended at old new → ClipEnds old new (Refused reason.NoEnd at)
+unended at old new stands is =
+    let I : ℕ → Type 0 = λ offset. IsUnended offset old new in
+    inl (record {
+      any = stands_ends clip_cutting clipping puts-named last-named old new (Refused reason.NoEnd at) stands;
+      no_clip = λ offset e. absurd (let f : Refused reason.NoEnd at ≡ Refused reason.NotClip offset = e in cc);
+      unended = λ offset e. subst I (ap offset_of e) is;
+    })
+
+-- ---- of objects that are borrowed
+
+pub clip_ends_keep : (old new : Seen) (end : RunEnd) → ClipEnds old new end → new.places.borrows ≡ old.places.borrows
+clip_ends_keep old new end (inl is) = ends_keep clip_cutting clipping old new end is.any
+clip_ends_keep old new end (inr fails) = ap (λ s. s.borrows) fails.1.places
+
+-- what stands of objects that are borrowed stands of the objects
+pub clip_ends_as : (old new : Seen) (end : RunEnd) (now : Places) → given_back new.places ≡ now → ClipEnds old new end → ClipEnds (seen_back old) (record new { places = now }) end
+clip_ends_as old new end now same (inl is) =
+    inl (record {
+      any = ends_as clip_cutting clipping old new end now same is.any;
+      no_clip = λ offset e.
+          let no = is.no_clip offset e in
+          record { first = no.first; taken = no.taken; places = sym same ∙ ap given_back no.places; reads = no.reads };
+      unended = λ offset e.
+          let un = is.unended offset e in
+          record { items = un.items; puts = un.puts; cut = un.cut; done = un.done; goes_on = un.goes_on; places = sym same ∙ ap given_back un.places; reads = un.reads };
+    })
+clip_ends_as old new end now same (inr (e, fails)) =
+    inr (e, record { taken = fails.taken; few = fails.few; lost = fails.lost; places = sym same ∙ ap given_back fails.places; reads = fails.reads })
+
+-- ---- where nothing fails
+
+abbrev pub IsTold : Seen → Seen → RunEnd → Type 0
+IsTold old new end = IsDoneUnless clip_cutting clipping old new end × IsRefusedWhere clip_cutting clipping old new end
+
+pub is_told : (cuts : CutsOnce clip_cutting) (old new : Seen) (end : RunEnd) → ClipEnds old new end → IsTold old new end
+is_told cuts old new end (inl is) = (is_done_unless clip_cutting clipping cuts old new end is.any, is_refused_where clip_cutting clipping cuts old new end is.any)
+is_told cuts old new end (inr fails) = by_told old.left
   where
-    by_told : (left : Option (List ℕ)) → old.left ≡ left → IfSome left (λ bytes. IsWholeClip bytes → NothingFails old new → end ≡ Done)
-    by_told None told = tt
-    by_told (Some bytes) told = λ whole well. done cuts old new bytes told whole well end ends.0
+    by_told : (left : Option (List ℕ)) → IfSome left (λ bytes. HasNoRefusal clip_cutting clipping bytes → NothingFails old new → end ≡ Done)
+        × IfSome left (λ bytes. (why : Reason) (offset : ℕ) → HasFirstRefusal clip_cutting clipping bytes why offset → NothingFails old new → end ≡ Refused why offset)
+    by_told None = (tt, tt)
+    by_told (Some bytes) = (λ none well. absurd (well.0 fails.1.reads), λ why offset first well. absurd (well.0 fails.1.reads))

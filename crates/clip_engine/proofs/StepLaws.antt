@@ -1,5 +1,5 @@
 -- What one more packet does to what is held, and what each end says.
-use Rattle.std.proofs.Common.{◌≡◌, ◌+◌, ◌*◌, ◌≤◌, ◌<◌, ◌^◌, ◌==◌, ◌%◌, ℕ, Bool, true, false, List, [], ◌∷◌, ◌++◌, length, is_some, Option, None, Some, refl, ap, sym, ◌∙◌, subst, arith, inr}
+use Rattle.std.proofs.Common.{◌≡◌, ◌+◌, ◌*◌, ◌≤◌, ◌<◌, ◌^◌, ◌==◌, ◌%◌, ℕ, Bool, true, false, List, [], ◌∷◌, ◌++◌, length, is_some, Option, None, Some, refl, ap, sym, ◌∙◌, subst, arith}
 use Rattle.std.specs.Prelude.{Result, Ok, Err, if◌then◌else◌}
 use Rattle.std.proofs.lemmas.List.Concat.{flat_map-append}
 use Rattle.ump_words.specs.declared.words.Framed.{Framed}
@@ -19,7 +19,7 @@ use Rattle.midi_clip.specs.declared.step.ClipStep.TheVariants as step
 use Rattle.midi_clip.specs.declared.step.Stage.{Stage}
 use Rattle.midi_clip.specs.declared.step.Stage.TheVariants.{NotStarted, Started, Ended}
 use Rattle.midi_pass.specs.Named.{AreNamed}
-use Rattle.midi_pass.specs.Pass.{ArePut, Seen, Stands, StepEnds}
+use Rattle.midi_pass.specs.Pass.{ArePut, StepEnds}
 use Rattle.midi_pass.specs.Places.{Places}
 use Rattle.midi_pass.specs.Put.{Put, output_in, output_of}
 use Rattle.midi_pass.specs.declared.ends.Reason.{Reason}
@@ -27,9 +27,8 @@ use Rattle.midi_pass.specs.declared.ends.Reason.TheVariants as reason
 use Rattle.midi_pass.specs.declared.ends.RunEnd.{RunEnd}
 use Rattle.midi_pass.specs.declared.ends.RunEnd.TheVariants.{Done, Refused, ReadFault, LaneFault, OutputFault, NoteFault, NoMemory}
 use Rattle.clip_engine.specs.Clipping.{clip_text, clipping, puts_by, refusal_by}
-use Rattle.clip_engine.specs.Cutting.{clip_cutting, packets_of}
+use Rattle.clip_engine.specs.Cutting.{packets_of}
 use Rattle.packet_items.specs.Packets.{IsOfBytes}
-use Rattle.clip_engine.specs.Ends.{ClipStands}
 
 -- ---- ticks
 
@@ -141,7 +140,7 @@ puts-named past item puts put =
     subst A (sym put) (named-by (step_at (packets_of past) item.1) item)
 
 pub last-named : (past : List (Framed × Packet)) (puts : List Put) → clipping.IsPutAtEnd past puts → AreNamed clipping.names puts
-last-named past puts put = let A : List Put → Type 0 = λ ps. AreNamed clipping.names ps in subst A (sym put.0) tt
+last-named past puts put = let A : List Put → Type 0 = λ ps. AreNamed clipping.names ps in subst A (sym put) tt
 
 -- ---- ends that any pass has
 
@@ -150,41 +149,10 @@ IsAny (Refused reason.NotClip offset) = ⊥
 IsAny (Refused reason.NoEnd offset) = ⊥
 IsAny _ = Unit {0}
 
-pub stands-so : (old new : Seen) (end : RunEnd) → IsAny end → Stands clip_cutting clipping old new end → ClipStands old new end
-stands-so old new Done any stands = stands
-stands-so old new ReadFault any stands = inr stands
-stands-so old new LaneFault any stands = stands
-stands-so old new OutputFault any stands = stands
-stands-so old new NoteFault any stands = stands
-stands-so old new NoMemory any stands = stands
-stands-so old new (Refused reason.NotClip offset) any stands = absurd any
-stands-so old new (Refused reason.NoEnd offset) any stands = absurd any
-stands-so old new (Refused reason.Truncated offset) any stands = stands
-stands-so old new (Refused reason.InputTooLong offset) any stands = stands
-stands-so old new (Refused reason.BadCount offset) any stands = stands
-stands-so old new (Refused reason.HighBit offset) any stands = stands
-stands-so old new (Refused reason.DataIncrement offset) any stands = stands
-stands-so old new (Refused reason.DataDecrement offset) any stands = stands
-stands-so old new (Refused reason.ExclusiveTooLong offset) any stands = stands
-stands-so old new (Refused reason.BadEvent offset) any stands = stands
-stands-so old new (Refused reason.TooManyMessages offset) any stands = stands
-stands-so old new (Refused reason.NoResolution offset) any stands = stands
-stands-so old new (Refused reason.AfterEnd offset) any stands = stands
-
-pub any-bytes : (why : Reason) (offset : ℕ) → IsOfBytes why → IsAny (Refused why offset)
-any-bytes reason.Truncated offset is = tt
-any-bytes reason.InputTooLong offset is = tt
-any-bytes reason.BadCount offset is = tt
-any-bytes reason.HighBit offset is = tt
-any-bytes reason.DataIncrement offset is = absurd is
-any-bytes reason.DataDecrement offset is = absurd is
-any-bytes reason.ExclusiveTooLong offset is = absurd is
-any-bytes reason.BadEvent offset is = absurd is
-any-bytes reason.TooManyMessages offset is = absurd is
-any-bytes reason.NotClip offset is = absurd is
-any-bytes reason.NoResolution offset is = absurd is
-any-bytes reason.AfterEnd offset is = absurd is
-any-bytes reason.NoEnd offset is = absurd is
+-- the words are refused for a reason of theirs
+abbrev pub IsOfWords : RunEnd → Type 0
+IsOfWords (Refused why offset) = IsOfBytes why
+IsOfWords _ = ⊥
 
 -- a packet isn't refused because the clip doesn't end
 abbrev IsStepFault : Result ClipStep ClipFault → Type 0

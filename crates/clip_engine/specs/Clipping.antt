@@ -1,7 +1,8 @@
 -- A clip file whose events are shown at their ticks.
-use Rattle.std.specs.Prelude.{◌≡◌, ℕ, true, false, List, [], ◌∷◌, ◌++◌, None, Some, Result, Ok, Err}
+use Rattle.std.specs.Prelude.{◌≡◌, ℕ, ◌+◌, ◌*◌, Bool, true, false, List, [], ◌∷◌, ◌++◌, length, None, Some, Result, Ok, Err}
 use Rattle.ump_words.specs.declared.words.Framed.{Framed}
 use Rattle.ump_grammar.specs.declared.packet.Packet.{Packet}
+use Rattle.midi_clip.specs.Header.{header_bytes}
 use Rattle.midi_clip.specs.History.{is_ended, step_at}
 use Rattle.midi_clip.specs.declared.step.ClipFault.{ClipFault}
 use Rattle.midi_clip.specs.declared.step.ClipFault.TheVariants as fault
@@ -50,8 +51,18 @@ abbrev pub clip_text : List (Framed × Packet) → List ℕ
 clip_text [] = []
 clip_text (item ∷ past) = clip_text past ++ output_in (puts_at past item)
 
+-- the number of bytes of the header and of the words of these packets
+abbrev pub size_after : List (Framed × Packet) → ℕ
+size_after [] = length header_bytes
+size_after (item ∷ past) = size_after past + 4 * length item.0.words
+
+-- where the clip has not ended, the input is refused at its end
+abbrev pub end_refusal : Bool → ℕ → Tail
+end_refusal true size = None
+end_refusal false size = Some (NoEnd, size)
+
 -- What is done with a clip file. A packet is refused where it starts a clip without the ticks for a quarter note, or comes after the
--- end. What is put are the lines of the clip. At the end of the input nothing is put, and the clip has ended.
+-- end, and the input where it ends before the clip. What is put are the lines of the clip.
 abbrev pub clipping : Work (Framed × Packet)
 clipping =
     record {
@@ -59,6 +70,7 @@ clipping =
       grows = false;
       refusal = λ past item. refusal_by (step_at (packets_of past) item.1) item.0.offset;
       IsPut = λ past item puts. puts ≡ puts_at past item;
-      IsPutAtEnd = λ past puts. (puts ≡ []) × (is_ended (packets_of past) ≡ true);
+      refusal_at_end = λ past. end_refusal (is_ended (packets_of past)) (size_after past);
+      IsPutAtEnd = λ past puts. puts ≡ [];
       Means = λ past puts. output_in puts ≡ clip_text past;
     }

@@ -1,11 +1,13 @@
 -- A clip file, cut into packets: its header, and the packets after it, whose words have their most significant byte first. The header
--- counts: offsets are those from the start of the file, and the limit is that of the whole file.
-use Rattle.std.specs.Prelude.{◌≡◌, ℕ, List, ◌++◌, map}
+-- counts: offsets are those from the start of the file, and the limit is that of the whole file. Where there is no header, the file is
+-- refused at its start.
+use Rattle.std.specs.Prelude.{◌≡◌, ◌≢◌, ◌⊎◌, ℕ, List, [], ◌++◌, Some, map}
 use Rattle.midi_clip.specs.Header.{header_bytes}
 use Rattle.ump_words.specs.declared.words.Framed.{Framed}
 use Rattle.ump_words.specs.declared.words.Order.TheVariants.{Big}
 use Rattle.ump_grammar.specs.declared.packet.Packet.{Packet}
 use Rattle.midi_pass.specs.Pass.{Cutting}
+use Rattle.midi_pass.specs.declared.ends.Reason.TheVariants.{NotClip}
 use Rattle.packet_items.specs.Packets.{packets_after}
 
 abbrev pub packets_of : List (Framed × Packet) → List Packet
@@ -16,6 +18,12 @@ packets_of items = map (λ item. item.1) items
 abbrev pub CutsAfter : Cutting (Framed × Packet)
 CutsAfter = packets_after Big 8
 
--- A clip file is its header and these packets.
+-- these bytes don't begin with the header
+abbrev pub HasNoHeader : List ℕ → Type 0
+HasNoHeader bytes = (after : List ℕ) → bytes ≢ header_bytes ++ after
+
+-- A clip file is its header and these packets, or has no header.
 abbrev pub clip_cutting : Cutting (Framed × Packet)
-clip_cutting bytes items end = (after : List ℕ) × (bytes ≡ header_bytes ++ after) × CutsAfter after items end
+clip_cutting bytes items end =
+    ((after : List ℕ) × (bytes ≡ header_bytes ++ after) × CutsAfter after items end)
+    ⊎ ((items ≡ []) × (end ≡ Some (NotClip, 0)) × HasNoHeader bytes)

@@ -1,17 +1,16 @@
 -- What stands at each end of a clip file.
-use Rattle.std.specs.Prelude.{◌≡◌, ◌⊎◌, ℕ, ◌<◌, true, false, List, [], length, reverse, None, Some, IfSome}
+use Rattle.std.specs.Prelude.{◌≡◌, ◌⊎◌, ℕ, ◌<◌, false, List, [], length, reverse, None, Some, IfSome}
 use Rattle.ump_words.specs.declared.words.Framed.{Framed}
 use Rattle.ump_grammar.specs.declared.packet.Packet.{Packet}
 use Rattle.midi_clip.specs.Header.{HasTaken, header_bytes}
 use Rattle.midi_clip.specs.History.{is_ended}
 use Rattle.midi_edge.specs.Outside.{Loses, Rose, ahead}
-use Rattle.midi_pass.specs.Named.{SparesOthers}
-use Rattle.midi_pass.specs.Pass.{AreAccepted, IsWork, NothingFails, ReadFails, Seen, Stands}
+use Rattle.midi_pass.specs.Pass.{Ends, IsWork, Seen}
 use Rattle.midi_pass.specs.Places.{after_puts}
 use Rattle.midi_pass.specs.Put.{Put}
 use Rattle.midi_pass.specs.declared.ends.Reason.TheVariants.{NotClip, NoEnd}
 use Rattle.midi_pass.specs.declared.ends.RunEnd.{RunEnd}
-use Rattle.midi_pass.specs.declared.ends.RunEnd.TheVariants.{Done, Refused, ReadFault}
+use Rattle.midi_pass.specs.declared.ends.RunEnd.TheVariants.{Refused, ReadFault}
 use Rattle.clip_engine.specs.Clipping.{clipping}
 use Rattle.clip_engine.specs.Cutting.{clip_cutting, packets_of}
 
@@ -45,25 +44,12 @@ pub record FailsInHeader (old new : Seen) : Type 0 where
   pub places : new.places ≡ old.places
   pub reads : Rose old.reads new.reads
 
--- What stands at each end: what any pass says, of a clip file with its header; or what is said above.
-abbrev pub ClipStands : Seen → Seen → RunEnd → Type 0
-ClipStands old new (Refused NotClip offset) = IsNoClip offset old new
-ClipStands old new (Refused NoEnd offset) = IsUnended offset old new
-ClipStands old new (Refused reason offset) = Stands clip_cutting clipping old new (Refused reason offset)
-ClipStands old new ReadFault = FailsInHeader old new ⊎ ReadFails clip_cutting clipping old new
-ClipStands old new end = Stands clip_cutting clipping old new end
+-- what any pass says of its end; and of an input without the header and of a clip that doesn't end, what is said above
+pub record EndsAsAny (old new : Seen) (end : RunEnd) : Type 0 where
+  pub any : Ends clip_cutting clipping old new end
+  pub no_clip : (offset : ℕ) → end ≡ Refused NotClip offset → IsNoClip offset old new
+  pub unended : (offset : ℕ) → end ≡ Refused NoEnd offset → IsUnended offset old new
 
--- what each end says: what stands, and that the lanes and the notes stay as they are
+-- what each end says: that, or that a read failed within the header
 abbrev pub ClipEnds : Seen → Seen → RunEnd → Type 0
-ClipEnds old new end = ClipStands old new end × SparesOthers clipping.names end old.places new.places
-
--- a whole clip file: the header and packets, none of which is refused, and the clip has ended
-pub record IsWholeClip (bytes : List ℕ) : Type 0 where
-  pub items : List (Framed × Packet)
-  pub cut : clip_cutting bytes items None
-  pub accepted : AreAccepted clipping (reverse items)
-  pub ended : is_ended (packets_of (reverse items)) ≡ true
-
--- of a whole clip file the pass is done, unless something fails
-abbrev pub IsDoneUnless : Seen → Seen → RunEnd → Type 0
-IsDoneUnless old new end = IfSome old.left (λ bytes. IsWholeClip bytes → NothingFails old new → end ≡ Done)
+ClipEnds old new end = EndsAsAny old new end ⊎ ((end ≡ ReadFault) × FailsInHeader old new)

@@ -3,4 +3,3 @@ pub mod Cutting
 pub mod Ends
 pub mod Laws
 pub mod Lines
-pub mod Refused

@@ -3,19 +3,19 @@ ghost use Rattle.std.specs.Prelude.{◌≡◌, ◌≤◌, ◌^◌, [], ◌∷◌
 ghost use Rattle.ump_words.specs.declared.words.Order.TheVariants.{Big};
 ghost use Rattle.midi_clip.specs.Roles.{role_of};
 ghost use Rattle.midi_clip.specs.Stages.{new_stage, stage_after, step_of, ticks_of};
-ghost use Rattle.midi_pass.specs.Pass.{Takes, seen};
-ghost use Rattle.midi_pass.specs.Places.{Puts, places};
+ghost use Rattle.midi_pass.specs.Pass.{IsDoneUnless, Takes, seen, seen_with};
+ghost use Rattle.midi_pass.specs.Places.{Puts};
+ghost use Rattle.midi_pass.specs.Refused.{IsRefusedWhere};
 ghost use Rattle.packet_items.specs.Packets.{words_after};
-ghost use Rattle.clip_engine.specs.Clipping.{puts_by, reason_of, refusal_by, step_puts};
-ghost use Rattle.clip_engine.specs.Ends.{ClipEnds, IsDoneUnless, with_header};
-ghost use Rattle.clip_engine.specs.Refused.{IsRefusedWhere};
+ghost use Rattle.clip_engine.specs.Clipping.{clipping, puts_by, reason_of, refusal_by, step_puts};
+ghost use Rattle.clip_engine.specs.Cutting.{clip_cutting};
+ghost use Rattle.clip_engine.specs.Ends.{ClipEnds, with_header};
 
 use crate::laws::clip_files_are_cut_once;
 use crate::lines::{end_line, event_line, resolution_line};
 use midi_clip::{Clip, ClipFault, ClipStep, HEADER_SIZE, clips_are_the_definition, header};
 use midi_edge::{Lanes, Sink, Source};
-use midi_pass::places::put_output;
-use midi_pass::{LIMIT, Next, Reason, RunEnd};
+use midi_pass::{Borrowed, LIMIT, Next, Outputs, Reason, RunEnd, write_out};
 use packet_items::next_packet;
 use ump_grammar::Packet;
 use ump_words::{Framed, Order, WordReader};
@@ -38,19 +38,32 @@ pub fn run_clip<S: Source, L: Lanes, W: Sink, N: Sink>(
     ensures ends { ClipEnds
         (seen S.Source L.Lanes W.Sink N.Sink input.old lanes.old output.old notes.old)
         (seen S.Source L.Lanes W.Sink N.Sink input.new lanes.new output.new notes.new) result }
-    ensures complete { IsDoneUnless
+    ensures complete { IsDoneUnless clip_cutting clipping
         (seen S.Source L.Lanes W.Sink N.Sink input.old lanes.old output.old notes.old)
         (seen S.Source L.Lanes W.Sink N.Sink input.new lanes.new output.new notes.new) result }
-    ensures refused { IsRefusedWhere
+    ensures refused { IsRefusedWhere clip_cutting clipping
         (seen S.Source L.Lanes W.Sink N.Sink input.old lanes.old output.old notes.old)
         (seen S.Source L.Lanes W.Sink N.Sink input.new lanes.new output.new notes.new) result }
 {
     clip_files_are_cut_once();
+    let mut outputs = Borrowed {
+        lanes,
+        output,
+        notes,
+    };
+    show_clip(input, &mut outputs)
+}
+
+// The same into places that are told together.
+fn show_clip<S: Source, O: Outputs>(input: &mut S, outputs: &mut O) -> RunEnd
+    ensures { ClipEnds
+        (seen_with S.Source input.old (O.places outputs.old))
+        (seen_with S.Source input.new (O.places outputs.new)) result }
+{
     match header(input) {
         Ok(true) => {
             let words = WordReader::new(Order::Big, LIMIT - HEADER_SIZE);
-            let clip = Clip::new();
-            show_packets(words, clip, input, lanes, output, notes)
+            show_packets(words, Clip::new(), input, outputs)
         }
         Ok(false) => RunEnd::Refused {
             reason: Reason::NotClip,
@@ -61,28 +74,27 @@ pub fn run_clip<S: Source, L: Lanes, W: Sink, N: Sink>(
 }
 
 // Shows the events of a clip file of which the header is read.
-fn show_packets<S: Source, L: Lanes, W: Sink, N: Sink>(
+fn show_packets<S: Source, O: Outputs>(
     mut words: WordReader,
     mut clip: Clip,
     input: &mut S,
-    lanes: &mut L,
-    output: &mut W,
-    notes: &mut N,
+    outputs: &mut O,
 ) -> RunEnd
     requires words { words ≡ words_after Big 8 }
     requires clip { clip ≡ new_stage }
     ensures { ClipEnds
-        (with_header (seen S.Source L.Lanes W.Sink N.Sink input.old lanes.old output.old notes.old))
-        (seen S.Source L.Lanes W.Sink N.Sink input.new lanes.new output.new notes.new) result }
+        (with_header (seen_with S.Source input.old (O.places outputs.old)))
+        (seen_with S.Source input.new (O.places outputs.new)) result }
 {
     clips_are_the_definition();
     // How many bytes there are up to here.
     let mut size = HEADER_SIZE;
     loop {
+        write_out_before(&words, input, outputs);
         match next_packet(&mut words, HEADER_SIZE, input) {
             Next::Item { at, item } => {
                 size = at.offset + 4 * at.words.as_slice().len() as u64;
-                match take_packet(&mut clip, &at, &item, lanes, output, notes) {
+                match take_packet(&mut clip, &at, &item, outputs) {
                     Ok(()) => {}
                     Err(end) => return end,
                 }
@@ -102,6 +114,16 @@ fn show_packets<S: Source, L: Lanes, W: Sink, N: Sink>(
     }
 }
 
+// Writes out what was put, where the next packet has to be read.
+#[inline(always)]
+fn write_out_before<S: Source, O: Outputs>(words: &WordReader, input: &S, outputs: &mut O)
+    ensures { O.places outputs.new ≡ O.places outputs.old }
+{
+    if words.needs_input() {
+        write_out(input, outputs);
+    }
+}
+
 // The reason for a packet that is no part of a clip.
 fn reason(fault: ClipFault) -> Reason
     ensures { result ≡ reason_of fault }
@@ -115,23 +137,20 @@ fn reason(fault: ClipFault) -> Reason
 
 // Takes one more packet, and puts what comes of it.
 #[inline(always)]
-fn take_packet<L: Lanes, W: Sink, N: Sink>(
+fn take_packet<O: Outputs>(
     clip: &mut Clip,
     framed: &Framed,
     packet: &Packet,
-    lanes: &mut L,
-    output: &mut W,
-    notes: &mut N,
+    outputs: &mut O,
 ) -> Result<(), RunEnd>
     requires { ticks_of clip.old ≤ 2 ^ 63 }
     ensures stage { clip.new ≡ stage_after clip.old (role_of packet.now) }
     ensures takes { Takes (refusal_by (step_of clip.old (role_of packet.now)) framed.now.offset)
         (puts_by (step_of clip.old (role_of packet.now)) (framed.now, packet.now))
-        (places L.Lanes W.Sink N.Sink lanes.old output.old notes.old)
-        (places L.Lanes W.Sink N.Sink lanes.new output.new notes.new) result }
+        (O.places outputs.old) (O.places outputs.new) result }
 {
     match clip.packet(packet) {
-        Ok(step) => put_step(step, framed, packet, lanes, output, notes),
+        Ok(step) => put_step(step, framed, packet, outputs),
         Err(fault) => Err(RunEnd::Refused {
             reason: reason(fault),
             offset: framed.offset,
@@ -140,31 +159,28 @@ fn take_packet<L: Lanes, W: Sink, N: Sink>(
 }
 
 // Puts what comes of a packet.
-fn put_step<L: Lanes, W: Sink, N: Sink>(
+fn put_step<O: Outputs>(
     step: ClipStep,
     framed: &Framed,
     packet: &Packet,
-    lanes: &mut L,
-    output: &mut W,
-    notes: &mut N,
+    outputs: &mut O,
 ) -> Result<(), RunEnd>
     ensures { Puts (step_puts step (framed.now, packet.now))
-        (places L.Lanes W.Sink N.Sink lanes.old output.old notes.old)
-        (places L.Lanes W.Sink N.Sink lanes.new output.new notes.new) result }
+        (O.places outputs.old) (O.places outputs.new) result }
 {
     match step {
         ClipStep::Before | ClipStep::Delta => Ok(()),
         ClipStep::Began(resolution) => {
             let line = resolution_line(resolution);
-            put_output(line.as_slice(), lanes, output, notes)
+            outputs.put_output(line.as_slice())
         }
         ClipStep::Event(ticks) => {
             let line = event_line(ticks, framed, packet);
-            put_output(line.as_slice(), lanes, output, notes)
+            outputs.put_output(line.as_slice())
         }
         ClipStep::Ended(ticks) => {
             let line = end_line(ticks);
-            put_output(line.as_slice(), lanes, output, notes)
+            outputs.put_output(line.as_slice())
         }
     }
 }

@@ -3,3 +3,4 @@ mod clip_file;
 mod passes;
 mod places;
 mod stream_faults;
+mod written_out;

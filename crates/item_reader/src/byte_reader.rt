@@ -1,5 +1,5 @@
 // A reader of bytes from a source.
-ghost use Rattle.std.specs.Prelude.{◌≡◌, ◌≢◌, ℕ, ◌≤◌, ◌<◌, ◌^◌, length, IfSome};
+ghost use Rattle.std.specs.Prelude.{◌≡◌, ◌↔◌, IsTrue, ◌≢◌, ℕ, ◌≤◌, ◌<◌, ◌^◌, length, IfSome};
 ghost use Rattle.item_reader.specs.ByteReader.{byte_at, byte_length, new_bytes, one_byte};
 ghost use Rattle.item_reader.specs.Reading.{Answers, ReadCause, answer_of, cursor};
 
@@ -77,5 +77,13 @@ impl ByteReader {
         ensures cause { ReadCause (S.faults src.old) (S.faults src.new) result }
     {
         self.items.next(src)
+    }
+
+    /// No byte is held, so that `next` asks the source, unless the bytes have ended.
+    #[inline(always)]
+    pub fn needs_input(&self) -> bool
+        ensures { IsTrue result ↔ (length self.now.pending < 1) }
+    {
+        self.items.needs_input()
     }
 }

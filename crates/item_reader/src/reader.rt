@@ -1,5 +1,5 @@
 // A reader of items from a source.
-ghost use Rattle.std.specs.Prelude.{◌≡◌, ◌≤◌, ◌<◌, ◌+◌, ◌-◌, ◌==◌, ◌^◌, None, length, take, drop, IfSome, IfOk, OnErr, if◌then◌else◌};
+ghost use Rattle.std.specs.Prelude.{◌≡◌, ◌≤◌, ◌<◌, ◌↔◌, IsTrue, ◌+◌, ◌-◌, ◌==◌, ◌^◌, None, length, take, drop, IfSome, IfOk, OnErr, if◌then◌else◌};
 ghost use Rattle.item_reader.specs.Cut.{IsRest};
 ghost use Rattle.item_reader.specs.Front.{Sees};
 ghost use Rattle.midi_edge.specs.Outside.{ahead, HasCause, IsUsedUp};
@@ -79,6 +79,15 @@ impl<H: Cut> ItemReader<H> {
             Front::Item(size) => Ok(Some(self.give(size))),
             Front::TooLong | Front::Partial => self.next_taken(src),
         }
+    }
+
+    /// No whole item is held, so that `next` asks the source, unless the items have ended.
+    #[inline(always)]
+    pub fn needs_input(&self) -> bool
+        ensures { IsTrue result ↔ (length self.now.pending < H.asked self.now.how self.now.pending) }
+    {
+        let held = self.window.bytes();
+        self.how.asked(held) > held.len()
     }
 
     // The next answer where no whole item is held, so that the source is asked, unless the items have ended.

@@ -1,4 +1,4 @@
-// What the README shows of the crates as libraries.
+// What docs/library.md shows of the crates as libraries.
 ghost use Rattle.std.specs.Prelude.{◌≡◌, true};
 
 use down_translator::{Down, Style};

@@ -9,9 +9,8 @@ use Rattle.midi_pass.specs.Places.{Counts, Places, Fails, Puts}
 use Rattle.midi_pass.specs.Put.{Put}
 use Rattle.midi_pass.specs.declared.ends.RunEnd.{RunEnd}
 use Rattle.midi_pass.specs.declared.ends.RunEnd.TheVariants as end
-use Rattle.clip_engine.specs.Ends.{IsWholeClip}
-use Rattle.midi_commands.specs.Command.{Plan, by_pass, into_folder, with_setup, over_clip, by_line, plan_of}
-use Rattle.midi_commands.specs.Run.{IsDoneClip, IsDoneOrNoMemory, IsDonePass, IsDonePlan, Objects, ShelfSeen}
+use Rattle.midi_commands.specs.Command.{Plan, by_pass, into_folder, with_setup, over_clip, by_line, clip_pass, plan_of}
+use Rattle.midi_commands.specs.Run.{IsDoneOrNoMemory, IsDonePass, IsDonePlan, Objects, ShelfSeen}
 use Rattle.midi_commands.specs.declared.status.Status.{Status}
 use Rattle.midi_commands.specs.declared.status.Status.TheVariants.{Done, NoMemory}
 
@@ -71,15 +70,11 @@ done_pass : (puts : List Put) (pass : Pass) (old unended new : Seen) (status : S
 done_pass puts pass old unended new status answer reads put done =
     done_told (HasNoRefusal pass.IsCut pass.work) ((status ≡ Done) ⊎ (status ≡ NoMemory)) puts old unended new answer reads put done
 
-done_clip : (puts : List Put) (old unended new : Seen) (status : Status) (answer : Result (Unit {0}) RunEnd) → unended.reads ≡ new.reads → Puts puts unended.places new.places answer
-    → IsDoneClip old unended status → IsDoneClip old new status
-done_clip puts old unended new status answer reads put done = done_told IsWholeClip ((status ≡ Done) ⊎ (status ≡ NoMemory)) puts old unended new answer reads put done
-
 done_plan : (puts : List Put) (plan : Plan) (old unended new : Objects) (status : Status) (answer : Result (Unit {0}) RunEnd) → unended.seen.reads ≡ new.seen.reads → unended.shelf ≡ new.shelf → Puts puts unended.seen.places new.seen.places answer
     → IsDonePlan plan old unended status → IsDonePlan plan old new status
 done_plan puts (by_pass pass) old unended new status answer reads shelf put done = done_pass puts pass old.seen unended.seen new.seen status answer reads put done
 done_plan puts (into_folder folder pass) old unended new status answer reads shelf put done = done_pass puts pass old.seen unended.seen new.seen status answer reads put done
-done_plan puts over_clip old unended new status answer reads shelf put done = done_clip puts old.seen unended.seen new.seen status answer reads put done
+done_plan puts over_clip old unended new status answer reads shelf put done = done_pass puts clip_pass old.seen unended.seen new.seen status answer reads put done
 done_plan puts (by_line text) old unended new status answer reads shelf put done = λ well. done (λ rose. well ((puts_rise puts unended.seen.places new.seen.places answer put old.seen.places.faults.output).1 rose))
 done_plan puts (with_setup name pass) old unended new status answer reads shelf put done = by_told old.shelf.texts done
   where

@@ -11,9 +11,11 @@ use Rattle.down_translator.specs.declared.style.Style.{Style}
 use Rattle.down_translator.specs.declared.style.Style.TheVariants.{Plain, Compact}
 use Rattle.midi_pass.specs.Bytes.{byte_cutting}
 use Rattle.midi_pass.specs.Pass.{Pass, Work}
+use Rattle.clip_engine.specs.Clipping.{clipping}
+use Rattle.clip_engine.specs.Cutting.{clip_cutting}
 use Rattle.midi_engines.specs.Back.{returning}
 use Rattle.midi_engines.specs.Down.{carrying}
-use Rattle.midi_engines.specs.Endpoint.{answering}
+use Rattle.endpoint_engine.specs.Answering.{answering}
 use Rattle.packet_items.specs.Packets.{packet_cutting}
 use Rattle.midi_engines.specs.ShowBytes.{showing_bytes}
 use Rattle.midi_engines.specs.ShowPackets.{showing}
@@ -51,6 +53,10 @@ event_pass work = record { Item = ℕ × Event; IsCut = event_cutting; work = wo
 -- the pass over the events of a rehearsal with the responder of a setup
 abbrev pub rehearsal_pass : Facts → Pass
 rehearsal_pass setup = record { Item = ℕ × CalledEvent; IsCut = called_cutting; work = rehearsing setup }
+
+-- the pass over a clip file
+abbrev pub clip_pass : Pass
+clip_pass = record { Item = Framed × Packet; IsCut = clip_cutting; work = clipping }
 
 -- a pass; a pass whose pieces go into a folder; the pass for the setup that the shelf has by a name; the pass over a clip file; or a
 -- line in the output, without an input

@@ -13,8 +13,8 @@ use Rattle.midi_pass.specs.Places.{Fails, Places, Puts}
 use Rattle.midi_pass.specs.Put.{in_output}
 use Rattle.midi_pass.specs.declared.ends.RunEnd.{RunEnd}
 use Rattle.midi_pass.specs.declared.ends.RunEnd.TheVariants as end
-use Rattle.midi_commands.specs.Command.{Plan, by_pass, into_folder, with_setup, over_clip, by_line, plan_of}
-use Rattle.clip_engine.specs.Ends.{ClipEnds, IsWholeClip}
+use Rattle.midi_commands.specs.Command.{Plan, by_pass, into_folder, with_setup, over_clip, by_line, clip_pass, plan_of}
+use Rattle.clip_engine.specs.Ends.{ClipEnds}
 use Rattle.midi_commands.specs.LastLine.{last_puts}
 use Rattle.midi_commands.specs.declared.status.Status.{Status}
 use Rattle.midi_commands.specs.declared.status.Status.TheVariants.{Done, Refused, ReadFault, LaneFault, OutputFault, NoteFault, ShelfFault, Usage, SetupSyntax, SetupField, NoMemory}
@@ -179,11 +179,6 @@ IsDoneWith name pass old new status =
     (λ texts. (text : List ℕ) (setup : Facts) → texts name ≡ Some text → setup_of text ≡ Ok setup
     → (Rose old.shelf.faults new.shelf.faults → ⊥) → IsDonePass (pass setup) old.seen new.seen status)
 
--- where nothing fails a whole clip file is shown, or there was no memory
-abbrev pub IsDoneClip : Seen → Seen → Status → Type 0
-IsDoneClip old new status =
-    IfSome old.left (λ bytes. IsWholeClip bytes → NothingFails old new → (status ≡ Done) ⊎ (status ≡ NoMemory))
-
 -- where the output doesn't fail a line is put, or there was no memory
 abbrev pub IsDoneLine : Places → Places → Status → Type 0
 IsDoneLine old new status =
@@ -193,7 +188,7 @@ abbrev pub IsDonePlan : Plan → Objects → Objects → Status → Type 0
 IsDonePlan (by_pass pass) old new status = IsDonePass pass old.seen new.seen status
 IsDonePlan (into_folder folder pass) old new status = IsDonePass pass old.seen new.seen status
 IsDonePlan (with_setup name pass) old new status = IsDoneWith name pass old new status
-IsDonePlan over_clip old new status = IsDoneClip old.seen new.seen status
+IsDonePlan over_clip old new status = IsDonePass clip_pass old.seen new.seen status
 IsDonePlan (by_line text) old new status = IsDoneLine old.seen.places new.seen.places status
 
 abbrev pub IsDoneOrNoMemory : Option Asked → Objects → Objects → Status → Type 0

@@ -5,7 +5,7 @@ ghost use Rattle.command_line.specs.Rules.{command_of};
 ghost use Rattle.down_translator.specs.Lanes.{style_in};
 ghost use Rattle.midi_engines.specs.Back.{returning};
 ghost use Rattle.midi_engines.specs.Down.{carrying};
-ghost use Rattle.midi_engines.specs.Endpoint.{answering};
+ghost use Rattle.endpoint_engine.specs.Answering.{answering};
 ghost use Rattle.midi_engines.specs.ShowBytes.{showing_bytes};
 ghost use Rattle.midi_engines.specs.ShowPackets.{showing};
 ghost use Rattle.midi_engines.specs.Up.{raising};
@@ -16,6 +16,7 @@ ghost use Rattle.midi_pass.specs.Pass.{seen};
 ghost use Rattle.midi_pass.specs.Places.{places};
 ghost use Rattle.midi_commands.specs.Command.{
   byte_pass,
+  clip_pass,
   event_pass,
   order_of as order_in,
   packet_pass,
@@ -28,7 +29,6 @@ ghost use Rattle.midi_commands.specs.Run.{
   Does,
   FindsSetup,
   HasLastLine,
-  IsDoneClip,
   IsDoneOrNoMemory,
   IsDoneLine,
   IsDonePass,
@@ -50,12 +50,10 @@ use crate::status::Status;
 use clip_engine::run_clip;
 use command_line::{Command, WordsFault, command_line};
 use down_translator::Style;
+use endpoint_engine::{EndpointRun, run_endpoint};
 use function_blocks::{MOST_BYTES, Setup, SetupFault};
 use midi_edge::{Lanes, OpenFault, Shelf, Sink, Source, U4};
-use midi_engines::{
-    BackRun, DownRun, EndpointRun, ShowRun, UpRun, run_back, run_down, run_endpoint, run_show,
-    run_up,
-};
+use midi_engines::{BackRun, DownRun, ShowRun, UpRun, run_back, run_down, run_show, run_up};
 use midi_pass::RunEnd;
 use midi_pass::places::put_output;
 use rehearsal_engine::{RehearseRun, run_rehearse};
@@ -116,11 +114,11 @@ pub fn run<S: Source, L: Lanes, W: Sink, N: Sink, K: Shelf>(
     // nothing is read or put; where a state is kept (`grows`), exactly the puts of the items before the one that wanted it. The setup
     // can't be had, or is none: nothing is read or put. An object that the command doesn't name stays as it is. `plan_of` tells how
     // each command cuts its input, and what it refuses, puts and means.
-    ensures says { (unended : Objects)
+    ensures says { (before_last_line : Objects)
         × RunSays (command_of (map string_bytes words.now))
         (objects S.Source L.Lanes W.Sink N.Sink K.Shelf input.old lanes.old output.old notes.old shelf.old)
-        unended result
-        × HasLastLine unended
+        before_last_line result
+        × HasLastLine before_last_line
         (objects S.Source L.Lanes W.Sink N.Sink K.Shelf input.new lanes.new output.new notes.new shelf.new)
         result }
 
@@ -623,7 +621,7 @@ fn show_clip<S: Source, L: Lanes, W: Sink, N: Sink>(
     ensures says { ShowsClip
         (seen S.Source L.Lanes W.Sink N.Sink input.old lanes.old output.old notes.old)
         (seen S.Source L.Lanes W.Sink N.Sink input.new lanes.new output.new notes.new) result }
-    ensures complete { IsDoneClip
+    ensures complete { IsDonePass clip_pass
         (seen S.Source L.Lanes W.Sink N.Sink input.old lanes.old output.old notes.old)
         (seen S.Source L.Lanes W.Sink N.Sink input.new lanes.new output.new notes.new) result }
 {

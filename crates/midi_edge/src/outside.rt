@@ -55,6 +55,12 @@ pub trait Source {
         ensures bound { IfOk result (λ n. n ≤ length buf.new) }
         ensures bytes { Takes (left self.old) (left self.new) result buf.new }
         ensures cause { HasCause (faults self.old) (faults self.new) result };
+
+    /// Whether a `take` may wait for bytes that come later, as from a pipe, and not from a file. No clause says it: where it is
+    /// true though nothing waits, what is put is only written out more often.
+    fn may_wait(&self) -> bool {
+        true
+    }
 }
 
 /// Where bytes go.
@@ -71,6 +77,13 @@ pub trait Sink {
         requires { 0 < length piece.now }
         ensures bytes { Puts (held self.old) (held self.new) result piece.now }
         ensures cause { HasCause (faults self.old) (faults self.new) result };
+
+    /// Tries to write out what an object has gathered, before the input is waited for. It tells no fault: what it leaves stays
+    /// gathered, and the next call that has to write tries again.
+    fn write_out(&mut self)
+        ensures bytes { held self.new ≡ held self.old }
+        ensures faults { faults self.new ≡ faults self.old }
+    {}
 }
 
 /// Where the bytes of sixteen lanes go, one lane for each group.
@@ -105,6 +118,15 @@ pub trait Lanes {
         ensures folder { folder self.new ≡ folder self.old }
         ensures pieces { PutsPair (pieces self.old) (pieces self.new) result lane piece.now }
         ensures cause { HasCause (faults self.old) (faults self.new) result };
+
+    /// Tries to write out what an object has gathered, of every lane, before the input is waited for. It tells no fault: what it
+    /// leaves stays gathered, and the next call that has to write to the lane tries again.
+    fn write_out(&mut self)
+        ensures begun { begun self.new ≡ begun self.old }
+        ensures folder { folder self.new ≡ folder self.old }
+        ensures pieces { pieces self.new ≡ pieces self.old }
+        ensures faults { faults self.new ≡ faults self.old }
+    {}
 }
 
 /// Where named texts come from.

@@ -13,7 +13,8 @@ use Rattle.voice_state.specs.UpLaws.{RaisedPacketsMeanTheBytes, RoomsThatAreNotR
 use Rattle.midi_pass.specs.Put.{Put}
 use Rattle.midi_engines.specs.declared.up.WordOutput.{WordOutput}
 use Rattle.midi_engines.specs.Raised.{AreDone, AreTaken, CanBeDone, Doing}
-use Rattle.midi_engines.specs.Up.{AreWritten, IsWritten, RaisedBytesMean}
+use Rattle.midi_engines.specs.Up.{RaisedBytesMean}
+use Rattle.packet_puts.specs.Written.{AreWritten, IsWritten}
 use Rattle.midi_engines.proofs.StreamLaws.{front_accepted}
 
 abbrev pub AcceptsWords : WordOutput → Packet → Type 0

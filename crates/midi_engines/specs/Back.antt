@@ -19,7 +19,8 @@ use Rattle.midi_pass.specs.Bytes.{bytes_of}
 use Rattle.midi_pass.specs.Pass.{Work}
 use Rattle.midi_pass.specs.Put.{Put, in_output, output_in}
 use Rattle.midi_engines.specs.Options.{BackOptions}
-use Rattle.midi_engines.specs.Raised.{byte_lines, byte_packets, last_lines, output_and_notes, refusal_at}
+use Rattle.midi_engines.specs.Raised.{byte_lines, byte_packets, last_lines, refusal_at}
+use Rattle.packet_puts.specs.Written.{output_and_notes}
 
 -- a piece is put in the output, unless it is empty
 abbrev pub piece_puts : List ℕ → List Put
@@ -68,6 +69,7 @@ returning options =
           λ past item puts. puts
           ≡ byte_pieces options.paired options.room options.group past item
           ++ byte_lines options.paired options.room options.group past item;
+      refusal_at_end = λ past. None;
       IsPutAtEnd = λ past puts. puts ≡ last_lines options.room options.group past;
       Means =
           λ past puts. (output_in puts ≡ back options.paired (Some options.room) options.group (bytes_of past))

@@ -21,7 +21,8 @@ use Rattle.midi_engines.specs.Back.{HoldsBack, byte_pieces, piece_puts, plain_pu
 use Rattle.listing_puts.specs.LineLaws.{lines_named}
 use Rattle.listing_puts.specs.Lines.{line_puts}
 use Rattle.midi_engines.specs.Options.{BackOptions}
-use Rattle.midi_engines.specs.Raised.{byte_lines, byte_packets, output_and_notes}
+use Rattle.midi_engines.specs.Raised.{byte_lines, byte_packets}
+use Rattle.packet_puts.specs.Written.{output_and_notes}
 
 -- ---- the places of puts
 

@@ -1,7 +1,6 @@
 -- What the passes may be asked for. `room` is the most bytes that an exclusive may have between F0 and F7.
 use Rattle.std.specs.Prelude.{ℕ, Bool, true, false}
 use Rattle.ump_words.specs.declared.words.Order.{Order}
-use Rattle.function_blocks.specs.Setups.{Facts}
 use Rattle.voice_state.specs.Styles.{Style}
 
 -- a recording that is carried down, with paired controllers or without, in a style
@@ -33,12 +32,6 @@ pub record PacketLineOptions : Type 0 where
 -- a stream of MIDI 1.0 bytes whose messages are shown, with the state at its end or without
 pub record ByteLineOptions : Type 0 where
   pub state : Bool
-  pub room : ℕ
-
--- a recording of a peer that is answered by an endpoint of this setup
-pub record EndpointOptions : Type 0 where
-  pub setup : Facts
-  pub order : Order
   pub room : ℕ
 
 -- lines of packets, or of bytes

@@ -1,5 +1,5 @@
 -- The packets to which a byte is raised, and what is done with them, one after the other.
-use Rattle.std.specs.Prelude.{◌≡◌, ℕ, Bool, true, false, List, [], ◌∷◌, ◌++◌, map, MatchOption, Some, Result, Ok, Err}
+use Rattle.std.specs.Prelude.{◌≡◌, ℕ, Bool, List, [], ◌∷◌, ◌++◌, map, MatchOption, Some, Result, Ok, Err}
 use Rattle.std.specs.Option.{option_map}
 use Rattle.voice_messages.specs.declared.voice2.Form.{Form}
 use Rattle.ump_grammar.specs.declared.packet.Packet.{Packet}
@@ -14,7 +14,6 @@ use Rattle.up_translator.specs.Held.{UpState, step_in}
 use Rattle.up_translator.specs.Raised.{packets_in}
 use Rattle.up_translator.specs.Step.{Raises}
 use Rattle.midi_pass.specs.Bytes.{bytes_of}
-use Rattle.midi_pass.specs.Named.{Named}
 use Rattle.midi_pass.specs.Pass.{Tail}
 use Rattle.midi_pass.specs.Places.{FailsAt, Places, after_puts}
 use Rattle.midi_pass.specs.Put.{Put, in_lane, in_notes, in_output}
@@ -22,10 +21,6 @@ use Rattle.midi_pass.specs.declared.ends.RunEnd.{RunEnd}
 use Rattle.midi_pass.specs.declared.ends.RunEnd.TheVariants.{Refused}
 use Rattle.listing_puts.specs.Lines.{line_puts}
 use Rattle.listing_puts.specs.Refusal.{refusal_by}
-
--- such a pass names the output and the notes
-abbrev pub output_and_notes : Named
-output_and_notes = record { lanes = false; output = true; notes = true }
 
 -- the puts in the output among these
 abbrev pub output_puts : List Put → List Put

@@ -9,7 +9,8 @@ use Rattle.midi_pass.specs.Named.{AreNamed}
 use Rattle.midi_pass.specs.Put.{Put, in_lane, in_notes, in_output}
 use Rattle.listing_puts.specs.LineLaws.{lines_named}
 use Rattle.listing_puts.specs.Lines.{line_puts}
-use Rattle.midi_engines.specs.Raised.{last_lines, output_and_notes, output_puts}
+use Rattle.midi_engines.specs.Raised.{last_lines, output_puts}
+use Rattle.packet_puts.specs.Written.{output_and_notes}
 
 pub last_named : (room group : ℕ) (past : List (ℕ × ℕ)) (puts : List Put) →
     puts ≡ last_lines room group past → AreNamed output_and_notes puts

@@ -1,10 +1,6 @@
 -- A stream of bytes that is raised: the words of the packets of each byte, and its lines; at the end the line of what is open.
-use Rattle.std.specs.Prelude.{◌≡◌, ℕ, Bool, false, ◌<◌, List, [], ◌∷◌, ◌++◌, reverse, take, Some}
-use Rattle.std.specs.List.{flat_map}
-use Rattle.ump_words.specs.Cut.{word_bytes}
+use Rattle.std.specs.Prelude.{◌≡◌, ℕ, Bool, false, ◌<◌, List, reverse, take, None, Some}
 use Rattle.ump_words.specs.declared.words.Order.{Order}
-use Rattle.ump_grammar.specs.Reading.{Encodes}
-use Rattle.ump_grammar.specs.declared.packet.Packet.{Packet}
 use Rattle.voice_state.specs.Agreement.{Agrees}
 use Rattle.voice_state.specs.Messages.{mean1}
 use Rattle.voice_state.specs.Packets.{mean2}
@@ -14,26 +10,9 @@ use Rattle.up_translator.specs.Held.{UpState}
 use Rattle.up_translator.specs.Recording.{HoldsUp}
 use Rattle.midi_pass.specs.Bytes.{bytes_of}
 use Rattle.midi_pass.specs.Pass.{Work}
-use Rattle.midi_pass.specs.Put.{Put, in_output}
 use Rattle.midi_engines.specs.Options.{UpOptions}
-use Rattle.midi_engines.specs.Raised.{byte_lines, byte_packets, last_lines, output_and_notes, output_puts, refusal_at}
-
--- one put in the output: the bytes of words that encode the packet
-abbrev pub IsWritten : Order → Packet → List Put → Type 0
-IsWritten order packet puts =
-    (words : List ℕ) × Encodes packet words × (puts ≡ in_output (flat_map (word_bytes order) words) ∷ [])
-
--- the same for each of these packets, one after the other
-abbrev pub AreWritten : Order → List Packet → List Put → Type 0
-AreWritten order [] puts = puts ≡ []
-AreWritten order (packet ∷ packets) puts =
-    (first : List Put) × (rest : List Put) × IsWritten order packet first × AreWritten order packets rest
-    × (puts ≡ first ++ rest)
-
--- these packets are written, and then these lines are put in the notes
-abbrev pub AreWrittenAndListed : Order → List Packet → List Put → List Put → Type 0
-AreWrittenAndListed order packets lines puts =
-    (written : List Put) × AreWritten order packets written × (puts ≡ written ++ lines)
+use Rattle.midi_engines.specs.Raised.{byte_lines, byte_packets, last_lines, output_puts, refusal_at}
+use Rattle.packet_puts.specs.Written.{AreWritten, AreWrittenAndListed, output_and_notes}
 
 module _ (paired : Bool) where
   -- after each of these bytes, the newest first, the packets so far mean what the bytes so far mean
@@ -57,6 +36,7 @@ raising options =
       IsPut = λ past item puts.
           AreWrittenAndListed options.order (byte_packets options.paired options.room options.group past item)
           (byte_lines options.paired options.room options.group past item) puts;
+      refusal_at_end = λ past. None;
       IsPutAtEnd = λ past puts. puts ≡ last_lines options.room options.group past;
       Means = λ past puts.
           AreWritten options.order (packets_up options.paired (Some options.room) options.group (bytes_of past))

@@ -1,7 +1,6 @@
 -- What is put for raised bytes means what they mean.
 use Rattle.std.proofs.Common.{◌≡◌, ℕ, List, [], ◌∷◌, ◌++◌, refl, ap, sym, ◌∙◌, subst}
 use Rattle.std.specs.Prelude.{Some}
-use Rattle.std.proofs.lemmas.List.{append_assoc}
 use Rattle.ump_words.specs.declared.words.Order.{Order}
 use Rattle.ump_grammar.specs.declared.packet.Packet.{Packet}
 use Rattle.voice_state.specs.declared.listed.Listed.{Listed}
@@ -14,22 +13,14 @@ use Rattle.midi_pass.specs.Pass.{ArePut}
 use Rattle.midi_pass.specs.Put.{Put}
 use Rattle.listing_puts.specs.LineLaws.{lines_named}
 use Rattle.listing_puts.specs.Lines.{line_puts}
+use Rattle.packet_puts.specs.WrittenLaws.{written-then, written_named}
 use Rattle.midi_engines.specs.Options.{UpOptions}
-use Rattle.midi_engines.specs.Raised.{output_and_notes, output_puts}
+use Rattle.midi_engines.specs.Raised.{output_puts}
+use Rattle.packet_puts.specs.Written.{AreWritten, output_and_notes}
 use Rattle.midi_engines.specs.RaisedMeans.{output-listed, output-then}
-use Rattle.midi_engines.specs.Up.{AreWritten, HoldsRaised, raising}
+use Rattle.midi_engines.specs.Up.{HoldsRaised, raising}
 
 -- ---- written packets
-
-pub written_named : (order : Order) (packets : List Packet) (puts : List Put) →
-    AreWritten order packets puts → AreNamed output_and_notes puts
-written_named order [] puts written =
-    let A : List Put → Type 0 = λ ps. AreNamed output_and_notes ps in subst A (sym written) tt
-written_named order (packet ∷ packets) puts written =
-    let A : List Put → Type 0 = λ ps. AreNamed output_and_notes ps in
-    subst A (sym written.4)
-    (named-then output_and_notes written.0 written.1 (subst A (sym written.2.2) (refl, tt))
-    (written_named order packets written.1 written.3))
 
 pub raises_named : (options : UpOptions) (past : List (ℕ × ℕ)) (item : ℕ × ℕ) (puts : List Put) →
     (raising options).IsPut past item puts → AreNamed output_and_notes puts
@@ -50,18 +41,6 @@ output-written order (packet ∷ packets) puts written =
     ∙ ap (λ xs. xs ++ output_puts written.1) one
     ∙ ap (λ xs. written.0 ++ xs) (output-written order packets written.1 written.3)
     ∙ sym written.4
-
-pub written-then : (order : Order) (packets others : List Packet) (ps qs : List Put) →
-    AreWritten order packets ps → AreWritten order others qs → AreWritten order (packets ++ others) (ps ++ qs)
-written-then order [] others ps qs first second =
-    let W : List Put → Type 0 = λ xs. AreWritten order others xs in subst W (sym (ap (λ xs. xs ++ qs) first)) second
-written-then order (packet ∷ packets) others ps qs first second = (
-  first.0,
-  first.1 ++ qs,
-  first.2,
-  written-then order packets others first.1 qs first.3 second,
-  ap (λ xs. xs ++ qs) first.4 ∙ append_assoc first.0 first.1 qs,
-)
 
 written-all : (options : UpOptions) (past : List (ℕ × ℕ)) (puts : List Put) →
     ArePut (raising options) past puts

@@ -3,9 +3,9 @@ ghost use Rattle.std.specs.Prelude.{◌≡◌, ◌<◌, ◌≤◌, [], ◌∷◌
 ghost use Rattle.down_translator.specs.Lowered.{IsWholeStep, bytes_of, is_whole};
 ghost use Rattle.midi_pass.specs.Put.{in_output};
 ghost use Rattle.midi_pass.specs.Bytes.{byte_cutting};
-ghost use Rattle.midi_pass.specs.Pass.{Ends, IsDoneUnless, seen};
-ghost use Rattle.midi_pass.specs.Places.{Puts, places};
-ghost use Rattle.midi_pass.specs.Refused.{IsRefusedWhere};
+ghost use Rattle.midi_pass.specs.PassEnds.{PassEnds};
+ghost use Rattle.midi_pass.specs.Pass.{seen};
+ghost use Rattle.midi_pass.specs.Places.{Puts};
 ghost use Rattle.midi_engines.specs.Back.{HoldsBack, ComesDown, options_of, piece_puts, PutsDown, returning};
 ghost use Rattle.midi_engines.specs.Raised.{CarriesOut};
 ghost use Rattle.midi_engines.specs.BackMeans.{returned_means, returns_named};
@@ -17,8 +17,7 @@ use down_translator::{Down, LoweredMessage, Style};
 use item_reader::ByteReader;
 use midi_edge::{Lanes, NoMemory, Sink, Source, U4};
 use midi_pass::laws::bytes_are_cut_once;
-use midi_pass::places::put_output;
-use midi_pass::{Engine, LIMIT, RunEnd, drive};
+use midi_pass::{Engine, LIMIT, Outputs, RunEnd, drive};
 use midi1_bytes::laws::parsed_bytes_are_the_definition;
 use std::alloc::Global;
 use std::marker::Model;
@@ -69,34 +68,21 @@ impl BackRun {
 }
 
 // Puts a piece in the output, unless it is empty.
-fn put_piece<L: Lanes, W: Sink, N: Sink>(
-    piece: &[u8],
-    lanes: &mut L,
-    output: &mut W,
-    notes: &mut N,
-) -> Result<(), RunEnd>
-    ensures { Puts (piece_puts piece.now)
-        (places L.Lanes W.Sink N.Sink lanes.old output.old notes.old)
-        (places L.Lanes W.Sink N.Sink lanes.new output.new notes.new) result }
+fn put_piece<O: Outputs>(piece: &[u8], outputs: &mut O) -> Result<(), RunEnd>
+    ensures { Puts (piece_puts piece.now) (O.places outputs.old) (O.places outputs.new) result }
 {
     if piece.is_empty() {
         Ok(())
     } else {
-        put_output(piece, lanes, output, notes)
+        outputs.put_output(piece)
     }
 }
 
 // Puts a message that alone carries a packet in the output.
 #[inline(always)]
-fn put_message<L: Lanes, W: Sink, N: Sink>(
-    message: &LoweredMessage,
-    lanes: &mut L,
-    output: &mut W,
-    notes: &mut N,
-) -> Result<(), RunEnd>
+fn put_message<O: Outputs>(message: &LoweredMessage, outputs: &mut O) -> Result<(), RunEnd>
     ensures { Puts (in_output (bytes_of message.now) ∷ [])
-        (places L.Lanes W.Sink N.Sink lanes.old output.old notes.old)
-        (places L.Lanes W.Sink N.Sink lanes.new output.new notes.new) result }
+        (O.places outputs.old) (O.places outputs.new) result }
 {
     let LoweredMessage {
         status,
@@ -106,8 +92,8 @@ fn put_message<L: Lanes, W: Sink, N: Sink>(
     } = *message;
     let first = first.get();
     match second {
-        Some(second) => put_output(&[status, first, second.get()], lanes, output, notes),
-        None => put_output(&[status, first], lanes, output, notes),
+        Some(second) => outputs.put_output(&[status, first, second.get()]),
+        None => outputs.put_output(&[status, first]),
     }
 }
 
@@ -129,18 +115,16 @@ impl PacketWork for Down {
 
     #[tactic(auto, using(crate::proofs::BackLaws::lowered_comes_down))]
     #[inline(always)]
-    fn put<L: Lanes, W: Sink, N: Sink>(
+    fn put<O: Outputs>(
         &mut self,
         packet: &RaisedPacket,
         offset: u64,
-        lanes: &mut L,
-        output: &mut W,
-        notes: &mut N,
+        outputs: &mut O,
     ) -> Result<(), RunEnd> {
         match lowered_in(self, packet) {
-            Some(message) => put_message(&message, lanes, output, notes),
+            Some(message) => put_message(&message, outputs),
             None => match self.packet(&packet.packet(), offset) {
-                Ok(carried) => put_piece(carried.piece, lanes, output, notes),
+                Ok(carried) => put_piece(carried.piece, outputs),
                 Err(_) => unreachable!(),
             },
         }
@@ -168,39 +152,19 @@ impl Engine<u64, u8> for BackEngine {
     ghost AsksAfter = { λ past item. item.0 ≡ length past };
 
     #[inline(always)]
-    fn step<L: Lanes, W: Sink, N: Sink>(
-        &mut self,
-        at: &u64,
-        item: &u8,
-        lanes: &mut L,
-        output: &mut W,
-        notes: &mut N,
-    ) -> Result<(), RunEnd> {
+    fn step<O: Outputs>(&mut self, at: &u64, item: &u8, outputs: &mut O) -> Result<(), RunEnd> {
         parsed_bytes_are_the_definition();
         raised_bytes_are_the_definition();
         raised_packets_are_in_range();
         raised_packets_come_back_in_silence();
         rooms_that_are_not_reached_do_not_matter_in_bytes();
         what_is_held_is_the_definition();
-        put_byte(
-            &mut self.up,
-            &mut self.down,
-            *item,
-            *at,
-            lanes,
-            output,
-            notes,
-        )
+        put_byte(&mut self.up, &mut self.down, *item, *at, outputs)
     }
 
-    fn close<L: Lanes, W: Sink, N: Sink>(
-        &self,
-        lanes: &mut L,
-        output: &mut W,
-        notes: &mut N,
-    ) -> Result<(), RunEnd> {
+    fn close<O: Outputs>(&self, outputs: &mut O) -> Result<(), RunEnd> {
         raised_bytes_are_the_definition();
-        put_open(&self.up, lanes, output, notes)
+        put_open(&self.up, outputs)
     }
 
     ghost puts_are_named = { λ first past item puts put.
@@ -230,13 +194,7 @@ pub fn run_back<S: Source, L: Lanes, W: Sink, N: Sink>(
     output: &mut W,
     notes: &mut N,
 ) -> RunEnd
-    ensures ends { Ends byte_cutting (returning engine)
-        (seen S.Source L.Lanes W.Sink N.Sink input.old lanes.old output.old notes.old)
-        (seen S.Source L.Lanes W.Sink N.Sink input.new lanes.new output.new notes.new) result }
-    ensures complete { IsDoneUnless byte_cutting (returning engine)
-        (seen S.Source L.Lanes W.Sink N.Sink input.old lanes.old output.old notes.old)
-        (seen S.Source L.Lanes W.Sink N.Sink input.new lanes.new output.new notes.new) result }
-    ensures refused { IsRefusedWhere byte_cutting (returning engine)
+    ensures { PassEnds byte_cutting (returning engine)
         (seen S.Source L.Lanes W.Sink N.Sink input.old lanes.old output.old notes.old)
         (seen S.Source L.Lanes W.Sink N.Sink input.new lanes.new output.new notes.new) result }
 {

@@ -6,15 +6,16 @@ ghost use Rattle.ump_grammar.specs.declared.packet.Packet.{Packet};
 ghost use Rattle.ump_grammar.specs.Ranges.{IsPacket};
 ghost use Rattle.down_translator.specs.Held.{down_after};
 ghost use Rattle.down_translator.specs.Lanes.{style_in};
-ghost use Rattle.midi_pass.specs.Pass.{Ends, IsDoneUnless, seen};
-ghost use Rattle.midi_pass.specs.Places.{Puts, places};
+ghost use Rattle.midi_pass.specs.PassEnds.{PassEnds};
+ghost use Rattle.midi_pass.specs.Pass.{seen};
+ghost use Rattle.midi_pass.specs.Places.{Puts};
 ghost use Rattle.midi_pass.specs.Put.{in_lane};
-ghost use Rattle.midi_pass.specs.Refused.{IsRefusedWhere};
 ghost use Rattle.voice_state.specs.Listing.{groups};
 ghost use Rattle.down_translator.specs.Lowered.{attribute_line, bytes_of};
 ghost use Rattle.down_translator.specs.Recording.{pair_put};
 ghost use Rattle.listing_puts.specs.Lines.{line_puts};
-ghost use Rattle.midi_engines.specs.Down.{Carries, HoldsDown, IsReadyDown, carrying, lowered_puts, open_line, open_puts, options_of, pair_puts, puts_for};
+ghost use Rattle.midi_engines.specs.Down.{Carries, HoldsDown, IsReadyDown, carrying, lowered_puts, options_of, pair_puts, puts_for};
+ghost use Rattle.packet_puts.specs.Open.{open_line, open_puts};
 ghost use Rattle.midi_engines.specs.DownMeans.{carries_named, carries_nothing, carries_means, ends_named};
 ghost use Rattle.packet_items.specs.Packets.{packet_cutting};
 
@@ -26,12 +27,11 @@ use down_translator::{Carried, Down, Kind, Listed, LoweredMessage, Style};
 use encoded_packets::EncodedPacket;
 use listing_puts::{put_line, put_listed, refused};
 use midi_edge::{Lanes, NoMemory, Sink, Source, U4};
-use midi_pass::places::put_lane;
-use midi_pass::{Engine, RunEnd, drive};
+use midi_pass::{Engine, Outputs, RunEnd, drive};
 use packet_items::{EncodedReader, packets_are_cut_once};
+use packet_puts::{OpenExclusives, list_open};
 use std::alloc::Global;
 use std::marker::Model;
-use sysex_groups::Groups;
 use ump_words::{Framed, Order};
 use voice_state::style_laws::styled_pairs_are_a_translation;
 
@@ -88,6 +88,14 @@ struct DownEngine {
     down: Down,
 }
 
+impl OpenExclusives for DownEngine {
+    ghost table = { λ engine. engine.down.exclusives };
+
+    fn begun_at(&self, group: U4) -> Option<u64> {
+        self.down.begun_at(group)
+    }
+}
+
 impl Engine<Framed, EncodedPacket> for DownEngine {
     ghost work = { λ first. carrying (options_of first.down) };
 
@@ -101,28 +109,21 @@ impl Engine<Framed, EncodedPacket> for DownEngine {
 
     ghost AsksAfter = { λ past item. Unit {0} };
 
-    fn step<L: Lanes, W: Sink, N: Sink>(
+    fn step<O: Outputs>(
         &mut self,
         at: &Framed,
         item: &EncodedPacket,
-        lanes: &mut L,
-        output: &mut W,
-        notes: &mut N,
+        outputs: &mut O,
     ) -> Result<(), RunEnd> {
         what_is_held_is_the_definition();
         one_more_accepted_packet_adds_its_pair_and_line();
         spelled_packets_are_in_range();
-        carry(&mut self.down, item, at.offset, lanes, output, notes)
+        carry(&mut self.down, item, at.offset, outputs)
     }
 
-    fn close<L: Lanes, W: Sink, N: Sink>(
-        &self,
-        lanes: &mut L,
-        output: &mut W,
-        notes: &mut N,
-    ) -> Result<(), RunEnd> {
+    fn close<O: Outputs>(&self, outputs: &mut O) -> Result<(), RunEnd> {
         what_is_held_is_the_definition();
-        list_open(&self.down, lanes, output, notes)
+        list_open(self, outputs)
     }
 
     ghost puts_are_named = { λ first past item puts put.
@@ -154,13 +155,7 @@ pub fn run_down<S: Source, L: Lanes, W: Sink, N: Sink>(
     notes: &mut N,
 ) -> RunEnd
     requires begun { L.begun lanes.old ≡ true }
-    ensures ends { Ends (packet_cutting engine.order) (carrying engine)
-        (seen S.Source L.Lanes W.Sink N.Sink input.old lanes.old output.old notes.old)
-        (seen S.Source L.Lanes W.Sink N.Sink input.new lanes.new output.new notes.new) result }
-    ensures complete { IsDoneUnless (packet_cutting engine.order) (carrying engine)
-        (seen S.Source L.Lanes W.Sink N.Sink input.old lanes.old output.old notes.old)
-        (seen S.Source L.Lanes W.Sink N.Sink input.new lanes.new output.new notes.new) result }
-    ensures refused { IsRefusedWhere (packet_cutting engine.order) (carrying engine)
+    ensures { PassEnds (packet_cutting engine.order) (carrying engine)
         (seen S.Source L.Lanes W.Sink N.Sink input.old lanes.old output.old notes.old)
         (seen S.Source L.Lanes W.Sink N.Sink input.new lanes.new output.new notes.new) result }
 {
@@ -172,111 +167,77 @@ pub fn run_down<S: Source, L: Lanes, W: Sink, N: Sink>(
 }
 
 // Puts a piece into its lane, unless it is empty.
-fn put_piece<L: Lanes, W: Sink, N: Sink>(
-    carried: &Carried<'_>,
-    lanes: &mut L,
-    output: &mut W,
-    notes: &mut N,
-) -> Result<(), RunEnd>
-    requires begun { L.begun lanes.old ≡ true }
-    ensures { Puts (pair_puts (pair_put carried.now))
-        (places L.Lanes W.Sink N.Sink lanes.old output.old notes.old)
-        (places L.Lanes W.Sink N.Sink lanes.new output.new notes.new) result }
+fn put_piece<O: Outputs>(carried: &Carried<'_>, outputs: &mut O) -> Result<(), RunEnd>
+    requires begun { (O.places outputs.old).begun ≡ true }
+    ensures { Puts (pair_puts (pair_put carried.now)) (O.places outputs.old) (O.places outputs.new) result }
 {
     if carried.piece.is_empty() {
         Ok(())
     } else {
-        put_lane(carried.lane(), carried.piece, lanes, output, notes)
+        outputs.put_lane(carried.lane(), carried.piece)
     }
 }
 
 // Puts a piece into its lane, unless it is empty, and then its line of the listing, if there is one.
-fn put_carried<L: Lanes, W: Sink, N: Sink>(
-    carried: &Carried<'_>,
-    lanes: &mut L,
-    output: &mut W,
-    notes: &mut N,
-) -> Result<(), RunEnd>
-    requires begun { L.begun lanes.old ≡ true }
-    ensures { Puts (puts_for carried.now)
-        (places L.Lanes W.Sink N.Sink lanes.old output.old notes.old)
-        (places L.Lanes W.Sink N.Sink lanes.new output.new notes.new) result }
+fn put_carried<O: Outputs>(carried: &Carried<'_>, outputs: &mut O) -> Result<(), RunEnd>
+    requires begun { (O.places outputs.old).begun ≡ true }
+    ensures { Puts (puts_for carried.now) (O.places outputs.old) (O.places outputs.new) result }
 {
-    put_piece(carried, lanes, output, notes)?;
-    put_listed(carried.listed(), lanes, output, notes)
+    put_piece(carried, outputs)?;
+    put_listed(carried.listed(), outputs)
 }
 
 // Takes one packet down that isn't carried by one message: puts its piece into the lane of its group, and its line into the notes.
-fn carry_encoded<L: Lanes, W: Sink, N: Sink>(
+fn carry_encoded<O: Outputs>(
     down: &mut Down,
     packet: &EncodedPacket,
     offset: u64,
-    lanes: &mut L,
-    output: &mut W,
-    notes: &mut N,
+    outputs: &mut O,
 ) -> Result<(), RunEnd>
     requires packet { IsPacket packet.now }
-    requires begun { L.begun lanes.old ≡ true }
+    requires begun { (O.places outputs.old).begun ≡ true }
     ensures behind { down.new ≡ down_after offset packet.now down.old }
     ensures carries { Carries down.old offset packet.now
-        (places L.Lanes W.Sink N.Sink lanes.old output.old notes.old)
-        (places L.Lanes W.Sink N.Sink lanes.new output.new notes.new) result }
+        (O.places outputs.old) (O.places outputs.new) result }
 {
     match down.encoded(packet, offset) {
-        Ok(carried) => put_carried(&carried, lanes, output, notes),
+        Ok(carried) => put_carried(&carried, outputs),
         Err(bad) => Err(refused(bad, offset)),
     }
 }
 
 // Puts a message of two bytes. Each of these arrays has a function of its own, since it is cleared where its function begins.
 #[inline(always)]
-fn put_two<L: Lanes, W: Sink, N: Sink>(
-    lane: U4,
-    status: u8,
-    first: u8,
-    lanes: &mut L,
-    output: &mut W,
-    notes: &mut N,
-) -> Result<(), RunEnd>
-    requires begun { L.begun lanes.old ≡ true }
+fn put_two<O: Outputs>(lane: U4, status: u8, first: u8, outputs: &mut O) -> Result<(), RunEnd>
+    requires begun { (O.places outputs.old).begun ≡ true }
     ensures { Puts (in_lane lane (status ∷ first ∷ []) ∷ [])
-        (places L.Lanes W.Sink N.Sink lanes.old output.old notes.old)
-        (places L.Lanes W.Sink N.Sink lanes.new output.new notes.new) result }
+        (O.places outputs.old) (O.places outputs.new) result }
 {
-    put_lane(lane, &[status, first], lanes, output, notes)
+    outputs.put_lane(lane, &[status, first])
 }
 
 // Puts a message of three bytes.
 #[inline(always)]
-fn put_three<L: Lanes, W: Sink, N: Sink>(
+fn put_three<O: Outputs>(
     lane: U4,
     status: u8,
     first: u8,
     second: u8,
-    lanes: &mut L,
-    output: &mut W,
-    notes: &mut N,
+    outputs: &mut O,
 ) -> Result<(), RunEnd>
-    requires begun { L.begun lanes.old ≡ true }
+    requires begun { (O.places outputs.old).begun ≡ true }
     ensures { Puts (in_lane lane (status ∷ first ∷ second ∷ []) ∷ [])
-        (places L.Lanes W.Sink N.Sink lanes.old output.old notes.old)
-        (places L.Lanes W.Sink N.Sink lanes.new output.new notes.new) result }
+        (O.places outputs.old) (O.places outputs.new) result }
 {
-    put_lane(lane, &[status, first, second], lanes, output, notes)
+    outputs.put_lane(lane, &[status, first, second])
 }
 
 // Puts a message that alone carries a packet into its lane.
 #[inline(always)]
-fn put_message<L: Lanes, W: Sink, N: Sink>(
-    message: &LoweredMessage,
-    lanes: &mut L,
-    output: &mut W,
-    notes: &mut N,
-) -> Result<(), RunEnd>
-    requires begun { L.begun lanes.old ≡ true }
+fn put_message<O: Outputs>(message: &LoweredMessage, outputs: &mut O) -> Result<(), RunEnd>
+    requires begun { (O.places outputs.old).begun ≡ true }
     ensures { Puts (in_lane message.now.lane (bytes_of message.now) ∷ [])
-        (places L.Lanes W.Sink N.Sink lanes.old output.old notes.old)
-        (places L.Lanes W.Sink N.Sink lanes.new output.new notes.new) result }
+        (O.places outputs.old) (O.places outputs.new) result }
 {
     let LoweredMessage {
         lane,
@@ -287,140 +248,58 @@ fn put_message<L: Lanes, W: Sink, N: Sink>(
     } = *message;
     let first = first.get();
     match second {
-        Some(second) => put_three(lane, status, first, second.get(), lanes, output, notes),
-        None => put_two(lane, status, first, lanes, output, notes),
+        Some(second) => put_three(lane, status, first, second.get(), outputs),
+        None => put_two(lane, status, first, outputs),
     }
 }
 
 // Puts the line of an attribute that is left out.
 #[inline(always)]
-fn put_attribute<L: Lanes, W: Sink, N: Sink>(
-    group: U4,
-    offset: u64,
-    lanes: &mut L,
-    output: &mut W,
-    notes: &mut N,
-) -> Result<(), RunEnd>
+fn put_attribute<O: Outputs>(group: U4, offset: u64, outputs: &mut O) -> Result<(), RunEnd>
     ensures { Puts (line_puts (option_to_list (attribute_line offset group true)))
-        (places L.Lanes W.Sink N.Sink lanes.old output.old notes.old)
-        (places L.Lanes W.Sink N.Sink lanes.new output.new notes.new) result }
+        (O.places outputs.old) (O.places outputs.new) result }
 {
     let listed = Listed {
         offset,
         group: Some(group),
         kind: Kind::NoteAttribute,
     };
-    put_line(&listed, lanes, output, notes)
+    put_line(&listed, outputs)
 }
 
 // Puts a message that alone carries a packet into its lane, and then the line of the attribute that it leaves out, if it does.
 #[inline(always)]
-fn put_lowered<L: Lanes, W: Sink, N: Sink>(
+fn put_lowered<O: Outputs>(
     message: &LoweredMessage,
     offset: u64,
-    lanes: &mut L,
-    output: &mut W,
-    notes: &mut N,
+    outputs: &mut O,
 ) -> Result<(), RunEnd>
-    requires begun { L.begun lanes.old ≡ true }
-    ensures { Puts (lowered_puts offset message.now)
-        (places L.Lanes W.Sink N.Sink lanes.old output.old notes.old)
-        (places L.Lanes W.Sink N.Sink lanes.new output.new notes.new) result }
+    requires begun { (O.places outputs.old).begun ≡ true }
+    ensures { Puts (lowered_puts offset message.now) (O.places outputs.old) (O.places outputs.new) result }
 {
-    put_message(message, lanes, output, notes)?;
+    put_message(message, outputs)?;
     if message.has_attribute {
-        put_attribute(message.lane, offset, lanes, output, notes)
+        put_attribute(message.lane, offset, outputs)
     } else {
         Ok(())
     }
 }
 
 // Takes one packet down: puts its piece into the lane of its group, and its line into the notes.
-fn carry<L: Lanes, W: Sink, N: Sink>(
+fn carry<O: Outputs>(
     down: &mut Down,
     packet: &EncodedPacket,
     offset: u64,
-    lanes: &mut L,
-    output: &mut W,
-    notes: &mut N,
+    outputs: &mut O,
 ) -> Result<(), RunEnd>
     requires packet { IsPacket packet.now }
-    requires begun { L.begun lanes.old ≡ true }
+    requires begun { (O.places outputs.old).begun ≡ true }
     ensures behind { down.new ≡ down_after offset packet.now down.old }
     ensures carries { Carries down.old offset packet.now
-        (places L.Lanes W.Sink N.Sink lanes.old output.old notes.old)
-        (places L.Lanes W.Sink N.Sink lanes.new output.new notes.new) result }
+        (O.places outputs.old) (O.places outputs.new) result }
 {
     match down.lowered(packet) {
-        Some(message) => put_lowered(&message, offset, lanes, output, notes),
-        None => carry_encoded(down, packet, offset, lanes, output, notes),
+        Some(message) => put_lowered(&message, offset, outputs),
+        None => carry_encoded(down, packet, offset, outputs),
     }
-}
-
-/// Tells what groups have open.
-pub(crate) trait OpenExclusives {
-    /// What each group has open.
-    ghost table: { Self → Table };
-
-    /// The offset of the packet that began the group's exclusive; `None` exactly when nothing is open.
-    fn begun_at(&self, group: U4) -> Option<u64>
-        ensures { result ≡ option_map (λ begun. begun.start) (begun_in (table self.now) group) };
-}
-
-impl OpenExclusives for Down {
-    ghost table = { λ down. down.exclusives };
-
-    fn begun_at(&self, group: U4) -> Option<u64> {
-        Down::begun_at(self, group)
-    }
-}
-
-impl OpenExclusives for Groups {
-    ghost table = { λ groups. groups };
-
-    fn begun_at(&self, group: U4) -> Option<u64> {
-        Groups::begun_at(self, group)
-    }
-}
-
-// Lists the exclusive of a group, if it is still open.
-fn list_group<O: OpenExclusives, L: Lanes, W: Sink, N: Sink>(
-    held: &O,
-    group: U4,
-    lanes: &mut L,
-    output: &mut W,
-    notes: &mut N,
-) -> Result<(), RunEnd>
-    ensures { Puts (line_puts (option_to_list (open_line (O.table held.now) group)))
-        (places L.Lanes W.Sink N.Sink lanes.old output.old notes.old)
-        (places L.Lanes W.Sink N.Sink lanes.new output.new notes.new) result }
-{
-    match held.begun_at(group) {
-        Some(offset) => {
-            let listed = Listed {
-                offset,
-                group: Some(group),
-                kind: Kind::OpenExclusive,
-            };
-            put_line(&listed, lanes, output, notes)
-        }
-        None => Ok(()),
-    }
-}
-
-/// Lists the exclusives that are still open, by group.
-pub(crate) fn list_open<O: OpenExclusives, L: Lanes, W: Sink, N: Sink>(
-    held: &O,
-    lanes: &mut L,
-    output: &mut W,
-    notes: &mut N,
-) -> Result<(), RunEnd>
-    ensures { Puts (open_puts (O.table held.now) groups)
-        (places L.Lanes W.Sink N.Sink lanes.old output.old notes.old)
-        (places L.Lanes W.Sink N.Sink lanes.new output.new notes.new) result }
-{
-    for number in 0..16u8 {
-        list_group(held, U4::low_bits(number as u32), lanes, output, notes)?;
-    }
-    Ok(())
 }

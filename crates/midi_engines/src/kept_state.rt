@@ -6,7 +6,7 @@ ghost use Rattle.midi1_bytes.specs.Steps.{completed_by};
 ghost use Rattle.voice_state.specs.Kept.{Keeps};
 ghost use Rattle.voice_state.specs.Messages.{as_they_come, raised};
 ghost use Rattle.voice_state.specs.States.{States, first_states};
-ghost use Rattle.midi_pass.specs.Places.{Puts, places};
+ghost use Rattle.midi_pass.specs.Places.{Puts};
 ghost use Rattle.midi_engines.specs.KeptState.{
   AreFactsOf,
   KeepsPacket,
@@ -17,10 +17,9 @@ ghost use Rattle.midi_engines.specs.KeptState.{
   fact_puts,
 };
 
-use midi_edge::{Lanes, NoMemory, Sink, U4};
+use midi_edge::{NoMemory, U4};
 use midi_lines::{Line, fill_fact_line};
-use midi_pass::RunEnd;
-use midi_pass::places::put_output;
+use midi_pass::{Outputs, RunEnd};
 use midi1_bytes::{AfterCut, Step};
 use std::alloc::Global;
 use ump_grammar::Packet;
@@ -127,20 +126,13 @@ pub(crate) fn facts_of(kept: &Option<VoiceState>, alloc: Global) -> Result<Vec<F
 }
 
 /// Puts the line of each of these in the output.
-pub(crate) fn put_facts<L: Lanes, W: Sink, N: Sink>(
-    facts: &[Fact],
-    lanes: &mut L,
-    output: &mut W,
-    notes: &mut N,
-) -> Result<(), RunEnd>
-    ensures { Puts (fact_puts facts.now)
-        (places L.Lanes W.Sink N.Sink lanes.old output.old notes.old)
-        (places L.Lanes W.Sink N.Sink lanes.new output.new notes.new) result }
+pub(crate) fn put_facts<O: Outputs>(facts: &[Fact], outputs: &mut O) -> Result<(), RunEnd>
+    ensures { Puts (fact_puts facts.now) (O.places outputs.old) (O.places outputs.new) result }
 {
     let mut line = Line::new();
     for fact in facts {
         fill_fact_line(&mut line, fact);
-        put_output(line.as_slice(), lanes, output, notes)?;
+        outputs.put_output(line.as_slice())?;
     }
     Ok(())
 }

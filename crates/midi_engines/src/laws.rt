@@ -3,8 +3,7 @@ ghost use Rattle.midi_pass.specs.Bytes.{byte_cutting};
 ghost use Rattle.midi_pass.specs.FirstRefusal.{HasOneFirstRefusal};
 ghost use Rattle.midi_engines.specs.Back.{returning};
 ghost use Rattle.midi_engines.specs.Down.{carrying};
-ghost use Rattle.midi_engines.specs.Endpoint.{answering};
-ghost use Rattle.midi_engines.specs.Options.{BackOptions, ByteLineOptions, DownOptions, EndpointOptions, PacketLineOptions, UpOptions};
+ghost use Rattle.midi_engines.specs.Options.{BackOptions, ByteLineOptions, DownOptions, PacketLineOptions, UpOptions};
 ghost use Rattle.packet_items.specs.Packets.{packet_cutting};
 ghost use Rattle.midi_engines.specs.ShowBytes.{showing_bytes};
 ghost use Rattle.midi_engines.specs.ShowPackets.{showing};
@@ -20,8 +19,6 @@ pub fn a_recording_has_one_first_refusal()
         HasOneFirstRefusal (packet_cutting options.order) (carrying options) }
     ensures shown { (options : PacketLineOptions) →
         HasOneFirstRefusal (packet_cutting options.order) (showing options) }
-    ensures answered { (options : EndpointOptions) →
-        HasOneFirstRefusal (packet_cutting options.order) (answering options) }
 {
     packets_are_cut_once();
 }

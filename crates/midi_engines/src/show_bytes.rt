@@ -7,10 +7,10 @@ ghost use Rattle.voice_state.specs.Messages.{as_they_come};
 ghost use Rattle.voice_state.specs.States.{first_states};
 ghost use Rattle.midi_lines.specs.StepLines.{HasBothEnds, byte_listing_text};
 ghost use Rattle.midi_pass.specs.Bytes.{byte_cutting};
-ghost use Rattle.midi_pass.specs.Pass.{Ends, IsDoneUnless, Takes, TakesIn, seen};
-ghost use Rattle.midi_pass.specs.Places.{Puts, places};
+ghost use Rattle.midi_pass.specs.PassEnds.{PassEnds};
+ghost use Rattle.midi_pass.specs.Pass.{Takes, TakesIn, seen};
+ghost use Rattle.midi_pass.specs.Places.{Puts};
 ghost use Rattle.midi_pass.specs.Put.{in_output};
-ghost use Rattle.midi_pass.specs.Refused.{IsRefusedWhere};
 ghost use Rattle.midi_engines.specs.KeptState.{KeepsStep, StandsFor, fact_puts};
 ghost use Rattle.listing_puts.specs.Refusal.{refusal_of};
 ghost use Rattle.midi_engines.specs.ShowBytes.{HoldsBytes, IsReadyBytes, open_puts, options_of, puts_after, showing_bytes, shown_puts, shows_last_named, shows_named, shows_no_bytes};
@@ -21,8 +21,7 @@ use listing_puts::refused;
 use midi_edge::{Lanes, NoMemory, Sink, Source};
 use midi_lines::{Line, fill_byte_listing, fill_step_line};
 use midi_pass::laws::bytes_are_cut_once;
-use midi_pass::places::put_output;
-use midi_pass::{Engine, LIMIT, RunEnd, drive};
+use midi_pass::{Engine, LIMIT, Outputs, RunEnd, drive};
 use midi1_bytes::laws::parsed_bytes_are_the_definition;
 use midi1_bytes::{AfterCut, CutKind, Parser, Step};
 use std::alloc::Global;
@@ -55,38 +54,17 @@ impl Engine<u64, u8> for ShowBytes {
     ghost AsksAfter = { λ past item. item.0 ≡ length past };
 
     #[inline(always)]
-    fn step<L: Lanes, W: Sink, N: Sink>(
-        &mut self,
-        at: &u64,
-        item: &u8,
-        lanes: &mut L,
-        output: &mut W,
-        notes: &mut N,
-    ) -> Result<(), RunEnd> {
+    fn step<O: Outputs>(&mut self, at: &u64, item: &u8, outputs: &mut O) -> Result<(), RunEnd> {
         parsed_bytes_are_the_definition();
         rooms_that_are_not_reached_do_not_matter_in_bytes();
         bytes_are_kept();
-        put_byte(
-            &mut self.line,
-            &mut self.parser,
-            &mut self.state,
-            *item,
-            *at,
-            lanes,
-            output,
-            notes,
-        )
+        self.take_byte(*item, *at, outputs)
     }
 
-    fn close<L: Lanes, W: Sink, N: Sink>(
-        &self,
-        lanes: &mut L,
-        output: &mut W,
-        notes: &mut N,
-    ) -> Result<(), RunEnd> {
+    fn close<O: Outputs>(&self, outputs: &mut O) -> Result<(), RunEnd> {
         parsed_bytes_are_the_definition();
         match facts_of(&self.state, self.alloc) {
-            Ok(facts) => put_end(&self.parser, &facts, lanes, output, notes),
+            Ok(facts) => put_end(&self.parser, &facts, outputs),
             Err(NoMemory) => Err(RunEnd::NoMemory),
         }
     }
@@ -100,6 +78,34 @@ impl Engine<u64, u8> for ShowBytes {
     ghost starts = { λ first ready. shows_no_bytes first.parser first.state ready };
 
     ghost means = { λ first now past puts holds accepted put. tt };
+}
+
+impl ShowBytes {
+    // Feeds one more byte to the parser, keeps what it does, where a state is kept, and puts the lines of it, which are made in the
+    // place of earlier ones. Most bytes are held, and of those the step is not copied.
+    #[inline(always)]
+    fn take_byte<O: Outputs>(
+        &mut self,
+        byte: u8,
+        offset: u64,
+        outputs: &mut O,
+    ) -> Result<(), RunEnd>
+        ensures takes { TakesIn (is_some self.old.state)
+            (refusal_of (parse self.old.parser offset byte).step offset)
+            (shown_puts (parse self.old.parser offset byte).step offset)
+            (O.places outputs.old) (O.places outputs.new) result }
+        ensures after { self.new.parser ≡ (parse self.old.parser offset byte).after }
+        ensures state { result ≡ Ok tt →
+            KeepsStep (parse self.old.parser offset byte).step self.old.state self.new.state }
+    {
+        match self.parser.byte(byte, offset) {
+            Step::Held => Ok(()),
+            step => match keep_step(&mut self.state, &step) {
+                Ok(()) => put_step(&mut self.line, &step, offset, outputs),
+                Err(NoMemory) => Err(RunEnd::NoMemory),
+            },
+        }
+    }
 }
 
 /// Puts the lines of a stream, to its end or to the first byte that is refused, and where a state is kept, those of what it tells.
@@ -116,13 +122,7 @@ pub(crate) fn show_bytes<S: Source, L: Lanes, W: Sink, N: Sink>(
 ) -> RunEnd
     requires empty { parser ≡ idle parser.room }
     requires new { StandsFor as_they_come state (first_states as_they_come) }
-    ensures ends { Ends byte_cutting (showing_bytes (options_of parser state))
-        (seen S.Source L.Lanes W.Sink N.Sink input.old lanes.old output.old notes.old)
-        (seen S.Source L.Lanes W.Sink N.Sink input.new lanes.new output.new notes.new) result }
-    ensures complete { IsDoneUnless byte_cutting (showing_bytes (options_of parser state))
-        (seen S.Source L.Lanes W.Sink N.Sink input.old lanes.old output.old notes.old)
-        (seen S.Source L.Lanes W.Sink N.Sink input.new lanes.new output.new notes.new) result }
-    ensures refused { IsRefusedWhere byte_cutting (showing_bytes (options_of parser state))
+    ensures { PassEnds byte_cutting (showing_bytes (options_of parser state))
         (seen S.Source L.Lanes W.Sink N.Sink input.old lanes.old output.old notes.old)
         (seen S.Source L.Lanes W.Sink N.Sink input.new lanes.new output.new notes.new) result }
 {
@@ -138,77 +138,46 @@ pub(crate) fn show_bytes<S: Source, L: Lanes, W: Sink, N: Sink>(
 }
 
 // Puts a line of the listing, which is made in the place of another one.
-fn put_kind<L: Lanes, W: Sink, N: Sink>(
+fn put_kind<O: Outputs>(
     line: &mut Line,
     kind: Kind,
     offset: u64,
-    lanes: &mut L,
-    output: &mut W,
-    notes: &mut N,
+    outputs: &mut O,
 ) -> Result<(), RunEnd>
     ensures { Puts (in_output (byte_listing_text kind offset) ∷ [])
-        (places L.Lanes W.Sink N.Sink lanes.old output.old notes.old)
-        (places L.Lanes W.Sink N.Sink lanes.new output.new notes.new) result }
+        (O.places outputs.old) (O.places outputs.new) result }
 {
     fill_byte_listing(line, kind, offset);
-    put_output(line.as_slice(), lanes, output, notes)
-}
-
-// Feeds one more byte to the parser, keeps what it does, where a state is kept, and puts the lines of it, which are made in the place
-// of another one. Most bytes are held, and of those the step is not copied.
-#[inline(always)]
-fn put_byte<L: Lanes, W: Sink, N: Sink>(
-    line: &mut Line,
-    parser: &mut Parser,
-    state: &mut Option<VoiceState>,
-    byte: u8,
-    offset: u64,
-    lanes: &mut L,
-    output: &mut W,
-    notes: &mut N,
-) -> Result<(), RunEnd>
-    ensures takes { TakesIn (is_some state.old)
-        (refusal_of (parse parser.old offset byte).step offset)
-        (shown_puts (parse parser.old offset byte).step offset)
-        (places L.Lanes W.Sink N.Sink lanes.old output.old notes.old)
-        (places L.Lanes W.Sink N.Sink lanes.new output.new notes.new) result }
-    ensures after { parser.new ≡ (parse parser.old offset byte).after }
-    ensures state { result ≡ Ok tt → KeepsStep (parse parser.old offset byte).step state.old state.new }
-{
-    match parser.byte(byte, offset) {
-        Step::Held => Ok(()),
-        step => match keep_step(state, &step) {
-            Ok(()) => put_step(line, &step, offset, lanes, output, notes),
-            Err(NoMemory) => Err(RunEnd::NoMemory),
-        },
-    }
+    outputs.put_output(line.as_slice())
 }
 
 // Puts the lines of what a byte does.
-fn put_step<L: Lanes, W: Sink, N: Sink>(
+fn put_step<O: Outputs>(
     line: &mut Line,
     step: &Step<'_>,
     offset: u64,
-    lanes: &mut L,
-    output: &mut W,
-    notes: &mut N,
+    outputs: &mut O,
 ) -> Result<(), RunEnd>
     requires { HasBothEnds step.now }
     ensures { Takes (refusal_of (step_view step.now) offset) (shown_puts (step_view step.now) offset)
-        (places L.Lanes W.Sink N.Sink lanes.old output.old notes.old)
-        (places L.Lanes W.Sink N.Sink lanes.new output.new notes.new) result }
+        (O.places outputs.old) (O.places outputs.new) result }
 {
     match step {
         Step::Held => Ok(()),
         Step::TooLong => Err(refused(BadStep::ExclusiveTooLong, offset)),
-        Step::Stray => put_kind(line, Kind::Stray, offset, lanes, output, notes),
-        Step::Undefined => put_kind(line, Kind::Undefined, offset, lanes, output, notes),
+        Step::Stray => put_kind(line, Kind::Stray, offset, outputs),
+        Step::Undefined => put_kind(line, Kind::Undefined, offset, outputs),
         Step::Cut { start, what, after } => {
-            put_cut(line, *start, *what, *after, offset, lanes, output, notes)
+            let cut_off = CutOff {
+                start: *start,
+                what: *what,
+                after: *after,
+            };
+            put_cut(line, cut_off, offset, outputs)
         }
         _ => {
             if fill_step_line(line, step, offset) {
-                put_output(line.as_slice(), lanes, output, notes)
+                outputs.put_output(line.as_slice())
             } else {
                 Ok(())
             }
@@ -216,47 +185,46 @@ fn put_step<L: Lanes, W: Sink, N: Sink>(
     }
 }
 
-// Puts the line of what was cut off, and then that of the byte itself, if it has one.
-fn put_cut<L: Lanes, W: Sink, N: Sink>(
-    line: &mut Line,
+// A message or an exclusive that a byte cut off: where it began, what it is, and what the byte does itself.
+#[derive(Clone, Copy)]
+struct CutOff {
     start: u64,
     what: CutKind,
     after: AfterCut,
+}
+
+// Puts the line of what was cut off, and then that of the byte itself, if it has one.
+fn put_cut<O: Outputs>(
+    line: &mut Line,
+    cut_off: CutOff,
     offset: u64,
-    lanes: &mut L,
-    output: &mut W,
-    notes: &mut N,
+    outputs: &mut O,
 ) -> Result<(), RunEnd>
-    ensures { Puts (shown_puts (cut start what after) offset)
-        (places L.Lanes W.Sink N.Sink lanes.old output.old notes.old)
-        (places L.Lanes W.Sink N.Sink lanes.new output.new notes.new) result }
+    ensures { Puts (shown_puts (cut cut_off.start cut_off.what cut_off.after) offset)
+        (O.places outputs.old) (O.places outputs.new) result }
 {
-    put_kind(line, kind_of_cut(what), start, lanes, output, notes)?;
-    put_after(line, start, what, after, offset, lanes, output, notes)
+    put_kind(line, kind_of_cut(cut_off.what), cut_off.start, outputs)?;
+    put_after(line, cut_off, offset, outputs)
 }
 
 // Puts the line of a byte that cut something off, if it has one.
-fn put_after<L: Lanes, W: Sink, N: Sink>(
+fn put_after<O: Outputs>(
     line: &mut Line,
-    start: u64,
-    what: CutKind,
-    after: AfterCut,
+    cut_off: CutOff,
     offset: u64,
-    lanes: &mut L,
-    output: &mut W,
-    notes: &mut N,
+    outputs: &mut O,
 ) -> Result<(), RunEnd>
-    ensures { Puts (puts_after start what after offset)
-        (places L.Lanes W.Sink N.Sink lanes.old output.old notes.old)
-        (places L.Lanes W.Sink N.Sink lanes.new output.new notes.new) result }
+    ensures { Puts (puts_after cut_off.start cut_off.what cut_off.after offset)
+        (O.places outputs.old) (O.places outputs.new) result }
 {
+    let CutOff { start, what, after } = cut_off;
     match after {
         AfterCut::Begins => Ok(()),
-        AfterCut::Undefined => put_kind(line, Kind::Undefined, offset, lanes, output, notes),
-        AfterCut::Stray => put_kind(line, Kind::Stray, offset, lanes, output, notes),
+        AfterCut::Undefined => put_kind(line, Kind::Undefined, offset, outputs),
+        AfterCut::Stray => put_kind(line, Kind::Stray, offset, outputs),
         AfterCut::Tune => {
             if fill_step_line(line, &Step::Cut { start, what, after }, offset) {
-                put_output(line.as_slice(), lanes, output, notes)
+                outputs.put_output(line.as_slice())
             } else {
                 Ok(())
             }
@@ -265,37 +233,23 @@ fn put_after<L: Lanes, W: Sink, N: Sink>(
 }
 
 // Puts the line of what is still open at the end, if anything is.
-fn put_open<L: Lanes, W: Sink, N: Sink>(
-    parser: &Parser,
-    lanes: &mut L,
-    output: &mut W,
-    notes: &mut N,
-) -> Result<(), RunEnd>
-    ensures { Puts (open_puts (open_of parser.now))
-        (places L.Lanes W.Sink N.Sink lanes.old output.old notes.old)
-        (places L.Lanes W.Sink N.Sink lanes.new output.new notes.new) result }
+fn put_open<O: Outputs>(parser: &Parser, outputs: &mut O) -> Result<(), RunEnd>
+    ensures { Puts (open_puts (open_of parser.now)) (O.places outputs.old) (O.places outputs.new) result }
 {
     match parser.end() {
         Some((start, what)) => {
             let mut line = Line::new();
-            put_kind(&mut line, kind_of_open(what), start, lanes, output, notes)
+            put_kind(&mut line, kind_of_open(what), start, outputs)
         }
         None => Ok(()),
     }
 }
 
 // Puts the line of what is still open, if anything is, and then that of each of these facts.
-fn put_end<L: Lanes, W: Sink, N: Sink>(
-    parser: &Parser,
-    facts: &[Fact],
-    lanes: &mut L,
-    output: &mut W,
-    notes: &mut N,
-) -> Result<(), RunEnd>
+fn put_end<O: Outputs>(parser: &Parser, facts: &[Fact], outputs: &mut O) -> Result<(), RunEnd>
     ensures { Puts (open_puts (open_of parser.now) ++ fact_puts facts.now)
-        (places L.Lanes W.Sink N.Sink lanes.old output.old notes.old)
-        (places L.Lanes W.Sink N.Sink lanes.new output.new notes.new) result }
+        (O.places outputs.old) (O.places outputs.new) result }
 {
-    put_open(parser, lanes, output, notes)?;
-    put_facts(facts, lanes, output, notes)
+    put_open(parser, outputs)?;
+    put_facts(facts, outputs)
 }

@@ -6,10 +6,10 @@ ghost use Rattle.voice_state.specs.Messages.{raised};
 ghost use Rattle.voice_state.specs.Parts.{part_of};
 ghost use Rattle.voice_state.specs.States.{first_states};
 ghost use Rattle.sysex_groups.specs.Table.{empty_table};
-ghost use Rattle.midi_pass.specs.Pass.{Ends, IsDoneUnless, TakesIn, seen};
-ghost use Rattle.midi_pass.specs.Places.{Puts, places};
+ghost use Rattle.midi_pass.specs.PassEnds.{PassEnds};
+ghost use Rattle.midi_pass.specs.Pass.{TakesIn, seen};
+ghost use Rattle.midi_pass.specs.Places.{Puts};
 ghost use Rattle.midi_pass.specs.Put.{in_output};
-ghost use Rattle.midi_pass.specs.Refused.{IsRefusedWhere};
 ghost use Rattle.midi_lines.specs.PacketLines.{packet_text};
 ghost use Rattle.listing_puts.specs.Refusal.{refusal_by};
 ghost use Rattle.midi_engines.specs.KeptState.{KeepsPacket, StandsFor, ended_in};
@@ -23,8 +23,7 @@ use down_translator::laws::{spelled_packets_are_in_range, what_is_held_is_the_de
 use listing_puts::refused;
 use midi_edge::{Lanes, NoMemory, Sink, Source, U4};
 use midi_lines::{Line, fill_packet_line};
-use midi_pass::places::put_output;
-use midi_pass::{Engine, RunEnd, drive};
+use midi_pass::{Engine, Outputs, RunEnd, drive};
 use packet_items::{PacketReader, packets_are_cut_once};
 use std::alloc::Global;
 use sysex_groups::{Fed, Groups};
@@ -60,13 +59,11 @@ impl Engine<Framed, Packet> for ShowPackets {
 
     ghost AsksAfter = { λ past item. Unit {0} };
 
-    fn step<L: Lanes, W: Sink, N: Sink>(
+    fn step<O: Outputs>(
         &mut self,
         at: &Framed,
         item: &Packet,
-        lanes: &mut L,
-        output: &mut W,
-        notes: &mut N,
+        outputs: &mut O,
     ) -> Result<(), RunEnd> {
         what_is_held_is_the_definition();
         spelled_packets_are_in_range();
@@ -74,17 +71,12 @@ impl Engine<Framed, Packet> for ShowPackets {
         rooms_that_are_not_passed_do_not_matter();
         joined_bytes_know_no_offsets();
         packets_are_kept();
-        self.take_packet(at, item, lanes, output, notes)
+        self.take_packet(at, item, outputs)
     }
 
-    fn close<L: Lanes, W: Sink, N: Sink>(
-        &self,
-        lanes: &mut L,
-        output: &mut W,
-        notes: &mut N,
-    ) -> Result<(), RunEnd> {
+    fn close<O: Outputs>(&self, outputs: &mut O) -> Result<(), RunEnd> {
         match facts_of(&self.state, self.alloc) {
-            Ok(facts) => put_facts(&facts, lanes, output, notes),
+            Ok(facts) => put_facts(&facts, outputs),
             Err(NoMemory) => Err(RunEnd::NoMemory),
         }
     }
@@ -116,15 +108,7 @@ pub(crate) fn show_packets<S: Source, L: Lanes, W: Sink, N: Sink>(
     requires empty { groups ≡ empty_table groups.room }
     requires least { 6 ≤ groups.room }
     requires new { StandsFor raised state (first_states raised) }
-    ensures ends { Ends (packet_cutting order)
-        (showing (record { state = is_some state; order = order; room = groups.room }))
-        (seen S.Source L.Lanes W.Sink N.Sink input.old lanes.old output.old notes.old)
-        (seen S.Source L.Lanes W.Sink N.Sink input.new lanes.new output.new notes.new) result }
-    ensures complete { IsDoneUnless (packet_cutting order)
-        (showing (record { state = is_some state; order = order; room = groups.room }))
-        (seen S.Source L.Lanes W.Sink N.Sink input.old lanes.old output.old notes.old)
-        (seen S.Source L.Lanes W.Sink N.Sink input.new lanes.new output.new notes.new) result }
-    ensures refused { IsRefusedWhere (packet_cutting order)
+    ensures { PassEnds (packet_cutting order)
         (showing (record { state = is_some state; order = order; room = groups.room }))
         (seen S.Source L.Lanes W.Sink N.Sink input.old lanes.old output.old notes.old)
         (seen S.Source L.Lanes W.Sink N.Sink input.new lanes.new output.new notes.new) result }
@@ -163,54 +147,46 @@ fn join(groups: &mut Groups, packet: &Packet, offset: u64) -> Result<Option<U4>,
 }
 
 // Puts the line of one more packet.
-fn put_packet<L: Lanes, W: Sink, N: Sink>(
+fn put_packet<O: Outputs>(
     line: &mut Line,
     framed: &Framed,
     packet: &Packet,
-    lanes: &mut L,
-    output: &mut W,
-    notes: &mut N,
+    outputs: &mut O,
 ) -> Result<(), RunEnd>
     requires { IsPacket packet.now }
     ensures { Puts (in_output (packet_text packet.now framed.now.words framed.now.offset) ∷ [])
-        (places L.Lanes W.Sink N.Sink lanes.old output.old notes.old)
-        (places L.Lanes W.Sink N.Sink lanes.new output.new notes.new) result }
+        (O.places outputs.old) (O.places outputs.new) result }
 {
     fill_packet_line(line, packet, framed.words.as_slice(), framed.offset);
-    put_output(line.as_slice(), lanes, output, notes)
+    outputs.put_output(line.as_slice())
 }
 
 // Puts the line of one more packet, and then that of the text that it ends, if it ends one.
-fn put_lines<L: Lanes, W: Sink, N: Sink>(
+fn put_lines<O: Outputs>(
     texts: &mut Texts,
     line: &mut Line,
     framed: &Framed,
     packet: &Packet,
-    lanes: &mut L,
-    output: &mut W,
-    notes: &mut N,
+    outputs: &mut O,
 ) -> Result<(), RunEnd>
     requires packet { IsPacket packet.now }
     requires kinds { AreOfTheirKinds texts.old }
     ensures after { result ≡ Ok tt → texts.new ≡ texts_after (text_of packet.now) texts.old }
     ensures puts { Puts (in_output (packet_text packet.now framed.now.words framed.now.offset)
         ∷ text_puts (line_of_text (text_of packet.now) texts.old))
-        (places L.Lanes W.Sink N.Sink lanes.old output.old notes.old)
-        (places L.Lanes W.Sink N.Sink lanes.new output.new notes.new) result }
+        (O.places outputs.old) (O.places outputs.new) result }
 {
-    put_packet(line, framed, packet, lanes, output, notes)?;
-    put_text(texts, line, packet, lanes, output, notes)
+    put_packet(line, framed, packet, outputs)?;
+    put_text(texts, line, packet, outputs)
 }
 
 impl ShowPackets {
     // Takes one more packet: keeps it, where a state is kept, and puts its lines; nothing of both where it is refused.
-    fn take_packet<L: Lanes, W: Sink, N: Sink>(
+    fn take_packet<O: Outputs>(
         &mut self,
         framed: &Framed,
         packet: &Packet,
-        lanes: &mut L,
-        output: &mut W,
-        notes: &mut N,
+        outputs: &mut O,
     ) -> Result<(), RunEnd>
         requires packet { IsPacket packet.now }
         requires kinds { AreOfTheirKinds self.old.texts }
@@ -223,20 +199,11 @@ impl ShowPackets {
             (refusal_by (bad_join self.old.groups packet.now) framed.now.offset)
             (in_output (packet_text packet.now framed.now.words framed.now.offset)
             ∷ text_puts (line_of_text (text_of packet.now) self.old.texts))
-            (places L.Lanes W.Sink N.Sink lanes.old output.old notes.old)
-            (places L.Lanes W.Sink N.Sink lanes.new output.new notes.new) result }
+            (O.places outputs.old) (O.places outputs.new) result }
     {
         match join(&mut self.groups, packet, framed.offset) {
             Ok(ended) => match keep_packet(&mut self.state, packet, ended) {
-                Ok(()) => put_lines(
-                    &mut self.texts,
-                    &mut self.line,
-                    framed,
-                    packet,
-                    lanes,
-                    output,
-                    notes,
-                ),
+                Ok(()) => put_lines(&mut self.texts, &mut self.line, framed, packet, outputs),
                 Err(NoMemory) => Err(RunEnd::NoMemory),
             },
             Err(bad) => Err(refused(bad, framed.offset)),

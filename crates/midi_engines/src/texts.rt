@@ -5,13 +5,11 @@ ghost use Rattle.ump_grammar.specs.Ranges.{IsPacket};
 ghost use Rattle.system_stream.specs.Joining.{after_part, answer_to, idle};
 ghost use Rattle.system_stream.specs.declared.texts.TextKind.TheVariants as kinds;
 ghost use Rattle.midi_lines.specs.TextLines.{joined_text};
-ghost use Rattle.midi_pass.specs.Places.{Puts, places};
+ghost use Rattle.midi_pass.specs.Places.{Puts};
 ghost use Rattle.midi_engines.specs.Texts.{AreOfTheirKinds, line_of_text, new_texts, part_view, text_in, text_of, text_puts, texts_after};
 
-use midi_edge::{Lanes, Sink};
 use midi_lines::{Line, fill_text_line};
-use midi_pass::RunEnd;
-use midi_pass::places::put_output;
+use midi_pass::{Outputs, RunEnd};
 use system_stream::{StreamMessage, TextJoin, TextKind, read};
 use ump_grammar::Packet;
 use voice_messages::Form;
@@ -74,71 +72,62 @@ fn text_part(message: &StreamMessage) -> Option<TextPart<'_>>
 }
 
 // Joins a part to the texts of its kind, and puts the line of the text that it ends, if it ends one.
-fn put_joined<L: Lanes, W: Sink, N: Sink>(
+fn put_joined<O: Outputs>(
     join: &mut TextJoin,
     part: &TextPart<'_>,
     line: &mut Line,
-    lanes: &mut L,
-    output: &mut W,
-    notes: &mut N,
+    outputs: &mut O,
 ) -> Result<(), RunEnd>
     requires kind { join.old.kind ≡ part.now.kind }
     ensures after { join.new ≡ after_part join.old (part_view part.now).1 }
     ensures puts { Puts (text_puts (joined_text part.now.kind (answer_to join.old (part_view part.now).1)))
-        (places L.Lanes W.Sink N.Sink lanes.old output.old notes.old)
-        (places L.Lanes W.Sink N.Sink lanes.new output.new notes.new) result }
+        (O.places outputs.old) (O.places outputs.new) result }
 {
     let joined = join.part(part.form, part.block, part.bytes);
     if fill_text_line(line, part.kind, &joined) {
-        put_output(line.as_slice(), lanes, output, notes)
+        outputs.put_output(line.as_slice())
     } else {
         Ok(())
     }
 }
 
 // The same, for a part of any kind.
-fn put_part<L: Lanes, W: Sink, N: Sink>(
+fn put_part<O: Outputs>(
     texts: &mut Texts,
     part: &TextPart<'_>,
     line: &mut Line,
-    lanes: &mut L,
-    output: &mut W,
-    notes: &mut N,
+    outputs: &mut O,
 ) -> Result<(), RunEnd>
     requires kinds { AreOfTheirKinds texts.old }
     ensures after { texts.new ≡ texts_after (Some (part_view part.now)) texts.old }
     ensures puts { Puts (text_puts (line_of_text (Some (part_view part.now)) texts.old))
-        (places L.Lanes W.Sink N.Sink lanes.old output.old notes.old)
-        (places L.Lanes W.Sink N.Sink lanes.new output.new notes.new) result }
+        (O.places outputs.old) (O.places outputs.new) result }
 {
     match part.kind {
-        TextKind::EndpointName => put_joined(&mut texts.names, part, line, lanes, output, notes),
-        TextKind::ProductId => put_joined(&mut texts.products, part, line, lanes, output, notes),
-        TextKind::BlockName => put_joined(&mut texts.blocks, part, line, lanes, output, notes),
+        TextKind::EndpointName => put_joined(&mut texts.names, part, line, outputs),
+        TextKind::ProductId => put_joined(&mut texts.products, part, line, outputs),
+        TextKind::BlockName => put_joined(&mut texts.blocks, part, line, outputs),
     }
 }
 
 /// Takes one more packet, and puts the line of the text that it ends, if it ends one, in the output. The line is made in the place
 /// of another one.
-pub(crate) fn put_text<L: Lanes, W: Sink, N: Sink>(
+pub(crate) fn put_text<O: Outputs>(
     texts: &mut Texts,
     line: &mut Line,
     packet: &Packet,
-    lanes: &mut L,
-    output: &mut W,
-    notes: &mut N,
+    outputs: &mut O,
 ) -> Result<(), RunEnd>
     requires packet { IsPacket packet.now }
     requires kinds { AreOfTheirKinds texts.old }
     ensures after { texts.new ≡ texts_after (text_of packet.now) texts.old }
     ensures puts { Puts (text_puts (line_of_text (text_of packet.now) texts.old))
-        (places L.Lanes W.Sink N.Sink lanes.old output.old notes.old)
-        (places L.Lanes W.Sink N.Sink lanes.new output.new notes.new) result }
+        (O.places outputs.old) (O.places outputs.new) result }
 {
     match packet {
         Packet::Stream { .. } => match read(packet) {
             Ok(message) => match text_part(&message) {
-                Some(part) => put_part(texts, &part, line, lanes, output, notes),
+                Some(part) => put_part(texts, &part, line, outputs),
                 None => Ok(()),
             },
             Err(_) => Ok(()),

@@ -2,13 +2,14 @@
 ghost use Rattle.std.specs.Prelude.{◌≡◌, ◌≤◌, ◌<◌, [], ◌∷◌, IfOk, length, refl};
 ghost use Rattle.std.specs.List.{flat_map};
 ghost use Rattle.ump_words.specs.Cut.{word_bytes};
-ghost use Rattle.midi_pass.specs.Places.{Puts, places};
+ghost use Rattle.midi_pass.specs.PassEnds.{PassEnds};
+ghost use Rattle.midi_pass.specs.Places.{Puts};
 ghost use Rattle.midi_pass.specs.Put.{in_output};
 ghost use Rattle.ump_grammar.specs.Ranges.{IsPacket};
 ghost use Rattle.midi_pass.specs.Bytes.{byte_cutting};
-ghost use Rattle.midi_pass.specs.Pass.{Ends, IsDoneUnless, seen};
-ghost use Rattle.midi_pass.specs.Refused.{IsRefusedWhere};
-ghost use Rattle.midi_engines.specs.Up.{HoldsRaised, IsWritten, options_of, raising};
+ghost use Rattle.midi_pass.specs.Pass.{seen};
+ghost use Rattle.midi_engines.specs.Up.{HoldsRaised, options_of, raising};
+ghost use Rattle.packet_puts.specs.Written.{IsWritten};
 ghost use Rattle.midi_engines.specs.RaisedMeans.{last_named};
 ghost use Rattle.midi_engines.specs.UpMeans.{raised_means, raises_named};
 
@@ -16,12 +17,13 @@ use crate::raised::{PacketWork, put_byte, put_open};
 use item_reader::ByteReader;
 use midi_edge::{Lanes, NoMemory, Sink, Source, U4};
 use midi_pass::laws::bytes_are_cut_once;
-use midi_pass::{Engine, LIMIT, RunEnd, drive};
+use midi_pass::{Engine, LIMIT, Outputs, RunEnd, drive};
 use midi1_bytes::laws::parsed_bytes_are_the_definition;
+use packet_puts::put_encoded;
 use std::alloc::Global;
 use std::marker::Model;
 use ump_grammar::laws::exclusives_have_words;
-use ump_words::{Order, put_words};
+use ump_words::{Order, pair_bytes};
 use up_translator::laws::raised_bytes_are_the_definition;
 use up_translator::{RaisedPacket, Up};
 use voice_state::up_laws::{
@@ -75,27 +77,6 @@ impl UpRun {
     }
 }
 
-// Puts the words of one packet in the output.
-#[inline(always)]
-fn put_encoded<L: Lanes, W: Sink, N: Sink>(
-    words: &[u32],
-    order: Order,
-    lanes: &mut L,
-    output: &mut W,
-    notes: &mut N,
-) -> Result<(), RunEnd>
-    requires some { 0 < length words.now }
-    requires few { length words.now ≤ 4 }
-    ensures { Puts (in_output (flat_map (word_bytes order) words.now) ∷ [])
-        (places L.Lanes W.Sink N.Sink lanes.old output.old notes.old)
-        (places L.Lanes W.Sink N.Sink lanes.new output.new notes.new) result }
-{
-    match put_words(words, order, output) {
-        Ok(()) => Ok(()),
-        Err(_) => Err(RunEnd::OutputFault),
-    }
-}
-
 // Puts the words of packets in the output, in this order of their bytes.
 #[derive(Drop)]
 struct WordOutput {
@@ -108,19 +89,20 @@ impl PacketWork for WordOutput {
     ghost IsDone = { λ offset from packet to puts. (to ≡ from) × IsWritten from.order packet puts };
 
     #[inline(always)]
-    fn put<L: Lanes, W: Sink, N: Sink>(
+    fn put<O: Outputs>(
         &mut self,
         packet: &RaisedPacket,
         _offset: u64,
-        lanes: &mut L,
-        output: &mut W,
-        notes: &mut N,
+        outputs: &mut O,
     ) -> Result<(), RunEnd> {
         match packet.pair() {
-            Some(pair) => put_encoded(&pair, self.order, lanes, output, notes),
+            Some(pair) => {
+                let [first, second] = pair;
+                outputs.put_output(&pair_bytes(first, second, self.order))
+            }
             None => {
                 let words = packet.words();
-                put_encoded(words.as_slice(), self.order, lanes, output, notes)
+                put_encoded(words.as_slice(), self.order, outputs)
             }
         }
     }
@@ -148,38 +130,18 @@ impl Engine<u64, u8> for UpEngine {
     ghost AsksAfter = { λ past item. item.0 ≡ length past };
 
     #[inline(always)]
-    fn step<L: Lanes, W: Sink, N: Sink>(
-        &mut self,
-        at: &u64,
-        item: &u8,
-        lanes: &mut L,
-        output: &mut W,
-        notes: &mut N,
-    ) -> Result<(), RunEnd> {
+    fn step<O: Outputs>(&mut self, at: &u64, item: &u8, outputs: &mut O) -> Result<(), RunEnd> {
         exclusives_have_words();
         parsed_bytes_are_the_definition();
         raised_bytes_are_the_definition();
         raised_packets_are_in_range();
         rooms_that_are_not_reached_do_not_matter_in_bytes();
-        put_byte(
-            &mut self.up,
-            &mut self.words,
-            *item,
-            *at,
-            lanes,
-            output,
-            notes,
-        )
+        put_byte(&mut self.up, &mut self.words, *item, *at, outputs)
     }
 
-    fn close<L: Lanes, W: Sink, N: Sink>(
-        &self,
-        lanes: &mut L,
-        output: &mut W,
-        notes: &mut N,
-    ) -> Result<(), RunEnd> {
+    fn close<O: Outputs>(&self, outputs: &mut O) -> Result<(), RunEnd> {
         raised_bytes_are_the_definition();
-        put_open(&self.up, lanes, output, notes)
+        put_open(&self.up, outputs)
     }
 
     ghost puts_are_named = { λ first past item puts put.
@@ -209,13 +171,7 @@ pub fn run_up<S: Source, L: Lanes, W: Sink, N: Sink>(
     output: &mut W,
     notes: &mut N,
 ) -> RunEnd
-    ensures ends { Ends byte_cutting (raising engine)
-        (seen S.Source L.Lanes W.Sink N.Sink input.old lanes.old output.old notes.old)
-        (seen S.Source L.Lanes W.Sink N.Sink input.new lanes.new output.new notes.new) result }
-    ensures complete { IsDoneUnless byte_cutting (raising engine)
-        (seen S.Source L.Lanes W.Sink N.Sink input.old lanes.old output.old notes.old)
-        (seen S.Source L.Lanes W.Sink N.Sink input.new lanes.new output.new notes.new) result }
-    ensures refused { IsRefusedWhere byte_cutting (raising engine)
+    ensures { PassEnds byte_cutting (raising engine)
         (seen S.Source L.Lanes W.Sink N.Sink input.old lanes.old output.old notes.old)
         (seen S.Source L.Lanes W.Sink N.Sink input.new lanes.new output.new notes.new) result }
 {

@@ -87,11 +87,25 @@ module _ {Item : Type 0} (IsCut : Cutting Item) (work : Work Item) (cuts : CutsO
           | inr go ↦ absurd (none_some refusal (sym (among items others go.0 i go.1 accepted') ∙ refused))
         ]
 
+  module _ (items others : List Item) (refusal other : Reason × ℕ) (accepted : AreAccepted work (reverse items)) where
+    -- the input is refused where it ends, so no item of it is
+    refused_end : (bytes : List ℕ) (item : Item) → IsCut bytes items None → IsFront IsCut bytes (others ++ item ∷ []) → work.refusal (reverse others) item ≡ Some other → ⊥
+    refused_end bytes item cut front refused =
+        let begin = cuts.front bytes items (others ++ item ∷ []) None cut front in
+        none_some other (sym (among others items begin.0 item begin.1 accepted) ∙ refused)
+
   pub one_refusal : HasOneFirstRefusal IsCut work
   one_refusal bytes items others reason reason' offset offset' accepted accepted' (inl cut) (inl cut') = cuts.one bytes items others (Some (reason, offset)) (Some (reason', offset')) cut cut'
-  one_refusal bytes items others reason reason' offset offset' accepted accepted' (inl cut) (inr next) = absurd (refused_bytes items others (reason, offset) (reason', offset') accepted accepted' bytes next.0 cut next.1 next.2)
-  one_refusal bytes items others reason reason' offset offset' accepted accepted' (inr next) (inl cut) = absurd (refused_bytes others items (reason', offset') (reason, offset) accepted' accepted bytes next.0 cut next.1 next.2)
-  one_refusal bytes items others reason reason' offset offset' accepted accepted' (inr (i, (short, more, parts, cut), refused)) (inr (j, (long, rest, parts', cut'), refused')) =
+  one_refusal bytes items others reason reason' offset offset' accepted accepted' (inl cut) (inr (inl next)) = absurd (refused_bytes items others (reason, offset) (reason', offset') accepted accepted' bytes next.0 cut next.1 next.2)
+  one_refusal bytes items others reason reason' offset offset' accepted accepted' (inl cut) (inr (inr end)) = absurd (none_some (reason, offset) (sym (cuts.one bytes items others (Some (reason, offset)) None cut end.0).1))
+  one_refusal bytes items others reason reason' offset offset' accepted accepted' (inr (inl next)) (inl cut) = absurd (refused_bytes others items (reason', offset') (reason, offset) accepted' accepted bytes next.0 cut next.1 next.2)
+  one_refusal bytes items others reason reason' offset offset' accepted accepted' (inr (inl next)) (inr (inr end)) = absurd (refused_end others items (reason', offset') (reason, offset) accepted' bytes next.0 end.0 next.1 next.2)
+  one_refusal bytes items others reason reason' offset offset' accepted accepted' (inr (inr end)) (inl cut) = absurd (none_some (reason', offset') (sym (cuts.one bytes others items (Some (reason', offset')) None cut end.0).1))
+  one_refusal bytes items others reason reason' offset offset' accepted accepted' (inr (inr end)) (inr (inl next)) = absurd (refused_end items others (reason, offset) (reason', offset') accepted bytes next.0 end.0 next.1 next.2)
+  one_refusal bytes items others reason reason' offset offset' accepted accepted' (inr (inr end)) (inr (inr end')) =
+      let same = (cuts.one bytes items others None None end.0 end'.0).0 in
+      (same, sym end.1 ∙ ap (λ xs. work.refusal_at_end (reverse xs)) same ∙ end'.1)
+  one_refusal bytes items others reason reason' offset offset' accepted accepted' (inr (inl (i, (short, more, parts, cut), refused))) (inr (inl (j, (long, rest, parts', cut'), refused'))) =
       elim (one_in_other short long more rest (sym parts ∙ parts')) [
         | inl x ↦ further items others (reason, offset) (reason', offset') accepted accepted' short long i j x cut cut' refused refused'
         | inr x ↦

@@ -133,7 +133,7 @@ module _ {I : Type 0} (IsCut : Cutting I) (work : Work I) (each : (past : List I
     (last : (past : List I) (puts : List Put) → work.IsPutAtEnd past puts → AreNamed work.names puts) (old new : Seen) where
   next_named : (all : Option (List ℕ)) (items : List I) (next : List Put) → IsNextPut IsCut work all items next → AreNamed work.names next
   next_named all items next (inl step) = each (reverse items) step.0 next step.3
-  next_named all items next (inr close) = last (reverse items) next close.1
+  next_named all items next (inr close) = last (reverse items) next close.2
 
   put_fails : (end : RunEnd) → PutFails IsCut work end old new → SparesOthers work.names end old.places new.places
   put_fails end fails = spares_failed work.names fails.puts fails.next end old.places new.places (are_named work each (reverse fails.items) fails.puts fails.done.put) (next_named old.left fails.items fails.next fails.is_next) fails.places

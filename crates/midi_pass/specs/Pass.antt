@@ -22,6 +22,10 @@ abbrev pub seen : {S L W N : Type 0} → source.Ghosts S → lanes.Ghosts L → 
     L → W → N → Seen
 seen S L W N s l w n = record { left = S.left s; reads = S.faults s; places = places L W N l w n }
 
+-- the same of places that are told together
+abbrev pub seen_with : {S : Type 0} → source.Ghosts S → S → Places → Seen
+seen_with S s places = record { left = S.left s; reads = S.faults s; places = places }
+
 -- how the items of some bytes end: with the last byte, or with a refusal at an offset
 abbrev pub Tail : Type 0
 Tail = Option (Reason × ℕ)
@@ -31,13 +35,14 @@ abbrev pub Cutting : Type 0 → Type 1
 Cutting Item = List ℕ → List Item → Tail → Type 0
 
 -- What is done with each item and at the end of the input, by the items before it, the newest first: which places it names; whether
--- it takes memory while it runs; why an item is refused, with the offset; what is put for it; what is put at the end; and what all
--- that is put for the items means.
+-- it takes memory while it runs; why an item is refused, with the offset; what is put for it; why the input is refused where it ends
+-- after these items; what is put at the end; and what all that is put for the items means.
 pub record Work (Item : Type 0) : Type 1 where
   pub names : Named
   pub grows : Bool
   pub refusal : List Item → Item → Tail
   pub IsPut : List Item → Item → List Put → Type 0
+  pub refusal_at_end : List Item → Tail
   pub IsPutAtEnd : List Item → List Put → Type 0
   pub Means : List Item → List Put → Type 0
 
@@ -82,9 +87,14 @@ module _ {Item : Type 0} (work : Work Item) (past : List Item) (old new : Places
       × ((puts : List Put) × work.IsPut past item puts × (new ≡ after_puts puts old))
   Steps item (Err end) = StepEnds item end
 
-  -- what is put at the end of the input is put, or one of these puts failed; or there is no memory for it
+  -- the end of the input is refused, and nothing is put; or what is put there is put, or one of these puts failed; or there is no memory
+  -- for it
+  abbrev pub ClosesBy : Tail → Result (Unit {0}) RunEnd → Type 0
+  ClosesBy (Some refusal) result = (result ≡ Err (Refused refusal.0 refusal.1)) × (new ≡ old)
+  ClosesBy None result = (puts : List Put) × work.IsPutAtEnd past puts × PutsIn work.grows puts old new result
+
   abbrev pub Closes : Result (Unit {0}) RunEnd → Type 0
-  Closes result = (puts : List Put) × work.IsPutAtEnd past puts × PutsIn work.grows puts old new result
+  Closes result = ClosesBy (work.refusal_at_end past) result
 
 -- the same for the code of a step: an item is refused and nothing is put, or these are put, or one of them failed
 abbrev pub Takes : Tail → List Put → Places → Places → Result (Unit {0}) RunEnd → Type 0
@@ -116,23 +126,25 @@ pub record HasGivenUp {Item : Type 0} (IsCut : Cutting Item) (bytes : List ℕ) 
   pub cut : IsCut given items None ⊎ ((offset : ℕ) × IsCut given items (Some (Truncated, offset)))
 
 module _ {Item : Type 0} (IsCut : Cutting Item) (work : Work Item) where
-  -- the input was read to its end, none of its items is refused, and all is put
+  -- the input was read to its end, nothing of it is refused, and all is put
   pub record IsDone (old new : Seen) : Type 0 where
     pub items : List Item
     pub puts : List Put
     pub last : List Put
     pub cut : IfSome old.left (λ bytes. IsCut bytes items None × (new.left ≡ Some []))
     pub done : IsWork work items puts
+    pub fine : work.refusal_at_end (reverse items) ≡ None
     pub at_end : work.IsPutAtEnd (reverse items) last
     pub places : new.places ≡ after_puts (puts ++ last) old.places
     pub reads : new.reads ≡ old.reads
 
-  -- after these items the bytes are refused, or the next item is
+  -- after these items the bytes are refused, or the next item is, or the end of the input
   abbrev pub IsFirstRefusal : List ℕ → List Item → Reason → ℕ → Type 0
   IsFirstRefusal bytes items reason offset =
       IsCut bytes items (Some (reason, offset))
-      ⊎ ((item : Item) × IsFront IsCut bytes (items ++ item ∷ [])
+      ⊎ (((item : Item) × IsFront IsCut bytes (items ++ item ∷ [])
       × (work.refusal (reverse items) item ≡ Some (reason, offset)))
+      ⊎ (IsCut bytes items None × (work.refusal_at_end (reverse items) ≡ Some (reason, offset))))
 
   -- the first refusal: what is put is that of exactly the items before it
   pub record IsRefused (reason : Reason) (offset : ℕ) (old new : Seen) : Type 0 where
@@ -157,7 +169,8 @@ module _ {Item : Type 0} (IsCut : Cutting Item) (work : Work Item) where
   IsNextPut all items puts =
       ((item : Item) × IfSome all (λ bytes. IsFront IsCut bytes (items ++ item ∷ []))
       × (work.refusal (reverse items) item ≡ None) × work.IsPut (reverse items) item puts)
-      ⊎ (IfSome all (λ bytes. IsCut bytes items None) × work.IsPutAtEnd (reverse items) puts)
+      ⊎ (IfSome all (λ bytes. IsCut bytes items None) × (work.refusal_at_end (reverse items) ≡ None)
+      × work.IsPutAtEnd (reverse items) puts)
 
   -- A put failed: all is put for the items before the one that it belongs to, and of that one, or at the end of the input, all
   -- before the put that failed and perhaps a part of it.
@@ -195,7 +208,9 @@ module _ {Item : Type 0} (IsCut : Cutting Item) (work : Work Item) where
 
   -- nothing of these bytes is refused
   abbrev pub HasNoRefusal : List ℕ → Type 0
-  HasNoRefusal bytes = (items : List Item) × IsCut bytes items None × AreAccepted work (reverse items)
+  HasNoRefusal bytes =
+      (items : List Item) × IsCut bytes items None × AreAccepted work (reverse items)
+      × (work.refusal_at_end (reverse items) ≡ None)
 
 -- a pass over an input: how it is cut into items, and what is done with them
 pub record Pass : Type 1 where

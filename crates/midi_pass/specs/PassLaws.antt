@@ -3,7 +3,7 @@ use Rattle.std.proofs.Common.{◌≡◌, ℕ, Bool, true, false, List, [], ◌�
 use Rattle.std.specs.Prelude.{◌⊎◌, IfSome, Result, Ok, Err, reverse}
 use Rattle.std.proofs.lemmas.List.{reverse-append}
 use Rattle.midi_edge.specs.Outside.{Rose}
-use Rattle.midi_pass.specs.Pass.{Seen, Cutting, Work, AreAccepted, ArePut, IsWork, PutsIn, StepEnds, Steps, Closes, end_of, IsFront, HasGivenUp, IsFirstRefusal, IsNextPut, PutFails, WantsMemory, Stands}
+use Rattle.midi_pass.specs.Pass.{Seen, Cutting, Work, AreAccepted, ArePut, IsWork, PutsIn, StepEnds, Steps, Closes, ClosesBy, Tail, end_of, IsFront, HasGivenUp, IsFirstRefusal, IsNextPut, PutFails, WantsMemory, Stands}
 use Rattle.midi_pass.specs.Places.{Places, after_puts, FailsAt, Puts}
 use Rattle.midi_pass.specs.Put.{Put}
 use Rattle.midi_pass.specs.declared.ends.Reason.{Reason}
@@ -29,6 +29,21 @@ pub record SoFar {I : Type 0} (work : Work I) (Has : List I → Type 0) (Holds :
 pub nothing_yet : {I : Type 0} (work : Work I) (Has : List I → Type 0) (Holds : List I → Type 0) (old : Seen) → Has [] → Holds [] → SoFar work Has Holds old old
 nothing_yet work Has Holds old has holds =
     record { items = []; has = has; holds = holds; puts = []; accepted = tt; put = refl; places = sym (after_puts-none old.places); reads = refl }
+
+-- it is still so where all places and the count of reads are as before
+abbrev pub still : {I : Type 0} (work : Work I) (Has : List I → Type 0) (Holds : List I → Type 0) (old now new : Seen) → SoFar work Has Holds old now
+    → new.places ≡ now.places → new.reads ≡ now.reads → SoFar work Has Holds old new
+still work Has Holds old now new so_far places reads =
+    record {
+      items = so_far.items;
+      has = so_far.has;
+      holds = so_far.holds;
+      puts = so_far.puts;
+      accepted = so_far.accepted;
+      put = so_far.put;
+      places = places ∙ so_far.places;
+      reads = reads ∙ so_far.reads;
+    }
 
 module _ {I : Type 0} (IsCut : Cutting I) (work : Work I) (Has : List I → Type 0) (Holds : List I → Type 0) (old now : Seen) (so_far : SoFar work Has Holds old now) (means : (past : List I) (puts : List Put) → Holds past → AreAccepted work past → ArePut work past puts → work.Means past puts) where
   done : IsWork work so_far.items so_far.puts
@@ -81,7 +96,7 @@ module _ {I : Type 0} (IsCut : Cutting I) (work : Work I) (Has : List I → Type
     where
       by_told : (all : Option (List ℕ)) → IfSome all (λ bytes. IsFront IsCut bytes (so_far.items ++ item ∷ [])) → IfSome all (λ bytes. IsFirstRefusal IsCut work bytes so_far.items reason offset)
       by_told None front = tt
-      by_told (Some bytes) front = inr (item, front, ends.0)
+      by_told (Some bytes) front = inr (inl (item, front, ends.0))
   ends_at_step item NoMemory new front reads ends = wants_memory new ends.0 (inl (item, front)) ends.1 reads
   ends_at_step item Done new front reads ends = absurd (no_other_end ends.1.0 Done now.places new.places ends.1.2 refl)
   ends_at_step item ReadFault new front reads ends = absurd (no_other_end ends.1.0 ReadFault now.places new.places ends.1.2 refl)
@@ -89,10 +104,12 @@ module _ {I : Type 0} (IsCut : Cutting I) (work : Work I) (Has : List I → Type
   ends_at_step item OutputFault new front reads ends = put_failed OutputFault new ends.1.0 (inl (item, front, ends.0, ends.1.1)) ends.1.2 reads
   ends_at_step item NoteFault new front reads ends = put_failed NoteFault new ends.1.0 (inl (item, front, ends.0, ends.1.1)) ends.1.2 reads
 
-  -- the input ends, and the pass is closed
-  pub ends_at_close : (result : Result (Unit {0}) RunEnd) (new : Seen) → IfSome old.left (λ bytes. IsCut bytes so_far.items None × (new.left ≡ Some [])) → new.reads ≡ now.reads
-      → Closes work (reverse so_far.items) now.places new.places result → Stands IsCut work old new (end_of result)
-  ends_at_close result new cut reads closes = by_memory work.grows refl closes.2
+  -- the input ends where nothing of it is refused, and the pass is closed
+  closed : (result : Result (Unit {0}) RunEnd) (new : Seen) → IfSome old.left (λ bytes. IsCut bytes so_far.items None × (new.left ≡ Some [])) → new.reads ≡ now.reads
+      → work.refusal_at_end (reverse so_far.items) ≡ None → (puts : List Put) × work.IsPutAtEnd (reverse so_far.items) puts × PutsIn work.grows puts now.places new.places result
+      → Stands IsCut work old new (end_of result)
+  unfolding done
+  closed result new cut reads fine closes = by_memory work.grows refl closes.2
     where
       by_told : (all : Option (List ℕ)) → IfSome all (λ bytes. IsCut bytes so_far.items None × (new.left ≡ Some [])) → IfSome all (λ bytes. IsCut bytes so_far.items None)
       by_told None cut = tt
@@ -103,9 +120,9 @@ module _ {I : Type 0} (IsCut : Cutting I) (work : Work I) (Has : List I → Type
       by_end (Refused reason offset) stops = absurd (no_other_end closes.0 (Refused reason offset) now.places new.places stops refl)
       by_end ReadFault stops = absurd (no_other_end closes.0 ReadFault now.places new.places stops refl)
       by_end NoMemory stops = absurd (no_other_end closes.0 NoMemory now.places new.places stops refl)
-      by_end LaneFault stops = put_failed LaneFault new closes.0 (inr (by_told old.left cut, closes.1)) stops reads
-      by_end OutputFault stops = put_failed OutputFault new closes.0 (inr (by_told old.left cut, closes.1)) stops reads
-      by_end NoteFault stops = put_failed NoteFault new closes.0 (inr (by_told old.left cut, closes.1)) stops reads
+      by_end LaneFault stops = put_failed LaneFault new closes.0 (inr (by_told old.left cut, fine, closes.1)) stops reads
+      by_end OutputFault stops = put_failed OutputFault new closes.0 (inr (by_told old.left cut, fine, closes.1)) stops reads
+      by_end NoteFault stops = put_failed NoteFault new closes.0 (inr (by_told old.left cut, fine, closes.1)) stops reads
 
       by_result : (r : Result (Unit {0}) RunEnd) → Puts closes.0 now.places new.places r → Stands IsCut work old new (end_of r)
       by_result (Ok nothing) puts =
@@ -115,6 +132,7 @@ module _ {I : Type 0} (IsCut : Cutting I) (work : Work I) (Has : List I → Type
             last = closes.0;
             cut = cut;
             done = done;
+            fine = fine;
             at_end = closes.1;
             places = then_put so_far.puts closes.0 old.places now.places new.places so_far.places puts;
             reads = reads ∙ so_far.reads;
@@ -127,6 +145,24 @@ module _ {I : Type 0} (IsCut : Cutting I) (work : Work I) (Has : List I → Type
       by_memory true e (inr none) =
           let S : Result (Unit {0}) RunEnd → Type 0 = λ r. Stands IsCut work old new (end_of r) in
           subst S (sym none.0) (wants_memory new e (inr (by_told old.left cut)) none.1 reads)
+
+  -- the input ends, and the pass is closed or its end refused
+  pub ends_at_close : (result : Result (Unit {0}) RunEnd) (new : Seen) → IfSome old.left (λ bytes. IsCut bytes so_far.items None × (new.left ≡ Some [])) → new.reads ≡ now.reads
+      → Closes work (reverse so_far.items) now.places new.places result → Stands IsCut work old new (end_of result)
+  unfolding done
+  ends_at_close result new cut reads closes = by_refusal (work.refusal_at_end (reverse so_far.items)) refl closes
+    where
+      by_told : (reason : Reason) (offset : ℕ) → work.refusal_at_end (reverse so_far.items) ≡ Some (reason, offset) → (all : Option (List ℕ)) → IfSome all (λ bytes. IsCut bytes so_far.items None × (new.left ≡ Some []))
+          → IfSome all (λ bytes. IsFirstRefusal IsCut work bytes so_far.items reason offset)
+      by_told reason offset e None cut = tt
+      by_told reason offset e (Some bytes) cut = inr (inr (cut.0, e))
+
+      by_refusal : (refusal : Tail) → work.refusal_at_end (reverse so_far.items) ≡ refusal → ClosesBy work (reverse so_far.items) now.places new.places refusal result → Stands IsCut work old new (end_of result)
+      by_refusal None e closes = closed result new cut reads e closes
+      by_refusal (Some (reason, offset)) e closes =
+          let S : Result (Unit {0}) RunEnd → Type 0 = λ r. Stands IsCut work old new (end_of r) in
+          subst S (sym closes.0)
+          (record { items = so_far.items; puts = so_far.puts; first = by_told reason offset e old.left cut; done = done; places = closes.1 ∙ so_far.places; reads = reads ∙ so_far.reads })
 
   -- the reading is refused
   pub ends_refused : (reason : Reason) (offset : ℕ) (new : Seen) → IfSome old.left (λ bytes. IsCut bytes so_far.items (Some (reason, offset))) → new.places ≡ now.places → new.reads ≡ now.reads

@@ -13,7 +13,8 @@ pub record Counts : Type 0 where
   pub output : ℕ
   pub notes : ℕ
 
--- what they tell, where they tell it, and their counts
+-- what they tell, where they tell it, and their counts; and the names of the borrows, where they are borrowed, which show that they stay
+-- the same objects
 pub record Places : Type 0 where
   pub begun : Bool
   pub folder : Option (List ℕ)
@@ -21,6 +22,7 @@ pub record Places : Type 0 where
   pub output : Option (List ℕ)
   pub notes : Option (List ℕ)
   pub faults : Counts
+  pub borrows : ℕ × ℕ × ℕ
 
 abbrev pub places : {L W N : Type 0} → lanes.Ghosts L → sink.Ghosts W → sink.Ghosts N → L → W → N → Places
 places L W N l w n =
@@ -31,7 +33,11 @@ places L W N l w n =
       output = W.held w;
       notes = N.held n;
       faults = record { lanes = L.faults l; output = W.faults w; notes = N.faults n };
+      borrows = (0, 0, 0);
     }
+
+abbrev pub borrowed : ℕ × ℕ × ℕ → Places → Places
+borrowed borrows s = record s { borrows = borrows }
 
 -- what is told, with these after it
 abbrev pub with_more : {A : Type 0} → Option (List A) → List A → Option (List A)

@@ -23,7 +23,7 @@ module _ {Item : Type 0} (IsCut : Cutting Item) (work : Work Item) (cuts : CutsO
     pub refused_unless : (end : RunEnd) → Stands IsCut work old new end → IsRefusedIn work.grows reason offset end
     refused_unless Done ends =
         let D : Option (List ℕ) → Type 0 = λ all. IfSome all (λ b. IsCut b ends.items None × (new.left ≡ Some [])) in
-        absurd (not_refused IsCut work cuts bytes (ends.items, (subst D told ends.cut).0, ends.done.accepted) first.0 reason offset first.2)
+        absurd (not_refused IsCut work cuts bytes (ends.items, (subst D told ends.cut).0, ends.done.accepted, ends.fine) first.0 reason offset first.2)
     refused_unless (Refused reason' offset') ends =
         let F : Option (List ℕ) → Type 0 = λ all. IfSome all (λ b. IsFirstRefusal IsCut work b ends.items reason' offset') in
         let one = one_refusal IsCut work cuts bytes ends.items first.0 reason' reason offset' offset ends.done.accepted first.1 (subst F told ends.first) first.2 in

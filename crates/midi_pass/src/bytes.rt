@@ -46,5 +46,10 @@ impl Items<u64, u8> for ByteReader {
         }
     }
 
+    #[inline(always)]
+    fn needs_input(&self) -> bool {
+        ByteReader::needs_input(self)
+    }
+
     ghost starts = { λ first all new. none_given one_byte placed_at each_byte first all new };
 }

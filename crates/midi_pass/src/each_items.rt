@@ -71,6 +71,11 @@ impl<I, H: Cut<Item = (I, u64)>> Items<u64, I> for EachItems<H> {
         }
     }
 
+    #[inline(always)]
+    fn needs_input(&self) -> bool {
+        self.reader.needs_input()
+    }
+
     ghost starts = { λ first all new.
         none_given (H.asked first.how) (after_offset (H.item_of first.how)) first.how first all new };
 }

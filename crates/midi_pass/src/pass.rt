@@ -3,11 +3,12 @@ ghost use Rattle.std.specs.Prelude.{◌≡◌, ◌<◌, ℕ, IfOk, List, [], ◌
 ghost use Rattle.item_reader.specs.SoFar.{Given, given};
 ghost use Rattle.midi_pass.specs.Named.{AreNamed};
 ghost use Rattle.midi_pass.specs.Next.{ComesNearer, GivesNext, NextCause};
-ghost use Rattle.midi_pass.specs.Pass.{AreAccepted, ArePut, Closes, Cutting, Ends, Steps, Work, end_of as end_after, seen};
-ghost use Rattle.midi_pass.specs.Places.{places};
+ghost use Rattle.midi_pass.specs.Pass.{AreAccepted, ArePut, Closes, Cutting, CutsOnce, Ends, Steps, Work, end_of as end_after, seen, seen_with};
+ghost use Rattle.midi_pass.specs.PassEnds.{PassEnds};
 ghost use Rattle.midi_pass.specs.Put.{Put};
 
 use crate::ends::{Reason, RunEnd};
+use crate::outputs::{Borrowed, Outputs};
 use midi_edge::{Lanes, Sink, Source};
 
 /// What comes next of an input.
@@ -49,6 +50,9 @@ pub trait Items<A, I> {
         ensures nearer { ComesNearer (to_go self.old) (to_go self.new) result }
         ensures cause { NextCause (S.faults input.old) (S.faults input.new) result };
 
+    /// Whether no whole item is held, so that `next` reads, unless the input has ended. No clause says it.
+    fn needs_input(&self) -> bool;
+
     /// A new reader has given nothing.
     ghost starts: { (first : Self) (all : Option (List ℕ)) → IsNew first →
         HasGiven first first (given all all []) };
@@ -75,37 +79,23 @@ pub trait Engine<A, I> {
     ghost AsksAfter: { List (A × I) → A × I → Type 0 };
 
     /// Does the work on one more item.
-    fn step<L: Lanes, W: Sink, N: Sink>(
-        &mut self,
-        at: &A,
-        item: &I,
-        lanes: &mut L,
-        output: &mut W,
-        notes: &mut N,
-    ) -> Result<(), RunEnd>
+    fn step<O: Outputs>(&mut self, at: &A, item: &I, outputs: &mut O) -> Result<(), RunEnd>
         requires item { Asks (at.now, item.now) }
         requires holds { (first : Self) × (past : List (A × I)) × Holds first self.old past
             × AsksAfter past (at.now, item.now) }
-        requires begun { UsesLanes → L.begun lanes.old ≡ true }
+        requires begun { UsesLanes → (O.places outputs.old).begun ≡ true }
         ensures { (first : Self) (past : List (A × I)) → Holds first self.old past →
             AsksAfter past (at.now, item.now) →
             Steps (work first) past
-            (places L.Lanes W.Sink N.Sink lanes.old output.old notes.old)
-            (places L.Lanes W.Sink N.Sink lanes.new output.new notes.new) (at.now, item.now) result
+            (O.places outputs.old) (O.places outputs.new) (at.now, item.now) result
             × IfOk result (λ done. Holds first self.new ((at.now, item.now) ∷ past)) };
 
     /// Does what is to be done at the end of the input.
-    fn close<L: Lanes, W: Sink, N: Sink>(
-        &self,
-        lanes: &mut L,
-        output: &mut W,
-        notes: &mut N,
-    ) -> Result<(), RunEnd>
-        requires { UsesLanes → L.begun lanes.old ≡ true }
+    fn close<O: Outputs>(&self, outputs: &mut O) -> Result<(), RunEnd>
+        requires { UsesLanes → (O.places outputs.old).begun ≡ true }
         ensures { (first : Self) (past : List (A × I)) → Holds first self.now past →
             Closes (work first) past
-            (places L.Lanes W.Sink N.Sink lanes.old output.old notes.old)
-            (places L.Lanes W.Sink N.Sink lanes.new output.new notes.new) result };
+            (O.places outputs.old) (O.places outputs.new) result };
 
     /// What is put for an item, and at the end of the input, goes to the places that the work names.
     ghost puts_are_named: { (first : Self) (past : List (A × I)) (item : A × I) (puts : List Put) →
@@ -132,7 +122,41 @@ fn end_of(closed: Result<(), RunEnd>) -> RunEnd
     }
 }
 
-/// Reads an input item by item and does the work on each, to the end or to the first refusal.
+/// Writes out what was put, where the input may wait, so that nobody waits for what was put.
+#[inline(never)]
+pub fn write_out<S: Source, O: Outputs>(input: &S, outputs: &mut O)
+    ensures { O.places outputs.new ≡ O.places outputs.old }
+{
+    if input.may_wait() {
+        outputs.write_out();
+    }
+}
+
+/// What comes next. Where it has to be read, what was put is written out first, unless the input never waits.
+// Each arm has a call of its own, so that the first test of `next`, which is the same, falls away where nothing is read.
+#[inline(always)]
+pub fn next_of<A, I, R: Items<A, I>, S: Source, O: Outputs>(
+    reader: &mut R,
+    input: &mut S,
+    outputs: &mut O,
+) -> Next<A, I>
+    ensures answer { (first : R) (all : Option (List ℕ)) (items : List (A × I)) →
+        R.HasGiven first reader.old (given all (S.left input.old) items) →
+        GivesNext (R.IsCut first) R.Promises (R.HasGiven first reader.new)
+        (given all (S.left input.new) items) result }
+    ensures nearer { ComesNearer (R.to_go reader.old) (R.to_go reader.new) result }
+    ensures cause { NextCause (S.faults input.old) (S.faults input.new) result }
+    ensures places { O.places outputs.new ≡ O.places outputs.old }
+{
+    if reader.needs_input() {
+        write_out(input, outputs);
+        return reader.next(input);
+    }
+    reader.next(input)
+}
+
+/// Reads an input item by item and does the work on each, to the end or to the first refusal. What was put is written out before an
+/// input is read that may keep waiting.
 #[inline(always)]
 pub fn drive<
     A: Drop,
@@ -143,30 +167,51 @@ pub fn drive<
     L: Lanes,
     W: Sink,
     N: Sink,
->(
-    mut reader: R,
-    mut engine: E,
-    input: &mut S,
-    lanes: &mut L,
-    output: &mut W,
-    notes: &mut N,
-) -> RunEnd
+>(reader: R, engine: E, input: &mut S, lanes: &mut L, output: &mut W, notes: &mut N) -> RunEnd
+    requires cuts { CutsOnce (R.IsCut reader) }
     requires new { R.IsNew reader }
     requires ready { E.IsReady engine }
     requires items { (past : List (A × I)) (item : A × I) → R.Promises past item →
         E.Asks item × E.AsksAfter past item }
     requires begun { E.UsesLanes → L.begun lanes.old ≡ true }
-    ensures { Ends (R.IsCut reader) (E.work engine)
+    ensures { PassEnds (R.IsCut reader) (E.work engine)
         (seen S.Source L.Lanes W.Sink N.Sink input.old lanes.old output.old notes.old)
         (seen S.Source L.Lanes W.Sink N.Sink input.new lanes.new output.new notes.new) result }
 {
+    let mut outputs = Borrowed {
+        lanes,
+        output,
+        notes,
+    };
+    drive_into(reader, engine, input, &mut outputs)
+}
+
+// The same into places that are told together.
+#[inline(always)]
+fn drive_into<
+    A: Drop,
+    I: Drop,
+    R: Items<A, I> + Drop,
+    E: Engine<A, I> + Drop,
+    S: Source,
+    O: Outputs,
+>(mut reader: R, mut engine: E, input: &mut S, outputs: &mut O) -> RunEnd
+    requires new { R.IsNew reader }
+    requires ready { E.IsReady engine }
+    requires items { (past : List (A × I)) (item : A × I) → R.Promises past item →
+        E.Asks item × E.AsksAfter past item }
+    requires begun { E.UsesLanes → (O.places outputs.old).begun ≡ true }
+    ensures { Ends (R.IsCut reader) (E.work engine)
+        (seen_with S.Source input.old (O.places outputs.old))
+        (seen_with S.Source input.new (O.places outputs.new)) result }
+{
     loop {
-        match reader.next(input) {
-            Next::Item { at, item } => match engine.step(&at, &item, lanes, output, notes) {
+        match next_of(&mut reader, input, outputs) {
+            Next::Item { at, item } => match engine.step(&at, &item, outputs) {
                 Ok(()) => {}
                 Err(end) => return end,
             },
-            Next::End => return end_of(engine.close(lanes, output, notes)),
+            Next::End => return end_of(engine.close(outputs)),
             Next::Refused { reason, offset } => return RunEnd::Refused { reason, offset },
             Next::Failed => return RunEnd::ReadFault,
         }

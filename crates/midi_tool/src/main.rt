@@ -4,7 +4,8 @@
 
 use midi_commands::{finish, run, unread_words};
 use midi_edge::{FileShelf, FolderLanes, ReadSource, WriteSink};
-use std::fs::File;
+use std::fs::{self, File};
+use std::io::Stdin;
 use std::process::ExitCode;
 use std::{env, io};
 
@@ -18,12 +19,20 @@ fn open_root(rt: &HostRuntime) -> Option<File> {
     File::open(rt, "/").ok()
 }
 
+// Standard input, of which a read may wait, unless it is a file.
+fn read_input(rt: &HostRuntime) -> ReadSource<Stdin> {
+    match fs::metadata(rt, "/dev/stdin") {
+        Ok(about) if about.is_file() => ReadSource::of_file(rt.stdin()),
+        _ => ReadSource::new(rt.stdin()),
+    }
+}
+
 fn main(rt: HostRuntime) -> io::Result<ExitCode> {
     // A folder that is open can be neither read nor written. Where standard streams are closed, these take their numbers, so that such a
     // stream fails, and no file of a lane stands in its place.
     let _in_place_of_closed = [open_root(&rt), open_root(&rt), open_root(&rt)];
     let alloc = rt.alloc();
-    let mut input = ReadSource::new(rt.stdin());
+    let mut input = read_input(&rt);
     let mut lanes = FolderLanes::new(rt.clone()?);
     let mut output = WriteSink::new(rt.stdout());
     let mut notes = WriteSink::new(rt.stderr());

@@ -82,5 +82,10 @@ impl Items<Framed, EncodedPacket> for EncodedReader {
         next_encoded(&mut self.words, 0, input)
     }
 
+    #[inline(always)]
+    fn needs_input(&self) -> bool {
+        self.words.needs_input()
+    }
+
     ghost starts = { λ first all new. none_given first.words first.words.how 0 all new };
 }

@@ -111,6 +111,7 @@ module _ (setup : Facts) where
         grows = false;
         refusal = λ past item. refusal_of (next_at past item) item.0;
         IsPut = λ past item puts. puts ≡ event_puts (next_at past item) item.0;
+        refusal_at_end = λ past. None;
         IsPutAtEnd = λ past puts. puts ≡ closing_lines setup (stage_at past);
         Means = λ past puts. HeldWasTold past;
       }

@@ -1,10 +1,10 @@
 // A rehearsal, event by event.
 ghost use Rattle.std.specs.Prelude.{◌≡◌, ◌∷◌, [], IfOk};
 ghost use Rattle.ci_responder.specs.Keys.{state_in};
-ghost use Rattle.midi_pass.specs.Pass.{Ends, IsDoneUnless, seen};
-ghost use Rattle.midi_pass.specs.Places.{Puts, places};
+ghost use Rattle.midi_pass.specs.PassEnds.{PassEnds};
+ghost use Rattle.midi_pass.specs.Pass.{seen};
+ghost use Rattle.midi_pass.specs.Places.{Puts};
 ghost use Rattle.midi_pass.specs.Put.{in_output};
-ghost use Rattle.midi_pass.specs.Refused.{IsRefusedWhere};
 ghost use Rattle.rehearsal_engine.specs.Events.{event_cutting};
 ghost use Rattle.midi_pass.specs.Each.{for_each};
 ghost use Rattle.rehearsal_engine.specs.Rehearse.{
@@ -33,8 +33,7 @@ use ci_lines::{LinePlace, ProfileStates, put_profiles};
 use ci_responder::Key;
 use function_blocks::Setup;
 use midi_edge::{Lanes, NoMemory, Sink, Source};
-use midi_pass::places::put_output;
-use midi_pass::{EachItems, Engine, Reason, RunEnd, drive};
+use midi_pass::{EachItems, Engine, Outputs, Reason, RunEnd, drive};
 use std::alloc::Global;
 use std::marker::Model;
 
@@ -88,16 +87,14 @@ impl Engine<u64, CalledEvent> for RehearseEngine {
 
     ghost AsksAfter = { λ past item. Unit {0} };
 
-    fn step<L: Lanes, W: Sink, N: Sink>(
+    fn step<O: Outputs>(
         &mut self,
         at: &u64,
         item: &CalledEvent,
-        lanes: &mut L,
-        output: &mut W,
-        notes: &mut N,
+        outputs: &mut O,
     ) -> Result<(), RunEnd> {
         match self.rehearsal.event(item.kind, item.number) {
-            Ok(told) => put_told(*at, told, lanes, output, notes),
+            Ok(told) => put_told(*at, told, outputs),
             Err(fault) => Err(RunEnd::Refused {
                 reason: reason_of(fault),
                 offset: *at,
@@ -105,13 +102,8 @@ impl Engine<u64, CalledEvent> for RehearseEngine {
         }
     }
 
-    fn close<L: Lanes, W: Sink, N: Sink>(
-        &self,
-        lanes: &mut L,
-        output: &mut W,
-        notes: &mut N,
-    ) -> Result<(), RunEnd> {
-        self.put_closing(lanes, output, notes)
+    fn close<O: Outputs>(&self, outputs: &mut O) -> Result<(), RunEnd> {
+        self.put_closing(outputs)
     }
 
     ghost puts_are_named = { λ first past item puts put. rehearses_named first.setup past item puts put };
@@ -134,35 +126,21 @@ fn reason_of(fault: EventFault) -> Reason
 }
 
 // Puts the line of an event.
-fn put_told<L: Lanes, W: Sink, N: Sink>(
-    offset: u64,
-    told: Told,
-    lanes: &mut L,
-    output: &mut W,
-    notes: &mut N,
-) -> Result<(), RunEnd>
+fn put_told<O: Outputs>(offset: u64, told: Told, outputs: &mut O) -> Result<(), RunEnd>
     ensures { Puts (in_output (told_text offset told) ∷ [])
-        (places L.Lanes W.Sink N.Sink lanes.old output.old notes.old)
-        (places L.Lanes W.Sink N.Sink lanes.new output.new notes.new) result }
+        (O.places outputs.old) (O.places outputs.new) result }
 {
     let line = told_line(offset, told);
-    put_output(line.as_slice(), lanes, output, notes)
+    outputs.put_output(line.as_slice())
 }
 
 // Puts the line of what is held of a watch.
-fn put_held<L: Lanes, W: Sink, N: Sink>(
-    number: usize,
-    held: Option<bool>,
-    lanes: &mut L,
-    output: &mut W,
-    notes: &mut N,
-) -> Result<(), RunEnd>
+fn put_held<O: Outputs>(number: usize, held: Option<bool>, outputs: &mut O) -> Result<(), RunEnd>
     ensures { Puts (in_output (held_text number held) ∷ [])
-        (places L.Lanes W.Sink N.Sink lanes.old output.old notes.old)
-        (places L.Lanes W.Sink N.Sink lanes.new output.new notes.new) result }
+        (O.places outputs.old) (O.places outputs.new) result }
 {
     let line = held_line(number, held);
-    put_output(line.as_slice(), lanes, output, notes)
+    outputs.put_output(line.as_slice())
 }
 
 // The responder knows each profile of the setup.
@@ -176,35 +154,23 @@ impl ProfileStates for RehearseEngine {
 
 impl RehearseEngine {
     // Puts the line of what is held of each watch.
-    fn put_watches<L: Lanes, W: Sink, N: Sink>(
-        &self,
-        lanes: &mut L,
-        output: &mut W,
-        notes: &mut N,
-    ) -> Result<(), RunEnd>
+    fn put_watches<O: Outputs>(&self, outputs: &mut O) -> Result<(), RunEnd>
         ensures { Puts (for_each held_line_of 0 self.now.rehearsal.initiator.watched)
-            (places L.Lanes W.Sink N.Sink lanes.old output.old notes.old)
-            (places L.Lanes W.Sink N.Sink lanes.new output.new notes.new) result }
+            (O.places outputs.old) (O.places outputs.new) result }
     {
         for k in 0..self.rehearsal.watches() {
-            put_held(k, self.rehearsal.holds(k), lanes, output, notes)?;
+            put_held(k, self.rehearsal.holds(k), outputs)?;
         }
         Ok(())
     }
 
     // Puts the lines of what is held, and those of the profiles.
-    fn put_closing<L: Lanes, W: Sink, N: Sink>(
-        &self,
-        lanes: &mut L,
-        output: &mut W,
-        notes: &mut N,
-    ) -> Result<(), RunEnd>
+    fn put_closing<O: Outputs>(&self, outputs: &mut O) -> Result<(), RunEnd>
         ensures { Puts (closing_lines self.now.setup self.now.rehearsal)
-            (places L.Lanes W.Sink N.Sink lanes.old output.old notes.old)
-            (places L.Lanes W.Sink N.Sink lanes.new output.new notes.new) result }
+            (O.places outputs.old) (O.places outputs.new) result }
     {
-        self.put_watches(lanes, output, notes)?;
-        put_profiles(&self.setup, self, LinePlace::Output, lanes, output, notes)
+        self.put_watches(outputs)?;
+        put_profiles(&self.setup, self, LinePlace::Output, outputs)
     }
 }
 
@@ -221,13 +187,7 @@ pub fn run_rehearse<S: Source, L: Lanes, W: Sink, N: Sink>(
     output: &mut W,
     notes: &mut N,
 ) -> RunEnd
-    ensures ends { Ends event_cutting (rehearsing run)
-        (seen S.Source L.Lanes W.Sink N.Sink input.old lanes.old output.old notes.old)
-        (seen S.Source L.Lanes W.Sink N.Sink input.new lanes.new output.new notes.new) result }
-    ensures complete { IsDoneUnless event_cutting (rehearsing run)
-        (seen S.Source L.Lanes W.Sink N.Sink input.old lanes.old output.old notes.old)
-        (seen S.Source L.Lanes W.Sink N.Sink input.new lanes.new output.new notes.new) result }
-    ensures refused { IsRefusedWhere event_cutting (rehearsing run)
+    ensures { PassEnds event_cutting (rehearsing run)
         (seen S.Source L.Lanes W.Sink N.Sink input.old lanes.old output.old notes.old)
         (seen S.Source L.Lanes W.Sink N.Sink input.new lanes.new output.new notes.new) result }
 {

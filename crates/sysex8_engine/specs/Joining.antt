@@ -115,6 +115,7 @@ joining options =
       grows = false;
       refusal = λ past item. packet_refusal (answer8 options.slots options.room (parts_at past)) item.0.offset item.1;
       IsPut = λ past item puts. puts ≡ packet_puts (answer8 options.slots options.room (parts_at past)) item.0.offset item.1;
+      refusal_at_end = λ past. None;
       IsPutAtEnd = λ past puts. puts ≡ open_puts (open_since options.slots options.room (parts_at past));
       Means = λ past puts. JoinsThem options.slots options.room past puts;
     }

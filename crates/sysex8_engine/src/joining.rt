@@ -3,9 +3,9 @@ ghost use Rattle.std.specs.Prelude.{◌≡◌, ◌≤◌, IfOk, Some, None, true
 ghost use Rattle.ump_words.specs.Cut.{IsWhole};
 ghost use Rattle.ump_grammar.specs.Places.{type_of};
 ghost use Rattle.ump_grammar.specs.Ranges.{IsPacket};
-ghost use Rattle.midi_pass.specs.Pass.{Ends, IsDoneUnless, Takes, seen};
-ghost use Rattle.midi_pass.specs.Places.{Puts, places};
-ghost use Rattle.midi_pass.specs.Refused.{IsRefusedWhere};
+ghost use Rattle.midi_pass.specs.PassEnds.{PassEnds};
+ghost use Rattle.midi_pass.specs.Pass.{Takes, seen};
+ghost use Rattle.midi_pass.specs.Places.{Puts};
 ghost use Rattle.packet_items.specs.Packets.{packet_cutting};
 ghost use Rattle.sysex8_streams.specs.Fed8.{fed8_view};
 ghost use Rattle.sysex8_streams.specs.History.{key_of};
@@ -35,8 +35,7 @@ ghost use Rattle.sysex8_engine.specs.JoiningMeans.{joins_mean, joins_named, open
 use crate::lines::{Kind8, kind_line, whole_line};
 use listing_puts::refused;
 use midi_edge::{Lanes, NoMemory, Sink, Source, U4};
-use midi_pass::places::{put_lane, put_notes};
-use midi_pass::{Engine, RunEnd, drive};
+use midi_pass::{Engine, Outputs, RunEnd, drive};
 use packet_items::{PacketReader, packets_are_cut_once};
 use std::alloc::Global;
 use std::marker::Model;
@@ -105,24 +104,17 @@ impl Engine<Framed, Packet> for Sysex8Engine {
 
     ghost AsksAfter = { λ past item. Unit {0} };
 
-    fn step<L: Lanes, W: Sink, N: Sink>(
+    fn step<O: Outputs>(
         &mut self,
         at: &Framed,
         item: &Packet,
-        lanes: &mut L,
-        output: &mut W,
-        notes: &mut N,
+        outputs: &mut O,
     ) -> Result<(), RunEnd> {
-        take_packet(&mut self.streams, item, at.offset, lanes, output, notes)
+        take_packet(&mut self.streams, item, at.offset, outputs)
     }
 
-    fn close<L: Lanes, W: Sink, N: Sink>(
-        &self,
-        lanes: &mut L,
-        output: &mut W,
-        notes: &mut N,
-    ) -> Result<(), RunEnd> {
-        list_open(&self.streams, lanes, output, notes)
+    fn close<O: Outputs>(&self, outputs: &mut O) -> Result<(), RunEnd> {
+        list_open(&self.streams, outputs)
     }
 
     ghost puts_are_named = { λ first past item puts put.
@@ -152,13 +144,7 @@ pub fn run_sysex8<S: Source, L: Lanes, W: Sink, N: Sink>(
     notes: &mut N,
 ) -> RunEnd
     requires begun { L.begun lanes.old ≡ true }
-    ensures ends { Ends (packet_cutting engine.order) (joining engine)
-        (seen S.Source L.Lanes W.Sink N.Sink input.old lanes.old output.old notes.old)
-        (seen S.Source L.Lanes W.Sink N.Sink input.new lanes.new output.new notes.new) result }
-    ensures complete { IsDoneUnless (packet_cutting engine.order) (joining engine)
-        (seen S.Source L.Lanes W.Sink N.Sink input.old lanes.old output.old notes.old)
-        (seen S.Source L.Lanes W.Sink N.Sink input.new lanes.new output.new notes.new) result }
-    ensures refused { IsRefusedWhere (packet_cutting engine.order) (joining engine)
+    ensures { PassEnds (packet_cutting engine.order) (joining engine)
         (seen S.Source L.Lanes W.Sink N.Sink input.old lanes.old output.old notes.old)
         (seen S.Source L.Lanes W.Sink N.Sink input.new lanes.new output.new notes.new) result }
 {
@@ -177,259 +163,183 @@ pub fn run_sysex8<S: Source, L: Lanes, W: Sink, N: Sink>(
 }
 
 // Puts the line of what is listed.
-fn put_kind<L: Lanes, W: Sink, N: Sink>(
-    kind: Kind8,
-    offset: u64,
-    group: U4,
-    lanes: &mut L,
-    output: &mut W,
-    notes: &mut N,
-) -> Result<(), RunEnd>
+fn put_kind<O: Outputs>(kind: Kind8, offset: u64, group: U4, outputs: &mut O) -> Result<(), RunEnd>
     ensures { Puts (listed (kind_text kind offset group))
-        (places L.Lanes W.Sink N.Sink lanes.old output.old notes.old)
-        (places L.Lanes W.Sink N.Sink lanes.new output.new notes.new) result }
+        (O.places outputs.old) (O.places outputs.new) result }
 {
     let line = kind_line(kind, offset, group);
-    put_notes(line.as_slice(), lanes, output, notes)
+    outputs.put_notes(line.as_slice())
 }
 
 // Puts the bytes of an exclusive that is whole, unless there are none.
-fn put_piece<L: Lanes, W: Sink, N: Sink>(
-    group: U4,
-    bytes: &[u8],
-    lanes: &mut L,
-    output: &mut W,
-    notes: &mut N,
-) -> Result<(), RunEnd>
-    requires begun { L.begun lanes.old ≡ true }
-    ensures { Puts (piece_puts group bytes.now)
-        (places L.Lanes W.Sink N.Sink lanes.old output.old notes.old)
-        (places L.Lanes W.Sink N.Sink lanes.new output.new notes.new) result }
+fn put_piece<O: Outputs>(group: U4, bytes: &[u8], outputs: &mut O) -> Result<(), RunEnd>
+    requires begun { (O.places outputs.old).begun ≡ true }
+    ensures { Puts (piece_puts group bytes.now) (O.places outputs.old) (O.places outputs.new) result }
 {
     if bytes.is_empty() {
         Ok(())
     } else {
-        put_lane(group, bytes, lanes, output, notes)
+        outputs.put_lane(group, bytes)
     }
 }
 
-// Puts the line of an exclusive that is whole.
-fn put_size<L: Lanes, W: Sink, N: Sink>(
+// Where a part of an 8-bit exclusive stands: the offset of its packet, its group and the id of its stream.
+#[derive(Clone, Copy)]
+struct PartPlace {
     offset: u64,
     group: U4,
     stream: u8,
-    size: usize,
-    lanes: &mut L,
-    output: &mut W,
-    notes: &mut N,
-) -> Result<(), RunEnd>
-    ensures { Puts (listed (whole_text offset group stream size))
-        (places L.Lanes W.Sink N.Sink lanes.old output.old notes.old)
-        (places L.Lanes W.Sink N.Sink lanes.new output.new notes.new) result }
+}
+
+// Puts the line of an exclusive that is whole.
+fn put_size<O: Outputs>(place: PartPlace, size: usize, outputs: &mut O) -> Result<(), RunEnd>
+    ensures { Puts (listed (whole_text place.offset place.group place.stream size))
+        (O.places outputs.old) (O.places outputs.new) result }
 {
-    let line = whole_line(offset, group, stream, size);
-    put_notes(line.as_slice(), lanes, output, notes)
+    let line = whole_line(place.offset, place.group, place.stream, size);
+    outputs.put_notes(line.as_slice())
 }
 
 // Puts the bytes of an exclusive that is whole, unless there are none, and its line.
-fn put_whole<L: Lanes, W: Sink, N: Sink>(
-    offset: u64,
-    group: U4,
-    stream: u8,
-    bytes: &[u8],
-    lanes: &mut L,
-    output: &mut W,
-    notes: &mut N,
-) -> Result<(), RunEnd>
-    requires begun { L.begun lanes.old ≡ true }
-    ensures { Puts (whole_puts offset group stream bytes.now)
-        (places L.Lanes W.Sink N.Sink lanes.old output.old notes.old)
-        (places L.Lanes W.Sink N.Sink lanes.new output.new notes.new) result }
+fn put_whole<O: Outputs>(place: PartPlace, bytes: &[u8], outputs: &mut O) -> Result<(), RunEnd>
+    requires begun { (O.places outputs.old).begun ≡ true }
+    ensures { Puts (whole_puts place.offset place.group place.stream bytes.now)
+        (O.places outputs.old) (O.places outputs.new) result }
 {
-    put_piece(group, bytes, lanes, output, notes)?;
-    put_size(offset, group, stream, bytes.len(), lanes, output, notes)
+    put_piece(place.group, bytes, outputs)?;
+    put_size(place, bytes.len(), outputs)
 }
 
 // Puts the line of an exclusive that is cut off, and that of one that is whole.
-fn put_cut_lines<L: Lanes, W: Sink, N: Sink>(
+fn put_cut_lines<O: Outputs>(
     cut_at: u64,
-    offset: u64,
-    group: U4,
-    stream: u8,
+    place: PartPlace,
     size: usize,
-    lanes: &mut L,
-    output: &mut W,
-    notes: &mut N,
+    outputs: &mut O,
 ) -> Result<(), RunEnd>
-    ensures { Puts (cut_lines cut_at offset group stream size)
-        (places L.Lanes W.Sink N.Sink lanes.old output.old notes.old)
-        (places L.Lanes W.Sink N.Sink lanes.new output.new notes.new) result }
+    ensures { Puts (cut_lines cut_at place.offset place.group place.stream size)
+        (O.places outputs.old) (O.places outputs.new) result }
 {
-    put_kind(Kind8::Cut, cut_at, group, lanes, output, notes)?;
-    put_size(offset, group, stream, size, lanes, output, notes)
+    put_kind(Kind8::Cut, cut_at, place.group, outputs)?;
+    put_size(place, size, outputs)
 }
 
 // Puts the bytes of an exclusive that is whole, unless there are none, and then the line of the one that it cuts off and its own.
-fn put_cut<L: Lanes, W: Sink, N: Sink>(
+fn put_cut<O: Outputs>(
     cut_at: u64,
-    offset: u64,
-    group: U4,
-    stream: u8,
+    place: PartPlace,
     bytes: &[u8],
-    lanes: &mut L,
-    output: &mut W,
-    notes: &mut N,
+    outputs: &mut O,
 ) -> Result<(), RunEnd>
-    requires begun { L.begun lanes.old ≡ true }
-    ensures { Puts (cut_puts cut_at offset group stream bytes.now)
-        (places L.Lanes W.Sink N.Sink lanes.old output.old notes.old)
-        (places L.Lanes W.Sink N.Sink lanes.new output.new notes.new) result }
+    requires begun { (O.places outputs.old).begun ≡ true }
+    ensures { Puts (cut_puts cut_at place.offset place.group place.stream bytes.now)
+        (O.places outputs.old) (O.places outputs.new) result }
 {
-    put_piece(group, bytes, lanes, output, notes)?;
-    put_cut_lines(
-        cut_at,
-        offset,
-        group,
-        stream,
-        bytes.len(),
-        lanes,
-        output,
-        notes,
-    )
+    put_piece(place.group, bytes, outputs)?;
+    put_cut_lines(cut_at, place, bytes.len(), outputs)
 }
 
 // Puts what comes of an answer to a part of a stream.
-fn put_answer<L: Lanes, W: Sink, N: Sink>(
-    fed: &Fed8<'_>,
-    offset: u64,
-    group: U4,
-    stream: u8,
-    lanes: &mut L,
-    output: &mut W,
-    notes: &mut N,
-) -> Result<(), RunEnd>
-    requires begun { L.begun lanes.old ≡ true }
-    ensures { Takes (answer_refusal offset (fed8_view fed.now))
-        (answer_puts offset group stream (fed8_view fed.now))
-        (places L.Lanes W.Sink N.Sink lanes.old output.old notes.old)
-        (places L.Lanes W.Sink N.Sink lanes.new output.new notes.new) result }
+fn put_answer<O: Outputs>(fed: &Fed8<'_>, place: PartPlace, outputs: &mut O) -> Result<(), RunEnd>
+    requires begun { (O.places outputs.old).begun ≡ true }
+    ensures { Takes (answer_refusal place.offset (fed8_view fed.now))
+        (answer_puts place.offset place.group place.stream (fed8_view fed.now))
+        (O.places outputs.old) (O.places outputs.new) result }
 {
     match *fed {
         Fed8::Held => Ok(()),
-        Fed8::Whole(whole) => put_whole(offset, group, stream, whole, lanes, output, notes),
-        Fed8::Stray => put_kind(Kind8::Stray, offset, group, lanes, output, notes),
-        Fed8::Restarted { cut_at } => put_kind(Kind8::Cut, cut_at, group, lanes, output, notes),
-        Fed8::RestartedWhole { cut_at, whole } => {
-            put_cut(cut_at, offset, group, stream, whole, lanes, output, notes)
-        }
-        Fed8::TooLong => Err(refused(BadStep::ExclusiveTooLong, offset)),
-        Fed8::Full => put_kind(Kind8::Full, offset, group, lanes, output, notes),
+        Fed8::Whole(whole) => put_whole(place, whole, outputs),
+        Fed8::Stray => put_kind(Kind8::Stray, place.offset, place.group, outputs),
+        Fed8::Restarted { cut_at } => put_kind(Kind8::Cut, cut_at, place.group, outputs),
+        Fed8::RestartedWhole { cut_at, whole } => { put_cut(cut_at, place, whole, outputs) }
+        Fed8::TooLong => Err(refused(BadStep::ExclusiveTooLong, place.offset)),
+        Fed8::Full => put_kind(Kind8::Full, place.offset, place.group, outputs),
     }
 }
 
 // Takes one packet of type 5: puts what comes of the part in it, or the line of one that has none.
-fn take_data8<L: Lanes, W: Sink, N: Sink>(
+fn take_data8<O: Outputs>(
     streams: &mut Streams,
     group: U4,
     words: &Words,
     offset: u64,
-    lanes: &mut L,
-    output: &mut W,
-    notes: &mut N,
+    outputs: &mut O,
 ) -> Result<(), RunEnd>
     requires whole { IsWhole words.now }
     requires kind { type_of words.now ≡ 0x5 }
-    requires begun { L.begun lanes.old ≡ true }
+    requires begun { (O.places outputs.old).begun ≡ true }
     ensures behind { streams.new ≡ data8_after offset (part_in words.now) streams.old }
     ensures takes { Takes (data8_refusal (answer8_to streams.old) offset (part_in words.now))
         (data8_puts (answer8_to streams.old) offset group (part_in words.now))
-        (places L.Lanes W.Sink N.Sink lanes.old output.old notes.old)
-        (places L.Lanes W.Sink N.Sink lanes.new output.new notes.new) result }
+        (O.places outputs.old) (O.places outputs.new) result }
 {
     match read8(words) {
         Some(part) => {
+            let place = PartPlace {
+                offset,
+                group: part.group,
+                stream: part.stream,
+            };
             let fed = streams.feed8(&part, offset);
-            put_answer(&fed, offset, part.group, part.stream, lanes, output, notes)
+            put_answer(&fed, place, outputs)
         }
-        None => put_kind(Kind8::Other, offset, group, lanes, output, notes),
+        None => put_kind(Kind8::Other, offset, group, outputs),
     }
 }
 
 // Takes one packet; one that isn't of type 5 gives nothing.
-fn take_packet<L: Lanes, W: Sink, N: Sink>(
+fn take_packet<O: Outputs>(
     streams: &mut Streams,
     packet: &Packet,
     offset: u64,
-    lanes: &mut L,
-    output: &mut W,
-    notes: &mut N,
+    outputs: &mut O,
 ) -> Result<(), RunEnd>
     requires packet { IsPacket packet.now }
-    requires begun { L.begun lanes.old ≡ true }
+    requires begun { (O.places outputs.old).begun ≡ true }
     ensures behind { streams.new ≡ packet_after offset packet.now streams.old }
     ensures takes { Takes (packet_refusal (answer8_to streams.old) offset packet.now)
         (packet_puts (answer8_to streams.old) offset packet.now)
-        (places L.Lanes W.Sink N.Sink lanes.old output.old notes.old)
-        (places L.Lanes W.Sink N.Sink lanes.new output.new notes.new) result }
+        (O.places outputs.old) (O.places outputs.new) result }
 {
     match packet {
-        Packet::Data8 { group, words } => {
-            take_data8(streams, *group, words, offset, lanes, output, notes)
-        }
+        Packet::Data8 { group, words } => { take_data8(streams, *group, words, offset, outputs) }
         _ => Ok(()),
     }
 }
 
 // Lists the exclusive of a stream, if it is still open.
-fn list_stream<L: Lanes, W: Sink, N: Sink>(
+fn list_stream<O: Outputs>(
     streams: &Streams,
     group: U4,
     stream: u8,
-    lanes: &mut L,
-    output: &mut W,
-    notes: &mut N,
+    outputs: &mut O,
 ) -> Result<(), RunEnd>
     ensures { Puts (open_put group (starts_in streams.now (key_of group stream)))
-        (places L.Lanes W.Sink N.Sink lanes.old output.old notes.old)
-        (places L.Lanes W.Sink N.Sink lanes.new output.new notes.new) result }
+        (O.places outputs.old) (O.places outputs.new) result }
 {
     match streams.begun8_at(group, stream) {
-        Some(start) => put_kind(Kind8::Open, start, group, lanes, output, notes),
+        Some(start) => put_kind(Kind8::Open, start, group, outputs),
         None => Ok(()),
     }
 }
 
 // Lists the exclusives of a group that are still open, by stream.
-fn list_group<L: Lanes, W: Sink, N: Sink>(
-    streams: &Streams,
-    group: U4,
-    lanes: &mut L,
-    output: &mut W,
-    notes: &mut N,
-) -> Result<(), RunEnd>
+fn list_group<O: Outputs>(streams: &Streams, group: U4, outputs: &mut O) -> Result<(), RunEnd>
     ensures { Puts (group_puts (starts_in streams.now) group)
-        (places L.Lanes W.Sink N.Sink lanes.old output.old notes.old)
-        (places L.Lanes W.Sink N.Sink lanes.new output.new notes.new) result }
+        (O.places outputs.old) (O.places outputs.new) result }
 {
     for number in 0..256u32 {
-        list_stream(streams, group, number as u8, lanes, output, notes)?;
+        list_stream(streams, group, number as u8, outputs)?;
     }
     Ok(())
 }
 
 // Lists the exclusives that are still open, by group, then stream.
-fn list_open<L: Lanes, W: Sink, N: Sink>(
-    streams: &Streams,
-    lanes: &mut L,
-    output: &mut W,
-    notes: &mut N,
-) -> Result<(), RunEnd>
-    ensures { Puts (open_puts (starts_in streams.now))
-        (places L.Lanes W.Sink N.Sink lanes.old output.old notes.old)
-        (places L.Lanes W.Sink N.Sink lanes.new output.new notes.new) result }
+fn list_open<O: Outputs>(streams: &Streams, outputs: &mut O) -> Result<(), RunEnd>
+    ensures { Puts (open_puts (starts_in streams.now)) (O.places outputs.old) (O.places outputs.new) result }
 {
     for number in 0..16u32 {
-        list_group(streams, U4::low_bits(number), lanes, output, notes)?;
+        list_group(streams, U4::low_bits(number), outputs)?;
     }
     Ok(())
 }

@@ -1,5 +1,5 @@
 // A reader of packets from a source.
-ghost use Rattle.std.specs.Prelude.{◌≡◌, ◌≤◌, ◌^◌, length, IfOk, IfSome};
+ghost use Rattle.std.specs.Prelude.{◌≡◌, ◌≤◌, ◌<◌, ◌↔◌, ◌^◌, length, IfOk, IfSome, IsTrue};
 ghost use Rattle.item_reader.specs.Cut.{IsItem};
 ghost use Rattle.item_reader.specs.Reading.{ReadCause, answer_of, cursor, new_reading};
 ghost use Rattle.ump_words.specs.Cut.{IsWhole, bytes_asked, framed_at};
@@ -84,5 +84,13 @@ impl WordReader {
         ensures cause { ReadCause (S.faults src.old) (S.faults src.new) result }
     {
         self.packets.next(src)
+    }
+
+    /// No whole packet is held (M2-104-UM, message types), so that `next` asks the source, unless the packets have ended.
+    #[inline(always)]
+    pub fn needs_input(&self) -> bool
+        ensures { IsTrue result ↔ (length self.now.pending < bytes_asked self.now.how self.now.pending) }
+    {
+        self.packets.needs_input()
     }
 }

@@ -173,7 +173,8 @@ fn word_bytes(word: u32, order: Order) -> [u8; 4]
 #[inline(always)]
 pub fn write_words(words: &[u32], order: Order) -> ShortList<u8, 16>
     requires { length words.now ≤ 4 }
-    ensures { result ≡ flat_map (word_bytes order) words.now }
+    ensures bytes { result ≡ flat_map (word_bytes order) words.now }
+    ensures size { length result ≡ 4 * length words.now }
 {
     let mut bytes = ShortList::new();
     for word in words {
@@ -182,9 +183,9 @@ pub fn write_words(words: &[u32], order: Order) -> ShortList<u8, 16>
     bytes
 }
 
-// The bytes of two words, one word after the other.
+/// The bytes of two words, one word after the other.
 #[inline(always)]
-fn pair_bytes(first: u32, second: u32, order: Order) -> [u8; 8]
+pub fn pair_bytes(first: u32, second: u32, order: Order) -> [u8; 8]
     ensures { result ≡ flat_map (word_bytes order) (first ∷ second ∷ []) }
 {
     let mut bytes = [0; 8];

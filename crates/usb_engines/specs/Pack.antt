@@ -1,5 +1,5 @@
 -- A stream of MIDI 1.0 bytes that is packed: the events of each byte, and its lines; at the end the line of what is open.
-use Rattle.std.specs.Prelude.{◌≡◌, ℕ, false, true, ◌<◌, List, ◌++◌, map, reverse, Some}
+use Rattle.std.specs.Prelude.{◌≡◌, ℕ, false, true, ◌<◌, List, ◌++◌, map, reverse, None, Some}
 use Rattle.std.specs.List.{AllByRecursion, concat}
 use Rattle.midi1_bytes.specs.Steps.{Step, completed, completed_by, step_of}
 use Rattle.voice_state.specs.StepListing.{kinds_at_end, kinds_of_step, line_up, open_pair}
@@ -46,6 +46,7 @@ packing options =
       refusal = λ past item. refusal_of (step_of (Some options.room) (bytes_of past) item.1) item.0;
       IsPut = λ past item puts.
           puts ≡ packed_puts options.cable (step_of (Some options.room) (bytes_of past) item.1) item.0;
+      refusal_at_end = λ past. None;
       IsPutAtEnd = λ past puts.
           puts ≡ open_lines options.cable (kinds_at_end (open_pair (Some options.room) (bytes_of past)));
       Means = λ past puts.

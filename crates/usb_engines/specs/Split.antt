@@ -32,6 +32,7 @@ splitting =
       grows = false;
       refusal = λ past item. None;
       IsPut = λ past item puts. puts ≡ event_puts item;
+      refusal_at_end = λ past. None;
       IsPutAtEnd = λ past puts. puts ≡ [];
       Means = λ past puts. (pairs_in puts ≡ flat_map pieces_of (events_of (reverse past)))
           × (notes_in puts ≡ flat_map reserved_lines (reverse past));

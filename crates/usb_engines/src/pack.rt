@@ -4,9 +4,9 @@ ghost use Rattle.std.specs.Option.{option_map};
 ghost use Rattle.midi1_bytes.specs.Parsing.{open_of};
 ghost use Rattle.voice_state.specs.StepListing.{kinds_at_end};
 ghost use Rattle.midi_pass.specs.Bytes.{byte_cutting};
-ghost use Rattle.midi_pass.specs.Pass.{Ends, IsDoneUnless, Takes, seen};
-ghost use Rattle.midi_pass.specs.Places.{Puts, places};
-ghost use Rattle.midi_pass.specs.Refused.{IsRefusedWhere};
+ghost use Rattle.midi_pass.specs.PassEnds.{PassEnds};
+ghost use Rattle.midi_pass.specs.Pass.{Takes, seen};
+ghost use Rattle.midi_pass.specs.Places.{Puts};
 ghost use Rattle.up_translator.specs.ByteLines.{lines_in};
 ghost use Rattle.usb_midi1.specs.Held.{packer_behind, step_in};
 ghost use Rattle.usb_midi1.specs.Packed.{IsApart, events_in, whole_in};
@@ -20,8 +20,7 @@ use item_reader::ByteReader;
 use listing_puts::{put_lines, put_listed, refused};
 use midi_edge::{Lanes, NoMemory, Sink, Source, U4};
 use midi_pass::laws::bytes_are_cut_once;
-use midi_pass::places::put_output;
-use midi_pass::{Engine, LIMIT, RunEnd, drive};
+use midi_pass::{Engine, LIMIT, Outputs, RunEnd, drive};
 use midi1_bytes::laws::parsed_bytes_are_the_definition;
 use std::alloc::Global;
 use std::marker::Model;
@@ -82,27 +81,15 @@ impl Engine<u64, u8> for PackEngine {
     ghost AsksAfter = { λ past item. item.0 ≡ length past };
 
     #[inline(always)]
-    fn step<L: Lanes, W: Sink, N: Sink>(
-        &mut self,
-        at: &u64,
-        item: &u8,
-        lanes: &mut L,
-        output: &mut W,
-        notes: &mut N,
-    ) -> Result<(), RunEnd> {
+    fn step<O: Outputs>(&mut self, at: &u64, item: &u8, outputs: &mut O) -> Result<(), RunEnd> {
         parsed_bytes_are_the_definition();
         packed_bytes_are_the_definition();
-        pack_byte(&mut self.packer, *item, *at, lanes, output, notes)
+        pack_byte(&mut self.packer, *item, *at, outputs)
     }
 
-    fn close<L: Lanes, W: Sink, N: Sink>(
-        &self,
-        lanes: &mut L,
-        output: &mut W,
-        notes: &mut N,
-    ) -> Result<(), RunEnd> {
+    fn close<O: Outputs>(&self, outputs: &mut O) -> Result<(), RunEnd> {
         packed_bytes_are_the_definition();
-        put_open(&self.packer, lanes, output, notes)
+        put_open(&self.packer, outputs)
     }
 
     ghost puts_are_named = { λ first past item puts put.
@@ -131,13 +118,7 @@ pub fn run_pack<S: Source, L: Lanes, W: Sink, N: Sink>(
     output: &mut W,
     notes: &mut N,
 ) -> RunEnd
-    ensures ends { Ends byte_cutting (packing engine)
-        (seen S.Source L.Lanes W.Sink N.Sink input.old lanes.old output.old notes.old)
-        (seen S.Source L.Lanes W.Sink N.Sink input.new lanes.new output.new notes.new) result }
-    ensures complete { IsDoneUnless byte_cutting (packing engine)
-        (seen S.Source L.Lanes W.Sink N.Sink input.old lanes.old output.old notes.old)
-        (seen S.Source L.Lanes W.Sink N.Sink input.new lanes.new output.new notes.new) result }
-    ensures refused { IsRefusedWhere byte_cutting (packing engine)
+    ensures { PassEnds byte_cutting (packing engine)
         (seen S.Source L.Lanes W.Sink N.Sink input.old lanes.old output.old notes.old)
         (seen S.Source L.Lanes W.Sink N.Sink input.new lanes.new output.new notes.new) result }
 {
@@ -151,100 +132,72 @@ pub fn run_pack<S: Source, L: Lanes, W: Sink, N: Sink>(
 
 // Packs one more byte: puts its events in the output, and then its lines in the notes.
 #[inline(always)]
-fn pack_byte<L: Lanes, W: Sink, N: Sink>(
+fn pack_byte<O: Outputs>(
     packer: &mut Packer,
     byte: u8,
     offset: u64,
-    lanes: &mut L,
-    output: &mut W,
-    notes: &mut N,
+    outputs: &mut O,
 ) -> Result<(), RunEnd>
     ensures takes { Takes (refusal_of (step_in packer.old offset byte) offset)
         (packed_puts packer.old.cable (step_in packer.old offset byte) offset)
-        (places L.Lanes W.Sink N.Sink lanes.old output.old notes.old)
-        (places L.Lanes W.Sink N.Sink lanes.new output.new notes.new) result }
+        (O.places outputs.old) (O.places outputs.new) result }
     ensures after { packer.new ≡ packer_behind packer.old offset byte }
 {
     match packer.byte(byte, offset) {
-        Ok(packed) => put_packed(&packed, lanes, output, notes),
+        Ok(packed) => put_packed(&packed, outputs),
         Err(TooLong) => Err(refused(BadStep::ExclusiveTooLong, offset)),
     }
 }
 
 // Puts the events of a byte, and then its lines.
 #[inline(always)]
-fn put_packed<L: Lanes, W: Sink, N: Sink>(
-    packed: &Packed<'_>,
-    lanes: &mut L,
-    output: &mut W,
-    notes: &mut N,
-) -> Result<(), RunEnd>
+fn put_packed<O: Outputs>(packed: &Packed<'_>, outputs: &mut O) -> Result<(), RunEnd>
     requires apart { IsApart packed.now }
     requires whole { IfSome (whole_in packed.now) (λ whole. 2 ≤ length whole) }
     ensures { Puts (event_puts (events_in packed.now) ++ line_puts (lines_in packed.now.lines))
-        (places L.Lanes W.Sink N.Sink lanes.old output.old notes.old)
-        (places L.Lanes W.Sink N.Sink lanes.new output.new notes.new) result }
+        (O.places outputs.old) (O.places outputs.new) result }
 {
-    put_events(*packed, lanes, output, notes)?;
-    put_lines(&packed.lines, lanes, output, notes)
+    put_events(*packed, outputs)?;
+    put_lines(&packed.lines, outputs)
 }
 
 // Puts the events of a byte.
 #[inline(always)]
-fn put_events<L: Lanes, W: Sink, N: Sink>(
-    packed: Packed<'_>,
-    lanes: &mut L,
-    output: &mut W,
-    notes: &mut N,
-) -> Result<(), RunEnd>
+fn put_events<O: Outputs>(packed: Packed<'_>, outputs: &mut O) -> Result<(), RunEnd>
     requires apart { IsApart packed }
     requires whole { IfSome (whole_in packed) (λ whole. 2 ≤ length whole) }
     ensures { Puts (event_puts (events_in packed.entry))
-        (places L.Lanes W.Sink N.Sink lanes.old output.old notes.old)
-        (places L.Lanes W.Sink N.Sink lanes.new output.new notes.new) result }
+        (O.places outputs.old) (O.places outputs.new) result }
 {
     match packed.event {
-        Some(event) => put_output(&event, lanes, output, notes),
+        Some(event) => outputs.put_output(&event),
         None => match packed.whole {
-            Some(whole) => put_exclusive(packed.cable(), whole, lanes, output, notes),
+            Some(whole) => put_exclusive(packed.cable(), whole, outputs),
             None => Ok(()),
         },
     }
 }
 
 // Puts the events of an exclusive that is given from its F0 to its F7.
-fn put_exclusive<L: Lanes, W: Sink, N: Sink>(
-    cable: U4,
-    whole: &[u8],
-    lanes: &mut L,
-    output: &mut W,
-    notes: &mut N,
-) -> Result<(), RunEnd>
+fn put_exclusive<O: Outputs>(cable: U4, whole: &[u8], outputs: &mut O) -> Result<(), RunEnd>
     requires { 2 ≤ length whole.now }
     ensures { Puts (event_puts (exclusive_events cable whole.now))
-        (places L.Lanes W.Sink N.Sink lanes.old output.old notes.old)
-        (places L.Lanes W.Sink N.Sink lanes.new output.new notes.new) result }
+        (O.places outputs.old) (O.places outputs.new) result }
 {
     exclusive_events_come_in_order();
     let mut k = 0;
     while let Some(event) = exclusive_event(cable, whole, k) {
-        put_output(&event, lanes, output, notes)?;
+        outputs.put_output(&event)?;
         k += 1;
     }
     Ok(())
 }
 
 // Puts the line of what is still open at the end, if anything is.
-fn put_open<L: Lanes, W: Sink, N: Sink>(
-    packer: &Packer,
-    lanes: &mut L,
-    output: &mut W,
-    notes: &mut N,
-) -> Result<(), RunEnd>
+fn put_open<O: Outputs>(packer: &Packer, outputs: &mut O) -> Result<(), RunEnd>
     ensures { Puts (open_lines packer.now.cable (kinds_at_end
         (option_map (λ begun. (begun.start, begun.kind)) (open_of packer.now.parsing))))
-        (places L.Lanes W.Sink N.Sink lanes.old output.old notes.old)
-        (places L.Lanes W.Sink N.Sink lanes.new output.new notes.new) result }
+        (O.places outputs.old) (O.places outputs.new) result }
 {
-    put_listed(packer.end(), lanes, output, notes)
+    put_listed(packer.end(), outputs)
 }

@@ -1,9 +1,9 @@
 // From events to the stream of each cable.
 ghost use Rattle.std.specs.Prelude.{◌≡◌, ◌<◌, ◌∷◌, [], true, length};
-ghost use Rattle.midi_pass.specs.Pass.{Ends, IsDoneUnless, seen};
-ghost use Rattle.midi_pass.specs.Places.{Puts, places};
+ghost use Rattle.midi_pass.specs.PassEnds.{PassEnds};
+ghost use Rattle.midi_pass.specs.Pass.{seen};
+ghost use Rattle.midi_pass.specs.Places.{Puts};
 ghost use Rattle.midi_pass.specs.Put.{in_notes};
-ghost use Rattle.midi_pass.specs.Refused.{IsRefusedWhere};
 ghost use Rattle.usb_engines.specs.Events.{event_cutting};
 ghost use Rattle.usb_engines.specs.Split.{event_puts, reserved_text, splitting};
 ghost use Rattle.usb_engines.specs.SplitMeans.{none_named, splits_mean, splits_named};
@@ -11,8 +11,7 @@ ghost use Rattle.usb_engines.specs.SplitMeans.{none_named, splits_mean, splits_n
 use crate::laws::events_are_cut_once;
 use midi_edge::{Lanes, Sink, Source, U4};
 use midi_lines::{Line, put_decimal, put_text};
-use midi_pass::places::{put_lane, put_notes};
-use midi_pass::{EachItems, Engine, RunEnd, drive};
+use midi_pass::{EachItems, Engine, Outputs, RunEnd, drive};
 use usb_midi1::{EachEvent, Event, carried, is_reserved};
 
 // Puts what each event carries in the lane of its cable, and in the notes a line for each event whose code is reserved.
@@ -33,23 +32,11 @@ impl Engine<u64, Event> for SplitEngine {
     ghost AsksAfter = { λ past item. Unit {0} };
 
     #[inline(always)]
-    fn step<L: Lanes, W: Sink, N: Sink>(
-        &mut self,
-        at: &u64,
-        item: &Event,
-        lanes: &mut L,
-        output: &mut W,
-        notes: &mut N,
-    ) -> Result<(), RunEnd> {
-        put_event(item, *at, lanes, output, notes)
+    fn step<O: Outputs>(&mut self, at: &u64, item: &Event, outputs: &mut O) -> Result<(), RunEnd> {
+        put_event(item, *at, outputs)
     }
 
-    fn close<L: Lanes, W: Sink, N: Sink>(
-        &self,
-        lanes: &mut L,
-        output: &mut W,
-        notes: &mut N,
-    ) -> Result<(), RunEnd> {
+    fn close<O: Outputs>(&self, outputs: &mut O) -> Result<(), RunEnd> {
         Ok(())
     }
 
@@ -75,13 +62,7 @@ pub fn run_split<S: Source, L: Lanes, W: Sink, N: Sink>(
     notes: &mut N,
 ) -> RunEnd
     requires begun { L.begun lanes.old ≡ true }
-    ensures ends { Ends event_cutting splitting
-        (seen S.Source L.Lanes W.Sink N.Sink input.old lanes.old output.old notes.old)
-        (seen S.Source L.Lanes W.Sink N.Sink input.new lanes.new output.new notes.new) result }
-    ensures complete { IsDoneUnless event_cutting splitting
-        (seen S.Source L.Lanes W.Sink N.Sink input.old lanes.old output.old notes.old)
-        (seen S.Source L.Lanes W.Sink N.Sink input.new lanes.new output.new notes.new) result }
-    ensures refused { IsRefusedWhere event_cutting splitting
+    ensures { PassEnds event_cutting splitting
         (seen S.Source L.Lanes W.Sink N.Sink input.old lanes.old output.old notes.old)
         (seen S.Source L.Lanes W.Sink N.Sink input.new lanes.new output.new notes.new) result }
 {
@@ -98,39 +79,24 @@ pub fn run_split<S: Source, L: Lanes, W: Sink, N: Sink>(
 
 // Puts what an event carries into the lane of its cable, or its line in the notes, where its code is reserved.
 #[inline(always)]
-fn put_event<L: Lanes, W: Sink, N: Sink>(
-    event: &Event,
-    offset: u64,
-    lanes: &mut L,
-    output: &mut W,
-    notes: &mut N,
-) -> Result<(), RunEnd>
-    requires begun { L.begun lanes.old ≡ true }
-    ensures { Puts (event_puts (offset, event.now))
-        (places L.Lanes W.Sink N.Sink lanes.old output.old notes.old)
-        (places L.Lanes W.Sink N.Sink lanes.new output.new notes.new) result }
+fn put_event<O: Outputs>(event: &Event, offset: u64, outputs: &mut O) -> Result<(), RunEnd>
+    requires begun { (O.places outputs.old).begun ≡ true }
+    ensures { Puts (event_puts (offset, event.now)) (O.places outputs.old) (O.places outputs.new) result }
 {
     if is_reserved(event) {
-        put_reserved(offset, event.cable, lanes, output, notes)
+        put_reserved(offset, event.cable, outputs)
     } else {
-        put_lane(event.cable, carried(event).as_slice(), lanes, output, notes)
+        outputs.put_lane(event.cable, carried(event).as_slice())
     }
 }
 
 // Puts the line of an event whose code is reserved.
-fn put_reserved<L: Lanes, W: Sink, N: Sink>(
-    offset: u64,
-    cable: U4,
-    lanes: &mut L,
-    output: &mut W,
-    notes: &mut N,
-) -> Result<(), RunEnd>
+fn put_reserved<O: Outputs>(offset: u64, cable: U4, outputs: &mut O) -> Result<(), RunEnd>
     ensures { Puts (in_notes (reserved_text offset cable) ∷ [])
-        (places L.Lanes W.Sink N.Sink lanes.old output.old notes.old)
-        (places L.Lanes W.Sink N.Sink lanes.new output.new notes.new) result }
+        (O.places outputs.old) (O.places outputs.new) result }
 {
     let line = reserved_line(offset, cable);
-    put_notes(line.as_slice(), lanes, output, notes)
+    outputs.put_notes(line.as_slice())
 }
 
 // The line of an event whose code is reserved (own rule).

@@ -30,7 +30,7 @@ fn hold(places: &Places, piece: (u8, &[u8]), output: &[u8], notes: &str) -> bool
 const NO_PIECE: (u8, &[u8]) = (0, b"");
 
 // A clip of no ticks, with one tick for a quarter note.
-const CLIP: &[u8] = b"SMF2CLIP\x00\x30\x00\x01\
+pub(super) const CLIP: &[u8] = b"SMF2CLIP\x00\x30\x00\x01\
     \xF0\x20\x00\x00\x00\x00\x00\x00\x00\x00\x00\x00\x00\x00\x00\x00\
     \xF0\x21\x00\x00\x00\x00\x00\x00\x00\x00\x00\x00\x00\x00\x00\x00";
 

@@ -17,7 +17,8 @@ use std::rt::Files;
 /// is no memory to open the files, the answer is `NoMemory`. A small piece is gathered in the buffer, and written out when a later
 /// one doesn't fit. So an `Ok` of `put` says that the piece was accepted, and a fault shows at the `put` that writes out, or at
 /// `flush`. A fault takes nothing from what was accepted before: what it left unwritten is written out by the next call that writes
-/// to this lane. What is still gathered when the lanes are dropped is lost, so call `flush` when all is put.
+/// to this lane. `write_out` writes out what is gathered before its time, and counts no fault here. What is still gathered when the
+/// lanes are dropped is lost, so call `flush` when all is put.
 #[derive(Drop)]
 pub struct FolderLanes<R: Files + AllocGlobal> {
     rt: R,
@@ -154,5 +155,15 @@ impl<R: Files + AllocGlobal> Lanes for FolderLanes<R> {
     {
         let answer = self.lanes[usize::from(lane.get())].put(piece);
         counted(answer, &mut self.faults)
+    }
+
+    fn write_out(&mut self)
+        ensures begun { ⟦<Self as Lanes>⟧.begun self.new ≡ ⟦<Self as Lanes>⟧.begun self.old }
+        ensures folder { ⟦<Self as Lanes>⟧.folder self.new ≡ ⟦<Self as Lanes>⟧.folder self.old }
+        ensures pieces { ⟦<Self as Lanes>⟧.pieces self.new ≡ ⟦<Self as Lanes>⟧.pieces self.old }
+        ensures faults { ⟦<Self as Lanes>⟧.faults self.new ≡ ⟦<Self as Lanes>⟧.faults self.old }
+        ensures keeps { KeepsLanes ⟦<R::File as Write>⟧.contents self.old self.new }
+    {
+        let _ = flush_each(&mut self.lanes);
     }
 }

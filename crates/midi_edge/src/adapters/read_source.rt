@@ -10,11 +10,13 @@ use crate::outside::{Failed, Source};
 use std::io;
 use std::io::{ErrorKind, Read};
 
-/// A source over any reader. A read that a signal interrupts is tried again.
+/// A source over any reader, of which a read may wait, unless the source was made by `of_file`. A read that a signal interrupts is
+/// tried again.
 #[derive(Drop)]
 pub struct ReadSource<R: Read> {
     reader: R,
     faults: u64,
+    may_wait: bool,
 }
 
 impl<R: Read> ReadSource<R> {
@@ -23,7 +25,23 @@ impl<R: Read> ReadSource<R> {
         ensures gives { to_come R.remaining result ≡ R.remaining reader }
         ensures faults { ⟦<ReadSource<R> as Source>⟧.faults result ≡ 0 }
     {
-        ReadSource { reader, faults: 0 }
+        ReadSource {
+            reader,
+            faults: 0,
+            may_wait: true,
+        }
+    }
+
+    /// A source that gives what the reader of a file gives, which never waits. No fault is counted yet.
+    pub fn of_file(reader: R) -> Self
+        ensures gives { to_come R.remaining result ≡ R.remaining reader }
+        ensures faults { ⟦<ReadSource<R> as Source>⟧.faults result ≡ 0 }
+    {
+        ReadSource {
+            reader,
+            faults: 0,
+            may_wait: false,
+        }
     }
 
     /// How often it has failed, up to the last `u64`.
@@ -50,6 +68,12 @@ impl<R: Read> Source for ReadSource<R> {
     {
         let answer = read_once(&mut self.reader, buf);
         counted(answer, &mut self.faults)
+    }
+
+    fn may_wait(&self) -> bool
+        ensures { result ≡ self.now.may_wait }
+    {
+        self.may_wait
     }
 }
 

@@ -14,7 +14,8 @@ use std::io::{ErrorKind, Write};
 /// A sink over any writer, which gathers small pieces, up to 8,192 bytes, and writes them out when the next piece has no
 /// room. So an `Ok` of `put` says that the piece was accepted, and a fault shows at the `put` that makes room, or at
 /// `flush`. A fault takes nothing from what was accepted before: what it left unwritten is written out by the next call
-/// that writes. What is still gathered when the sink is dropped is lost, so call `flush` when all is put.
+/// that writes. `write_out` writes out what is gathered before its time, and counts no fault. What is still gathered when
+/// the sink is dropped is lost, so call `flush` when all is put.
 #[derive(Drop)]
 pub struct WriteSink<W: Write> {
     writer: W,
@@ -154,6 +155,14 @@ impl<W: Write> Sink for WriteSink<W> {
         }
         self.gathered.extend(piece);
         Ok(())
+    }
+
+    fn write_out(&mut self)
+        ensures bytes { ⟦<Self as Sink>⟧.held self.new ≡ ⟦<Self as Sink>⟧.held self.old }
+        ensures faults { ⟦<Self as Sink>⟧.faults self.new ≡ ⟦<Self as Sink>⟧.faults self.old }
+        ensures keeps { Keeps (accepted W.contents self.old) (accepted W.contents self.new) }
+    {
+        let _ = self.flush_writer();
     }
 }
 

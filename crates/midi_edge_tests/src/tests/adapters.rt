@@ -94,6 +94,27 @@ fn a_writer_that_cannot_be_flushed_is_a_fault(rt: HostRuntime) {
     assert!(rt; sink.faults() == 1);
 }
 
+// The counts of the log after each of three times that a small piece is written out, of which the first stops within it.
+fn writes_out(sink: &mut WriteSink<Scripted<'_>>, log: &Log) -> Result<[[usize; 3]; 3], Failed> {
+    sink.put(b"one ")?;
+    sink.write_out();
+    let stopped = log.counts();
+    sink.write_out();
+    let written = log.counts();
+    sink.write_out();
+    Ok([stopped, written, log.counts()])
+}
+
+#[test]
+fn what_is_gathered_is_written_out_before_its_time(rt: HostRuntime) {
+    let steps = [Step::Moves(3), Step::Fails(ErrorKind::BrokenPipe)];
+    let log = Log::new();
+    let mut sink = WriteSink::new(Scripted::new(&steps, b"one ", &log));
+    let counts = writes_out(&mut sink, &log);
+    assert!(rt; counts == Ok([[2, 0, 3], [3, 1, 4], [3, 2, 4]]));
+    assert_eq!(rt; sink.faults(), 0);
+}
+
 // Whether a source that fails so tells it at once.
 fn source_tells(kind: ErrorKind) -> bool {
     let steps = [Step::Fails(kind)];

@@ -40,14 +40,16 @@ fn gathers<'a>(rt: &'a HostRuntime, lanes: &mut FolderLanes<&'a HostRuntime>, fo
         lanes.put(U4::low_bits(15), b"teen"),
     ];
     let gathered = holds(rt, folder, NAMES[15], b"");
+    lanes.write_out();
+    let untold = lanes.faults();
+    let written = holds(rt, folder, NAMES[15], b"fifteen");
     let flushed = lanes.flush();
     let faults = lanes.faults();
-    let written = holds(rt, folder, NAMES[15], b"fifteen");
     let refused = lanes.put(U4::low_bits(3), &[b'x'; 9000]);
     puts == [Ok(()); 3]
         && gathered
         && [flushed, refused] == [Err(Failed); 2]
-        && [faults, lanes.faults()] == [1, 2]
+        && [untold, faults, lanes.faults()] == [0, 1, 2]
         && written
 }
 

@@ -1,7 +1,7 @@
 use Rattle.std.proofs.Common.{◌≡◌, ◌++◌, ◌+◌, ℕ, List, take, drop, suc, ap, sym, ◌∙◌, subst, arith}
 use Rattle.std.proofs.lemmas.Result.{err_from_is_err_and}
 use Rattle.std.specs.Option.{option_map}
-use Rattle.midi_pass.specs.Places.{FailsAt, after_puts, places}
+use Rattle.midi_pass.specs.Places.{FailsAt, after_puts}
 use Rattle.midi_pass.specs.Put.{Put}
 use Rattle.midi_pass.specs.PutLaws.{stops_more, then_put, then_stops}
 use Rattle.midi_pass.specs.Each.{for_each}
@@ -15,9 +15,9 @@ unreachable-requires g c =
 
 pub loop-k-preserved : goal.loop-k-preserved
 loop-k-preserved g c =
-    let old = places g.L.Lanes g.W.Sink g.N.Sink c.args.lanes.now c.args.output.now c.args.notes.now in
-    let mid = places g.L.Lanes g.W.Sink g.N.Sink c.loop-k.lanes c.loop-k.output c.loop-k.notes in
-    let new = places g.L.Lanes g.W.Sink g.N.Sink c.put_profile.new.lanes c.put_profile.new.output c.put_profile.new.notes in
+    let old = g.O.Outputs.places c.args.outputs.now in
+    let mid = g.O.Outputs.places c.loop-k.outputs in
+    let new = g.O.Outputs.places c.put_profile.new.outputs in
     let n : ℕ = c.loop-k.k in
     let all = c.args.setup.now.profiles in
     let one = c.in-Some.profile.now in
@@ -29,9 +29,9 @@ loop-k-preserved g c =
 pub returns-in_err-put_profile-in-Some : goal.returns-in_err-put_profile-in-Some
 returns-in_err-put_profile-in-Some g c =
     let end = c.in_err-put_profile-in-Some.field-0.0 in
-    let old = places g.L.Lanes g.W.Sink g.N.Sink c.args.lanes.now c.args.output.now c.args.notes.now in
-    let mid = places g.L.Lanes g.W.Sink g.N.Sink c.loop-k.lanes c.loop-k.output c.loop-k.notes in
-    let new = places g.L.Lanes g.W.Sink g.N.Sink c.put_profile.new.lanes c.put_profile.new.output c.put_profile.new.notes in
+    let old = g.O.Outputs.places c.args.outputs.now in
+    let mid = g.O.Outputs.places c.loop-k.outputs in
+    let new = g.O.Outputs.places c.put_profile.new.outputs in
     let n : ℕ = c.loop-k.k in
     let all = c.args.setup.now.profiles in
     let one = c.in-Some.profile.now in

@@ -1,7 +1,7 @@
 use Rattle.std.proofs.Common.{◌-◌}
 use Rattle.item_reader.specs.SoFar.{given}
 use Rattle.midi_pass.specs.PassLaws.{SoFar}
-use Rattle.midi_pass.specs.Pass.{seen}
+use Rattle.midi_pass.specs.Pass.{seen_with}
 use Rattle.clip_engine.specs.Clipping.{clipping}
 use Rattle.clip_engine.specs.Ends.{with_header}
 use Rattle.clip_engine.proofs.HeaderLaws.{HasGiven}
@@ -13,8 +13,8 @@ invariant-loop-at g l =
     SoFar clipping
     (λ items. HasGiven l.words l.size (given (g.S.Source.left l.fn.input) (g.S.Source.left l.input) items))
     (λ past. HoldsClip l.clip past)
-    (with_header (seen g.S.Source g.L.Lanes g.W.Sink g.N.Sink l.fn.input l.fn.lanes l.fn.output l.fn.notes))
-    (seen g.S.Source g.L.Lanes g.W.Sink g.N.Sink l.input l.lanes l.output l.notes)
+    (with_header (seen_with g.S.Source l.fn.input (g.O.Outputs.places l.fn.outputs)))
+    (seen_with g.S.Source l.input (g.O.Outputs.places l.outputs))
 
 abbrev pub decreases-loop-at : goal.decreases-loop-at
 decreases-loop-at g l = l.words.limit - l.words.offset

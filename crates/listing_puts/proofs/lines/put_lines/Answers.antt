@@ -3,7 +3,7 @@ use Rattle.std.specs.Prelude.{Ok}
 use Rattle.std.specs.Option.{option_to_list}
 use Rattle.voice_state.specs.declared.listed.Listed.{Listed}
 use Rattle.up_translator.specs.ByteLines.{first_in, second_in}
-use Rattle.midi_pass.specs.Places.{Puts, after_puts, places}
+use Rattle.midi_pass.specs.Places.{Puts, after_puts}
 use Rattle.midi_pass.specs.Put.{Put}
 use Rattle.midi_pass.specs.PutLaws.{after_puts-none, then_puts}
 use Rattle.listing_puts.specs.LineLaws.{lines-then, none-lines}
@@ -12,15 +12,15 @@ use Rattle.listing_puts.proofs.lines.put_lines.Goals as goal
 
 pub returns-then-is_empty : goal.returns-then-is_empty
 returns-then-is_empty g c =
-    let old = places g.L.Lanes g.W.Sink g.N.Sink c.args.lanes.now c.args.output.now c.args.notes.now in
+    let old = g.O.Outputs.places c.args.outputs.now in
     let P : List Listed → Type 0 = λ lines. Puts (line_puts lines) old old (Ok tt) in
     subst P (sym (none-lines c.args.lines.now (sym c.is_empty.ensures ∙ c.if-is_empty.true))) (sym (after_puts-none old))
 
 pub returns : goal.returns
 returns g c =
-    let old = places g.L.Lanes g.W.Sink g.N.Sink c.args.lanes.now c.args.output.now c.args.notes.now in
-    let mid = places g.L.Lanes g.W.Sink g.N.Sink c.put_listed.new.lanes c.put_listed.new.output c.put_listed.new.notes in
-    let new = places g.L.Lanes g.W.Sink g.N.Sink c.put_listed-2.new.lanes c.put_listed-2.new.output c.put_listed-2.new.notes in
+    let old = g.O.Outputs.places c.args.outputs.now in
+    let mid = g.O.Outputs.places c.put_listed.new.outputs in
+    let new = g.O.Outputs.places c.put_listed-2.new.outputs in
     let first : List Listed = option_to_list (first_in c.args.lines.now) in
     let second : List Listed = option_to_list (second_in c.args.lines.now) in
     let F : Option Listed → Type 0 = λ listed. mid ≡ after_puts (line_puts (option_to_list listed)) old in

@@ -1,8 +1,7 @@
 use Rattle.std.proofs.Common.{Bool, [], refl, subst}
 use Rattle.midi_pass.specs.Bytes.{byte_cutting}
-use Rattle.midi_pass.specs.Pass.{Ends, seen}
-use Rattle.midi_pass.specs.DoneLaws.{is_done_unless}
-use Rattle.midi_pass.specs.RefusedLaws.{is_refused_where}
+use Rattle.midi_pass.specs.PassEnds.{PassEnds}
+use Rattle.midi_pass.specs.Pass.{seen}
 use Rattle.midi_engines.specs.Options.{BackOptions}
 use Rattle.midi_engines.specs.Back.{returning}
 use Rattle.midi_engines.proofs.BackLaws.{returned_bytes_mean}
@@ -22,16 +21,10 @@ drive-requires-clause-ready g c =
       holds_down = record { placed = []; are = refl; range = tt; down_is = is.1 };
     }
 
-pub returns-clause-ends : goal.returns-clause-ends
-returns-clause-ends g c =
+pub returns : goal.returns
+returns g c =
     let E : BackOptions → Type 0 =
-    λ options. Ends byte_cutting (returning options)
+    λ options. PassEnds byte_cutting (returning options)
     (seen g.S.Source g.L.Lanes g.W.Sink g.N.Sink c.args.input.now c.args.lanes.now c.args.output.now c.args.notes.now)
     (seen g.S.Source g.L.Lanes g.W.Sink g.N.Sink c.drive.new.input c.drive.new.lanes c.drive.new.output c.drive.new.notes) c.drive.result in
     subst E c.engine.view_is c.drive.ensures
-
-pub returns-clause-complete : goal.returns-clause-complete
-returns-clause-complete g c = is_done_unless byte_cutting (returning c.args.engine) c.bytes_are_cut_once.ensures _ _ c.drive.result (returns-clause-ends g c)
-
-pub returns-clause-refused : goal.returns-clause-refused
-returns-clause-refused g c = is_refused_where byte_cutting (returning c.args.engine) c.bytes_are_cut_once.ensures _ _ c.drive.result (returns-clause-ends g c)

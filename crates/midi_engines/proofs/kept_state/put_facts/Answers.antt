@@ -1,7 +1,7 @@
 use Rattle.std.proofs.Common.{◌∷◌, ◌+◌, [], List, ℕ, drop, take, sym, subst}
 use Rattle.std.proofs.lemmas.Result.{err_from_is_err_and}
 use Rattle.midi_lines.specs.FactLines.{fact_text}
-use Rattle.midi_pass.specs.Places.{FailsAt, places}
+use Rattle.midi_pass.specs.Places.{FailsAt}
 use Rattle.midi_pass.specs.Put.{Put, in_output}
 use Rattle.midi_pass.specs.PutLaws.{stops_more, then_stops}
 use Rattle.midi_engines.specs.KeptState.{fact_puts}
@@ -11,9 +11,9 @@ use Rattle.midi_engines.proofs.kept_state.put_facts.Goals as goal
 pub returns-in_err-put_output : goal.returns-in_err-put_output
 returns-in_err-put_output g c =
     let end = c.in_err-put_output.field-0.0 in
-    let old = places g.L.Lanes g.W.Sink g.N.Sink c.args.lanes.now c.args.output.now c.args.notes.now in
-    let mid = places g.L.Lanes g.W.Sink g.N.Sink c.loop-fact.lanes c.loop-fact.output c.loop-fact.notes in
-    let new = places g.L.Lanes g.W.Sink g.N.Sink c.put_output.new.lanes c.put_output.new.output c.put_output.new.notes in
+    let old = g.O.Outputs.places c.args.outputs.now in
+    let mid = g.O.Outputs.places c.loop-fact.outputs in
+    let new = g.O.Outputs.places c.put_output.new.self in
     let n : ℕ = c.loop-fact.fact-index in
     let all = c.args.facts.now in
     let fact = c.fact-item.result in

@@ -1,6 +1,5 @@
 use Rattle.std.proofs.Common.{Option, sym, subst}
 use Rattle.voice_state.specs.declared.listed.BadStep.{BadStep}
-use Rattle.midi_pass.specs.Places.{places}
 use Rattle.listing_puts.specs.Refusal.{refusal_by}
 use Rattle.midi_engines.specs.Raised.{Answers, ByteIsDone, byte_task}
 use Rattle.midi_engines.proofs.RaisedLaws.{carries_as, task}
@@ -8,8 +7,8 @@ use Rattle.midi_engines.proofs.raised.put_byte.Goals as goal
 
 pub returns-in-Ok-clause-answer : goal.returns-in-Ok-clause-answer
 returns-in-Ok-clause-answer g c =
-    let old = places g.L.Lanes g.W.Sink g.N.Sink c.args.lanes.now c.args.output.now c.args.notes.now in
-    let new = places g.L.Lanes g.W.Sink g.N.Sink c.put_raised.new.lanes c.put_raised.new.output c.put_raised.new.notes in
+    let old = g.O.Outputs.places c.args.outputs.now in
+    let new = g.O.Outputs.places c.put_raised.new.outputs in
     let does = (byte_task (g.P.PacketWork.IsDone c.args.offset) c.args.up.now (c.args.offset, c.args.byte) c.args.work.now).Does in
     let A : Option BadStep → Type 0 = λ bad. Answers (task (refusal_by bad c.args.offset) does) c.put_raised.new.work old new c.put_raised.result in
     let raises = c.in-Ok.ensures.answer in

@@ -3,7 +3,7 @@ use Rattle.std.proofs.lemmas.Result.{err_from_is_err_and}
 use Rattle.voice_state.specs.declared.listed.Kind.{Kind}
 use Rattle.voice_state.specs.StepListing.{cut_kind}
 use Rattle.midi_lines.specs.StepLines.{byte_listing_text}
-use Rattle.midi_pass.specs.Places.{FailsAt, after_puts, places}
+use Rattle.midi_pass.specs.Places.{FailsAt, after_puts}
 use Rattle.midi_pass.specs.Put.{in_output}
 use Rattle.midi_pass.specs.PutLaws.{then_puts, stops_more}
 use Rattle.midi_engines.specs.ShowBytes.{puts_after}
@@ -11,18 +11,18 @@ use Rattle.midi_engines.proofs.show_bytes.put_cut.Goals as goal
 
 pub returns : goal.returns
 returns g c =
-    let old = places g.L.Lanes g.W.Sink g.N.Sink c.args.lanes.now c.args.output.now c.args.notes.now in
-    let mid = places g.L.Lanes g.W.Sink g.N.Sink c.put_kind.new.lanes c.put_kind.new.output c.put_kind.new.notes in
-    let K : Kind → Type 0 = λ kind. mid ≡ after_puts (in_output (byte_listing_text kind c.args.start) ∷ []) old in
-    then_puts (in_output (byte_listing_text (cut_kind c.args.what) c.args.start) ∷ []) (puts_after c.args.start c.args.what c.args.after c.args.offset) old mid _ _
+    let old = g.O.Outputs.places c.args.outputs.now in
+    let mid = g.O.Outputs.places c.put_kind.new.outputs in
+    let K : Kind → Type 0 = λ kind. mid ≡ after_puts (in_output (byte_listing_text kind c.args.cut_off.start) ∷ []) old in
+    then_puts (in_output (byte_listing_text (cut_kind c.args.cut_off.what) c.args.cut_off.start) ∷ []) (puts_after c.args.cut_off.start c.args.cut_off.what c.args.cut_off.after c.args.offset) old mid _ _
     (subst K c.kind_of_cut.ensures c.in_ok-put_kind.ensures) c.put_after.ensures
 
 pub returns-in_err-put_kind : goal.returns-in_err-put_kind
 returns-in_err-put_kind g c =
     let end = c.in_err-put_kind.field-0.0 in
-    let old = places g.L.Lanes g.W.Sink g.N.Sink c.args.lanes.now c.args.output.now c.args.notes.now in
-    let mid = places g.L.Lanes g.W.Sink g.N.Sink c.put_kind.new.lanes c.put_kind.new.output c.put_kind.new.notes in
-    let K : Kind → Type 0 = λ kind. FailsAt (in_output (byte_listing_text kind c.args.start) ∷ []) end old mid in
+    let old = g.O.Outputs.places c.args.outputs.now in
+    let mid = g.O.Outputs.places c.put_kind.new.outputs in
+    let K : Kind → Type 0 = λ kind. FailsAt (in_output (byte_listing_text kind c.args.cut_off.start) ∷ []) end old mid in
     let p = err_from_is_err_and c.from_residual.result c.from_residual.ensures.1 in
-    rw (p.1, p.2) (stops_more (in_output (byte_listing_text (cut_kind c.args.what) c.args.start) ∷ []) (puts_after c.args.start c.args.what c.args.after c.args.offset) end old mid
+    rw (p.1, p.2) (stops_more (in_output (byte_listing_text (cut_kind c.args.cut_off.what) c.args.cut_off.start) ∷ []) (puts_after c.args.cut_off.start c.args.cut_off.what c.args.cut_off.after c.args.offset) end old mid
     (subst K c.kind_of_cut.ensures c.in_err-put_kind.ensures))

@@ -1,7 +1,6 @@
 use Rattle.std.proofs.Common.{[], ◌∷◌}
 use Rattle.std.proofs.lemmas.Result.{err_from_is_err_and}
 use Rattle.midi_lines.specs.PacketLines.{packet_text}
-use Rattle.midi_pass.specs.Places.{places}
 use Rattle.midi_pass.specs.Put.{in_output}
 use Rattle.midi_pass.specs.PutLaws.{stops_more, then_puts}
 use Rattle.midi_engines.specs.Texts.{line_of_text, text_of, text_puts}
@@ -12,8 +11,8 @@ returns-clause-puts g c =
     let packet = c.args.packet.now in
     let framed = c.args.framed.now in
     then_puts (in_output (packet_text packet framed.words framed.offset) ∷ []) (text_puts (line_of_text (text_of packet) c.args.texts.now))
-    (places g.L.Lanes g.W.Sink g.N.Sink c.args.lanes.now c.args.output.now c.args.notes.now)
-    (places g.L.Lanes g.W.Sink g.N.Sink c.put_packet.new.lanes c.put_packet.new.output c.put_packet.new.notes) _ _ c.in_ok-put_packet.ensures c.put_text.ensures.puts
+    (g.O.Outputs.places c.args.outputs.now)
+    (g.O.Outputs.places c.put_packet.new.outputs) _ _ c.in_ok-put_packet.ensures c.put_text.ensures.puts
 
 pub returns-in_err-put_packet-clause-puts : goal.returns-in_err-put_packet-clause-puts
 returns-in_err-put_packet-clause-puts g c =
@@ -22,4 +21,4 @@ returns-in_err-put_packet-clause-puts g c =
     let framed = c.args.framed.now in
     let p = err_from_is_err_and c.from_residual.result c.from_residual.ensures.1 in
     rw (p.1, p.2) (stops_more (in_output (packet_text packet framed.words framed.offset) ∷ []) (text_puts (line_of_text (text_of packet) c.args.texts.now)) end
-    (places g.L.Lanes g.W.Sink g.N.Sink c.args.lanes.now c.args.output.now c.args.notes.now) _ c.in_err-put_packet.ensures)
+    (g.O.Outputs.places c.args.outputs.now) _ c.in_err-put_packet.ensures)

@@ -1,8 +1,7 @@
 use Rattle.std.proofs.Common.{subst}
 use Rattle.function_blocks.specs.Setups.{Facts}
-use Rattle.midi_pass.specs.Pass.{Ends, seen}
-use Rattle.midi_pass.specs.DoneLaws.{is_done_unless}
-use Rattle.midi_pass.specs.RefusedLaws.{is_refused_where}
+use Rattle.midi_pass.specs.PassEnds.{PassEnds}
+use Rattle.midi_pass.specs.Pass.{seen}
 use Rattle.rehearsal_engine.specs.Events.{event_cutting}
 use Rattle.rehearsal_engine.specs.Rehearse.{rehearsing}
 use Rattle.rehearsal_engine.proofs.rehearse.run_rehearse.Goals as goal
@@ -20,16 +19,10 @@ drive-requires-clause-ready g c =
       first = is.first;
     }
 
-pub returns-clause-ends : goal.returns-clause-ends
-returns-clause-ends g c =
+pub returns : goal.returns
+returns g c =
     let E : Facts → Type 0 =
-    λ options. Ends event_cutting (rehearsing options)
+    λ options. PassEnds event_cutting (rehearsing options)
     (seen g.S.Source g.L.Lanes g.W.Sink g.N.Sink c.args.input.now c.args.lanes.now c.args.output.now c.args.notes.now)
     (seen g.S.Source g.L.Lanes g.W.Sink g.N.Sink c.drive.new.input c.drive.new.lanes c.drive.new.output c.drive.new.notes) c.drive.result in
     subst E c.run.view_is c.drive.ensures
-
-pub returns-clause-complete : goal.returns-clause-complete
-returns-clause-complete g c = is_done_unless event_cutting (rehearsing c.args.run) c.events_are_cut_once.ensures _ _ c.drive.result (returns-clause-ends g c)
-
-pub returns-clause-refused : goal.returns-clause-refused
-returns-clause-refused g c = is_refused_where event_cutting (rehearsing c.args.run) c.events_are_cut_once.ensures _ _ c.drive.result (returns-clause-ends g c)

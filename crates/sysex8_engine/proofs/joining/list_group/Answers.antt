@@ -1,25 +1,34 @@
-use Rattle.std.proofs.Common.{ℕ, List, arith}
+use Rattle.std.proofs.Common.{◌≡◌, ℕ, List, arith, subst}
 use Rattle.std.proofs.lemmas.Result.{err_from_is_err_and}
-use Rattle.midi_pass.specs.Places.{places}
+use Rattle.std.specs.List.{flat_map}
+use Rattle.midi_pass.specs.Places.{after_puts}
 use Rattle.midi_pass.specs.Put.{Put}
 use Rattle.sysex8_streams.specs.History.{key_of}
 use Rattle.sysex8_engine.specs.Held.{starts_in}
 use Rattle.sysex8_engine.specs.Joining.{open_put}
+use Rattle.sysex8_engine.specs.Listing.{below}
 use Rattle.sysex8_engine.proofs.LoopLaws.{none-yet, one-fails, one-more}
 use Rattle.sysex8_engine.proofs.joining.list_group.Goals as goal
 
 pub loop-number-init : goal.loop-number-init
 loop-number-init g c =
-    none-yet (λ stream. open_put c.args.group (starts_in c.args.streams.now (key_of c.args.group stream))) (places g.L.Lanes g.W.Sink g.N.Sink c.args.lanes.now c.args.output.now c.args.notes.now)
+    none-yet (λ stream. open_put c.args.group (starts_in c.args.streams.now (key_of c.args.group stream))) (g.O.Outputs.places c.args.outputs.now)
 
 pub loop-number-preserved : goal.loop-number-preserved
 loop-number-preserved g c =
     let puts : ℕ → List Put = λ stream. open_put c.args.group (starts_in c.args.streams.now (key_of c.args.group stream)) in
-    one-more puts c.loop-number.number (places g.L.Lanes g.W.Sink g.N.Sink c.args.lanes.now c.args.output.now c.args.notes.now) _ _ c.loop-number.invariant c.in_ok-list_stream.ensures
+    one-more puts c.loop-number.number (g.O.Outputs.places c.args.outputs.now) _ _ c.loop-number.invariant c.in_ok-list_stream.ensures
 
 pub returns-in_err-list_stream : goal.returns-in_err-list_stream
 returns-in_err-list_stream g c =
     let end = c.in_err-list_stream.field-0.0 in
     let puts : ℕ → List Put = λ stream. open_put c.args.group (starts_in c.args.streams.now (key_of c.args.group stream)) in
     let p = err_from_is_err_and c.from_residual.result c.from_residual.ensures.1 in
-    rw (p.1, p.2) (one-fails puts c.loop-number.number 256 (omega arith) end (places g.L.Lanes g.W.Sink g.N.Sink c.args.lanes.now c.args.output.now c.args.notes.now) _ _ c.loop-number.invariant c.in_err-list_stream.ensures)
+    rw (p.1, p.2) (one-fails puts c.loop-number.number 256 (omega arith) end (g.O.Outputs.places c.args.outputs.now) _ _ c.loop-number.invariant c.in_err-list_stream.ensures)
+
+pub returns : goal.returns
+returns g c =
+    let puts : ℕ → List Put = λ stream. open_put c.args.group (starts_in c.args.streams.now (key_of c.args.group stream)) in
+    let P : ℕ → Type 0 = λ n. g.O.Outputs.places c.loop-number.outputs ≡ after_puts (flat_map puts (below n)) (g.O.Outputs.places c.args.outputs.now) in
+    let all : c.loop-number.number ≡ 256 = omega arith in
+    subst P all c.loop-number.invariant

@@ -1,6 +1,6 @@
 use Rattle.std.proofs.Common.{◌≡◌}
 use Rattle.std.specs.List.{flat_map}
-use Rattle.midi_pass.specs.Places.{after_puts, places}
+use Rattle.midi_pass.specs.Places.{after_puts}
 use Rattle.sysex8_engine.specs.Held.{starts_in}
 use Rattle.sysex8_engine.specs.Joining.{group_puts}
 use Rattle.sysex8_engine.specs.Listing.{below}
@@ -8,4 +8,4 @@ use Rattle.sysex8_engine.proofs.joining.list_open.Given as goal
 
 abbrev pub invariant-loop-number : goal.invariant-loop-number
 invariant-loop-number g l =
-    places g.L.Lanes g.W.Sink g.N.Sink l.lanes l.output l.notes ≡ after_puts (flat_map (group_puts (starts_in l.streams)) (below l.number)) (places g.L.Lanes g.W.Sink g.N.Sink l.fn.lanes l.fn.output l.fn.notes)
+    g.O.Outputs.places l.outputs ≡ after_puts (flat_map (group_puts (starts_in l.streams)) (below l.number)) (g.O.Outputs.places l.fn.outputs)

@@ -1,5 +1,4 @@
 use Rattle.std.proofs.lemmas.Result.{err_from_is_err_and}
-use Rattle.midi_pass.specs.Places.{places}
 use Rattle.midi_pass.specs.PutLaws.{stops_more, then_puts}
 use Rattle.sysex8_engine.specs.Joining.{listed}
 use Rattle.sysex8_engine.specs.Lines.{kind_text, whole_text}
@@ -8,14 +7,14 @@ use Rattle.sysex8_engine.proofs.joining.put_cut_lines.Goals as goal
 
 pub returns : goal.returns
 returns g c =
-    then_puts (listed (kind_text kinds.Cut c.args.cut_at c.args.group)) (listed (whole_text c.args.offset c.args.group c.args.stream c.args.size))
-    (places g.L.Lanes g.W.Sink g.N.Sink c.args.lanes.now c.args.output.now c.args.notes.now)
-    (places g.L.Lanes g.W.Sink g.N.Sink c.put_kind.new.lanes c.put_kind.new.output c.put_kind.new.notes) _ _ c.in_ok-put_kind.ensures c.put_size.ensures
+    then_puts (listed (kind_text kinds.Cut c.args.cut_at c.args.place.group)) (listed (whole_text c.args.place.offset c.args.place.group c.args.place.stream c.args.size))
+    (g.O.Outputs.places c.args.outputs.now)
+    (g.O.Outputs.places c.put_kind.new.outputs) _ _ c.in_ok-put_kind.ensures c.put_size.ensures
 
 pub returns-in_err-put_kind : goal.returns-in_err-put_kind
 returns-in_err-put_kind g c =
     let end = c.in_err-put_kind.field-0.0 in
     let p = err_from_is_err_and c.from_residual.result c.from_residual.ensures.1 in
-    rw (p.1, p.2) (stops_more (listed (kind_text kinds.Cut c.args.cut_at c.args.group)) (listed (whole_text c.args.offset c.args.group c.args.stream c.args.size)) end
-    (places g.L.Lanes g.W.Sink g.N.Sink c.args.lanes.now c.args.output.now c.args.notes.now)
-    (places g.L.Lanes g.W.Sink g.N.Sink c.put_kind.new.lanes c.put_kind.new.output c.put_kind.new.notes) c.in_err-put_kind.ensures)
+    rw (p.1, p.2) (stops_more (listed (kind_text kinds.Cut c.args.cut_at c.args.place.group)) (listed (whole_text c.args.place.offset c.args.place.group c.args.place.stream c.args.size)) end
+    (g.O.Outputs.places c.args.outputs.now)
+    (g.O.Outputs.places c.put_kind.new.outputs) c.in_err-put_kind.ensures)

@@ -1,7 +1,6 @@
 use Rattle.std.proofs.Common.{◌≡◌, sym, subst}
 use Rattle.ump_grammar.specs.declared.packet.Packet.{Packet}
 use Rattle.midi_pass.specs.Pass.{Takes}
-use Rattle.midi_pass.specs.Places.{places}
 use Rattle.sysex8_streams.specs.Table.{answer8_to}
 use Rattle.sysex8_engine.specs.Held.{packet_after}
 use Rattle.sysex8_engine.specs.Joining.{packet_puts, packet_refusal}
@@ -16,6 +15,6 @@ pub returns-in-Data8-clause-takes : goal.returns-in-Data8-clause-takes
 returns-in-Data8-clause-takes g c =
     let P : Packet → Type 0 =
     λ packet. Takes (packet_refusal (answer8_to c.args.streams.now) c.args.offset packet) (packet_puts (answer8_to c.args.streams.now) c.args.offset packet)
-    (places g.L.Lanes g.W.Sink g.N.Sink c.args.lanes.now c.args.output.now c.args.notes.now)
-    (places g.L.Lanes g.W.Sink g.N.Sink c.take_data8.new.lanes c.take_data8.new.output c.take_data8.new.notes) c.take_data8.result in
+    (g.O.Outputs.places c.args.outputs.now)
+    (g.O.Outputs.places c.take_data8.new.outputs) c.take_data8.result in
     subst P (sym c.in-Data8.is) c.take_data8.ensures.takes

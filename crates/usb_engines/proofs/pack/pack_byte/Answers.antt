@@ -1,7 +1,6 @@
 use Rattle.std.proofs.Common.{sym, subst}
 use Rattle.std.specs.Prelude.{Err}
 use Rattle.midi_pass.specs.Pass.{Takes}
-use Rattle.midi_pass.specs.Places.{places}
 use Rattle.midi_pass.specs.declared.ends.RunEnd.{RunEnd}
 use Rattle.listing_puts.specs.Refusal.{refusal_of}
 use Rattle.usb_engines.specs.Pack.{packed_puts}
@@ -15,14 +14,14 @@ put_packed-requires-clause-whole g c = has_both_ends c.in-Ok.packed _ _ _ c.in-O
 
 pub returns-in-Ok-clause-takes : goal.returns-in-Ok-clause-takes
 returns-in-Ok-clause-takes g c =
-    let old = places g.L.Lanes g.W.Sink g.N.Sink c.args.lanes.now c.args.output.now c.args.notes.now in
-    let new = places g.L.Lanes g.W.Sink g.N.Sink c.put_packed.new.lanes c.put_packed.new.output c.put_packed.new.notes in
+    let old = g.O.Outputs.places c.args.outputs.now in
+    let new = g.O.Outputs.places c.put_packed.new.outputs in
     let step : Step = step_in c.args.packer.now c.args.offset c.args.byte in
     accepts c.in-Ok.packed c.args.packer.now.cable c.args.offset step old new c.put_packed.result c.in-Ok.ensures.answer c.put_packed.ensures
 
 pub returns-in-Err-clause-takes : goal.returns-in-Err-clause-takes
 returns-in-Err-clause-takes g c =
-    let old = places g.L.Lanes g.W.Sink g.N.Sink c.args.lanes.now c.args.output.now c.args.notes.now in
+    let old = g.O.Outputs.places c.args.outputs.now in
     let step : Step = step_in c.args.packer.now c.args.offset c.args.byte in
     let T : RunEnd → Type 0 = λ end. Takes (refusal_of step c.args.offset) (packed_puts c.args.packer.now.cable step c.args.offset) old old (Err end) in
     subst T (sym c.refused.ensures) (refuses c.args.packer.now.cable c.args.offset step old c.in-Err.ensures.answer)

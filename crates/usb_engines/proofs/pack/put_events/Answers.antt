@@ -1,6 +1,6 @@
 use Rattle.std.proofs.Common.{◌≡◌, ℕ, List, Some, ap, sym, subst}
 use Rattle.std.specs.Option.{option_map}
-use Rattle.midi_pass.specs.Places.{Puts, places}
+use Rattle.midi_pass.specs.Places.{Puts}
 use Rattle.usb_midi1.specs.Packed.{whole_in}
 use Rattle.usb_midi1.specs.Packing.{exclusive_events}
 use Rattle.usb_engines.specs.Pack.{event_puts}
@@ -9,8 +9,8 @@ use Rattle.usb_engines.proofs.pack.put_events.Goals as goal
 
 pub returns-in-Some-whole : goal.returns-in-Some-whole
 returns-in-Some-whole g c =
-    let old = places g.L.Lanes g.W.Sink g.N.Sink c.args.lanes.now c.args.output.now c.args.notes.now in
-    let new = places g.L.Lanes g.W.Sink g.N.Sink c.put_exclusive.new.lanes c.put_exclusive.new.output c.put_exclusive.new.notes in
+    let old = g.O.Outputs.places c.args.outputs.now in
+    let new = g.O.Outputs.places c.put_exclusive.new.outputs in
     let whole : List ℕ = c.in-Some-whole.whole.now in
     let is : whole_in c.args.packed ≡ Some whole = ap (λ w. option_map (λ bytes. bytes.now) w) c.in-Some-whole.is in
     let P : List (List ℕ) → Type 0 = λ events. Puts (event_puts events) old new c.put_exclusive.result in

@@ -1,5 +1,4 @@
 use Rattle.std.proofs.lemmas.Result.{err_from_is_err_and}
-use Rattle.midi_pass.specs.Places.{places}
 use Rattle.midi_pass.specs.PutLaws.{stops_more, then_puts}
 use Rattle.up_translator.specs.ByteLines.{lines_in}
 use Rattle.usb_midi1.specs.Packed.{events_in}
@@ -10,13 +9,13 @@ use Rattle.usb_engines.proofs.pack.put_packed.Goals as goal
 pub returns : goal.returns
 returns g c =
     then_puts (event_puts (events_in c.args.packed.now)) (line_puts (lines_in c.args.packed.now.lines))
-    (places g.L.Lanes g.W.Sink g.N.Sink c.args.lanes.now c.args.output.now c.args.notes.now)
-    (places g.L.Lanes g.W.Sink g.N.Sink c.put_events.new.lanes c.put_events.new.output c.put_events.new.notes) _ _ c.in_ok-put_events.ensures c.put_lines.ensures
+    (g.O.Outputs.places c.args.outputs.now)
+    (g.O.Outputs.places c.put_events.new.outputs) _ _ c.in_ok-put_events.ensures c.put_lines.ensures
 
 pub returns-in_err-put_events : goal.returns-in_err-put_events
 returns-in_err-put_events g c =
     let end = c.in_err-put_events.field-0.0 in
     let p = err_from_is_err_and c.from_residual.result c.from_residual.ensures.1 in
     rw (p.1, p.2) (stops_more (event_puts (events_in c.args.packed.now)) (line_puts (lines_in c.args.packed.now.lines)) end
-    (places g.L.Lanes g.W.Sink g.N.Sink c.args.lanes.now c.args.output.now c.args.notes.now)
-    (places g.L.Lanes g.W.Sink g.N.Sink c.put_events.new.lanes c.put_events.new.output c.put_events.new.notes) c.in_err-put_events.ensures)
+    (g.O.Outputs.places c.args.outputs.now)
+    (g.O.Outputs.places c.put_events.new.outputs) c.in_err-put_events.ensures)

@@ -1,9 +1,8 @@
 use Rattle.std.proofs.Common.{sym, ◌∙◌, ap, subst}
 use Rattle.midi1_bytes.specs.Parsing.{Parsing}
 use Rattle.midi_pass.specs.Bytes.{byte_cutting}
-use Rattle.midi_pass.specs.Pass.{Ends, seen}
-use Rattle.midi_pass.specs.DoneLaws.{is_done_unless}
-use Rattle.midi_pass.specs.RefusedLaws.{is_refused_where}
+use Rattle.midi_pass.specs.PassEnds.{PassEnds}
+use Rattle.midi_pass.specs.Pass.{seen}
 use Rattle.usb_midi1.specs.Held.{PackerState}
 use Rattle.usb_engines.specs.Options.{PackOptions}
 use Rattle.usb_engines.specs.Pack.{packing}
@@ -20,16 +19,10 @@ drive-requires-clause-ready g c =
       packer_is = ap with c.engine.invariant.0 ∙ sym (c.packed_bytes_are_the_definition.ensures.new packer.parsing.room packer.cable);
     }
 
-pub returns-clause-ends : goal.returns-clause-ends
-returns-clause-ends g c =
+pub returns : goal.returns
+returns g c =
     let E : PackOptions → Type 0 =
-    λ options. Ends byte_cutting (packing options)
+    λ options. PassEnds byte_cutting (packing options)
     (seen g.S.Source g.L.Lanes g.W.Sink g.N.Sink c.args.input.now c.args.lanes.now c.args.output.now c.args.notes.now)
     (seen g.S.Source g.L.Lanes g.W.Sink g.N.Sink c.drive.new.input c.drive.new.lanes c.drive.new.output c.drive.new.notes) c.drive.result in
     subst E c.engine.view_is c.drive.ensures
-
-pub returns-clause-complete : goal.returns-clause-complete
-returns-clause-complete g c = is_done_unless byte_cutting (packing c.args.engine) c.bytes_are_cut_once.ensures _ _ c.drive.result (returns-clause-ends g c)
-
-pub returns-clause-refused : goal.returns-clause-refused
-returns-clause-refused g c = is_refused_where byte_cutting (packing c.args.engine) c.bytes_are_cut_once.ensures _ _ c.drive.result (returns-clause-ends g c)

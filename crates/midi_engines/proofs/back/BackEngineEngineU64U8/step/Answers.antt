@@ -6,7 +6,6 @@ use Rattle.up_translator.specs.Held.{UpState}
 use Rattle.down_translator.specs.Held.{DownState}
 use Rattle.midi_pass.specs.Bytes.{bytes_of}
 use Rattle.midi_pass.specs.Pass.{Tail}
-use Rattle.midi_pass.specs.Places.{places}
 use Rattle.midi_pass.specs.Put.{Put}
 use Rattle.midi_engines.specs.Back.{ComesDown, options_of, PutsDown, returning}
 use Rattle.listing_puts.specs.Lines.{line_puts}
@@ -34,8 +33,8 @@ put_byte-requires-clause-done g c = piece_is_put c.args.at.now
 
 pub returns : goal.returns
 returns g c = λ first past held place.
-    let old = places g.L.Lanes g.W.Sink g.N.Sink c.args.lanes.now c.args.output.now c.args.notes.now in
-    let new = places g.L.Lanes g.W.Sink g.N.Sink c.put_byte.new.lanes c.put_byte.new.output c.put_byte.new.notes in
+    let old = g.O.Outputs.places c.args.outputs.now in
+    let new = g.O.Outputs.places c.put_byte.new.outputs in
     let paired : Bool = first.up.holding.paired in
     let room : ℕ = first.up.parsing.room in
     let group : ℕ = first.up.group in

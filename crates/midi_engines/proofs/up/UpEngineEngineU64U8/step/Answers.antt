@@ -7,10 +7,10 @@ use Rattle.up_translator.specs.Held.{UpState}
 use Rattle.up_translator.specs.Raised.{packets_in}
 use Rattle.midi_pass.specs.Bytes.{bytes_of}
 use Rattle.midi_pass.specs.Pass.{Tail}
-use Rattle.midi_pass.specs.Places.{places}
 use Rattle.listing_puts.specs.Lines.{line_puts}
 use Rattle.midi_engines.specs.Raised.{Answers, AreTaken, byte_task}
-use Rattle.midi_engines.specs.Up.{AreWritten, options_of, raising}
+use Rattle.midi_engines.specs.Up.{options_of, raising}
+use Rattle.packet_puts.specs.Written.{AreWritten}
 use Rattle.midi_engines.proofs.RaisedLaws.{answered_steps, task}
 use Rattle.midi_engines.proofs.StreamLaws.{answered, holds_more, refused_as}
 use Rattle.midi_engines.proofs.UpLaws.{AcceptsWords, all_taken, are_written, exclusive_is_written, same_words, WritesWords}
@@ -31,8 +31,8 @@ put_byte-requires-clause-done g c = exclusive_is_written c.exclusives_have_words
 
 pub returns : goal.returns
 returns g c = λ first past holds place.
-    let old = places g.L.Lanes g.W.Sink g.N.Sink c.args.lanes.now c.args.output.now c.args.notes.now in
-    let new = places g.L.Lanes g.W.Sink g.N.Sink c.put_byte.new.lanes c.put_byte.new.output c.put_byte.new.notes in
+    let old = g.O.Outputs.places c.args.outputs.now in
+    let new = g.O.Outputs.places c.put_byte.new.outputs in
     let paired : Bool = first.up.holding.paired in
     let room : ℕ = first.up.parsing.room in
     let group : ℕ = first.up.group in

@@ -1,7 +1,7 @@
 use Rattle.std.proofs.Common.{◌≡◌, ◌++◌, ◌+◌, ◌∷◌, [], ℕ, List, take, drop, suc, sym, refl, subst, Option, Some, None, Bool, slice_get, option_map}
 use Rattle.std.proofs.lemmas.Result.{err_from_is_err_and}
 use Rattle.ci_initiator.specs.declared.watch.Watched.{Watched}
-use Rattle.midi_pass.specs.Places.{FailsAt, after_puts, places}
+use Rattle.midi_pass.specs.Places.{FailsAt, after_puts}
 use Rattle.midi_pass.specs.Put.{Put, in_output}
 use Rattle.midi_pass.specs.PutLaws.{stops_more, then_put, then_stops}
 use Rattle.midi_pass.specs.Each.{for_each}
@@ -16,9 +16,9 @@ watched-of (Some w) held is = (w, refl, let e : Some w.held ≡ Some held = is i
 
 pub loop-k-preserved : goal.loop-k-preserved
 loop-k-preserved g c =
-    let old = places g.L.Lanes g.W.Sink g.N.Sink c.args.lanes.now c.args.output.now c.args.notes.now in
-    let mid = places g.L.Lanes g.W.Sink g.N.Sink c.loop-k.lanes c.loop-k.output c.loop-k.notes in
-    let new = places g.L.Lanes g.W.Sink g.N.Sink c.put_held.new.lanes c.put_held.new.output c.put_held.new.notes in
+    let old = g.O.Outputs.places c.args.outputs.now in
+    let mid = g.O.Outputs.places c.loop-k.outputs in
+    let new = g.O.Outputs.places c.put_held.new.outputs in
     let n : ℕ = c.loop-k.k in
     let all = c.args.self.now.rehearsal.initiator.watched in
     let one = watched-of (slice_get all n) c.holds.result c.holds.ensures in
@@ -30,9 +30,9 @@ loop-k-preserved g c =
 pub returns-in_err-put_held : goal.returns-in_err-put_held
 returns-in_err-put_held g c =
     let end = c.in_err-put_held.field-0.0 in
-    let old = places g.L.Lanes g.W.Sink g.N.Sink c.args.lanes.now c.args.output.now c.args.notes.now in
-    let mid = places g.L.Lanes g.W.Sink g.N.Sink c.loop-k.lanes c.loop-k.output c.loop-k.notes in
-    let new = places g.L.Lanes g.W.Sink g.N.Sink c.put_held.new.lanes c.put_held.new.output c.put_held.new.notes in
+    let old = g.O.Outputs.places c.args.outputs.now in
+    let mid = g.O.Outputs.places c.loop-k.outputs in
+    let new = g.O.Outputs.places c.put_held.new.outputs in
     let n : ℕ = c.loop-k.k in
     let all = c.args.self.now.rehearsal.initiator.watched in
     let one = watched-of (slice_get all n) c.holds.result c.holds.ensures in

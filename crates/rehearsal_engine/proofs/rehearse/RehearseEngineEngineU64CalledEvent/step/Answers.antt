@@ -1,6 +1,5 @@
 use Rattle.std.proofs.Common.{◌≡◌, ℕ, Some, refl, ap, sym, ◌∙◌}
 use Rattle.std.specs.Prelude.{Ok, Err}
-use Rattle.midi_pass.specs.Places.{places}
 use Rattle.midi_pass.specs.StepLaws.{takes_steps}
 use Rattle.ci_initiator.specs.Stage.{Stage}
 use Rattle.rehearsal_engine.specs.declared.event.CalledEvent.{CalledEvent}
@@ -10,8 +9,8 @@ use Rattle.rehearsal_engine.proofs.rehearse.RehearseEngineEngineU64CalledEvent.s
 
 pub returns-in-Ok : goal.returns-in-Ok
 returns-in-Ok g c = λ first past holds asks.
-    let old = places g.L.Lanes g.W.Sink g.N.Sink c.args.lanes.now c.args.output.now c.args.notes.now in
-    let new = places g.L.Lanes g.W.Sink g.N.Sink c.put_told.new.lanes c.put_told.new.output c.put_told.new.notes in
+    let old = g.O.Outputs.places c.args.outputs.now in
+    let new = g.O.Outputs.places c.put_told.new.outputs in
     let item : ℕ × CalledEvent = (c.args.at.now, c.args.item.now) in
     let stage : Stage = c.event.new.self in
     let is = by_course first.setup past item c.args.self.now.rehearsal (Ok (c.in-Ok.told, stage)) holds.stage c.in-Ok.ensures in

@@ -2,7 +2,6 @@ use Rattle.std.proofs.Common.{◌≡◌, ◌∙◌, ℕ, List, length, refl, ap,
 use Rattle.sysex_groups.specs.Exclusives.{Part}
 use Rattle.ump_grammar.specs.declared.packet.Packet.{Packet}
 use Rattle.midi_pass.specs.Pass.{Takes}
-use Rattle.midi_pass.specs.Places.{places}
 use Rattle.midi_pass.specs.StepLaws.{takes_steps}
 use Rattle.sysex8_streams.specs.History.{Answer8, answer8}
 use Rattle.sysex8_streams.specs.Table.{answer8_to}
@@ -17,8 +16,8 @@ take_packet-requires-clause-begun g c = c.requires.begun tt
 
 pub returns : goal.returns
 returns g c = λ first past holds given.
-    let old = places g.L.Lanes g.W.Sink g.N.Sink c.args.lanes.now c.args.output.now c.args.notes.now in
-    let new = places g.L.Lanes g.W.Sink g.N.Sink c.take_packet.new.lanes c.take_packet.new.output c.take_packet.new.notes in
+    let old = g.O.Outputs.places c.args.outputs.now in
+    let new = g.O.Outputs.places c.take_packet.new.outputs in
     let laws = holds.law in
     let packet : Packet = c.args.item.now in
     let offset : ℕ = c.args.at.now.offset in

@@ -5,7 +5,6 @@ use Rattle.midi1_bytes.specs.Parsing.{held_behind, parse}
 use Rattle.midi1_bytes.specs.Steps.{Step, step_of}
 use Rattle.midi_pass.specs.Bytes.{bytes_of}
 use Rattle.midi_pass.specs.Pass.{Takes}
-use Rattle.midi_pass.specs.Places.{places}
 use Rattle.midi_pass.specs.StepLaws.{takes_steps}
 use Rattle.usb_midi1.specs.Held.{PackerState, packer_after, packer_behind, step_in}
 use Rattle.listing_puts.specs.Refusal.{refusal_of}
@@ -15,8 +14,8 @@ use Rattle.usb_engines.proofs.pack.PackEngineEngineU64U8.step.Goals as goal
 
 pub returns : goal.returns
 returns g c = λ first past holds place.
-    let old = places g.L.Lanes g.W.Sink g.N.Sink c.args.lanes.now c.args.output.now c.args.notes.now in
-    let new = places g.L.Lanes g.W.Sink g.N.Sink c.pack_byte.new.lanes c.pack_byte.new.output c.pack_byte.new.notes in
+    let old = g.O.Outputs.places c.args.outputs.now in
+    let new = g.O.Outputs.places c.pack_byte.new.outputs in
     let packer : PackerState = c.args.self.now.packer in
     let room : ℕ = first.packer.parsing.room in
     let cable : ℕ = first.packer.cable in

@@ -1,0 +1,3 @@
+pub mod ClosingLaws
+pub mod ReplyLaws
+pub mod TakingLaws

@@ -1,0 +1,5 @@
+pub mod Answering
+pub mod AnsweringMeans
+pub mod Held
+pub mod Options
+pub mod Taking

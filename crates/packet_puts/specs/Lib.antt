@@ -1,0 +1,5 @@
+pub mod Open
+pub mod OpenLaws
+pub mod Packets
+pub mod Written
+pub mod WrittenLaws

@@ -1,0 +1,178 @@
+// The endpoint that a peer finds.
+ghost use Rattle.std.specs.Prelude.{◌≡◌, ◌≤◌, [], IfOk, length};
+ghost use Rattle.std.specs.Option.{option_map};
+ghost use Rattle.ci_responder.specs.Held.{muid_in};
+ghost use Rattle.ci_responder.specs.Keys.{state_in};
+ghost use Rattle.sysex_groups.specs.Table.{begun_in};
+ghost use Rattle.system_stream.specs.Layout.{IsStream};
+ghost use Rattle.ump_grammar.specs.Ranges.{IsPacket};
+ghost use Rattle.ump_grammar.specs.Replies.{AddsPackets};
+ghost use Rattle.ump_endpoint.specs.Answers.{protocol_after_packet, stream_outcome, stream_packet_replies};
+ghost use Rattle.ump_endpoint.specs.Held.{after_packet, new_endpoint, replies_in, taken_in};
+
+use crate::hearing::take_part;
+use crate::replies::ReplyPackets;
+use crate::taken::{Outcome, Taken};
+use ci_responder::{Key, Responder};
+use function_blocks::{Config, Setup};
+use midi_edge::{NoMemory, U4};
+use std::alloc::Global;
+use std::marker::Model;
+use sysex_groups::Groups;
+use system_stream::read;
+use ump_grammar::{Packet, Replies};
+use voice_state::BadStep;
+
+/// The most words that the replies to one packet have: for each of 32 function blocks, one info and seven packets of a name, four
+/// words each. The reply to a message of MIDI-CI has at most 114.
+pub const MOST_REPLY_WORDS: usize = 1024;
+
+/// A UMP Endpoint: it answers the stream messages and the MIDI-CI messages of a peer (M2-104-UM, UMP stream messages; M2-101-UM). A
+/// contract sees what it holds, which is its setup, the protocol in force, the exclusives that the groups have open and its responder;
+/// and the words of the replies to the last packet.
+#[derive(Drop)]
+pub struct Endpoint {
+    setup: Setup,
+    config: Config,
+    groups: Groups,
+    responder: Responder,
+    replies: Replies,
+}
+
+impl Model for Endpoint {
+    ghost use Rattle.ump_endpoint.specs.Held.{EndpointValue};
+
+    ghost Value = { EndpointValue };
+
+    ghost view = { λ e. record {
+      held = record {
+        setup = e.setup;
+        protocol = e.config.protocol;
+        exclusives = e.groups;
+        responder = e.responder;
+      };
+      replies = e.replies;
+    } };
+}
+
+// Answers a stream packet: adds its replies to the replies, which are empty, and puts in force the protocol that it asks for.
+fn answer(setup: &Setup, config: &mut Config, replies: &mut Replies, packet: &Packet) -> Outcome
+    requires stream { IsStream packet.now }
+    requires packet { IsPacket packet.now }
+    requires empty { replies.old ≡ [] }
+    ensures replies { AddsPackets
+        (stream_packet_replies setup.now config.old.protocol packet.now) [] replies.new }
+    ensures protocol { config.new.protocol ≡ protocol_after_packet setup.now config.old.protocol packet.now }
+    ensures outcome { result ≡ stream_outcome setup.now config.old.protocol packet.now }
+{
+    match read(packet) {
+        Ok(message) => {
+            if setup.answer(&message, config, replies) {
+                Outcome::Answered
+            } else {
+                Outcome::NoAnswer
+            }
+        }
+        Err(_) => Outcome::BadFormat,
+    }
+}
+
+impl Endpoint {
+    /// An endpoint of this setup, to which nothing has come. `room` is the most bytes of an exclusive between F0 and F7, 6 to
+    /// 1,048,576, for which each group reserves memory; `NoMemory` when there isn't that much. No other call takes any.
+    pub fn new(alloc: Global, setup: Setup, room: u32) -> Result<Endpoint, NoMemory>
+        requires least { 6 ≤ room }
+        requires most { room ≤ 1048576 }
+        ensures { IfOk result (λ endpoint. endpoint
+            ≡ record { held = new_endpoint setup room; replies = [] }) }
+    {
+        let groups = Groups::new(alloc, room)?;
+        let responder = Responder::new(alloc, &setup, room)?;
+        let config = setup.config();
+        Ok(Endpoint {
+            setup,
+            config,
+            groups,
+            responder,
+            replies: Replies::new(),
+        })
+    }
+
+    /// Takes one more packet of the peer, one that some words decode to, and makes the replies to it: those to a stream packet, or to the
+    /// MIDI-CI message that a packet of an exclusive ends. Packets of other kinds change nothing and have no reply (own rule). What it
+    /// did with the packet names the message that the packet ended and the exclusive that it lost.
+    ///
+    /// The offset, in bytes from the start of the input, is only kept, and given back as the place of an exclusive that is lost; any
+    /// number will do. `Err` is always `ExclusiveTooLong`, and comes exactly where the exclusive has more bytes than the room: it is
+    /// dropped, nothing else is changed, and the endpoint may go on.
+    pub fn packet(&mut self, packet: &Packet, offset: u64) -> Result<Taken, BadStep>
+        requires { IsPacket packet.now }
+        ensures held { self.new.held ≡ after_packet offset packet.now self.old.held }
+        ensures replies { AddsPackets (replies_in self.old.held packet.now) [] self.new.replies }
+        ensures taken { result ≡ taken_in self.old.held offset packet.now }
+    {
+        self.replies.clear();
+        match packet {
+            Packet::Exclusive { group, form, bytes } => take_part(
+                &mut self.groups,
+                &mut self.responder,
+                &mut self.replies,
+                *group,
+                *form,
+                bytes.as_slice(),
+                offset,
+            ),
+            Packet::Stream { .. } => Ok(Taken::ended(answer(
+                &self.setup,
+                &mut self.config,
+                &mut self.replies,
+                packet,
+            ))),
+            _ => Ok(Taken::nothing()),
+        }
+    }
+
+    /// The replies to the last packet, packet by packet: those that `packet` made, until it is called again.
+    pub fn replies(&self) -> ReplyPackets<'_>
+        ensures packets { result ≡ self.now.replies }
+        ensures few { length self.now.replies ≤ MOST_REPLY_WORDS }
+    {
+        ReplyPackets::new(self.replies.words())
+    }
+
+    /// The setup that it was made of.
+    pub fn setup(&self) -> &Setup
+        ensures { result.now ≡ self.now.held.setup }
+    {
+        &self.setup
+    }
+
+    /// The protocol in force: 1 for MIDI 1.0, 2 for MIDI 2.0 (M2-104-UM, Stream Configuration).
+    pub fn protocol(&self) -> u8
+        ensures { result ≡ self.now.held.protocol }
+    {
+        self.config.protocol
+    }
+
+    /// The MUID in force of a function block, counted from 0; `None` exactly where the block has no MIDI-CI or has used up its MUIDs, or
+    /// where there is no such block (M2-101-UM).
+    pub fn muid(&self, block: u8) -> Option<u32>
+        ensures { result ≡ muid_in self.now.held.responder.blocks block }
+    {
+        self.responder.muid(block)
+    }
+
+    /// Whether a profile is on; `None` exactly where the setup doesn't name it (M2-101-UM).
+    pub fn profile_is_on(&self, key: &Key) -> Option<bool>
+        ensures { result ≡ state_in self.now.held.responder.states key.now }
+    {
+        self.responder.profile_is_on(key)
+    }
+
+    /// The offset of the packet that began the group's exclusive; `None` exactly when nothing is open.
+    pub fn begun_at(&self, group: U4) -> Option<u64>
+        ensures { result ≡ option_map (λ begun. begun.start) (begun_in self.now.held.exclusives group) }
+    {
+        self.groups.begun_at(group)
+    }
+}

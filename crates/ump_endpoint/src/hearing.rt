@@ -1,0 +1,94 @@
+// The exclusives of a peer: joined by group, heard by the responder, and answered.
+ghost use Rattle.std.specs.Prelude.{◌≡◌, ◌≤◌, [], length};
+ghost use Rattle.ci_messages.specs.Reading.{IsExclusive};
+ghost use Rattle.sysex_groups.specs.Exclusives.{IsData};
+ghost use Rattle.sysex_groups.specs.Table.{answer_to, with_part};
+ghost use Rattle.ump_grammar.specs.Replies.{AddsPackets};
+ghost use Rattle.ump_endpoint.specs.Answers.{said_in};
+ghost use Rattle.ump_endpoint.specs.Held.{
+  after_part,
+  after_said,
+  cut_listed,
+  part_replies,
+  part_taken,
+  placed_part,
+  said_of,
+  said_outcome_in,
+  said_replies,
+};
+
+use crate::taken::{Outcome, Taken};
+use ci_messages::laws::views_that_are_read_fit;
+use ci_messages::read;
+use ci_responder::{Responder, views_tell_their_bytes};
+use midi_edge::U4;
+use sysex_groups::{Fed, Groups};
+use ump_grammar::Replies;
+use voice_messages::Form;
+use voice_state::{BadStep, Kind, Listed};
+
+// Hears an exclusive of a group, and adds its reply to the replies, which are empty: what became of it.
+fn hear(responder: &mut Responder, replies: &mut Replies, group: U4, message: &[u8]) -> Outcome
+    requires message { IsExclusive message.now }
+    requires empty { replies.old ≡ [] }
+    ensures after { responder.new ≡ after_said responder.old (said_in group message.now) }
+    ensures replies { AddsPackets (said_replies responder.old (said_in group message.now)) [] replies.new }
+    ensures outcome { result ≡ said_outcome_in responder.old (said_in group message.now) }
+{
+    views_that_are_read_fit();
+    views_tell_their_bytes();
+    match read(message) {
+        Ok(view) => Outcome::Heard(responder.hear(group, &view, replies)),
+        Err(fault) => Outcome::Unread(fault),
+    }
+}
+
+// The exclusive of a group that another one cut off.
+fn cut_off(group: U4, cut_at: u64) -> Listed
+    ensures { result ≡ cut_listed group cut_at }
+{
+    Listed {
+        offset: cut_at,
+        group: Some(group),
+        kind: Kind::CutExclusive,
+    }
+}
+
+/// Takes one more part of an exclusive of a group, and answers the message that it ends: adds its reply to the replies, which are
+/// empty. One that is too long is refused.
+pub(crate) fn take_part(
+    groups: &mut Groups,
+    responder: &mut Responder,
+    replies: &mut Replies,
+    group: U4,
+    form: Form,
+    bytes: &[u8],
+    offset: u64,
+) -> Result<Taken, BadStep>
+    requires few { length bytes.now ≤ 6 }
+    requires data_bytes { IsData bytes.now }
+    requires empty { replies.old ≡ [] }
+    ensures groups { groups.new ≡ with_part (placed_part group offset form bytes.now) groups.old }
+    ensures responder { responder.new ≡ after_part responder.old
+        (said_of group (answer_to groups.old (placed_part group offset form bytes.now))) }
+    ensures replies { AddsPackets (part_replies responder.old
+        (said_of group (answer_to groups.old (placed_part group offset form bytes.now)))) [] replies.new }
+    ensures taken { result ≡ part_taken responder.old group offset
+        (answer_to groups.old (placed_part group offset form bytes.now)) }
+{
+    match groups.feed(group, form, bytes, offset) {
+        Fed::Held => Ok(Taken::nothing()),
+        Fed::TooLong => Err(BadStep::ExclusiveTooLong),
+        Fed::Stray => Ok(Taken::lost(Listed {
+            offset,
+            group: Some(group),
+            kind: Kind::StrayExclusive,
+        })),
+        Fed::Restarted { cut_at } => Ok(Taken::lost(cut_off(group, cut_at))),
+        Fed::Whole(message) => Ok(Taken::ended(hear(responder, replies, group, message))),
+        Fed::RestartedWhole { cut_at, whole } => Ok(Taken {
+            outcome: Some(hear(responder, replies, group, whole)),
+            listed: Some(cut_off(group, cut_at)),
+        }),
+    }
+}
