@@ -1,51 +1,212 @@
 #!/usr/bin/env python3
-"""check.py PROGRAM PAGE..: runs the `sh` blocks of each page, in order and in one shell, with the program as ./larboardyuzu and the files of
-this folder as examples/, and compares what each prints with the plain block after it. It isn't part of the gate, which holds the same
-examples as tests, and leaves out the block that runs the gate. The exit code is the number of blocks that differ."""
+"""check.py [PROGRAM [PAGE..]]: runs what the pages say, and compares. PROGRAM is by default that of the gate.
+
+With pages, it runs the `sh` blocks of these alone. With none it runs those of README.md, CONTRIBUTING.md and docs/*.md, each input of the
+tables of docs/errors.md and the examples of docs/help/, and checks the man page, the completions and the script ./larboardyuzu. All of it
+happens in copies of this repository without its sources, so that nothing is built. What needs a tool that isn't here is left out, with a
+line. The exit code is 1 where anything differs."""
 import os
 import re
 import shutil
+import signal
 import subprocess
 import sys
 import tempfile
 
-HERE = os.path.dirname(os.path.abspath(__file__))
+import check_help
+import check_shells
+
+TOP = os.path.dirname(os.path.dirname(os.path.abspath(__file__)))
+# A block with one of these as a command builds, proves or changes something, so it isn't run here.
+BUILDS = r"(?m)^\s*(?:\w+=\S+\s+)*(?:\(?(?:cd|pushd) \S+ && )?(rt|\.ci/run|git|sudo|apt-get|make|cargo|pip3?|python3 -m pip)\b"
+# Tools that a page may use and a machine may lack. Any other command that isn't found makes its block differ.
+MAY_LACK = {"amidi", "aplaymidi", "arecordmidi", "aseqdump", "cc", "gcc", "g++", "pkg-config", "socat", "xxd"}
+MODULES = {"mido"}
+LEFT_OUT = shutil.ignore_patterns(".git", "out", "crates", "__pycache__")
+
+
+class Room:
+    """A copy of the repository with the built program and without sources."""
+
+    def __init__(self, program):
+        self.at = tempfile.mkdtemp(prefix="larboardyuzu-pages-")
+        self.log = tempfile.mkdtemp(prefix="larboardyuzu-pages-")
+        shutil.copytree(TOP, self.at, dirs_exist_ok=True, ignore=LEFT_OUT)
+        os.makedirs(f"{self.at}/crates/midi_tool/out")
+        self.program = f"{self.at}/crates/midi_tool/out/midi_tool"
+        if program:
+            shutil.copy(program, self.program)
+
+    def __enter__(self):
+        return self
+
+    def __exit__(self, *_):
+        shutil.rmtree(self.at, ignore_errors=True)
+        shutil.rmtree(self.log, ignore_errors=True)
+
+    def run(self, pieces, wait=300, **environment):
+        """Runs pieces of bash one after the other in one shell; returns of each what it printed, its status, and what tools it lacked, or
+        None of one that wasn't reached."""
+        script = 'command_not_found_handle() { echo "$1" >>"$LOG/$PIECE.lacks"; return 127; }\n'
+        for number, piece in enumerate(pieces):
+            script += f'PIECE={number}; exec >"$LOG/{number}.said" 2>&1\n{piece}\necho $? >"$LOG/{number}.status"\n'
+        env = {**os.environ, "LOG": self.log, "LC_ALL": "C.UTF-8", **environment}
+        silent = {it: subprocess.DEVNULL for it in ("stdin", "stdout", "stderr")}
+        with subprocess.Popen(["bash", "-c", script], cwd=self.at, env=env, start_new_session=True, **silent) as shell:
+            try:
+                shell.wait(wait)
+            except subprocess.TimeoutExpired:
+                # with what it has started
+                os.killpg(shell.pid, signal.SIGKILL)
+        return [self.result(number) for number in range(len(pieces))]
+
+    def result(self, number):
+        status = self.read(f"{number}.status")
+        return (self.read(f"{number}.said"), int(status), set(self.read(f"{number}.lacks").split())) if status else None
+
+    def read(self, name):
+        try:
+            with open(f"{self.log}/{name}", encoding="utf-8", errors="replace") as it:
+                return it.read()
+        except FileNotFoundError:
+            return ""
+
+
+def read(path):
+    with open(f"{TOP}/{path}", encoding="utf-8") as it:
+        return it.read()
+
+
+def lacked(said, lacks):
+    """The tools and modules that were lacking and may be."""
+    return {*(lacks & MAY_LACK), *(set(re.findall(r"No module named '(\w+)'", said)) & MODULES)}
 
 
 def blocks_of(text):
-    """The sh blocks of a page, each with the plain block after it, or None."""
-    found = re.findall(r"(?ms)^```(\w*)\n(.*?)^```$", text)
-    for (kind, body), (next_kind, output) in zip(found, found[1:] + [("sh", "")]):
-        if kind == "sh" and ".ci/run" not in body:
-            yield body, output if next_kind == "" else None
+    """The fenced blocks of a page: the kind, the text, and the plain block right after it, or None."""
+    found = [(it[1], it[2], it.start(), it.end()) for it in re.finditer(r"(?ms)^```(\w*)\n(.*?)^```$", text)]
+    for at, (kind, body, _, end) in enumerate(found):
+        after = found[at + 1] if at + 1 < len(found) else None
+        is_its = after and after[0] in ("", "text") and not text[end:after[2]].strip()
+        yield kind, body, after[1] if is_its else None
 
 
-def printed_by(program, commands):
-    """What each of the commands prints, output and errors together."""
-    with tempfile.TemporaryDirectory() as room:
-        shutil.copytree(HERE, f"{room}/examples")
-        shutil.copy(program, f"{room}/larboardyuzu")
-        script = "exec 2>&1\n" + "".join(f"echo '@@{n}'\n{it}" for n, it in enumerate(commands))
-        ran = subprocess.run(["bash", "-c", script], cwd=room, stdout=subprocess.PIPE, text=True, check=False)
-    return re.split(r"(?m)^@@\d+\n", ran.stdout)[1:]
+def head_of(body):
+    """A line of a block to know it by."""
+    return body.strip().splitlines()[0][:70]
 
 
-def main(program, pages):
-    differ = 0
-    for page in pages:
-        with open(page, encoding="utf-8") as it:
-            blocks = list(blocks_of(it.read()))
-        printed = printed_by(program, [body for body, _ in blocks])
-        if len(printed) != len(blocks):
-            sys.exit(f"{page}: {len(blocks)} blocks, but {len(printed)} were run")
-        for number, ((_, wanted), got) in enumerate(zip(blocks, printed), 1):
-            if wanted is not None and got != wanted:
-                differ += 1
-                print(f"{page}: block {number} differs\n--- printed\n{got}--- on the page\n{wanted}")
-        told = sum(wanted is not None for _, wanted in blocks)
-        print(f"{page}: {len(blocks)} blocks run, {told} compared")
-    return differ
+def check_page(program, page):
+    """Runs the blocks of a page, and yields what differs; prints what was run and left out."""
+    every = [*blocks_of(read(page))]
+    blocks = [it for it in every if it[0] in ("sh", "bash")]
+    run = [it for it in blocks if not re.search(BUILDS, it[1])]
+    told = [f"{page}: a block of kind `{kind}` has a command and isn't run: {head_of(body)}" for kind, body, _ in every
+            if kind not in ("sh", "bash") and re.search(r"(?m)^(\$ )?\./larboardyuzu ", body)]
+    told += [f"{page}: not run here, since it has `{re.search(BUILDS, it[1])[1]}`: {head_of(it[1])}" for it in blocks if it not in run]
+    compared, differ = 0, []
+    with Room(program) as room:
+        results = room.run([body for _, body, _ in run])
+    for (_, body, wanted), result in zip(run, results):
+        head = head_of(body)
+        if result is None:
+            differ.append(f"{page}: the shell or its time ended before this block did: {head}")
+            continue
+        said, status, lacks = result
+        if lacked(said, lacks):
+            told.append(f"{page}: left out, since this machine has no {', '.join(sorted(lacked(said, lacks)))}: {head}")
+        elif wanted is None and status:
+            differ.append(f"{page}: exit code {status} of the block that begins with: {head}\n{said}")
+        elif wanted is not None and said != wanted:
+            differ.append(f"{page}: the block that begins with: {head}\n--- prints\n{said}--- and the page says\n{wanted}")
+        compared += wanted is not None and not lacked(said, lacks)
+    if blocks or told:
+        print(*told, f"{page}: {len(run)} blocks run, {compared} of them compared", sep="\n", flush=True)
+    yield from differ
+
+
+def rows_of(page):
+    """The rows of the tables of a page that have an input: by the names of their columns."""
+    names = None
+    for line in page.splitlines():
+        cells = [it.strip() for it in line.strip("|").split(" | ")] if line.startswith("|") else None
+        if cells is None:
+            names = None
+        elif names is None:
+            names = [it.strip() for it in line.strip("|").split("|")]
+        elif not line.startswith("|---"):
+            yield dict(zip(names, [it.strip() for it in line.strip("|").split(" | ")]))
+
+
+def code_in(cell):
+    found = re.fullmatch(r"`(.*)`", cell)
+    return found[1] if found else ""
+
+
+def input_in(row):
+    """The input that a row shows, which is in its last column, or before that of the first line."""
+    return code_in([*row.values()][-2 if "First line" in row else -1])
+
+
+def check_errors(program):
+    """Runs the input of each row of docs/errors.md, and yields what differs from its last line and exit code."""
+    page = "docs/errors.md"
+    text = read(page)
+    prelude = next(body for kind, body, _ in blocks_of(text) if kind == "sh")
+    rows = [it for it in rows_of(text) if len(it) > 3]
+    if shutil.which("rt", path="/usr/bin:/bin"):
+        print(f"{page}: the row of 127 is left out, since rt is in /usr/bin here", flush=True)
+        rows = [it for it in rows if it.get("Code") != "127"]
+    with Room(program) as room:
+        results = room.run([prelude, *[f"( {input_in(row)} )" for row in rows]])[1:]
+    for row, result in zip(rows, results):
+        rule = row.get("N")
+        last = f"setup field {rule}" if rule else code_in(row.get("Last line", ""))
+        code = 9 if rule else int(row.get("Code", 0 if "First line" in row else 1))
+        said, status, _ = result or ("", None, None)
+        lines = said.splitlines() or [""]
+        # Where there is no last line, the row is about the exit code alone.
+        is_last = lines[-1] == last or not last
+        is_first = "First line" not in row or lines[0] == code_in(row["First line"])
+        if status != code or not is_last or not is_first:
+            wanted = last or row.get("First line", "")
+            yield f"{page}: {input_in(row)}\n--- ends with {status} and prints\n{said}--- and the page says {code} and: {wanted}"
+    yield from missing_rows(page, rows)
+    print(f"{page}: {len(rows)} rows run", flush=True)
+
+
+def missing_rows(page, rows):
+    """What the program can end with, and has no row."""
+    exits = read("crates/midi_commands/src/status.rt").split("fn exit_code")[1].split("fn ")[0]
+    codes = set(re.findall(r"=> (\d+),", exits))
+    reasons = set(re.findall(r'Reason::\w+ => "(\w+)"', read("crates/midi_commands/src/last_line.rt")))
+    rules = set(re.findall(r"(?m)^number_of rule\.\w+ = (\d+)$", read("crates/function_blocks/specs/Rules.antt")))
+    refused = {code_in(it["Last line"]).split()[1] for it in rows if "What is refused" in it}
+    has = {"exit code": (codes, {it.get("Code") for it in rows}), "rule": (rules, {it.get("N") for it in rows})}
+    has["reason"] = reasons, refused
+    for what, (wanted, found) in has.items():
+        yield from (f"{page}: no row for the {what} {it}" for it in sorted(wanted - found))
+
+
+def pages():
+    docs = sorted(f"docs/{it}" for it in os.listdir(f"{TOP}/docs") if it.endswith(".md"))
+    return [it for it in ("README.md", "CONTRIBUTING.md") if os.path.isfile(f"{TOP}/{it}")] + docs
+
+
+def main(words):
+    program = os.path.abspath(words[0] if words else f"{TOP}/crates/midi_tool/out/midi_tool")
+    if not os.path.isfile(program):
+        print(f"check.py: there is no program {program}: build it by ./larboardyuzu selftest 0, or name one")
+        return 1
+    differ = [why for page in words[1:] or pages() for why in check_page(program, page)]
+    if not words[1:]:
+        differ += check_errors(program)
+        for part in (check_help.check, check_shells.check):
+            differ += part(Room, program, TOP)
+    print(*differ, sep="\n")
+    print(f"pages: {len(differ)} differ" if differ else "pages: all as they say")
+    return 1 if differ else 0
 
 
 if __name__ == "__main__":
-    sys.exit(main(os.path.abspath(sys.argv[1]), sys.argv[2:]))
+    sys.exit(main(sys.argv[1:]))

@@ -1,10 +1,12 @@
 #!/usr/bin/env python3
 """faults.py PROGRAM: runs each command with each of its allocations, openings, reads and writes failing in turn, with no memory from each
 allocation on, and with each read and write cut to one byte, interrupted, or taking nothing, by a library that is loaded before the program
-(faults.c, built by `cc`). What the run leaves is compared with the table of ends in the README: the exit code, the last line, and files that
+(faults.c, built by `cc`): first with a file as standard input, then with a pipe, where what was put is written out before each read, so that
+a write which fails once may be made good, and where each later write fails too. What the run leaves is compared with the table of docs/ends.md: the exit code, the last line, and files that
 begin as those of the run without a fault, or are the same. Then come the other ends of that table, arguments that aren't UTF-8 among them,
 and standard streams that are closed. It isn't part of the gate. The exit code is how many differ: each command counts as one, and so do the
 other ends together."""
+import itertools
 import os
 import subprocess
 import sys
@@ -76,7 +78,7 @@ CLOSED = [
 class Left:
     """What a run leaves: the exit code, the bytes of each lane, of standard output and of standard error."""
 
-    def __init__(self, room, program, library, arguments, given, fault, closed=None):
+    def __init__(self, room, program, library, arguments, given, fault, closed=None, piped=False):
         folder, counts = f"{room}/F", f"{room}/counts"
         subprocess.run(["rm", "-rf", folder, counts], check=True)
         os.mkdir(folder)
@@ -85,7 +87,8 @@ class Left:
         env = {"LD_PRELOAD": library, "FAULT": fault, "COUNTS": counts}
         with open(f"{room}/given", "rb") as source, open(f"{room}/output", "wb") as output, open(f"{room}/notes", "wb") as notes:
             close = None if closed is None else lambda: os.close(closed)
-            ran = subprocess.run([program, *arguments], cwd=room, env=env, stdin=source, stdout=output, stderr=notes, preexec_fn=close, check=False)
+            how = {"input": given} if piped else {"stdin": source}
+            ran = subprocess.run([program, *arguments], cwd=room, env=env, stdout=output, stderr=notes, preexec_fn=close, check=False, **how)
         self.code = ran.returncode
         with open(counts, encoding="ascii") as it:
             self.calls, self.met = map(int, it.read().split())
@@ -105,13 +108,16 @@ def object_of(call, met):
     return {"alloc": "memory", "read": "read", "open": "lane"}[call]
 
 
-def differs(whole, left, call, becomes, arguments):
-    """What differs from the table of ends, or None. A vector that gets no memory to grow by half asks for less, and may get it."""
+def differs(whole, left, call, becomes, arguments, piped):
+    """What differs from the table of ends, or None. A vector that gets no memory to grow by half asks for less, and may get it. A write before
+    a read is tried again."""
     is_same = (left.code, left.files) == (whole.code, whole.files)
     if becomes in ("short", "again"):
         return None if is_same else "not as without a fault"
-    if becomes == "fail" and call == "alloc" and is_same:
+    if is_same and becomes != "rest" and (call == "alloc" or call == "write" and piped):
         return None
+    if call == "write" and becomes == "rest":
+        return None if left.code in (EXIT_CODES["lane"], EXIT_CODES["output"], EXIT_CODES["note"]) else f"exit code {left.code}"
     wanted = EXIT_CODES[object_of(call, left.met)]
     if call in ("open", "read") and "F" not in arguments and left.code == EXIT_CODES["setup"]:
         wanted = EXIT_CODES["setup"]
@@ -130,18 +136,20 @@ def differs(whole, left, call, becomes, arguments):
     return None
 
 
-def check(room, program, library, arguments, given):
+def check(room, program, library, arguments, given, piped):
     """Tries each fault of a command; says how many there were, and what differs."""
     whole = Left(room, program, library, arguments, given, "none:0:none")
-    tried, wrong = {}, []
-    for call, ends in (("alloc", ["fail", "rest"]), ("open", ["fail"]), ("read", ["fail", "short", "again"]), ("write", ["fail", "none", "short", "again"])):
+    left = Left(room, program, library, arguments, given, "none:0:none", piped=piped)
+    tried, wrong = {}, [] if (left.code, left.files) == (whole.code, whole.files) else ["a pipe leaves something else than a file"]
+    writes = ["fail", "none", "short", "again"] + ["rest"] * piped
+    for call, ends in (("alloc", ["fail", "rest"]), ("open", ["fail"]), ("read", ["fail", "short", "again"]), ("write", writes)):
         for becomes in ends:
             for number in range(1, 100000):
-                left = Left(room, program, library, arguments, given, f"{call}:{number}:{becomes}")
+                left = Left(room, program, library, arguments, given, f"{call}:{number}:{becomes}", piped=piped)
                 if left.met < 0:
                     break
                 tried[call] = tried.get(call, 0) + 1
-                if why := differs(whole, left, call, becomes, arguments):
+                if why := differs(whole, left, call, becomes, arguments, piped):
                     wrong.append(f"{call} {number} {becomes}: {why}")
     return tried, wrong
 
@@ -168,10 +176,10 @@ def main(program):
     with tempfile.TemporaryDirectory() as room:
         library = f"{room}/faults.so"
         subprocess.run(["cc", "-shared", "-fPIC", "-O1", "-o", library, f"{HERE}/faults.c", "-ldl"], check=True)
-        for arguments, given in COMMANDS:
-            tried, wrong = check(room, program, library, arguments, given)
+        for piped, (arguments, given) in itertools.product((False, True), COMMANDS):
+            tried, wrong = check(room, program, library, arguments, given, piped)
             told = ", ".join(f"{count} of {call}" for call, count in tried.items())
-            print(" ".join(os.path.basename(it) for it in arguments) + f": {told}", *wrong, sep="\n  ", flush=True)
+            print(" ".join(os.path.basename(it) for it in arguments) + f"{', from a pipe' * piped}: {told}", *wrong, sep="\n  ", flush=True)
             differ += bool(wrong)
         wrong = list(ends_otherwise(room, program, library))
         print(f"other ends: {len(ENDS)}, with a stream closed: {len(CLOSED)}", *wrong, sep="\n  ")
