@@ -15,7 +15,7 @@ pub mod outside;
 mod script;
 pub mod short_list;
 
-pub use crate::adapters::{FileShelf, FolderLanes, ReadSource, WriteSink};
+pub use crate::adapters::{BufferedSource, FileShelf, FolderLanes, ReadSource, WriteSink};
 pub use crate::few_bits::U4;
 pub use crate::lent::LentU4;
 pub use crate::mem_lanes::MemLanes;

@@ -2,13 +2,13 @@
 use super::passes::CLIP;
 use super::places::places_with;
 use clip_engine::run_clip;
-use midi_edge::{ReadSource, U4, WriteSink};
+use midi_edge::{BufferedSource, U4, WriteSink};
 use std::alloc::Global;
 use std::test::Fail;
 use usb_engines::{PackRun, run_pack};
 
 // What the output of a clip's lines has written out, and loses no more, at the end of the pass.
-fn written_of_clip(alloc: Global, mut input: ReadSource<&[u8]>) -> Result<[u8; 24], Fail> {
+fn written_of_clip(alloc: Global, mut input: BufferedSource<&[u8]>) -> Result<[u8; 24], Fail> {
     let mut places = places_with(alloc, 0, None, None)?;
     let mut written = [0; 24];
     let mut output = WriteSink::new(written.as_mut_slice());
@@ -22,7 +22,7 @@ fn written_of_clip(alloc: Global, mut input: ReadSource<&[u8]>) -> Result<[u8; 2
 }
 
 // The same of the events of a stream.
-fn written_of_events(alloc: Global, mut input: ReadSource<&[u8]>) -> Result<[u8; 8], Fail> {
+fn written_of_events(alloc: Global, mut input: BufferedSource<&[u8]>) -> Result<[u8; 8], Fail> {
     let mut places = places_with(alloc, 0, None, None)?;
     let mut written = [0; 8];
     let mut output = WriteSink::new(written.as_mut_slice());
@@ -40,9 +40,9 @@ fn written_of_events(alloc: Global, mut input: ReadSource<&[u8]>) -> Result<[u8;
 #[test]
 fn lines_are_written_out_before_the_input_is_waited_for(rt: HostRuntime) -> Result<(), Fail> {
     let alloc = rt.alloc();
-    let lines = written_of_clip(alloc, ReadSource::new(CLIP))?;
+    let lines = written_of_clip(alloc, BufferedSource::new(alloc, CLIP)?)?;
     assert!(rt; lines.starts_with(b"resolution 1\nend 0\n"));
-    let of_file = written_of_clip(alloc, ReadSource::of_file(CLIP))?;
+    let of_file = written_of_clip(alloc, BufferedSource::of_file(alloc, CLIP)?)?;
     assert!(rt; of_file == [0; 24]);
     Ok(())
 }
@@ -51,9 +51,9 @@ fn lines_are_written_out_before_the_input_is_waited_for(rt: HostRuntime) -> Resu
 fn events_are_written_out_before_the_input_is_waited_for(rt: HostRuntime) -> Result<(), Fail> {
     let alloc = rt.alloc();
     let note = [0x90, 0x3C, 0x64].as_slice();
-    let events = written_of_events(alloc, ReadSource::new(note))?;
+    let events = written_of_events(alloc, BufferedSource::new(alloc, note)?)?;
     assert!(rt; events == *b"\x29\x90\x3C\x64\0\0\0\0");
-    let of_file = written_of_events(alloc, ReadSource::of_file(note))?;
+    let of_file = written_of_events(alloc, BufferedSource::of_file(alloc, note)?)?;
     assert!(rt; of_file == [0; 8]);
     Ok(())
 }
