@@ -6,6 +6,7 @@ mod back;
 pub mod counts;
 mod course;
 pub mod generator;
+pub mod rows;
 
 pub use crate::counts::{Counts, count};
 pub use crate::generator::Generator;
