@@ -9,8 +9,7 @@ pub fn the_first_packet_of_seed_0()
     ensures draws { map (draw_at 0) (0 ∷ 1 ∷ 2 ∷ 3 ∷ 4 ∷ [])
         ≡ 0x3C6E ∷ 0x4750 ∷ 0xD1CC ∷ 0xAAF9 ∷ 0x6252 ∷ [] }
     ensures packet { generated 0 0 ≡ packet.Voice2 0 (voice2.PolyPressure 0 0x4C 0xAAF96252) }
-{
-}
+{}
 
 /// Seed 1 first gives two notes on and a bend, and the greatest seed a bend, a program without a bank and a poly pressure (own rule).
 pub fn the_first_packets_of_two_seeds()
@@ -22,5 +21,4 @@ pub fn the_first_packets_of_two_seeds()
         ≡ packet.Voice2 0 (voice2.Bend 7 (41343 * 65536 + 47029))
         ∷ packet.Voice2 0 (voice2.Program 5 80 None)
         ∷ packet.Voice2 0 (voice2.PolyPressure 1 16 (61164 * 65536 + 51014)) ∷ [] }
-{
-}
+{}
