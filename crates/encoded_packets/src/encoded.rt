@@ -83,6 +83,7 @@ impl EncodedPacket {
         };
         match decode(&framed) {
             Ok(packet) => packet,
+            // The words decode to a packet: the type keeps this packet beside them.
             Err(_) => unreachable!(),
         }
     }

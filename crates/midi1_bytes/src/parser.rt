@@ -20,6 +20,7 @@ fn append(bytes: &mut Vec<u8>, byte: u8)
 {
     match bytes.push(byte) {
         Ok(()) => {}
+        // Memory is reserved for the byte, so the push takes none.
         Err(_) => unreachable!(),
     }
 }

@@ -93,6 +93,7 @@ impl<T: Copy + Default, const N: usize> ShortList<T, N> {
     {
         match self.cells.try_extend_from_slice(items) {
             Ok(()) => {}
+            // There is room for the items, which is all that the copy asks.
             Err(_) => unreachable!(),
         }
     }

@@ -125,6 +125,7 @@ impl PacketWork for Down {
             Some(message) => put_message(&message, outputs),
             None => match self.packet(&packet.packet(), offset) {
                 Ok(carried) => put_piece(carried.piece, outputs),
+                // The packet comes down (`Accepts`), and what comes down isn't refused.
                 Err(_) => unreachable!(),
             },
         }

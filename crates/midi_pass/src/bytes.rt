@@ -42,6 +42,7 @@ impl Items<u64, u8> for ByteReader {
                 offset: LIMIT,
             },
             Err(ReadStop::Read(_)) => Next::Failed,
+            // A byte is whole, so the end of the input cuts none off.
             Err(ReadStop::Truncated(_)) => unreachable!(),
         }
     }

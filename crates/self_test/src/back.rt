@@ -21,6 +21,7 @@ fn bring_down(packet: &RaisedPacket, offset: u64, down: &mut Down) -> u64
 {
     match down.packet(&packet.packet(), offset) {
         Ok(carried) => carried.piece.len() as u64,
+        // The packet is one that the translator accepts.
         Err(_) => unreachable!(),
     }
 }
@@ -42,6 +43,7 @@ fn bring_byte_back(byte: u8, offset: u64, up: &mut Up, down: &mut Down) -> u64
             Some(packet) => bring_down(packet, offset, down),
             None => 0,
         },
+        // A byte of a channel voice message that was played is never refused.
         Err(_) => unreachable!(),
     }
 }

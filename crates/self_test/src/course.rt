@@ -70,6 +70,7 @@ impl Course {
                 );
                 self.counts = with_more(self.counts, &carried, again);
             }
+            // A packet that is played is never refused.
             Err(_) => unreachable!(),
         }
     }

@@ -35,6 +35,7 @@ pub fn read(packet: &Packet) -> Result<StreamMessage, BadFormat>
         fourth,
     } = packet
     else {
+        // The contract asks for a stream packet.
         unreachable!()
     };
     if *format != 0 && is_single(*status) {
@@ -104,6 +105,7 @@ fn form(format: u8) -> Form
 {
     match form_of(u32::from(format)) {
         Some(form) => form,
+        // Each of the numbers 0 to 3 is that of a form.
         None => unreachable!(),
     }
 }

@@ -61,6 +61,7 @@ pub fn write(message: &StreamMessage) -> Packet
         }
         StreamMessage::StartClip => single(0x020, 0, 0, 0, 0),
         StreamMessage::EndClip => single(0x021, 0, 0, 0, 0),
+        // `Other` has no row, so the contract asks for another message.
         StreamMessage::Other => unreachable!(),
     }
 }
@@ -83,6 +84,7 @@ fn info(message: &StreamMessage) -> Packet
         sends_jr,
     } = message
     else {
+        // Only Endpoint Info is written here.
         unreachable!()
     };
     let second = (bit(*fixed) << 31)
@@ -123,6 +125,7 @@ fn block_info(message: &StreamMessage) -> Packet
         sysex8,
     } = message
     else {
+        // Only Function Block Info is written here.
         unreachable!()
     };
     let low = block_half(*active, *block, *hint, *midi1, *direction);

@@ -284,6 +284,7 @@ fn note(group: U4, message: &Voice2) -> Words
             *attribute_type,
             halves(*velocity, *attribute),
         ),
+        // Only a note off or a note on is written here.
         _ => unreachable!(),
     }
 }
@@ -318,6 +319,7 @@ fn of_one_note(group: U4, message: &Voice2) -> Words
             note,
             flags,
         } => voice2_words(group, 0xF, *channel, note.get(), *flags, 0),
+        // Only a message of one note that is neither a note off nor a note on is written here.
         _ => unreachable!(),
     }
 }
@@ -354,6 +356,7 @@ fn parameter(group: U4, message: &Voice2) -> Words
             param.index.get(),
             *value,
         ),
+        // Only a parameter that is set or shifted is written here.
         _ => unreachable!(),
     }
 }

@@ -108,6 +108,7 @@ pub fn raise(collector: &mut Collector, message: &Voice1) -> Outcome
             let bank = collector.program(channel);
             Outcome::Message(raise_program(channel, program, bank))
         }
+        // Every other message stands alone, so it isn't raised here.
         _ => unreachable!(),
     }
 }

@@ -33,6 +33,7 @@ fn raised_end<'a>(group: U4, step: Step<'a>, offset: u64) -> Raised<'a>
             Raised::only_listed(group, Some(cut_off(start, what)), Some(stray(offset)))
         }
         Step::Stray => Raised::only_listed(group, Some(stray(offset)), None),
+        // F7 ends an exclusive, cuts off what is open, or is stray: no other step comes of it.
         Step::Held
         | Step::Voice(_)
         | Step::Common(_)
@@ -115,6 +116,7 @@ impl Up {
             Step::Voice(bytes) => self.raiser.voice(&bytes, offset),
             Step::Common(bytes) => Ok(self.raiser.system(bytes.message(), None)),
             Step::RealTime(byte) => Ok(self.raiser.system(byte.message(), None)),
+            // Only F7 ends an exclusive, and this byte is another one.
             Step::Exclusive(_) => unreachable!(),
             Step::Stray => Ok(Raised::only_listed(self.raiser.group(), Some(stray(offset)), None)),
             Step::Undefined => Ok(Raised::only_listed(

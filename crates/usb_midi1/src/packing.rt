@@ -37,6 +37,7 @@ pub(crate) fn voice_event(cable: U4, message: &Voice1) -> [u8; 4]
     let bytes = write_voice(message);
     match *bytes.as_slice() {
         [status, ..] => event(cable, status / 16, bytes.as_slice()),
+        // A message has its status byte at least.
         [] => unreachable!(),
     }
 }
