@@ -9,7 +9,7 @@ use Rattle.clap.specs.declared.error.Error.{Error}
 use Rattle.clap.specs.declared.error.kind.ErrorKind.{ErrorKind}
 use Rattle.clap.specs.declared.error.kind.ErrorKind.TheVariants as kind
 use Rattle.clap.proofs.OnLiterals.{clap_on_literals}
-use Rattle.command_line.specs.Words.{cli, is_taken}
+use Rattle.command_line.specs.Rules.{cli, is_taken}
 
 pub free : is_simple_and_free cli ≡ true
 unfolding cli clap_on_literals

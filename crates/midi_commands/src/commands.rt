@@ -1,28 +1,29 @@
 // The program over the objects that it is handed.
-ghost use Rattle.std.specs.Prelude.{◌≡◌, ◌≤◌, ◌<◌, None, Some, map, string_bytes};
-ghost use Rattle.command_line.specs.Asked.{IsInRange, IsRoom, IsRoom8, IsStreamCount, asked_of};
-ghost use Rattle.command_line.specs.Rules.{command_of};
-ghost use Rattle.down_translator.specs.Lanes.{style_in};
-ghost use Rattle.midi_engines.specs.Back.{returning};
-ghost use Rattle.midi_engines.specs.Down.{carrying};
-ghost use Rattle.endpoint_engine.specs.Answering.{answering};
-ghost use Rattle.midi_engines.specs.ShowBytes.{showing_bytes};
-ghost use Rattle.midi_engines.specs.ShowPackets.{showing};
-ghost use Rattle.midi_engines.specs.Up.{raising};
-ghost use Rattle.sysex8_engine.specs.Joining.{joining};
-ghost use Rattle.usb_engines.specs.Pack.{packing};
+ghost use Rattle.std.specs.Prelude.{◌≡◌, None, map, string_bytes};
+ghost use Rattle.command_line.specs.Asked.{asked_of};
+ghost use Rattle.command_line.specs.Endpoint.{IsEndpoint};
+ghost use Rattle.command_line.specs.Rules.{IsInRange, command_of};
+ghost use Rattle.command_line.specs.Show.{IsShow, IsShowBytes};
+ghost use Rattle.command_line.specs.Sysex8.{IsSysex8};
+ghost use Rattle.command_line.specs.Translate.{IsBack, IsDown, IsUp};
+ghost use Rattle.command_line.specs.Usb.{IsPack};
 ghost use Rattle.usb_engines.specs.Split.{splitting};
 ghost use Rattle.midi_pass.specs.Pass.{seen};
 ghost use Rattle.midi_pass.specs.Places.{places};
 ghost use Rattle.midi_commands.specs.Command.{
-  byte_pass,
+  back_pass,
   clip_pass,
+  down_pass,
+  endpoint_pass,
   event_pass,
-  order_of as order_in,
-  packet_pass,
+  pack_pass,
   plan_of,
   rehearsal_pass,
-  style_of as style_asked,
+  show_bytes_pass,
+  show_pass,
+  style_of as style_in,
+  sysex8_pass,
+  up_pass,
 };
 ghost use Rattle.midi_commands.specs.SelfTest.{self_test_text};
 ghost use Rattle.midi_commands.specs.Run.{
@@ -48,11 +49,14 @@ use crate::last_line::put_last;
 use crate::self_test_line::self_test_line;
 use crate::status::Status;
 use clip_engine::run_clip;
-use command_line::{Command, WordsFault, command_line};
+use command_line::{
+    BackOptions, ByteLineOptions, Command, DownOptions, EndpointOptions, LaneStyle, PackOptions,
+    PacketLineOptions, SelfTestOptions, Sysex8Options, UpOptions, WordsFault, command_line,
+};
 use down_translator::Style;
 use endpoint_engine::{EndpointRun, run_endpoint};
 use function_blocks::{MOST_BYTES, Setup, SetupFault};
-use midi_edge::{Lanes, OpenFault, Shelf, Sink, Source, U4};
+use midi_edge::{Lanes, OpenFault, Shelf, Sink, Source};
 use midi_engines::{BackRun, DownRun, ShowRun, UpRun, run_back, run_down, run_show, run_up};
 use midi_pass::RunEnd;
 use midi_pass::places::put_output;
@@ -184,82 +188,38 @@ fn perform<S: Source, L: Lanes, W: Sink, N: Sink, K: Shelf>(
         result }
 {
     match command {
-        Command::Down {
-            folder,
-            compact,
-            paired,
-            little,
-            room,
-        } => translate_down(
-            alloc, folder, *compact, *paired, *little, *room, input, lanes, output, notes,
-        ),
-        Command::Show {
-            state,
-            little,
-            room,
-        } => put_packet_lines(alloc, *state, *little, *room, input, lanes, output, notes),
-        Command::ShowBytes { state, room } => {
-            put_byte_lines(alloc, *state, *room, input, lanes, output, notes)
+        Command::Down { folder, options } => {
+            translate_down(alloc, folder, *options, input, lanes, output, notes)
         }
-        Command::Up {
-            group,
-            paired,
-            little,
-            room,
-        } => raise(
-            alloc, *group, *paired, *little, *room, input, lanes, output, notes,
-        ),
-        Command::Back {
-            group,
-            paired,
-            room,
-        } => bring_back(alloc, *group, *paired, *room, input, lanes, output, notes),
-        Command::Endpoint {
-            setup,
-            little,
-            room,
-        } => match setup_named(alloc, setup, shelf) {
-            Ok(setup) => answer_peer(alloc, setup, *little, *room, input, lanes, output, notes),
+        Command::Up(options) => raise(alloc, *options, input, lanes, output, notes),
+        Command::Back(options) => bring_back(alloc, *options, input, lanes, output, notes),
+        Command::Show(options) => put_packet_lines(alloc, *options, input, lanes, output, notes),
+        Command::ShowBytes(options) => put_byte_lines(alloc, *options, input, lanes, output, notes),
+        Command::Endpoint { setup, options } => match setup_named(alloc, setup, shelf) {
+            Ok(setup) => answer_peer(alloc, setup, *options, input, lanes, output, notes),
             Err(status) => status,
         },
         Command::UsbSplit { folder } => split_events(folder, input, lanes, output, notes),
-        Command::UsbPack { cable, room } => {
-            pack_bytes(alloc, *cable, *room, input, lanes, output, notes)
+        Command::UsbPack(options) => pack_bytes(alloc, *options, input, lanes, output, notes),
+        Command::Sysex8 { folder, options } => {
+            join_exclusives(alloc, folder, *options, input, lanes, output, notes)
         }
-        Command::Sysex8 {
-            folder,
-            streams,
-            little,
-            room,
-        } => join_exclusives(
-            alloc, folder, *streams, *little, *room, input, lanes, output, notes,
-        ),
         Command::Rehearse { setup } => match setup_named(alloc, setup, shelf) {
             Ok(setup) => rehearse(alloc, setup, input, lanes, output, notes),
             Err(status) => status,
         },
         Command::Clip => show_clip(input, lanes, output, notes),
-        Command::SelfTest { seed, packets } => {
-            test_self(alloc, *seed, *packets, lanes, output, notes)
-        }
+        Command::SelfTest(options) => test_self(alloc, *options, lanes, output, notes),
     }
 }
 
-// The order of the bytes of a word.
-fn order_of(little: bool) -> Order
-    ensures { result ≡ order_in little }
-{
-    if little { Order::Little } else { Order::Big }
-}
-
 // The style of the lanes.
-fn style_of(compact: bool) -> Style
-    ensures { result ≡ style_asked compact }
+fn style_of(style: LaneStyle) -> Style
+    ensures { result ≡ style_in style }
 {
-    if compact {
-        Style::Compact
-    } else {
-        Style::Plain
+    match style {
+        LaneStyle::Plain => Style::Plain,
+        LaneStyle::Compact => Style::Compact,
     }
 }
 
@@ -293,37 +253,28 @@ fn status_of_opening(fault: OpenFault) -> Status
 fn translate_down<S: Source, L: Lanes, W: Sink, N: Sink>(
     alloc: Global,
     folder: &str,
-    compact: bool,
-    paired: bool,
-    little: bool,
-    room: u32,
+    options: DownOptions,
     input: &mut S,
     lanes: &mut L,
     output: &mut W,
     notes: &mut N,
 ) -> Status
-    requires room { IsRoom room }
+    requires range { IsDown options }
     requires folder { L.folder lanes.old ≡ None }
-    ensures says { RunsInto folder.now
-        (packet_pass (order_in little) (carrying (record {
-          paired = paired;
-          style = style_in (style_asked compact);
-          order = order_in little;
-          room = room;
-        })))
+    ensures says { RunsInto folder.now (down_pass options)
         (seen S.Source L.Lanes W.Sink N.Sink input.old lanes.old output.old notes.old)
         (seen S.Source L.Lanes W.Sink N.Sink input.new lanes.new output.new notes.new) result }
-    ensures complete { IsDonePass
-        (packet_pass (order_in little) (carrying (record {
-          paired = paired;
-          style = style_in (style_asked compact);
-          order = order_in little;
-          room = room;
-        })))
+    ensures complete { IsDonePass (down_pass options)
         (seen S.Source L.Lanes W.Sink N.Sink input.old lanes.old output.old notes.old)
         (seen S.Source L.Lanes W.Sink N.Sink input.new lanes.new output.new notes.new) result }
 {
-    let Ok(engine) = DownRun::new(alloc, style_of(compact), order_of(little), room, paired) else {
+    let DownOptions {
+        style,
+        paired,
+        order,
+        room,
+    } = options;
+    let Ok(engine) = DownRun::new(alloc, style_of(style), order, room, paired) else {
         return Status::NoMemory;
     };
     match lanes.begin(folder) {
@@ -335,36 +286,27 @@ fn translate_down<S: Source, L: Lanes, W: Sink, N: Sink>(
 // Translates a stream up into a group.
 fn raise<S: Source, L: Lanes, W: Sink, N: Sink>(
     alloc: Global,
-    group: U4,
-    paired: bool,
-    little: bool,
-    room: u32,
+    options: UpOptions,
     input: &mut S,
     lanes: &mut L,
     output: &mut W,
     notes: &mut N,
 ) -> Status
-    requires room { IsRoom room }
-    ensures says { Runs
-        (byte_pass (raising (record {
-          paired = paired;
-          group = group;
-          order = order_in little;
-          room = room;
-        })))
+    requires range { IsUp options }
+    ensures says { Runs (up_pass options)
         (seen S.Source L.Lanes W.Sink N.Sink input.old lanes.old output.old notes.old)
         (seen S.Source L.Lanes W.Sink N.Sink input.new lanes.new output.new notes.new) result }
-    ensures complete { IsDonePass
-        (byte_pass (raising (record {
-          paired = paired;
-          group = group;
-          order = order_in little;
-          room = room;
-        })))
+    ensures complete { IsDonePass (up_pass options)
         (seen S.Source L.Lanes W.Sink N.Sink input.old lanes.old output.old notes.old)
         (seen S.Source L.Lanes W.Sink N.Sink input.new lanes.new output.new notes.new) result }
 {
-    match UpRun::new(alloc, group, order_of(little), room, paired) {
+    let UpOptions {
+        group,
+        paired,
+        order,
+        room,
+    } = options;
+    match UpRun::new(alloc, group, order, room, paired) {
         Ok(engine) => status_of(run_up(engine, input, lanes, output, notes)),
         Err(_) => Status::NoMemory,
     }
@@ -373,24 +315,25 @@ fn raise<S: Source, L: Lanes, W: Sink, N: Sink>(
 // Translates a stream up into a group, and down again.
 fn bring_back<S: Source, L: Lanes, W: Sink, N: Sink>(
     alloc: Global,
-    group: U4,
-    paired: bool,
-    room: u32,
+    options: BackOptions,
     input: &mut S,
     lanes: &mut L,
     output: &mut W,
     notes: &mut N,
 ) -> Status
-    requires room { IsRoom room }
-    ensures says { Runs
-        (byte_pass (returning (record { paired = paired; group = group; room = room })))
+    requires range { IsBack options }
+    ensures says { Runs (back_pass options)
         (seen S.Source L.Lanes W.Sink N.Sink input.old lanes.old output.old notes.old)
         (seen S.Source L.Lanes W.Sink N.Sink input.new lanes.new output.new notes.new) result }
-    ensures complete { IsDonePass
-        (byte_pass (returning (record { paired = paired; group = group; room = room })))
+    ensures complete { IsDonePass (back_pass options)
         (seen S.Source L.Lanes W.Sink N.Sink input.old lanes.old output.old notes.old)
         (seen S.Source L.Lanes W.Sink N.Sink input.new lanes.new output.new notes.new) result }
 {
+    let BackOptions {
+        group,
+        paired,
+        room,
+    } = options;
     match BackRun::new(alloc, group, room, paired) {
         Ok(engine) => status_of(run_back(engine, input, lanes, output, notes)),
         Err(_) => Status::NoMemory,
@@ -400,27 +343,22 @@ fn bring_back<S: Source, L: Lanes, W: Sink, N: Sink>(
 // Shows the packets of a recording, and where it is asked for, the state that they leave.
 fn put_packet_lines<S: Source, L: Lanes, W: Sink, N: Sink>(
     alloc: Global,
-    state: bool,
-    little: bool,
-    room: u32,
+    options: PacketLineOptions,
     input: &mut S,
     lanes: &mut L,
     output: &mut W,
     notes: &mut N,
 ) -> Status
-    requires room { IsRoom room }
-    ensures says { Runs
-        (packet_pass (order_in little)
-        (showing (record { state = state; order = order_in little; room = room })))
+    requires range { IsShow options }
+    ensures says { Runs (show_pass options)
         (seen S.Source L.Lanes W.Sink N.Sink input.old lanes.old output.old notes.old)
         (seen S.Source L.Lanes W.Sink N.Sink input.new lanes.new output.new notes.new) result }
-    ensures complete { IsDonePass
-        (packet_pass (order_in little)
-        (showing (record { state = state; order = order_in little; room = room })))
+    ensures complete { IsDonePass (show_pass options)
         (seen S.Source L.Lanes W.Sink N.Sink input.old lanes.old output.old notes.old)
         (seen S.Source L.Lanes W.Sink N.Sink input.new lanes.new output.new notes.new) result }
 {
-    match ShowRun::new(alloc, false, state, order_of(little), room) {
+    let PacketLineOptions { state, order, room } = options;
+    match ShowRun::new(alloc, false, state, order, room) {
         Ok(engine) => match run_show(alloc, engine, input, lanes, output, notes) {
             Ok(end) => status_of(end),
             Err(_) => Status::NoMemory,
@@ -432,23 +370,21 @@ fn put_packet_lines<S: Source, L: Lanes, W: Sink, N: Sink>(
 // Shows the messages of a stream, and where it is asked for, the state that they leave.
 fn put_byte_lines<S: Source, L: Lanes, W: Sink, N: Sink>(
     alloc: Global,
-    state: bool,
-    room: u32,
+    options: ByteLineOptions,
     input: &mut S,
     lanes: &mut L,
     output: &mut W,
     notes: &mut N,
 ) -> Status
-    requires room { IsRoom room }
-    ensures says { Runs
-        (byte_pass (showing_bytes (record { state = state; room = room })))
+    requires range { IsShowBytes options }
+    ensures says { Runs (show_bytes_pass options)
         (seen S.Source L.Lanes W.Sink N.Sink input.old lanes.old output.old notes.old)
         (seen S.Source L.Lanes W.Sink N.Sink input.new lanes.new output.new notes.new) result }
-    ensures complete { IsDonePass
-        (byte_pass (showing_bytes (record { state = state; room = room })))
+    ensures complete { IsDonePass (show_bytes_pass options)
         (seen S.Source L.Lanes W.Sink N.Sink input.old lanes.old output.old notes.old)
         (seen S.Source L.Lanes W.Sink N.Sink input.new lanes.new output.new notes.new) result }
 {
+    let ByteLineOptions { state, room } = options;
     match ShowRun::new(alloc, true, state, Order::Big, room) {
         Ok(engine) => match run_show(alloc, engine, input, lanes, output, notes) {
             Ok(end) => status_of(end),
@@ -483,26 +419,22 @@ fn setup_named<K: Shelf>(alloc: Global, name: &str, shelf: &mut K) -> Result<Set
 fn answer_peer<S: Source, L: Lanes, W: Sink, N: Sink>(
     alloc: Global,
     setup: Setup,
-    little: bool,
-    room: u32,
+    options: EndpointOptions,
     input: &mut S,
     lanes: &mut L,
     output: &mut W,
     notes: &mut N,
 ) -> Status
-    requires room { IsRoom room }
-    ensures says { Runs
-        (packet_pass (order_in little)
-        (answering (record { setup = setup; order = order_in little; room = room })))
+    requires range { IsEndpoint options }
+    ensures says { Runs (endpoint_pass options setup)
         (seen S.Source L.Lanes W.Sink N.Sink input.old lanes.old output.old notes.old)
         (seen S.Source L.Lanes W.Sink N.Sink input.new lanes.new output.new notes.new) result }
-    ensures complete { IsDonePass
-        (packet_pass (order_in little)
-        (answering (record { setup = setup; order = order_in little; room = room })))
+    ensures complete { IsDonePass (endpoint_pass options setup)
         (seen S.Source L.Lanes W.Sink N.Sink input.old lanes.old output.old notes.old)
         (seen S.Source L.Lanes W.Sink N.Sink input.new lanes.new output.new notes.new) result }
 {
-    match EndpointRun::new(alloc, setup, order_of(little), room) {
+    let EndpointOptions { order, room } = options;
+    match EndpointRun::new(alloc, setup, order, room) {
         Ok(engine) => status_of(run_endpoint(engine, input, lanes, output, notes)),
         Err(_) => Status::NoMemory,
     }
@@ -534,29 +466,27 @@ fn split_events<S: Source, L: Lanes, W: Sink, N: Sink>(
 fn join_exclusives<S: Source, L: Lanes, W: Sink, N: Sink>(
     alloc: Global,
     folder: &str,
-    streams: u8,
-    little: bool,
-    room: u32,
+    options: Sysex8Options,
     input: &mut S,
     lanes: &mut L,
     output: &mut W,
     notes: &mut N,
 ) -> Status
-    requires streams { IsStreamCount streams }
-    requires room { IsRoom8 room }
+    requires range { IsSysex8 options }
     requires folder { L.folder lanes.old ≡ None }
-    ensures says { RunsInto folder.now
-        (packet_pass (order_in little)
-        (joining (record { slots = streams; order = order_in little; room = room })))
+    ensures says { RunsInto folder.now (sysex8_pass options)
         (seen S.Source L.Lanes W.Sink N.Sink input.old lanes.old output.old notes.old)
         (seen S.Source L.Lanes W.Sink N.Sink input.new lanes.new output.new notes.new) result }
-    ensures complete { IsDonePass
-        (packet_pass (order_in little)
-        (joining (record { slots = streams; order = order_in little; room = room })))
+    ensures complete { IsDonePass (sysex8_pass options)
         (seen S.Source L.Lanes W.Sink N.Sink input.old lanes.old output.old notes.old)
         (seen S.Source L.Lanes W.Sink N.Sink input.new lanes.new output.new notes.new) result }
 {
-    let Ok(engine) = Sysex8Run::new(alloc, streams, order_of(little), room) else {
+    let Sysex8Options {
+        streams,
+        order,
+        room,
+    } = options;
+    let Ok(engine) = Sysex8Run::new(alloc, streams, order, room) else {
         return Status::NoMemory;
     };
     if let Err(fault) = lanes.begin(folder) {
@@ -568,21 +498,21 @@ fn join_exclusives<S: Source, L: Lanes, W: Sink, N: Sink>(
 // Packs a stream of bytes into the events of a cable.
 fn pack_bytes<S: Source, L: Lanes, W: Sink, N: Sink>(
     alloc: Global,
-    cable: U4,
-    room: u32,
+    options: PackOptions,
     input: &mut S,
     lanes: &mut L,
     output: &mut W,
     notes: &mut N,
 ) -> Status
-    requires room { IsRoom room }
-    ensures says { Runs (byte_pass (packing (record { cable = cable; room = room })))
+    requires range { IsPack options }
+    ensures says { Runs (pack_pass options)
         (seen S.Source L.Lanes W.Sink N.Sink input.old lanes.old output.old notes.old)
         (seen S.Source L.Lanes W.Sink N.Sink input.new lanes.new output.new notes.new) result }
-    ensures complete { IsDonePass (byte_pass (packing (record { cable = cable; room = room })))
+    ensures complete { IsDonePass (pack_pass options)
         (seen S.Source L.Lanes W.Sink N.Sink input.old lanes.old output.old notes.old)
         (seen S.Source L.Lanes W.Sink N.Sink input.new lanes.new output.new notes.new) result }
 {
+    let PackOptions { cable, room } = options;
     match PackRun::new(alloc, cable, room) {
         Ok(engine) => status_of(run_pack(engine, input, lanes, output, notes)),
         Err(_) => Status::NoMemory,
@@ -632,19 +562,19 @@ fn show_clip<S: Source, L: Lanes, W: Sink, N: Sink>(
 #[tactic(auto, using(crate::proofs::LineLaws::output_failed))]
 fn test_self<L: Lanes, W: Sink, N: Sink>(
     alloc: Global,
-    seed: u32,
-    packets: u32,
+    options: SelfTestOptions,
     lanes: &mut L,
     output: &mut W,
     notes: &mut N,
 ) -> Status
-    ensures says { PutsLine (self_test_text seed packets)
+    ensures says { PutsLine (self_test_text options.seed options.packets)
         (places L.Lanes W.Sink N.Sink lanes.old output.old notes.old)
         (places L.Lanes W.Sink N.Sink lanes.new output.new notes.new) result }
     ensures complete { IsDoneLine
         (places L.Lanes W.Sink N.Sink lanes.old output.old notes.old)
         (places L.Lanes W.Sink N.Sink lanes.new output.new notes.new) result }
 {
+    let SelfTestOptions { seed, packets } = options;
     match count(alloc, seed, packets) {
         Ok(counts) => {
             let line = self_test_line(seed, packets, &counts);
