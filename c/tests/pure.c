@@ -1,0 +1,73 @@
+/* The pure functions, with each of their statuses. */
+#include "check.h"
+#include "larboardyuzu.h"
+
+#include <string.h>
+
+static void exclusives(void)
+{
+    static const uint8_t seven[] = { 1, 2, 3, 4, 5, 6, 7 }, high[] = { 0x80 };
+    uint32_t words[2] = { 7, 7 };
+
+    for (uint32_t type = 0; type < 16; type++) {
+        /* M2-104-UM: how many words each message type has */
+        static const uint32_t counts[] = { 1, 1, 1, 2, 2, 4, 1, 1, 2, 2, 2, 3, 3, 4, 4, 4 };
+        CHECK(larboardyuzu_words_in_packet(type << 28 | 0x0ABCDEF) == counts[type]);
+    }
+    CHECK(larboardyuzu_exclusive_packet(16, seven, 7, 0, words, 2) == LARBOARDYUZU_BAD_GROUP);
+    CHECK(larboardyuzu_exclusive_packet(0, high, 1, 0, words, 2) == LARBOARDYUZU_HIGH_BIT);
+    CHECK(larboardyuzu_exclusive_packet(0, seven, 7, 2, words, 2) == LARBOARDYUZU_NOTHING);
+    CHECK(larboardyuzu_exclusive_packet(0, seven, 7, 0, words, 1) == LARBOARDYUZU_SMALL_BUFFER);
+    CHECK(words[0] == 7 && words[1] == 7);
+    CHECK(larboardyuzu_exclusive_packet(0, seven, 7, 1, words, 2) == LARBOARDYUZU_DONE);
+    CHECK(words[0] == 0x30310700 && words[1] == 0);
+    CHECK(larboardyuzu_exclusive_packet(5, seven, 6, 0, words, 2) == LARBOARDYUZU_DONE);
+    CHECK(words[0] == 0x35060102 && words[1] == 0x03040506);
+    CHECK(larboardyuzu_exclusive_packet(0, seven, 0, 0, words, 2) == LARBOARDYUZU_DONE);
+    CHECK(words[0] == 0x30000000 && words[1] == 0);
+}
+
+static void lines(void)
+{
+    static const char wanted[] = "16 40903C00 C9240000";
+    static const uint32_t words[] = { 0x40903C00, 0xC9240000 };
+    uint8_t text[256];
+    size_t length = 0;
+
+    CHECK(larboardyuzu_packet_line(words, 1, 16, text, sizeof text, &length)
+          == LARBOARDYUZU_BAD_WORD_COUNT);
+    CHECK(larboardyuzu_packet_line(words, 2, 16, text, 255, &length) == LARBOARDYUZU_SMALL_BUFFER);
+    CHECK(length == 256);
+    CHECK(larboardyuzu_packet_line(words, 2, 16, text, sizeof text, &length) == LARBOARDYUZU_DONE);
+    CHECK(length > sizeof wanted && !memcmp(text, wanted, sizeof wanted - 1) && text[length - 1] == '\n');
+}
+
+/* M2-115-U: zero, the centre and the greatest value stand where they are, and the others between. */
+static void scalings(void)
+{
+    uint32_t scaled = 7;
+
+    CHECK(larboardyuzu_scale_up(100, 7, 16, &scaled) == LARBOARDYUZU_DONE && scaled == 51492);
+    CHECK(larboardyuzu_scale_up(0, 7, 32, &scaled) == LARBOARDYUZU_DONE && scaled == 0);
+    CHECK(larboardyuzu_scale_up(64, 7, 32, &scaled) == LARBOARDYUZU_DONE && scaled == 0x80000000);
+    CHECK(larboardyuzu_scale_up(127, 7, 32, &scaled) == LARBOARDYUZU_DONE && scaled == 0xFFFFFFFF);
+    CHECK(larboardyuzu_scale_up(8192, 14, 32, &scaled) == LARBOARDYUZU_DONE && scaled == 0x80000000);
+    CHECK(larboardyuzu_scale_up(16383, 14, 32, &scaled) == LARBOARDYUZU_DONE && scaled == 0xFFFFFFFF);
+    scaled = 7;
+    CHECK(larboardyuzu_scale_up(128, 7, 32, &scaled) == LARBOARDYUZU_BAD_VALUE && scaled == 7);
+    CHECK(larboardyuzu_scale_up(1, 14, 16, &scaled) == LARBOARDYUZU_BAD_BITS && scaled == 7);
+    CHECK(larboardyuzu_scale_down(65536, 16, 7, &scaled) == LARBOARDYUZU_BAD_VALUE && scaled == 7);
+    CHECK(larboardyuzu_scale_down(1, 7, 16, &scaled) == LARBOARDYUZU_BAD_BITS && scaled == 7);
+    CHECK(larboardyuzu_scale_down(51492, 16, 7, &scaled) == LARBOARDYUZU_DONE && scaled == 100);
+    CHECK(larboardyuzu_scale_down(0xFFFFFFFF, 32, 14, &scaled) == LARBOARDYUZU_DONE && scaled == 16383);
+    CHECK(larboardyuzu_scale_down(0x80000000, 32, 7, &scaled) == LARBOARDYUZU_DONE && scaled == 64);
+}
+
+int main(void)
+{
+    exclusives();
+    lines();
+    scalings();
+    printf("pure: ok\n");
+    return 0;
+}
