@@ -395,6 +395,11 @@ uint32_t larboardyuzu_sysex8_begun(larboardyuzu_sysex8 *sysex8, uint8_t group, u
 
 void larboardyuzu_sysex8_close(larboardyuzu_sysex8 *sysex8);
 
+/* The other way, a pure function: a packet, counted from 0, of an 8-bit exclusive with these bytes: four
+ * words. Each packet has thirteen bytes but the last. */
+uint32_t larboardyuzu_sysex8_cut(uint8_t group, uint8_t stream, const uint8_t *payload, size_t payload_size,
+                                 size_t index, uint32_t *words, size_t size);
+
 /* ---- USB-MIDI 1.0 events ---- */
 
 typedef struct larboardyuzu_usb {

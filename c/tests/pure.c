@@ -27,6 +27,52 @@ static void exclusives(void)
     CHECK(words[0] == 0x30000000 && words[1] == 0);
 }
 
+/* M2-104-UM, system exclusive 8-bit messages: the count has the stream id as well. */
+static void wide_exclusives(void)
+{
+    static const uint8_t bytes[] = { 0x80, 1, 2, 3, 4, 5, 6, 7, 8, 9, 10, 11, 12, 0xFF };
+    uint32_t words[4] = { 7, 7, 7, 7 };
+
+    CHECK(larboardyuzu_sysex8_cut(16, 0, bytes, 14, 0, words, 4) == LARBOARDYUZU_BAD_GROUP);
+    CHECK(larboardyuzu_sysex8_cut(0, 0, bytes, 14, 2, words, 4) == LARBOARDYUZU_NOTHING);
+    CHECK(larboardyuzu_sysex8_cut(0, 0, bytes, 14, 0, words, 3) == LARBOARDYUZU_SMALL_BUFFER);
+    CHECK(words[0] == 7 && words[3] == 7);
+    CHECK(larboardyuzu_sysex8_cut(3, 0xAB, bytes, 14, 0, words, 4) == LARBOARDYUZU_DONE);
+    CHECK(words[0] == 0x531EAB80 && words[1] == 0x01020304 && words[2] == 0x05060708 && words[3] == 0x090A0B0C);
+    CHECK(larboardyuzu_sysex8_cut(3, 0xAB, bytes, 14, 1, words, 4) == LARBOARDYUZU_DONE);
+    CHECK(words[0] == 0x5332ABFF && words[1] == 0 && words[2] == 0 && words[3] == 0);
+    CHECK(larboardyuzu_sysex8_cut(0, 1, bytes, 13, 0, words, 4) == LARBOARDYUZU_DONE);
+    CHECK(words[0] == 0x500E0180 && words[3] == 0x090A0B0C);
+    CHECK(larboardyuzu_sysex8_cut(0, 2, bytes, 0, 0, words, 4) == LARBOARDYUZU_DONE);
+    CHECK(words[0] == 0x50010200 && words[1] == 0 && words[2] == 0 && words[3] == 0);
+}
+
+/* What is cut is joined again. */
+static void wide_exclusives_joined(void)
+{
+    larboardyuzu_sysex8 sysex8 = LARBOARDYUZU_CLOSED;
+    uint8_t bytes[300], joined[300];
+    uint32_t words[4];
+    larboardyuzu_part part;
+
+    for (size_t i = 0; i < sizeof bytes; i++)
+        bytes[i] = (uint8_t)(i * 37 + 11);
+    CHECK(larboardyuzu_sysex8_open(&sysex8, 1, sizeof bytes) == LARBOARDYUZU_DONE);
+    for (size_t size = 0; size <= sizeof bytes; size++) {
+        const size_t count = size == 0 ? 1 : (size + 12) / 13;
+        for (size_t k = 0; k < count; k++) {
+            CHECK(larboardyuzu_sysex8_cut(9, 5, bytes, size, k, words, 4) == LARBOARDYUZU_DONE);
+            CHECK(larboardyuzu_sysex8_packet(&sysex8, words, 4, k, joined, sizeof joined, &part)
+                  == LARBOARDYUZU_DONE);
+            CHECK(part.answer == (k + 1 == count ? LARBOARDYUZU_JOINED_WHOLE : LARBOARDYUZU_JOINED_HELD));
+        }
+        CHECK(part.length == size && part.group == 9 && part.stream == 5);
+        CHECK(memcmp(joined, bytes, size) == 0);
+        CHECK(larboardyuzu_sysex8_cut(9, 5, bytes, size, count, words, 4) == LARBOARDYUZU_NOTHING);
+    }
+    larboardyuzu_sysex8_close(&sysex8);
+}
+
 static void lines(void)
 {
     static const char wanted[] = "16 40903C00 C9240000";
@@ -66,6 +112,8 @@ static void scalings(void)
 int main(void)
 {
     exclusives();
+    wide_exclusives();
+    wide_exclusives_joined();
     lines();
     scalings();
     printf("pure: ok\n");

@@ -96,6 +96,7 @@ _WORDS, _BYTES = (POINTER(c_uint32), c_size_t), (POINTER(c_uint8), c_size_t)
 _version = _call("version")
 _words_in_packet = _call("words_in_packet", c_uint32)
 _exclusive_packet = _call("exclusive_packet", c_uint8, *_BYTES, c_size_t, *_WORDS)
+_sysex8_cut = _call("sysex8_cut", c_uint8, c_uint8, *_BYTES, c_size_t, *_WORDS)
 _packet_line = _call("packet_line", *_WORDS, c_uint64, *_BYTES, POINTER(c_size_t))
 _scale_up = _call("scale_up", c_uint32, c_uint8, c_uint8, POINTER(c_uint32))
 _scale_down = _call("scale_down", c_uint32, c_uint8, c_uint8, POINTER(c_uint32))
@@ -166,6 +167,17 @@ def exclusive_packets(group, payload):
     found, packet = [], (c_uint32 * 2)()
     while True:
         status = _exclusive_packet(group, *_bytes(payload), len(found), packet, 2)
+        if status == NOTHING:
+            return found
+        _must(status)
+        found.append(list(packet))
+
+
+def sysex8_packets(group, stream, payload):
+    """The packets of an 8-bit exclusive of a stream with these bytes."""
+    found, packet = [], (c_uint32 * 4)()
+    while True:
+        status = _sysex8_cut(group, stream, *_bytes(payload), len(found), packet, 4)
         if status == NOTHING:
             return found
         _must(status)
@@ -386,8 +398,8 @@ def print_exclusives():
     for packet in exclusive_packets(0, bytes([1, 2, 3, 4, 5, 6, 7])):
         print(" ".join(f"{word:08X}" for word in packet))
     with Sysex8() as sysex8:
-        for first in (0x501201A0, 0x503201A1):
-            part = sysex8.packet([first, 0, 0, 0])
+        for packet in sysex8_packets(0, 1, bytes(range(0xA0, 0xAE))):
+            part = sysex8.packet(packet)
         print(f"stream {part.stream}: {hexadecimal(part.data)}")
 
 

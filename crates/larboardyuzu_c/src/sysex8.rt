@@ -1,5 +1,6 @@
-// The calls of the join of 8-bit exclusives.
+// The calls of the join of 8-bit exclusives, and of their packets.
 ghost use Rattle.std.specs.Prelude.{◌≡◌, None};
+ghost use Rattle.c_pure.specs.Sysex8.{IsCut};
 ghost use Rattle.larboardyuzu_c.specs.Sysex8Calls.{HasBegun, IsOpened, IsTaken};
 
 use c_answers::Status;
@@ -90,4 +91,18 @@ pub extern "C" fn larboardyuzu_sysex8_close(alloc: Global, sysex8: &mut Handle)
     ensures { sysex8.new.holds ≡ None }
 {
     let _held = sysex8.take(alloc);
+}
+
+/// The words of a packet, counted from 0, of an 8-bit exclusive with these bytes.
+#[unsafe(no_mangle)]
+pub extern "C" fn larboardyuzu_sysex8_cut(
+    group: u8,
+    stream: u8,
+    payload: &[u8],
+    index: usize,
+    words: &mut [u32],
+) -> u32
+    ensures { IsCut group stream payload.now index words.old result words.new }
+{
+    c_pure::sysex8_cut(group, stream, payload, index, words).number()
 }
