@@ -1,11 +1,33 @@
 // The calls of the endpoint.
-ghost use Rattle.std.specs.Prelude.{◌≡◌, None};
-ghost use Rattle.larboardyuzu_c.specs.EndpointCalls.{HasBegun, HasMuid, HasProfile, HasProtocol, IsOpened, IsTaken};
+ghost use Rattle.std.specs.Prelude.{◌≡◌, ◌≤◌, None};
+ghost use Rattle.function_blocks.specs.Setups.{setup_of};
+ghost use Rattle.c_answers.specs.Numbers.{number_of};
+ghost use Rattle.larboardyuzu_c.specs.EndpointCalls.{HasBegun, HasMuid, HasProfile, HasProtocol, IsOpened, IsTaken, Makes};
 
 use c_answers::Status;
 use c_endpoint::{AnsweringEndpoint, EndpointProfile, PacketReplies};
 use c_handles::{Engine, Handle};
 use std::alloc::Global;
+
+// Puts an endpoint of the setup in a text in a handle that is closed.
+#[tactic(auto, using(crate::proofs::EndpointLaws::opened_fails))]
+fn fill_endpoint(
+    alloc: Global,
+    endpoint: &mut Handle,
+    text: &[u8],
+    room: u32,
+    rule: &mut u8,
+) -> Status
+    requires closed { endpoint.old.holds ≡ None }
+    requires least { 6 ≤ room }
+    requires most { room ≤ 1048576 }
+    ensures { Makes (setup_of text.now) room (number_of result) rule.old rule.new endpoint.new.holds }
+{
+    match AnsweringEndpoint::opened(alloc, text, room, rule) {
+        Ok(made) => return endpoint.fill(alloc, Engine::Endpoint(made)),
+        Err(why) => return why,
+    }
+}
 
 /// Opens a handle: an endpoint of the setup in a text, which is TOML. `room` is the limit of an exclusive, 6 to 1,048,576. All the memory
 /// that it ever needs is taken here.
@@ -26,10 +48,7 @@ pub extern "C" fn larboardyuzu_endpoint_open(
         endpoint.put(alloc, held);
         return Status::AlreadyOpen.number();
     }
-    match AnsweringEndpoint::opened(alloc, text, room, rule) {
-        Ok(made) => endpoint.fill(alloc, Engine::Endpoint(made)).number(),
-        Err(why) => why.number(),
-    }
+    fill_endpoint(alloc, endpoint, text, room, rule).number()
 }
 
 /// Takes one packet of the peer, and writes the words of the replies to it.
