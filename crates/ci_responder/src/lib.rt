@@ -16,7 +16,8 @@ mod rows;
 pub use crate::heard::Heard;
 pub use crate::keys::Key;
 pub use crate::laws::{
-    block_of_a_group_is_the_one, held_is_the_history, switches_stand_alone, views_tell_their_bytes,
+    block_of_a_group_is_the_one, held_is_the_history, rows_stand_in_their_order, switches_stand_alone,
+    views_tell_their_bytes,
 };
 pub use crate::packets::put_message;
 pub use crate::responder::Responder;
