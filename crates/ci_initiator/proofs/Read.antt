@@ -10,7 +10,7 @@ use Rattle.ci_messages.specs.Places.{bytes2, bytes4, byte_at, number2_at}
 use Rattle.ci_messages.specs.Reading.{address_of, body_of, message_kind}
 use Rattle.ci_messages.specs.Writing.{address_number}
 use Rattle.ci_responder.specs.Messages.{Message}
-use Rattle.ci_responder.specs.Replies.{message_of_payload, payload, reply_version}
+use Rattle.ci_responder.specs.Replies.{message_of_payload, payload_with, reply_version}
 use Rattle.ci_initiator.specs.Incoming.{Said, ids_from, incoming_in, inventory, other, report, said_by}
 use Rattle.ci_initiator.proofs.ListLaws.{byte-behind, take-front}
 
@@ -87,7 +87,9 @@ address-again n = channel (nat_lt n 16) refl
 
 module _ (group : ℕ) (message : Message) (address : Address) (source destination : ℕ) where
   abbrev said_of : ℕ → Kind → List Value → Said
-  said_of sub kind values = (incoming_in group (message_of_payload (payload message address sub source destination kind values))).said
+  said_of sub kind values =
+      (incoming_in group (message_of_payload (payload_with address sub (reply_version message) source destination
+      (bytes_of_fields (fields_of (format_of (reply_version message)) kind) values)))).said
 
   -- what is said by replies that tell nothing of profiles
   abbrev kinds-are : (sub : ℕ) (k : Kind) → Type 0

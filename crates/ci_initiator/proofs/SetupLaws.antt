@@ -22,13 +22,6 @@ or-true : (a b : Bool) → b ≡ true → (a || b) ≡ true
 or-true true b is = refl
 or-true false b is = is
 
-pub any-at : {X : Type 0} (p : X → Bool) (xs : List X) (n : ℕ) (x : X) → slice_get xs n ≡ Some x → p x ≡ true → list_any p xs ≡ true
-any-at p [] n x is passes = let e : None ≡ Some x = is in cc
-any-at p (y ∷ ys) zero x is passes =
-    let same : y ≡ x = ap (λ o. unwrap_or o x) is in
-    ap (λ b. b || list_any p ys) (ap p same ∙ passes)
-any-at p (y ∷ ys) (suc n) x is passes = or-true (p y) (list_any p ys) (any-at p ys n x is passes)
-
 any-append : {X : Type 0} (p : X → Bool) (xs ys : List X) → list_any p (xs ++ ys) ≡ (list_any p xs || list_any p ys)
 any-append p [] ys = refl
 any-append p (x ∷ xs) ys = ap (λ b. p x || b) (any-append p xs ys) ∙ sym (grouped (p x))
@@ -41,16 +34,6 @@ pub take-next : {X : Type 0} (xs : List X) (n : ℕ) (x : X) → slice_get xs n 
 take-next [] n x is = let e : None ≡ Some x = is in cc
 take-next (y ∷ ys) zero x is = ap (λ o. unwrap_or o x ∷ []) is
 take-next (y ∷ ys) (suc n) x is = ap (λ zs. y ∷ zs) (take-next ys n x is)
-
-pub none-more : {X : Type 0} (p : X → Bool) (xs : List X) (n : ℕ) (x : X) → slice_get xs n ≡ Some x → list_any p (take n xs) ≡ false → p x ≡ false →
-    list_any p (take (suc n) xs) ≡ false
-none-more p xs n x is none not_it =
-    ap (list_any p) (take-next xs n x is) ∙ any-append p (take n xs) (x ∷ []) ∙ (λ j. none j || (not_it j || false))
-
-pub not-past : {X : Type 0} (n : ℕ) (xs : List X) → slice_get xs n ≡ None → n < length xs → ⊥
-not-past n [] e below = omega (arith, below)
-not-past zero (x ∷ xs) e below = let h : Some x ≡ None = e in cc
-not-past (suc n) (x ∷ xs) e below = not-past n xs e (omega (arith, below))
 
 drop-next : {X : Type 0} (xs : List X) (n : ℕ) (x : X) → slice_get xs n ≡ Some x → drop n xs ≡ x ∷ drop (suc n) xs
 drop-next [] n x is = let e : None ≡ Some x = is in cc

@@ -296,28 +296,28 @@ module _ (setup : Facts) (distinct : profiles_are_distinct setup.profiles ≡ tr
     by-said payload (said.discovery path) is answered replied tell =
         let values : List Value = list sender.identity.manufacturer ∷ list sender.identity.family ∷ list sender.identity.model ∷ list sender.identity.revision
         ∷ number 4 ∷ number sender.room ∷ number path ∷ number sender.block ∷ [] in
-        absurd (silent payload (reply-bytes told.message address.Block 0x71 muid told.message.source kind.DiscoveryReply values) replied
+        absurd (silent payload (reply-bytes told.message address.Block muid told.message.source kind.DiscoveryReply values) replied
         (ap (state_told watch.id.bytes) (said-by told.group told.message address.Block muid told.message.source 0x71 kind.DiscoveryReply kind.DiscoveryReply values is-device)) tell)
     by-said payload (said.endpoint status) is answered replied tell =
         let values : List Value = number 0 ∷ list sender.product_id ∷ [] in
-        absurd (silent payload (reply-bytes told.message told.message.address 0x73 muid told.message.source kind.EndpointReply values) replied
+        absurd (silent payload (reply-bytes told.message told.message.address muid told.message.source kind.EndpointReply values) replied
         (ap (state_told watch.id.bytes) (said-endpoint told.group told.message told.message.address muid told.message.source values)) tell)
     by-said payload said.profiles is answered replied tell =
         let place : Place = place_at told.message.address told.group in
         let on_ids : List ℕ = ids_of true n place (states_at setup past setup.profiles) in
         let off_ids : List ℕ = ids_of false n place (states_at setup past setup.profiles) in
-        let reply : List ℕ = reply-bytes told.message told.message.address 0x21 muid told.message.source kind.ProfileReply (list on_ids ∷ list off_ids ∷ []) in
+        let reply : List ℕ = reply-bytes told.message told.message.address muid told.message.source kind.ProfileReply (list on_ids ∷ list off_ids ∷ []) in
         counted n own answered (incoming.incoming_in told.group (message_of_payload reply)) is (as-told payload reply replied tell) refl refl
         (inventory-is told.group told.message told.message.address muid told.message.source on_ids off_ids
         (fives (last_switch setup past) setup.profiles true n place five) (fives (last_switch setup past) setup.profiles false n place five))
     by-said payload (said.switch id true) is answered replied tell =
         let values : List Value = list id.bytes ∷ number (channels_of told.message.address) ∷ [] in
-        let reply : List ℕ = reply-bytes told.message told.message.address 0x24 muid broadcast kind.EnabledReport values in
+        let reply : List ℕ = reply-bytes told.message told.message.address muid broadcast kind.EnabledReport values in
         reported n own answered id true (incoming.incoming_in told.group (message_of_payload reply)) is (as-told payload reply replied tell) refl refl
         (report-on told.group told.message told.message.address muid broadcast id.bytes (channels_of told.message.address))
     by-said payload (said.switch id false) is answered replied tell =
         let values : List Value = list id.bytes ∷ number (channels_of told.message.address) ∷ [] in
-        let reply : List ℕ = reply-bytes told.message told.message.address 0x25 muid broadcast kind.DisabledReport values in
+        let reply : List ℕ = reply-bytes told.message told.message.address muid broadcast kind.DisabledReport values in
         reported n own answered id false (incoming.incoming_in told.group (message_of_payload reply)) is (as-told payload reply replied tell) refl refl
         (report-off told.group told.message told.message.address muid broadcast id.bytes (channels_of told.message.address))
     by-said payload (said.invalidate target) is answered replied tell = absurd (no-some payload replied)
@@ -328,11 +328,11 @@ module _ (setup : Facts) (distinct : profiles_are_distinct setup.profiles ≡ tr
     by-heard payload heard.Answered is replied tell = by-said payload told.message.said refl is replied tell
     by-heard payload heard.Collision is replied tell =
         let values : List Value = number muid ∷ [] in
-        absurd (silent payload (reply-bytes told.message address.Block 0x7E muid broadcast kind.Invalidate values) replied
+        absurd (silent payload (reply-bytes told.message address.Block muid broadcast kind.Invalidate values) replied
         (ap (state_told watch.id.bytes) (said-by told.group told.message address.Block muid broadcast 0x7E kind.Invalidate kind.Invalidate values is-invalid)) tell)
     by-heard payload heard.Nak is replied tell =
         let values : List Value = number told.message.sub ∷ number 0 ∷ number 0 ∷ list (replicate 5 0) ∷ list [] ∷ [] in
-        absurd (silent payload (reply-bytes told.message told.message.address 0x7F muid told.message.source kind.Nak values) replied
+        absurd (silent payload (reply-bytes told.message told.message.address muid told.message.source kind.Nak values) replied
         (ap (state_told watch.id.bytes) (said-by told.group told.message told.message.address muid told.message.source 0x7F kind.Nak kind.Nak values is-nak)) tell)
     by-heard payload heard.NoBlock is replied tell = absurd (no-some payload replied)
     by-heard payload heard.Silent is replied tell = absurd (no-some payload replied)

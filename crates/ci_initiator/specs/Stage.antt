@@ -1,11 +1,10 @@
 -- What a rehearsal keeps, and what one event does to it.
 use Rattle.std.specs.Prelude.{◌≡◌, ℕ, ◌-◌, ◌/◌, ◌%◌, ◌==◌, nat_lt, if◌then◌else◌, List, [], ◌∷◌, ◌++◌, length, slice_get, Option, Some, None, Result, Ok, Err}
-use Rattle.std.specs.List.{All}
 use Rattle.function_blocks.specs.Setups.{Facts}
 use Rattle.ci_responder.specs.Held.{Held, after as responder_after, heard_in, reply_in}
 use Rattle.ci_responder.specs.History.{held_at}
 use Rattle.ci_responder.specs.Read.{told_in}
-use Rattle.ci_responder.specs.Replies.{IsMessage, message_of_payload}
+use Rattle.ci_responder.specs.Replies.{message_of_payload}
 use Rattle.ci_initiator.specs.declared.ask.Ask.{Ask}
 use Rattle.ci_initiator.specs.declared.ask.Ask.TheVariants as ask
 use Rattle.ci_initiator.specs.declared.event.Event.{Event}
@@ -26,9 +25,6 @@ pub record Stage : Type 0 where
   pub responder : Held
   pub asks : List Sent
   pub replies : List Sent
-
-abbrev pub IsSent : List Sent → Type 0
-IsSent messages = All (λ sent. IsMessage sent.bytes) messages
 
 -- a setup's rehearsal at its start; the responder takes exclusives of up to 512 bytes
 abbrev pub first_stage : Facts → Stage

@@ -9,11 +9,12 @@ ghost use Rattle.ci_initiator.specs.Incoming.{incoming_of};
 ghost use Rattle.ci_initiator.specs.Known.{after, after_by, are_different, asked_by, known_at, noted_in, watches_of};
 
 use crate::ask::Ask;
-use crate::asking::{put_discovery, put_inquiry, put_set_off, put_set_on};
+use crate::asking::{discovery, inquiry, set_off, set_on};
 use crate::noted::Noted;
 use crate::rows::{hold, row_of};
 use crate::watch::{Watch, Watched};
 use ci_messages::CiView;
+use ci_responder::CiMessage;
 use midi_edge::{NoMemory, ShortList};
 use std::alloc::Global;
 use std::marker::Model;
@@ -87,30 +88,42 @@ impl Initiator {
         Some((peer, watched.watch))
     }
 
-    /// Writes what is asked as a message from F0 to F7 into an empty list (M2-101-UM): Discovery to all at the function block, with
-    /// an identity of zeros, the category of profiles, 512 as the most bytes and the output path 0; the others to the peer at the
-    /// watch's address, Set Profile On with the count 1 for a channel and 0 otherwise. All are of version 02, and
-    /// `ci_messages::read` takes them. The watch must be there, and for all but Discovery a peer must be known: `can_ask` tells both.
+    /// What is asked, as a message (M2-101-UM): Discovery to all at the function block, with an identity of zeros, the category of
+    /// profiles, 512 as the most bytes and the output path 0; the others to the peer at the watch's address, Set Profile On with the
+    /// count 1 for a channel and 0 otherwise. All are of version 02. `None` exactly where the watch isn't there, or, for all but
+    /// Discovery, no peer is known.
+    pub fn asked(&self, what: Ask) -> Option<CiMessage>
+        ensures { result ≡ asked_by self.now what }
+    {
+        match what {
+            Ask::Discover => Some(discovery(self.muid)),
+            Ask::Inquire(k) => match self.peer_and_watch(k) {
+                Some((peer, watch)) => Some(inquiry(self.muid, peer, &watch)),
+                None => None,
+            },
+            Ask::On(k) => match self.peer_and_watch(k) {
+                Some((peer, watch)) => Some(set_on(self.muid, peer, &watch)),
+                None => None,
+            },
+            Ask::Off(k) => match self.peer_and_watch(k) {
+                Some((peer, watch)) => Some(set_off(self.muid, peer, &watch)),
+                None => None,
+            },
+        }
+    }
+
+    /// Writes what is asked, from F0 to F7, into an empty list; `ci_messages::read` takes it. The watch must be there, and for all
+    /// but Discovery a peer must be known: `can_ask` tells both.
     pub fn ask(&self, what: Ask, into: &mut ShortList<u8, 512>)
         requires asks { is_some (asked_by self.now what) ≡ true }
         requires empty { into.old ≡ [] }
         ensures bytes { asked_by self.now what ≡ Some into.new }
         ensures message { IsMessage into.new }
     {
-        match what {
-            Ask::Discover => put_discovery(self.muid, into),
-            Ask::Inquire(k) => match self.peer_and_watch(k) {
-                Some((peer, watch)) => put_inquiry(self.muid, peer, &watch, into),
-                None => unreachable!(),
-            },
-            Ask::On(k) => match self.peer_and_watch(k) {
-                Some((peer, watch)) => put_set_on(self.muid, peer, &watch, into),
-                None => unreachable!(),
-            },
-            Ask::Off(k) => match self.peer_and_watch(k) {
-                Some((peer, watch)) => put_set_off(self.muid, peer, &watch, into),
-                None => unreachable!(),
-            },
+        match self.asked(what) {
+            Some(message) => into.extend(message.as_slice()),
+            // it can be asked
+            None => unreachable!(),
         }
     }
 

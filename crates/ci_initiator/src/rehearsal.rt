@@ -1,11 +1,11 @@
 // A rehearsal.
-ghost use Rattle.std.specs.Prelude.{◌≡◌, ◌<◌, ◌≤◌, ◌++◌, ℕ, List, Option, [], length, slice_get, true, IfOk, Some};
+ghost use Rattle.std.specs.Prelude.{◌≡◌, ◌<◌, ◌≤◌, ◌++◌, ℕ, List, Option, length, slice_get, true, IfOk, Some};
 ghost use Rattle.std.specs.Option.{option_map};
 ghost use Rattle.function_blocks.specs.Profiles.{profiles_are_distinct};
-ghost use Rattle.ci_responder.specs.Held.{after as responder_after, heard_in, reply_in};
+ghost use Rattle.ci_responder.specs.Held.{after as responder_after, heard_in, message_in};
 ghost use Rattle.ci_responder.specs.Keys.{state_in};
 ghost use Rattle.ci_responder.specs.Read.{told_in};
-ghost use Rattle.ci_responder.specs.Replies.{IsMessage, IsReply, message_of_reply};
+ghost use Rattle.ci_responder.specs.Replies.{message_of_reply};
 ghost use Rattle.ci_initiator.specs.Asks.{group_asked};
 ghost use Rattle.ci_initiator.specs.Incoming.{incoming_in};
 ghost use Rattle.ci_initiator.specs.Known.{after, asked_by, noted_in, watches_of};
@@ -31,9 +31,9 @@ use crate::noted::Noted;
 use crate::watching::{own_muid, watches};
 use ci_messages::laws::views_that_are_read_fit;
 use ci_messages::read;
-use ci_responder::{Heard, Key, Responder};
+use ci_responder::{CiMessage, Heard, Key, Responder};
 use function_blocks::Setup;
-use midi_edge::{NoMemory, ShortList};
+use midi_edge::NoMemory;
 use std::alloc::Global;
 use std::marker::Model;
 use voice_messages::U4;
@@ -94,27 +94,23 @@ fn event_of(kind: u8, number: u16) -> Option<Event>
     }
 }
 
-// The responder hears a message, and its reply is written into an empty list.
-fn respond(responder: &mut Responder, sent: &Sent, reply: &mut ShortList<u8, 512>) -> Heard
-    requires message { IsMessage sent.now.bytes }
-    requires empty { reply.old ≡ [] }
-    ensures heard { result ≡ heard_in responder.old (told_in sent.now.group sent.now.bytes) }
+// The responder hears a message: what it did with it, and its reply.
+fn respond(responder: &mut Responder, sent: &Sent) -> (Heard, Option<CiMessage>)
+    ensures heard { result.0 ≡ heard_in responder.old (told_in sent.now.group sent.now.bytes) }
     ensures after { responder.new ≡ responder_after responder.old (told_in sent.now.group sent.now.bytes) }
-    ensures message { reply.new ≡
-        message_of_reply (reply_in responder.old (told_in sent.now.group sent.now.bytes)) }
-    ensures reply { IsReply reply.new }
+    ensures reply { result.1 ≡ message_in responder.old (told_in sent.now.group sent.now.bytes) }
 {
     views_that_are_read_fit();
     ci_responder::views_tell_their_bytes();
     match read(sent.bytes.as_slice()) {
-        Ok(view) => responder.hear_message(sent.group, &view, reply),
+        Ok(view) => responder.hear_message(sent.group, &view),
+        // a message that was sent has no fault
         Err(_) => unreachable!(),
     }
 }
 
 // The initiator hears a message.
 fn note(initiator: &mut Initiator, sent: &Sent) -> Noted
-    requires { IsMessage sent.now.bytes }
     ensures noted { result ≡ noted_in initiator.old (incoming_in sent.now.group sent.now.bytes) }
     ensures after { initiator.new ≡ after initiator.old (incoming_in sent.now.group sent.now.bytes) }
 {
@@ -122,6 +118,7 @@ fn note(initiator: &mut Initiator, sent: &Sent) -> Noted
     crate::laws::views_tell_their_bytes();
     match read(sent.bytes.as_slice()) {
         Ok(view) => initiator.hear(sent.group, &view),
+        // a message that was sent has no fault
         Err(_) => unreachable!(),
     }
 }
@@ -207,15 +204,13 @@ impl Rehearsal {
         ensures { Steps (ask_with self.old (group_asked (watches_of self.old.initiator) what)
             (asked_by self.old.initiator what)) self.old self.new result }
     {
-        if !self.initiator.can_ask(what) {
+        let Some(bytes) = self.initiator.asked(what) else {
             return Err(EventFault::BadEvent);
-        }
+        };
         if self.asks.is_full() {
             return Err(EventFault::TooMany);
         }
         let group = self.initiator.group_asked(what);
-        let mut bytes = ShortList::new();
-        self.initiator.ask(what, &mut bytes);
         self.asks.push(Sent { group, bytes });
         Ok(Told::Asked)
     }
@@ -229,10 +224,9 @@ impl Rehearsal {
         if self.replies.is_full() {
             return Err(EventFault::TooMany);
         }
-        let mut bytes = ShortList::new();
-        let heard = respond(&mut self.responder, sent, &mut bytes);
         let group = sent.group;
-        keep_reply(&mut self.replies, group, bytes);
+        let (heard, reply) = respond(&mut self.responder, sent);
+        keep_reply(&mut self.replies, group, reply);
         Ok(Told::Heard(heard))
     }
 
@@ -248,13 +242,12 @@ impl Rehearsal {
 }
 
 // Keeps a reply, if there is one.
-fn keep_reply(replies: &mut Messages, group: U4, bytes: ShortList<u8, 512>)
-    requires few { length replies.old < 1024 }
-    requires reply { IsReply bytes }
-    ensures { (reply : Option (List ℕ)) → bytes ≡ message_of_reply reply →
-        replies.new ≡ replies.old ++ reply_sent group reply }
+fn keep_reply(replies: &mut Messages, group: U4, reply: Option<CiMessage>)
+    requires { length replies.old < 1024 }
+    ensures { (payload : Option (List ℕ)) → reply ≡ message_of_reply payload →
+        replies.new ≡ replies.old ++ reply_sent group payload }
 {
-    if !bytes.is_empty() {
+    if let Some(bytes) = reply {
         replies.push(Sent { group, bytes });
     }
 }

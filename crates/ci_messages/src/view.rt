@@ -188,6 +188,35 @@ pub enum Body<'a> {
     Other(&'a [u8]),
 }
 
+impl<'a> Body<'a> {
+    ghost use Rattle.std.specs.Prelude.{◌≡◌, ◌<◌};
+    ghost use Rattle.ci_messages.specs.Messages.{body_kind, sub_of};
+
+    /// The sub-id of a message with this body (M2-101-UM): its only one, but for `Property` and `Other`, of which it is the least, 30
+    /// and 00.
+    pub fn sub(&self) -> u8
+        ensures value { result ≡ sub_of (body_kind self.now) }
+        ensures data_byte { result < 128 }
+    {
+        match self {
+            Body::Discovery { .. } => 0x70,
+            Body::DiscoveryReply { .. } => 0x71,
+            Body::EndpointInquiry { .. } => 0x72,
+            Body::EndpointReply { .. } => 0x73,
+            Body::Invalidate { .. } => 0x7E,
+            Body::Nak { .. } => 0x7F,
+            Body::ProfileInquiry => 0x20,
+            Body::ProfileReply { .. } => 0x21,
+            Body::SetOn { .. } => 0x22,
+            Body::SetOff { .. } => 0x23,
+            Body::EnabledReport { .. } => 0x24,
+            Body::DisabledReport { .. } => 0x25,
+            Body::Property(_) => 0x30,
+            Body::Other(_) => 0x00,
+        }
+    }
+}
+
 /// Why an exclusive is not read as a message.
 #[derive(Clone, Copy, Debug, PartialEq, Eq, Error)]
 pub enum CiFault {

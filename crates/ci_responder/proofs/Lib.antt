@@ -6,3 +6,4 @@ pub mod OneBlock
 pub mod PacketLaws
 pub mod ReplyLaws
 pub mod ToldLaws
+pub mod RowLaws

@@ -13,7 +13,7 @@ use Rattle.ci_responder.specs.declared.keys.Key.{Key}
 use Rattle.ci_responder.specs.Keys.{same_key}
 use Rattle.ci_responder.specs.Messages.{Said, Told, switch, key_at}
 use Rattle.ci_responder.specs.Rows.{heard_by, loses_muid, names}
-use Rattle.ci_responder.specs.Replies.{Sender, replies_by, reply_by}
+use Rattle.ci_responder.specs.Replies.{Sender, message_of_reply, replies_by, reply_by}
 
 -- the blocks by number, the profiles in the setup's order, and what replies tell of the device
 pub record Held : Type 0 where
@@ -111,6 +111,10 @@ sender_in held block = option_and_then (λ n. option_map (sender_of held n) (mui
 -- the payload of the reply to a message
 abbrev pub reply_in : Held → Told → Option (List ℕ)
 reply_in held told = reply_by (sender_in held (block_in held.blocks told.group)) (heard_in held told) told
+
+-- the reply as a message, if there is one
+abbrev pub message_in : Held → Told → Option (List ℕ)
+message_in held told = message_of_reply (reply_in held told)
 
 -- the packets of the reply
 abbrev pub replies_in : Held → Told → List Packet

@@ -1,4 +1,5 @@
 // Laws over the definitions alone.
+ghost use Rattle.ci_responder.specs.RowOrder.{RowsInOrder, WorkedRows};
 ghost use Rattle.ci_responder.specs.Laws.{BlockOfIsTheOne, HeldIsTheHistory, SwitchesStandAlone, ViewsTellTheirBytes};
 
 /// What a responder holds after any messages, of all groups, is what their history says, searched from the newest message back:
@@ -23,4 +24,11 @@ pub fn block_of_a_group_is_the_one()
 /// What a view of a message tells is a function of the message's bytes and its group, by the places of M2-101-UM.
 pub fn views_tell_their_bytes()
     ensures { ViewsTellTheirBytes }
+{}
+
+/// The rows of a message stand in their order: a message from the block's own MUID is a collision, whatever its version, and any other
+/// of version 00 is an old one; and each of some worked messages, to which two rows apply, is heard as the first of them.
+pub fn rows_stand_in_their_order()
+    ensures order { RowsInOrder }
+    ensures worked { WorkedRows }
 {}

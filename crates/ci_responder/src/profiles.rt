@@ -97,6 +97,7 @@ pub(crate) fn ids_at(states: &IndexMap<Key, bool>, block: u8, place: &Place) -> 
     for k in 0..states.len() {
         match states.get_index(k) {
             Some((key, on)) => add_listed(&mut ids, key, *on, block, place),
+            // there is a profile for each number below the count
             None => unreachable!(),
         }
     }

@@ -3,21 +3,21 @@ ghost use Rattle.std.specs.Prelude.{◌≡◌, ◌<◌, ◌≤◌, [], true, len
 ghost use Rattle.ump_grammar.specs.Replies.{AddsPackets};
 ghost use Rattle.ci_messages.specs.Writing.{IsView};
 ghost use Rattle.ci_responder.specs.declared.heard.Heard.TheVariants as heard;
-ghost use Rattle.ci_responder.specs.Held.{after, blocks_by, heard_in, muid_in, replies_in, reply_in, states_by};
+ghost use Rattle.ci_responder.specs.Held.{after, blocks_by, heard_in, message_in, muid_in, replies_in, states_by};
 ghost use Rattle.ci_responder.specs.History.{held_at};
 ghost use Rattle.ci_responder.specs.Keys.{state_in};
 ghost use Rattle.ci_responder.specs.Messages.{key_at as key_at_place, said_in, told_of};
-ghost use Rattle.ci_responder.specs.Replies.{IsReply, message_of_reply};
 ghost use Rattle.ci_responder.specs.Rows.{loses_muid, names};
 
 use crate::blocks::{block_of, muid_of, spend};
 use crate::heard::Heard;
 use crate::kept::CiBlock;
 use crate::keys::Key;
+use crate::message::CiMessage;
 use crate::opening::{first_states, kept_blocks};
-use crate::packets::push_reply;
+use crate::owner::Owner;
+use crate::packets::push_message;
 use crate::profiles::{place_of, state, switch};
-use crate::replying::Owner;
 use crate::rows::row_of;
 use ci_messages::{Body, CiView, ProfileId};
 use function_blocks::{Identity, Setup};
@@ -119,32 +119,25 @@ impl Responder {
         ensures replies { AddsPackets (replies_in self.old (told_of group view.now)) [] replies.new }
         ensures few { length replies.new ≤ 114 }
     {
-        let mut reply = ShortList::new();
-        let heard = self.hear_message(group, view, &mut reply);
-        push_reply(replies, group, reply.as_slice());
+        let (heard, reply) = self.hear_message(group, view);
+        if let Some(message) = reply {
+            push_message(replies, group, &message);
+        }
         heard
     }
 
-    /// The same, but writes the reply as a message from F0 to F7 into an empty list. It has no bytes where there is no reply,
-    /// and otherwise at most 344; `ci_messages::read` takes it. It goes out on the same group.
-    pub fn hear_message(
-        &mut self,
-        group: U4,
-        view: &CiView<'_>,
-        reply: &mut ShortList<u8, 512>,
-    ) -> Heard
-        requires view { IsView view.now }
-        requires empty { reply.old ≡ [] }
-        ensures heard { result ≡ heard_in self.old (told_of group view.now) }
+    /// The same, but gives the reply as a message, which goes out on the same group; `None` where there is no reply.
+    pub fn hear_message(&mut self, group: U4, view: &CiView<'_>) -> (Heard, Option<CiMessage>)
+        requires { IsView view.now }
+        ensures heard { result.0 ≡ heard_in self.old (told_of group view.now) }
         ensures after { self.new ≡ after self.old (told_of group view.now) }
-        ensures message { reply.new ≡ message_of_reply (reply_in self.old (told_of group view.now)) }
-        ensures reply { IsReply reply.new }
+        ensures reply { result.1 ≡ message_in self.old (told_of group view.now) }
     {
         let Some(number) = block_of(self.blocks.as_slice(), group) else {
-            return Heard::NoBlock;
+            return (Heard::NoBlock, None);
         };
         let Some(muid) = muid_of(self.blocks.as_slice(), number) else {
-            return Heard::Silent;
+            return (Heard::Silent, None);
         };
         let owner = Owner {
             group,
@@ -152,9 +145,9 @@ impl Responder {
             muid,
         };
         let heard = row_of(muid, self.is_named(&owner, view), view);
-        self.reply(&owner, heard, view, reply);
+        let reply = self.reply(&owner, heard, view);
         self.change(&owner, heard, view);
-        heard
+        (heard, reply)
     }
 
     // Whether a message switches a profile that the setup names at its place in the block.

@@ -66,6 +66,7 @@ fn push_text(replies: &mut Replies, kind: TextKind, block: u8, text: &[u8])
     for k in 0..packet_count(kind, text) {
         match cut_text(kind, block, text, k) {
             Some(packet) => replies.push(&packet),
+            // there is a packet for each number below the count
             None => unreachable!(),
         }
     }

@@ -47,6 +47,17 @@ impl Setup {
     ghost use Rattle.function_blocks.specs.Profiles.{IsProfile, profiles_are_distinct};
     ghost use Rattle.function_blocks.specs.Setups.{identity_of};
 
+    /// The function blocks by number, at most 32. No two active ones with MIDI-CI share a group, and no MUID appears twice.
+    pub fn blocks(&self) -> &[Block]
+        ensures value { result.now ≡ self.now.blocks }
+        ensures few { length result.now ≤ 32 }
+        ensures fits { All IsBlock result.now }
+        ensures apart { are_apart result.now ≡ true }
+        ensures distinct { are_distinct (muids_of result.now) ≡ true }
+    {
+        self.blocks.as_slice()
+    }
+
     /// The number of function blocks, at most 32. No two active ones with MIDI-CI share a group, and no MUID appears twice.
     pub fn block_count(&self) -> u8
         ensures value { result ≡ length self.now.blocks }
@@ -66,6 +77,17 @@ impl Setup {
         ensures few { length self.now.blocks ≤ 32 }
     {
         self.blocks.get(n as usize)
+    }
+
+    /// The profiles in the order of the setup, at most 64. No two have the same block, place and id. The block of each is one of the
+    /// setup's blocks whose `ci` isn't 0, and where its place names a group, that is one of the block's.
+    pub fn profiles(&self) -> &[Profile]
+        ensures value { result.now ≡ self.now.profiles }
+        ensures few { length result.now ≤ 64 }
+        ensures fits { All (IsProfile self.now.blocks) result.now }
+        ensures distinct { profiles_are_distinct result.now ≡ true }
+    {
+        self.profiles.as_slice()
     }
 
     /// The number of profiles, at most 64. No two have the same block, place and id.
@@ -114,6 +136,7 @@ impl Setup {
     {
         match str::from_utf8(self.endpoint.id.as_slice()) {
             Ok(id) => id,
+            // characters of ASCII are UTF-8
             Err(_) => unreachable!(),
         }
     }

@@ -4,15 +4,15 @@ use Rattle.ci_messages.specs.declared.view.CiFault.{CiFault}
 use Rattle.ci_messages.specs.Reading.{IsExclusive, ci_fault}
 use Rattle.ci_messages.specs.Writing.{message_bytes}
 use Rattle.ci_responder.specs.Replies.{IsMessage, payload_of}
-use Rattle.ci_responder.proofs.packets.put_message.Goals as goal
+use Rattle.ci_responder.proofs.message.CiMessage.new.Goals as goal
 
 -- what is only read without a fault has none
 no_fault : (found : Option CiFault) → ((fault : CiFault) → found ≡ Some fault → ⊥) → found ≡ None
 no_fault None never = refl
 no_fault (Some fault) never = absurd (never fault refl)
 
-pub returns-clause-message : goal.returns-clause-message
-returns-clause-message c =
+pub invariant_of-result : goal.invariant_of-result
+invariant_of-result c =
     let view = c.args.view.now in
     let few : length (message_bytes view) ≤ 344 = omega (arith, c.requires.fits, length-append (payload_of view) (0xF7 ∷ [])) in
     let fits : length (message_bytes view) ≤ 512 = omega (arith, few) in
