@@ -1,38 +1,20 @@
 #!/usr/bin/env bash
-# arm64.sh: what `make arm64` runs: builds the library for 64-bit ARM, proved for that target, in out/arm64, over the libraries that
-# `rt lib` has built; then, with a compiler for it and qemu-user, its examples and tests, and a program without a C library. Without the
+# arm64.sh: what `make arm64` runs: builds the library for 64-bit ARM, proved for that target, in out/arm64, over the libraries below it;
+# then, with a compiler for it and qemu-user, its examples and tests, and a program without a C library. Without the
 # kit it takes the proved archive that lies in out/arm64 already. A part whose tool is missing is skipped with a line.
 set -euo pipefail
 here=$(cd "$(dirname "$0")" && pwd)
 top=$(dirname "$here")
 out=$here/out/arm64
-kit=${KIT:-/opt/rattle}
 CC=${CC_ARM64:-aarch64-linux-gnu-gcc}
 proved=$out/liblarboardyuzu_c.a
 mkdir -p "$out"
 
-native=$top/crates/larboardyuzu_c/out/liblarboardyuzu_c.a
-if command -v rt >/dev/null; then
-    (cd "$top/crates/larboardyuzu_c" && rt lib)
-elif [ ! -f "$proved" ]; then
+if ! command -v rt >/dev/null && [ ! -f "$proved" ]; then
     echo "arm64: skipped, there is neither the kit nor $proved"
     exit 0
 fi
-if [ ! -f "$proved" ] || [ "$native" -nt "$proved" ]; then
-    # the words that rt gives to rattle, which alone takes another target
-    mapfile -t words < <(cd "$top/crates/larboardyuzu_c" && python3 - "$kit" <<'P'
-import contextlib, io, os, sys
-sys.path.insert(0, f"{sys.argv[1]}/bin")
-import rtlib
-with contextlib.redirect_stdout(io.StringIO()):
-    crate = rtlib.Crate(os.getcwd(), rtlib.root_above(os.getcwd()), {})
-    words = crate.words([])
-print("\n".join(words))
-P
-)
-    (cd "$top/crates/larboardyuzu_c" && "$kit/bin/rattle" build "${words[@]}" --target aarch64-unknown-linux-gnu \
-        --toolchain "$kit/toolchain" -o "$proved")
-fi
+"$here/archive.sh" aarch64-unknown-linux-gnu "$proved"
 command -v "$CC" >/dev/null || { echo "arm64: $proved is built; not linked, there is no $CC"; exit 0; }
 
 ar=${CC%gcc}ar

@@ -4,7 +4,7 @@
 set -eu
 here=$(cd "$(dirname "$0")" && pwd)
 for tool in make cc ar; do
-    command -v $tool >/dev/null 2>&1 || { echo "C library: skipped, there is no $tool"; exit 0; }
+    command -v $tool >/dev/null 2>&1 || { echo "library for C: skipped, there is no $tool"; exit 0; }
 done
 make -s -C "$here" check
 if command -v "${CC_ARM64:-aarch64-linux-gnu-gcc}" >/dev/null 2>&1; then
@@ -12,4 +12,4 @@ if command -v "${CC_ARM64:-aarch64-linux-gnu-gcc}" >/dev/null 2>&1; then
 else
     echo "arm64: skipped, there is no ${CC_ARM64:-aarch64-linux-gnu-gcc}"
 fi
-echo "C library: ok"
+echo "library for C: ok"

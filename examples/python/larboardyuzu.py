@@ -1,5 +1,5 @@
 #!/usr/bin/env python3
-"""larboardyuzu.py: the C library from Python, in one file over ctypes. It loads liblarboardyuzu.so, or the file that the variable
+"""larboardyuzu.py: the library for C from Python, in one file over ctypes. It loads liblarboardyuzu.so, or the file that the variable
 LARBOARDYUZU of the environment names.
 
     with Down(room=1024) as down:
