@@ -1,5 +1,5 @@
 -- What is written behind what was written before.
-use Rattle.std.proofs.Common.{◌≡◌, ◌≤◌, ◌+◌, ℕ, ◌-◌, List, [], ◌++◌, length, take, drop, ap, sym, ◌∙◌, append_assoc, arith, length-append, length-drop}
+use Rattle.std.proofs.Common.{◌≡◌, ◌≤◌, ◌+◌, ℕ, ◌-◌, List, [], ◌∷◌, ◌++◌, refl, length, take, drop, ap, sym, ◌∙◌, append_assoc, arith, length-append, length-drop}
 use Rattle.std.proofs.Math.Seq.{take-append_seam, drop-append_seam}
 use Rattle.std.proofs.lemmas.List.{append-nil, drop-drop, drop_all, take-append-drop, take_all}
 use borrow.Rule.Slice.PartMut.{mid_of, put_mid}
@@ -31,6 +31,11 @@ pub rest_given_back : {X : Type 0} (n : ℕ) (buffer rest : List X) → put_mid 
 rest_given_back n buffer rest =
     let none : drop (length buffer - n) (drop n buffer) ≡ [] = drop_all (length buffer - n) (drop n buffer) (omega (arith, length-drop n buffer)) in
     ap (λ more. take n buffer ++ (rest ++ more)) none ∙ ap (λ more. take n buffer ++ more) (append-nil rest)
+
+-- nothing at the front leaves a buffer
+pub nothing_in_front : {X : Type 0} (front old : List X) → length front ≡ 0 → old ≡ with_front front old
+nothing_in_front [] old none = refl
+nothing_in_front (x ∷ front) old none = absurd (let e = none in cc)
 
 -- what is written keeps the size of a buffer, so it has as many places
 pub front_fits : {X : Type 0} (front old new : List X) → new ≡ with_front front old → length new ≡ length old → length front ≤ length old

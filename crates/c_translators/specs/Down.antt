@@ -12,7 +12,9 @@ use Rattle.voice_state.specs.declared.listed.BadStep.TheVariants as bad
 use Rattle.voice_state.specs.Listing.{is_carried, listed}
 use Rattle.voice_state.specs.Parts.{group_of}
 use Rattle.down_translator.specs.Held.{DownState, begun_at_in, down_after, limit_of, paired_of, refusal_in, whole_in}
+use Rattle.down_translator.specs.Lowered.{IsWholeStep}
 use Rattle.down_translator.specs.Step.{lane_of, piece_of}
+use Rattle.down_translator.specs.declared.lowered.LoweredMessage.{LoweredMessage}
 use Rattle.c_answers.specs.Fronts.{with_front}
 use Rattle.c_answers.specs.Numbers.{number_of}
 use Rattle.c_answers.specs.Refusals.{status_of_bad, status_of_step}
@@ -54,6 +56,11 @@ pub record IsAccepted (state : DownState) (offset : ℕ) (packet : Packet) (old 
 abbrev pub IsCarried : DownState → ℕ → Packet → List ℕ → Result Piece BadStep → List ℕ → Type 0
 IsCarried state offset packet old (Ok piece) new = IsAccepted state offset packet old piece new
 IsCarried state offset packet old (Err why) new = (refusal_in state packet ≡ Some why) × (new ≡ old)
+
+-- the answer with the piece that is written where it is done
+abbrev pub with_piece : {E : Type 0} → Result (Unit {0}) E → Piece → Result Piece E
+with_piece (Ok done) piece = Ok piece
+with_piece (Err why) piece = Err why
 
 -- ---- words
 
@@ -100,6 +107,10 @@ IsTakenOrRefused state offset words old (Ok piece) new after =
     (packet : Packet) × IsTaken state offset words packet piece after × (new ≡ with_front (piece_of state packet) old)
 IsTakenOrRefused state offset words old (Err why) new after =
     Refuses (is_whole words) (reason words) state words why after × (new ≡ old)
+
+-- these words are of a packet that one message carries
+abbrev pub IsLone : DownState → List ℕ → LoweredMessage → Type 0
+IsLone state words message = (packet : Packet) × Reads words packet × IsWholeStep state packet message
 
 -- ---- the call
 

@@ -1,5 +1,5 @@
 // The translator down, into a buffer of the caller's.
-ghost use Rattle.std.specs.Prelude.{◌≡◌, ◌≤◌, length, IfOk};
+ghost use Rattle.std.specs.Prelude.{◌≡◌, ◌≤◌, length, IfErr, IfOk, IfSome};
 ghost use Rattle.ump_grammar.specs.Ranges.{IsPacket};
 ghost use Rattle.down_translator.specs.Held.{down_after, new_down};
 ghost use Rattle.down_translator.specs.Lanes.{style_in};
@@ -7,7 +7,7 @@ ghost use Rattle.down_translator.specs.Lowered.{attribute_line, bytes_of};
 ghost use Rattle.c_answers.specs.Fronts.{with_front};
 ghost use Rattle.c_answers.specs.Numbers.{number_of};
 ghost use Rattle.c_translators.specs.Blocks.{AreTaken};
-ghost use Rattle.c_translators.specs.Down.{most_bytes, HasBegun, IsAnswered, IsCarried, IsRead, IsTakenOrRefused};
+ghost use Rattle.c_translators.specs.Down.{most_bytes, with_piece, HasBegun, IsAnswered, IsCarried, IsLone, IsRead, IsTakenOrRefused};
 ghost use Rattle.c_translators.specs.Pieces.{piece_shown};
 
 use crate::block::Block;
@@ -23,6 +23,9 @@ use ump_words::words::words_in_packet;
 /// The size of a buffer that takes any piece but that of an exclusive.
 const LEAST_SIZE: usize = 12;
 
+/// The message type of voice messages of the MIDI 2.0 protocol (M2-104-UM).
+const VOICE2: u32 = 4;
+
 // The packet that the words encode, or why none has them.
 #[inline(always)]
 fn read(words: &[u32], offset: u64) -> Result<EncodedPacket, Status>
@@ -37,6 +40,20 @@ fn read(words: &[u32], offset: u64) -> Result<EncodedPacket, Status>
     }
 }
 
+// Copies a message to the front of the buffer, and returns how many bytes it has. Most packets of an exclusive have none.
+#[tactic(auto, using(crate::proofs::FrontLaws::nothing_in_front))]
+#[inline(always)]
+fn put(message: &[u8], buffer: &mut [u8]) -> usize
+    requires { length message.now ≤ length buffer.old }
+    ensures count { result ≡ length message.now }
+    ensures written { buffer.new ≡ with_front message.now buffer.old }
+{
+    if message.is_empty() {
+        return 0;
+    }
+    put_bytes(message, buffer)
+}
+
 // Writes a message in a lane, and gives its piece with its line.
 #[inline(always)]
 fn write(message: &[u8], lane: U4, listed: Option<Listed>, buffer: &mut [u8]) -> Piece
@@ -44,7 +61,7 @@ fn write(message: &[u8], lane: U4, listed: Option<Listed>, buffer: &mut [u8]) ->
     ensures written { buffer.new ≡ with_front message.now buffer.old }
     ensures piece { result ≡ piece_shown (length message.now) lane listed }
 {
-    let count = put_bytes(message, buffer);
+    let count = put(message, buffer);
     Piece::of(count, lane, listed)
 }
 
@@ -64,74 +81,103 @@ fn attribute_line(offset: u64, message: &LoweredMessage) -> Option<Listed>
     }
 }
 
-// Writes a message that alone carries its packet.
+// Writes a message that alone carries its packet, and its piece.
 #[inline(always)]
-fn write_lone(message: &LoweredMessage, offset: u64, buffer: &mut [u8]) -> Piece
+fn write_lone(message: &LoweredMessage, offset: u64, buffer: &mut [u8], piece: &mut Piece)
     requires { 12 ≤ length buffer.old }
     ensures written { buffer.new ≡ with_front (bytes_of message.now) buffer.old }
-    ensures piece { result ≡ piece_shown (length (bytes_of message.now)) message.now.lane
+    ensures piece { piece.new ≡ piece_shown (length (bytes_of message.now)) message.now.lane
         (attribute_line offset message.now.lane message.now.has_attribute) }
 {
     let listed = attribute_line(offset, message);
     let (lane, status, first) = (message.lane, message.status, message.first.get());
     match message.second {
-        Some(second) => write(&[status, first, second.get()], lane, listed, buffer),
-        None => write(&[status, first], lane, listed, buffer),
+        Some(second) => *piece = write(&[status, first, second.get()], lane, listed, buffer),
+        None => *piece = write(&[status, first], lane, listed, buffer),
     }
 }
 
-// Takes a packet that isn't carried by one message.
-fn carry_other(
-    down: &mut Down,
-    packet: &EncodedPacket,
-    offset: u64,
-    buffer: &mut [u8],
-) -> Result<Piece, BadStep>
-    requires packet { IsPacket packet.now }
-    requires room { most_bytes down.old ≤ length buffer.old }
-    ensures answer { IsCarried down.old offset packet.now buffer.old result buffer.new }
-    ensures after { down.new ≡ down_after offset packet.now down.old }
-{
-    match down.encoded(packet, offset) {
-        Ok(carried) => {
-            let (lane, listed) = (carried.lane(), carried.listed());
-            return Ok(write(carried.piece, lane, listed, buffer));
-        }
-        Err(bad) => return Err(bad),
-    }
-}
-
-// Takes a packet.
+// Takes a packet, and writes its piece.
 #[inline(always)]
 fn carry(
     down: &mut Down,
     packet: &EncodedPacket,
     offset: u64,
     buffer: &mut [u8],
-) -> Result<Piece, BadStep>
+    piece: &mut Piece,
+) -> Result<(), BadStep>
     requires packet { IsPacket packet.now }
     requires room { most_bytes down.old ≤ length buffer.old }
-    ensures answer { IsCarried down.old offset packet.now buffer.old result buffer.new }
+    ensures answer { IsCarried down.old offset packet.now buffer.old (with_piece result piece.new) buffer.new }
     ensures after { down.new ≡ down_after offset packet.now down.old }
+    ensures kept { IfErr result (λ why. piece.new ≡ piece.old) }
 {
-    match down.lowered(packet) {
-        Some(message) => Ok(write_lone(&message, offset, buffer)),
-        None => carry_other(down, packet, offset, buffer),
+    match down.encoded(packet, offset) {
+        Ok(carried) => {
+            let (lane, listed) = (carried.lane(), carried.listed());
+            *piece = write(carried.piece, lane, listed, buffer);
+            return Ok(());
+        }
+        Err(bad) => return Err(bad),
     }
 }
 
-// Takes the packet that the words encode.
-#[inline(always)]
-fn take(down: &mut Down, words: &[u32], offset: u64, buffer: &mut [u8]) -> Result<Piece, Status>
+// Takes the packet that the words encode, whatever it is.
+#[inline(never)]
+fn take_any(
+    down: &mut Down,
+    words: &[u32],
+    offset: u64,
+    buffer: &mut [u8],
+    piece: &mut Piece,
+) -> Result<(), Status>
     requires { most_bytes down.old ≤ length buffer.old }
-    ensures { IsTakenOrRefused down.old offset words.now buffer.old result buffer.new down.new }
+    ensures answer { IsTakenOrRefused down.old offset words.now buffer.old (with_piece result piece.new) buffer.new down.new }
+    ensures kept { IfErr result (λ why. piece.new ≡ piece.old) }
 {
     match read(words, offset) {
-        Ok(packet) => match carry(down, &packet, offset, buffer) {
-            Ok(piece) => return Ok(piece),
+        Ok(packet) => match carry(down, &packet, offset, buffer, piece) {
+            Ok(()) => return Ok(()),
             Err(bad) => return Err(Status::of_step(bad)),
         },
         Err(why) => return Err(why),
+    }
+}
+
+// The message that alone carries the packet that the words encode, where one does.
+#[inline(always)]
+fn lone(down: &Down, words: &[u32]) -> Option<LoweredMessage>
+    ensures { IfSome result (λ message. IsLone down.now words.now message) }
+{
+    // Other types have no such message.
+    if words.is_empty() || words[0] >> 28 != VOICE2 {
+        return None;
+    }
+    match read(words, 0) {
+        Ok(packet) => down.lowered(&packet),
+        Err(_) => None,
+    }
+}
+
+// Takes the packet that the words encode, and writes its piece.
+#[inline(always)]
+fn take(
+    down: &mut Down,
+    words: &[u32],
+    offset: u64,
+    buffer: &mut [u8],
+    piece: &mut Piece,
+) -> Result<(), Status>
+    requires { most_bytes down.old ≤ length buffer.old }
+    ensures answer { IsTakenOrRefused down.old offset words.now buffer.old (with_piece result piece.new) buffer.new down.new }
+    ensures kept { IfErr result (λ why. piece.new ≡ piece.old) }
+{
+    match lone(down, words) {
+        Some(message) => {
+            write_lone(&message, offset, buffer, piece);
+            return Ok(());
+        }
+        None => return take_any(down, words, offset, buffer, piece),
     }
 }
 
@@ -161,9 +207,15 @@ fn take_all(
         if rest.len() < count {
             return Status::BadWordCount;
         }
-        match take(down, &rest[..count], next, &mut buffer[block.written..]) {
-            Ok(piece) => {
-                pieces[block.listed] = piece;
+        let piece = &mut pieces[block.listed];
+        match take(
+            down,
+            &rest[..count],
+            next,
+            &mut buffer[block.written..],
+            piece,
+        ) {
+            Ok(()) => {
                 block.taken += count;
                 block.written += piece.length;
                 block.listed += 1;
@@ -240,11 +292,8 @@ impl SizedDown {
             *piece = Piece::asking(self.most_written);
             return Status::SmallBuffer;
         }
-        match take(&mut self.down, words, offset, buffer) {
-            Ok(shown) => {
-                *piece = shown;
-                return Status::Done;
-            }
+        match take(&mut self.down, words, offset, buffer, piece) {
+            Ok(()) => return Status::Done,
             Err(why) => {
                 *piece = Piece::empty();
                 return why;

@@ -1,16 +1,10 @@
-use Rattle.std.proofs.Common.{refl}
-use Rattle.ump_grammar.specs.Reason.{reason}
-use Rattle.c_answers.specs.Whole.{is_whole}
-use Rattle.c_translators.proofs.DownLaws.{refuses_packet, refuses_words}
+use Rattle.std.proofs.Common.{sym}
+use Rattle.c_translators.proofs.LoneLaws.{lone_carried}
 use Rattle.c_translators.proofs.down.take.Goals as goal
 
-pub returns-in-Err-carry : goal.returns-in-Err-carry
-returns-in-Err-carry c = (
-  refuses_packet c.args.down.now c.args.offset c.args.words.now c.in-Ok.packet c.in-Err-carry.bad c.of_step.result c.carry.new.down c.in-Ok.ensures
-      c.in-Err-carry.ensures.answer.0 c.of_step.ensures c.carry.ensures.after,
-  c.in-Err-carry.ensures.answer.1,
-)
-
-pub returns-in-Err : goal.returns-in-Err
-returns-in-Err c =
-    (refuses_words (is_whole c.args.words.now) (reason c.args.words.now) c.args.down.now c.args.words.now c.in-Err.why c.in-Err.ensures, refl)
+pub returns-in-Some-clause-answer : goal.returns-in-Some-clause-answer
+returns-in-Some-clause-answer c =
+    let lone = c.in-Some.ensures in
+    let done = lone_carried c.args.down.now c.args.offset lone.0 c.in-Some.message c.args.buffer.now c.write_lone.new.buffer c.write_lone.new.piece lone.2
+    c.write_lone.ensures.written c.write_lone.ensures.piece in
+    (lone.0, record { read = lone.1; accepted = done.accepted; shown = done.shown; held = sym (lone.2.after c.args.offset) }, done.front)

@@ -10,5 +10,5 @@ pub returns-in-Ok : goal.returns-in-Ok
 returns-in-Ok c =
     let down = c.self.inside.down in
     let fits : most_bytes down ≤ length c.args.buffer.now = subst (λ n. n ≤ length c.args.buffer.now) c.self.invariant c.if-buffer-self.false in
-    let A : DownState → Type 0 = λ state. IsAnswered state c.args.offset c.args.words.now c.args.buffer.now (number_of statuses.Done) c.in-Ok.shown c.take.new.buffer c.take.new.down in
-    subst A c.self.view_is (answered down c.args.offset c.args.words.now c.args.buffer.now c.in-Ok.shown c.take.new.buffer c.take.new.down fits c.in-Ok.ensures)
+    let A : DownState → Type 0 = λ state. IsAnswered state c.args.offset c.args.words.now c.args.buffer.now (number_of statuses.Done) c.take.new.piece c.take.new.buffer c.take.new.down in
+    subst A c.self.view_is (answered down c.args.offset c.args.words.now c.args.buffer.now c.take.new.piece c.take.new.buffer c.take.new.down fits c.in-Ok.ensures.answer)
