@@ -19,4 +19,4 @@ IsEndpoint options = IsRoom options.room
 abbrev pub endpoint_by : List Row → Option Asked
 endpoint_by rows =
     option_and_then (λ setup. option_map (λ room. endpoint setup (record { order = word_order rows; room = room }))
-      (room_in (first_of (codes "room") rows))) (first_of (codes "setup") rows)
+    (room_in (first_of (codes "room") rows))) (first_of (codes "setup") rows)

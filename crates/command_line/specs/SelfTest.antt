@@ -29,4 +29,4 @@ IsSelfTest options = (options.seed < 2 ^ 32) × IsPacketCount options.packets
 abbrev pub self_test_by : List Row → Option Asked
 self_test_by rows =
     option_and_then (λ text. option_and_then (λ seed. option_map (λ packets. self_test (record { seed = seed; packets = packets }))
-      (packets_in (first_of (codes "packets") rows))) (seed_in text)) (first_of (codes "seed") rows)
+    (packets_in (first_of (codes "packets") rows))) (seed_in text)) (first_of (codes "seed") rows)

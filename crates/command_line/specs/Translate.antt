@@ -67,7 +67,7 @@ back_by rows =
 abbrev pub translate_by : List Row → Option Asked
 translate_by rows =
     option_and_then (λ direction.
-      if bytes_eq direction (codes "down") then down_by rows
-      else (if bytes_eq direction (codes "up") then up_by rows
-      else (if bytes_eq direction (codes "back") then back_by rows else None)))
+    if bytes_eq direction (codes "down") then down_by rows
+    else (if bytes_eq direction (codes "up") then up_by rows
+    else (if bytes_eq direction (codes "back") then back_by rows else None)))
     (first_of (codes "direction") rows)

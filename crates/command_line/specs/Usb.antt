@@ -28,12 +28,12 @@ abbrev pub pack_by : List Row → Option Asked
 pack_by rows =
     if is_given (codes "folder") rows then None
     else option_and_then (λ cable. option_map (λ room. usb_pack (record { cable = cable; room = room }))
-      (room_in (first_of (codes "room") rows))) (cable_in (first_of (codes "cable") rows))
+    (room_in (first_of (codes "room") rows))) (cable_in (first_of (codes "cable") rows))
 
 -- what the words of `usb` ask for, by the direction
 abbrev pub usb_by : List Row → Option Asked
 usb_by rows =
     option_and_then (λ direction.
-      if bytes_eq direction (codes "split") then split_by rows
-      else (if bytes_eq direction (codes "pack") then pack_by rows else None))
+    if bytes_eq direction (codes "split") then split_by rows
+    else (if bytes_eq direction (codes "pack") then pack_by rows else None))
     (first_of (codes "direction") rows)

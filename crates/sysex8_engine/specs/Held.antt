@@ -2,14 +2,12 @@
 use Rattle.std.specs.Prelude.{◌≡◌, ◌≤◌, ℕ, List, [], length, Option, None, Some}
 use Rattle.std.specs.Option.{option_map}
 use Rattle.ump_words.specs.declared.words.Framed.{Framed}
-use Rattle.ump_words.specs.declared.words.Order.TheVariants.{Big}
 use Rattle.ump_grammar.specs.declared.packet.Packet.{Packet}
 use Rattle.ump_grammar.specs.declared.packet.Packet.TheVariants as packet
 use Rattle.sysex8_streams.specs.declared.part8.Part8.{Part8}
 use Rattle.sysex8_streams.specs.History.{part_of}
 use Rattle.sysex8_streams.specs.Laws.{FedStreamsAreTheDefinition}
 use Rattle.sysex8_streams.specs.Table.{Table8, AreParts8, empty_table8, begun8_in, with_part8, table8_after}
-use Rattle.sysex8_engine.specs.Options.{Sysex8Options}
 use Rattle.sysex8_engine.specs.Parts.{part_in, parts_at}
 
 -- where the exclusive of each stream began
@@ -24,10 +22,6 @@ data8_after offset (Some part) table = with_part8 (part_of part offset) table
 abbrev pub packet_after : ℕ → Packet → Table8 → Table8
 packet_after offset (packet.Data8 group words) table = data8_after offset (part_in words) table
 packet_after offset _ table = table
-
--- the options of an engine: the order is that of its reader, and says nothing of the work
-abbrev pub options8 : Table8 → Sysex8Options
-options8 table = record { slots = length table.slots; order = Big; room = table.room }
 
 -- idle slots, at least one
 pub record IsReady8 (first : Table8) : Type 0 where

@@ -21,11 +21,11 @@ use Rattle.sysex8_streams.specs.Laws.{FedStreamsAreTheDefinition}
 use Rattle.sysex8_streams.specs.Reading.{is_left_out}
 use Rattle.sysex8_engine.specs.declared.lines.Kind8.TheVariants as kinds
 use Rattle.sysex8_engine.specs.Completed.{completed8, given_by, of_stream, piece_of, whole_in}
-use Rattle.sysex8_engine.specs.Held.{Holds8, options8}
+use Rattle.sysex8_engine.specs.Held.{Holds8}
 use Rattle.sysex8_engine.specs.Joining.{CompleteAlone, answer_puts, cut_lines, cut_puts, data8_puts, group_puts, joining, listed, open_put, packet_puts, piece_puts, whole_puts}
 use Rattle.sysex8_engine.specs.Lines.{kind_text, whole_text}
 use Rattle.sysex8_engine.specs.Listing.{answer_lines, below, data8_lines, lines_of, packet_lines}
-use Rattle.sysex8_engine.specs.Options.{Sysex8Options}
+use Rattle.sysex8_engine.specs.Options.{Sysex8Options, options8}
 use Rattle.sysex8_engine.specs.Parts.{open_since, part_in, parts_at, parts_of, spelled8}
 use Rattle.sysex8_streams.specs.Table.{Table8}
 

@@ -10,7 +10,7 @@ ghost use Rattle.packet_items.specs.Packets.{packet_cutting};
 ghost use Rattle.sysex8_streams.specs.Fed8.{fed8_view};
 ghost use Rattle.sysex8_streams.specs.History.{key_of};
 ghost use Rattle.sysex8_streams.specs.Table.{answer8_to};
-ghost use Rattle.sysex8_engine.specs.Held.{IsReady8, Holds8, data8_after, nothing_held, options8, packet_after, starts_in};
+ghost use Rattle.sysex8_engine.specs.Held.{IsReady8, Holds8, data8_after, nothing_held, packet_after, starts_in};
 ghost use Rattle.sysex8_engine.specs.Joining.{
   answer_puts,
   answer_refusal,
@@ -29,6 +29,7 @@ ghost use Rattle.sysex8_engine.specs.Joining.{
   whole_puts,
 };
 ghost use Rattle.sysex8_engine.specs.Lines.{kind_text, whole_text};
+ghost use Rattle.sysex8_engine.specs.Options.{options8};
 ghost use Rattle.sysex8_engine.specs.Parts.{part_in};
 ghost use Rattle.sysex8_engine.specs.JoiningMeans.{joins_mean, joins_named, open_named};
 

@@ -95,7 +95,8 @@ note refused ExclusiveTooLong at 16
 run translate up --group 3 --paired --little --room 6
 input B0 07 64 27 05 F0 01 02 03 04 05 06 F7
 leaves Done
-output 0007B043 124002C8 0007B043 B24016C8 02010633 06050403
+output 0007B043 124002C8 0007B043 B24016C8
+output 02010633 06050403
 
 # all options back: both halves come back, and the seventh byte of an exclusive is refused
 run translate back --group 15 --paired --room 6

@@ -1,9 +1,9 @@
-use Rattle.std.proofs.Common.{ap, length, subst}
+use Rattle.std.proofs.Common.{ap, subst}
 use Rattle.ump_words.specs.declared.words.Order.{Order}
 use Rattle.midi_pass.specs.PassEnds.{PassEnds}
 use Rattle.midi_pass.specs.Pass.{seen}
 use Rattle.packet_items.specs.Packets.{packet_cutting}
-use Rattle.sysex8_engine.specs.Options.{Sysex8Options}
+use Rattle.sysex8_engine.specs.Options.{Sysex8Options, options8}
 use Rattle.sysex8_engine.specs.Joining.{joining}
 use Rattle.sysex8_engine.proofs.joining.run_sysex8.Goals as goal
 
@@ -18,7 +18,7 @@ returns g c =
     (seen g.S.Source g.L.Lanes g.W.Sink g.N.Sink c.args.input.now c.args.lanes.now c.args.output.now c.args.notes.now)
     (seen g.S.Source g.L.Lanes g.W.Sink g.N.Sink c.drive.new.input c.drive.new.lanes c.drive.new.output c.drive.new.notes) c.drive.result in
     let inside = c.engine.inside in
-    let options : Sysex8Options = record { slots = length inside.streams.slots; order = inside.order; room = inside.streams.room } in
+    let options : Sysex8Options = record (options8 inside.streams) { order = inside.order } in
     let O : Order → Type 0 = λ order. ends order options in
     let E : Sysex8Options → Type 0 = λ options. ends options.order options in
     subst E c.engine.view_is (subst O (ap (λ words. words.how) c.new-reader.ensures) c.drive.ensures)

@@ -5,7 +5,8 @@ use Rattle.midi_pass.specs.Pass.{Takes}
 use Rattle.midi_pass.specs.StepLaws.{takes_steps}
 use Rattle.sysex8_streams.specs.History.{Answer8, answer8}
 use Rattle.sysex8_streams.specs.Table.{answer8_to}
-use Rattle.sysex8_engine.specs.Held.{options8, packet_after}
+use Rattle.sysex8_engine.specs.Held.{packet_after}
+use Rattle.sysex8_engine.specs.Options.{options8}
 use Rattle.sysex8_engine.specs.Joining.{joining, packet_puts, packet_refusal}
 use Rattle.sysex8_engine.specs.Parts.{parts_at, parts_of}
 use Rattle.sysex8_engine.proofs.PartLaws.{after-packet, parts-few, parts-then}
