@@ -1,9 +1,9 @@
 -- What a byte leaves, and how many words its packets have.
-use Rattle.std.proofs.Common.{ℕ, ◌≡◌, ◌≤◌, ◌*◌, ◌∙◌, refl, ap, sym, arith, subst, List, length, Some, Bool}
+use Rattle.std.proofs.Common.{ℕ, ◌≡◌, ◌≤◌, ◌*◌, ◌∙◌, refl, ap, sym, arith, subst, List, length, Option, Some, None, Bool, true}
 use Rattle.std.proofs.Math.Nat.{le-max_left, le-max_right}
 use Rattle.std.proofs.lemmas.Bool.{le-ltb}
 use Rattle.std.proofs.lemmas.Grind.{div_ceil_times}
-use Rattle.std.specs.Prelude.{max, Ok, Err}
+use Rattle.std.specs.Prelude.{is_none, max, ◌&&◌, Ok, Err}
 use Rattle.std.specs.Int.{div_ceil}
 use Rattle.voice_messages.specs.declared.voice1.Voice1.TheVariants as voice1
 use Rattle.midi1_bytes.specs.declared.step.AfterCut.TheVariants as after
@@ -16,14 +16,19 @@ use Rattle.voice_state.specs.Controllers.{Role, data_increment, data_decrement, 
 use Rattle.voice_state.specs.Refusal.{bad_role}
 use Rattle.voice_state.specs.UpRefusal.{refusal_of_step}
 use Rattle.voice_state.specs.declared.listed.BadStep.{BadStep}
+use Rattle.voice_state.specs.declared.listed.Listed.{Listed}
+use Rattle.up_translator.specs.ByteLines.{first_in, has_none, second_in}
+use Rattle.up_translator.specs.Raised.{packets_in}
 use Rattle.up_translator.specs.Held.{UpState, holding_behind_step, step_in, up_behind}
 use Rattle.up_translator.specs.Step.{Accepts, payload_by}
 use Rattle.up_translator.specs.declared.raised.Raised.{Raised}
 use Rattle.c_answers.specs.Within.{CompletesWithin, ExclusivesStayWithinTheirLimit, IsWithin}
+use Rattle.c_answers.specs.Lines.{listed_line, no_line}
 use Rattle.c_answers.specs.Numbers.{number_of}
+use Rattle.c_translators.specs.Encoded.{AreEncoded}
 use Rattle.c_answers.specs.Refusals.{status_of_step}
 use Rattle.c_answers.specs.declared.status.Status.TheVariants as statuses
-use Rattle.c_translators.specs.Up.{CutsWithin, IsAccepted, IsAnswered, RaisesWithin, after_refused, answers, most_words, nothing_raised}
+use Rattle.c_translators.specs.Up.{CutsWithin, HasRaised, IsAccepted, IsAnswered, RaisesWithin, after_refused, answers, asking, most_words, nothing_raised}
 use Rattle.c_translators.specs.declared.raised.RaisedWords.{RaisedWords}
 
 -- ---- the limit
@@ -97,6 +102,20 @@ pub refused_after : (up : UpState) (offset byte : ℕ) (why : BadStep) → refus
     up_behind up offset byte ≡ after_refused up offset byte
 refused_after up offset byte why is =
     ap (λ holding. record (after_refused up offset byte) { holding = holding }) (step_keeps (step_in up offset byte) up.holding why is)
+
+-- ---- what is shown
+
+no_lines : (first second : Option Listed) → is_none first && is_none second ≡ true → (no_line ≡ listed_line first) × (no_line ≡ listed_line second)
+no_lines None None none = (refl, refl)
+no_lines None (Some second) none = absurd (let e = none in cc)
+no_lines (Some first) second none = absurd (let e = none in cc)
+
+-- a byte that has no line
+pub shows_alone : (raised : Raised) (old new : List ℕ) (count : ℕ) → AreEncoded (packets_in raised) old count new → has_none raised.lines ≡ true →
+    HasRaised raised old (asking count) new
+shows_alone raised old new count encoded none =
+    let lines = no_lines (first_in raised.lines) (second_in raised.lines) none in
+    record { words = encoded; first = lines.0; second = lines.1 }
 
 -- ---- the call
 

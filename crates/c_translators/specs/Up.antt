@@ -58,6 +58,11 @@ abbrev pub IsTakenOrRefused : UpState → ℕ → ℕ → List ℕ → Result Ra
 IsTakenOrRefused up byte offset old (Ok shown) new = IsAccepted up byte offset old shown new
 IsTakenOrRefused up byte offset old (Err why) new = (refusal_of_step (step_in up offset byte) ≡ Some why) × (new ≡ old)
 
+-- the answer with what is written where it is done
+abbrev pub with_words : Result (Unit {0}) BadStep → RaisedWords → Result RaisedWords BadStep
+with_words (Ok done) shown = Ok shown
+with_words (Err why) shown = Err why
+
 -- what is held after a byte that is refused: what control changes have set stays
 abbrev pub after_refused : UpState → ℕ → ℕ → UpState
 after_refused up offset byte = record { group = up.group; parsing = (parse up.parsing offset byte).after; holding = up.holding }

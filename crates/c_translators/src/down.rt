@@ -108,7 +108,8 @@ fn carry(
 ) -> Result<(), BadStep>
     requires packet { IsPacket packet.now }
     requires room { most_bytes down.old ≤ length buffer.old }
-    ensures answer { IsCarried down.old offset packet.now buffer.old (with_piece result piece.new) buffer.new }
+    ensures answer { IsCarried down.old offset packet.now buffer.old
+        (with_piece result piece.new) buffer.new }
     ensures after { down.new ≡ down_after offset packet.now down.old }
     ensures kept { IfErr result (λ why. piece.new ≡ piece.old) }
 {
@@ -132,7 +133,8 @@ fn take_any(
     piece: &mut Piece,
 ) -> Result<(), Status>
     requires { most_bytes down.old ≤ length buffer.old }
-    ensures answer { IsTakenOrRefused down.old offset words.now buffer.old (with_piece result piece.new) buffer.new down.new }
+    ensures answer { IsTakenOrRefused down.old offset words.now buffer.old
+        (with_piece result piece.new) buffer.new down.new }
     ensures kept { IfErr result (λ why. piece.new ≡ piece.old) }
 {
     match read(words, offset) {
@@ -169,7 +171,8 @@ fn take(
     piece: &mut Piece,
 ) -> Result<(), Status>
     requires { most_bytes down.old ≤ length buffer.old }
-    ensures answer { IsTakenOrRefused down.old offset words.now buffer.old (with_piece result piece.new) buffer.new down.new }
+    ensures answer { IsTakenOrRefused down.old offset words.now buffer.old
+        (with_piece result piece.new) buffer.new down.new }
     ensures kept { IfErr result (λ why. piece.new ≡ piece.old) }
 {
     match lone(down, words) {

@@ -8,23 +8,24 @@ ghost use Rattle.ump_grammar.specs.Ranges.{IsPacket};
 ghost use Rattle.up_translator.specs.Held.{up_behind};
 ghost use Rattle.up_translator.specs.Raised.{packet_in, packets_in, payload_in, IsApart};
 ghost use Rattle.voice_state.specs.Raising.{exclusive_packets};
+ghost use Rattle.c_answers.specs.Lines.{listed_line};
 ghost use Rattle.c_answers.specs.Numbers.{number_of};
 ghost use Rattle.c_answers.specs.Within.{IsWithin};
 ghost use Rattle.c_answers.specs.Fronts.{with_front};
 ghost use Rattle.c_translators.specs.ByteBlocks.{line_list, lines_shown, AreTaken};
 ghost use Rattle.c_translators.specs.Encoded.{AreEncoded, IsEncoded};
-ghost use Rattle.c_translators.specs.Up.{HasEnd, IsAnswered, IsTakenOrRefused, RaisesWithin, most_words};
+ghost use Rattle.c_translators.specs.Up.{HasEnd, HasRaised, IsAnswered, IsTakenOrRefused, RaisesWithin, most_words, with_words};
 
 use crate::block::Block;
 use crate::exclusive::exclusive_words;
 use crate::raised::RaisedWords;
 use c_answers::laws::exclusives_stay_within_their_limit;
-use c_answers::{Line, Status, put_words};
+use c_answers::{Line, Status, kind_number, put_words};
 use midi_edge::{NoMemory, U4};
 use std::alloc::Global;
 use std::marker::Model;
 use sysex_groups::part;
-use up_translator::{BadStep, Raised, RaisedPacket, Up};
+use up_translator::{BadStep, Listed, Raised, RaisedPacket, Up};
 
 /// The size of a buffer that takes the words of any packet.
 const LEAST_SIZE: usize = 4;
@@ -102,6 +103,67 @@ fn take(up: &mut Up, byte: u8, offset: u64, words: &mut [u32]) -> Result<RaisedW
                 first: Line::listed(raised.lines.first()),
                 second: Line::listed(raised.lines.second()),
             });
+        }
+        Err(bad) => return Err(bad),
+    }
+}
+
+// Shows a line, if there is one.
+#[inline(always)]
+fn show_line(listed: Option<Listed>, line: &mut Line)
+    ensures { line.new ≡ listed_line listed }
+{
+    match listed {
+        None => {
+            line.offset = 0;
+            line.kind = 0;
+        }
+        Some(listed) => {
+            line.offset = listed.offset;
+            line.kind = kind_number(listed.kind);
+        }
+    }
+}
+
+// Writes the words of the packets of a byte, and shows how many they are and its lines. Most bytes have none of these.
+#[tactic(auto, using(crate::proofs::UpLaws::shows_alone))]
+#[inline(always)]
+fn show(raised: &Raised<'_>, words: &mut [u32], shown: &mut RaisedWords)
+    requires apart { IsApart raised.now }
+    requires packet { IfSome (packet_in raised.now) IsPacket }
+    requires data_bytes { IfSome (payload_in raised.now) AreData }
+    requires room { RaisesWithin raised.now (length words.old) }
+    ensures { HasRaised raised.now words.old shown.new words.new }
+{
+    let count = put_packets(raised, words);
+    if raised.lines.is_empty() {
+        *shown = RaisedWords::asking(count);
+        return;
+    }
+    shown.words = count;
+    show_line(raised.lines.first(), &mut shown.first);
+    show_line(raised.lines.second(), &mut shown.second);
+}
+
+// Takes one more byte, and writes what comes of it.
+#[inline(always)]
+fn take_one(
+    up: &mut Up,
+    byte: u8,
+    offset: u64,
+    words: &mut [u32],
+    shown: &mut RaisedWords,
+) -> Result<(), BadStep>
+    requires within { IsWithin up.old.parsing }
+    requires room { most_words up.old ≤ length words.old }
+    ensures answer { IsTakenOrRefused up.old byte offset words.old (with_words result shown.new) words.new }
+    ensures after { up.new ≡ up_behind up.old offset byte }
+{
+    exclusives_stay_within_their_limit();
+    match up.byte(byte, offset) {
+        Ok(raised) => {
+            show(&raised, words, shown);
+            return Ok(());
         }
         Err(bad) => return Err(bad),
     }
@@ -232,11 +294,8 @@ impl SizedUp {
             *raised = RaisedWords::asking(self.most_written);
             return Status::SmallBuffer;
         }
-        match take(&mut self.up, byte, offset, words) {
-            Ok(taken) => {
-                *raised = taken;
-                return Status::Done;
-            }
+        match take_one(&mut self.up, byte, offset, words, raised) {
+            Ok(()) => return Status::Done,
             Err(bad) => {
                 *raised = RaisedWords::nothing();
                 return Status::of_step(bad);

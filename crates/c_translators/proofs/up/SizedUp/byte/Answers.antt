@@ -12,11 +12,11 @@ invariant_of-self c =
     let up = c.self.inside.up in
     let stays = stays_within c.exclusives_stay_within_their_limit.ensures up c.args.offset c.args.byte c.self.invariant.1 in
     let I : UpState → Type 0 = λ state. (c.self.inside.most_written ≡ most_words state) × IsWithin state.parsing in
-    subst I (sym c.take.ensures.after) (c.self.invariant.0 ∙ sym stays.0, stays.1)
+    subst I (sym c.take_one.ensures.after) (c.self.invariant.0 ∙ sym stays.0, stays.1)
 
 pub returns-in-Ok : goal.returns-in-Ok
 returns-in-Ok c =
     let up = c.self.inside.up in
     let fits : most_words up ≤ length c.args.words.now = subst (λ n. n ≤ length c.args.words.now) c.self.invariant.0 c.if-words-self.false in
-    let A : UpState → Type 0 = λ state. IsAnswered state c.args.byte c.args.offset c.args.words.now (number_of statuses.Done) c.in-Ok.taken c.take.new.words c.take.new.up in
-    subst A c.self.view_is (answered up c.args.byte c.args.offset c.args.words.now c.in-Ok.taken c.take.new.words c.take.new.up fits c.in-Ok.ensures.answer c.take.ensures.after)
+    let A : UpState → Type 0 = λ state. IsAnswered state c.args.byte c.args.offset c.args.words.now (number_of statuses.Done) c.take_one.new.shown c.take_one.new.words c.take_one.new.up in
+    subst A c.self.view_is (answered up c.args.byte c.args.offset c.args.words.now c.take_one.new.shown c.take_one.new.words c.take_one.new.up fits c.in-Ok.ensures.answer c.take_one.ensures.after)
