@@ -28,10 +28,7 @@ fn a_block_ends_at_what_is_refused(rt: HostRuntime) -> Result<(), Fail> {
         &mut block,
     );
     assert_eq!(rt; rest.number(), Status::Done.number());
-    assert_eq!(rt;
-        &bytes[..6],
-        [0x90, 0x3C, 0x64, 0x91, 0x3E, 0x64].as_slice()
-    );
+    assert!(rt; bytes.starts_with(&[0x90, 0x3C, 0x64, 0x91, 0x3E, 0x64]));
     Ok(())
 }
 
@@ -61,11 +58,11 @@ const STREAM: [u8; 15] = [
 fn bytes_go_up(rt: HostRuntime) -> Result<(), Fail> {
     let mut up = SizedUp::new(rt.alloc(), U4::low_bits(0), 12, false)?;
     let (mut words, mut raised) = ([0u32; 4], RaisedWords::nothing());
-    let mut count = 0;
+    let mut count = 0usize;
     for (offset, byte) in STREAM.iter().enumerate() {
         let status = up.byte(*byte, offset as u64, &mut words, &mut raised);
         assert_eq!(rt; status.number(), 0);
-        count += raised.words;
+        count = count.saturating_add(raised.words);
     }
     assert_eq!(rt; count, 9);
     assert_eq!(rt; words, [0x30160102, 0x03040506, 0x30310700, 0]);
