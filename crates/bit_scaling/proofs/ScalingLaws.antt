@@ -41,7 +41,8 @@ pub low_7_16 : (velocity : ℕ) → velocity ≤ 64 → up velocity 7 16 ≡ vel
 unfolding up
 low_7_16 velocity h = grind (arith, cond_both)
 
-pub high_7_16 : (velocity : ℕ) → 64 < velocity → velocity < 128 → up velocity 7 16 ≡ velocity * 512 + (velocity - 64) * 8 + (velocity - 64) / 8
+pub high_7_16 : (velocity : ℕ) → 64 < velocity → velocity < 128
+    → up velocity 7 16 ≡ velocity * 512 + (velocity - 64) * 8 + (velocity - 64) / 8
 unfolding up
 high_7_16 velocity l h =
     cond_both (leb velocity 64) _ _ (λ u. u ≡ velocity * 512 + (velocity - 64) * 8 + (velocity - 64) / 8)
@@ -51,10 +52,13 @@ pub low_7_32 : (value : ℕ) → value ≤ 64 → up value 7 32 ≡ value * 2 ^ 
 unfolding up
 low_7_32 value h = grind (arith, cond_both)
 
-pub high_7_32 : (value : ℕ) → 64 < value → value < 128 → up value 7 32 ≡ value * 2 ^ 25 + (value - 64) * 2 ^ 19 + (value - 64) * 2 ^ 13 + (value - 64) * 2 ^ 7 + (value - 64) * 2 + (value - 64) / 32
+pub high_7_32 : (value : ℕ) → 64 < value → value < 128
+    → up value 7 32
+    ≡ value * 2 ^ 25 + (value - 64) * 2 ^ 19 + (value - 64) * 2 ^ 13 + (value - 64) * 2 ^ 7 + (value - 64) * 2 + (value - 64) / 32
 unfolding up
 high_7_32 value l h =
-    cond_both (leb value 64) _ _ (λ u. u ≡ value * 2 ^ 25 + (value - 64) * 2 ^ 19 + (value - 64) * 2 ^ 13 + (value - 64) * 2 ^ 7 + (value - 64) * 2 + (value - 64) / 32)
+    cond_both (leb value 64) _ _ (λ u. u
+    ≡ value * 2 ^ 25 + (value - 64) * 2 ^ 19 + (value - 64) * 2 ^ 13 + (value - 64) * 2 ^ 7 + (value - 64) * 2 + (value - 64) / 32)
     (λ e. absurd (omega (arith, leb-true value 64 e))) (λ e. omega arith)
 
 pub low_14_32 : (value : ℕ) → value ≤ 8192 → up value 14 32 ≡ value * 2 ^ 18

@@ -1,3 +1,4 @@
+-- For proofs alone: no contract of a public call rests on what stands here.
 -- Values that are raised and lowered again, and the ranges of both.
 use Rattle.std.specs.Prelude.{ℕ, ◌≡◌, ◌+◌, ◌*◌, ◌-◌, ◌/◌, ◌^◌, ◌<◌, ◌≤◌, min, max, nat_le}
 use Rattle.std.proofs.Common.{ap, sym, subst, ◌∙◌, lit<, lit≤}
@@ -11,21 +12,28 @@ whole : (value size : ℕ) → 0 < size → value * size / size ≡ value
 whole value size above = ap (λ n. n / size) (sym (add-zero (value * size))) ∙ div-mul-add value size 0 above
 
 whole_and_more : (value size repeated : ℕ) → size - 1 < size → (value * size + min (size - 1) repeated) / size ≡ value
-whole_and_more value size repeated below = div-mul-add value size (min (size - 1) repeated) (lt_of_le_of_lt (min-le_left (size - 1) repeated) below)
+whole_and_more value size repeated below =
+    div-mul-add value size (min (size - 1) repeated) (lt_of_le_of_lt (min-le_left (size - 1) repeated) below)
 
 -- ---- raised and lowered again
 
 pub down7_up : (value : ℕ) → value < 128 → down7 (up value 7 32) ≡ value
 unfolding up down7
-down7_up value h = cond_both (nat_le value 64) _ _ (λ u. u / 2 ^ 25 ≡ value) (λ e. whole value (2 ^ 25) (lit< tt)) (λ e. whole_and_more value (2 ^ 25) _ (lit< tt))
+down7_up value h =
+    cond_both (nat_le value 64) _ _ (λ u. u / 2 ^ 25 ≡ value) (λ e. whole value (2 ^ 25) (lit< tt))
+    (λ e. whole_and_more value (2 ^ 25) _ (lit< tt))
 
 pub down14_up : (value : ℕ) → value < 16384 → down14 (up value 14 32) ≡ value
 unfolding up down14
-down14_up value h = cond_both (nat_le value 8192) _ _ (λ u. u / 2 ^ 18 ≡ value) (λ e. whole value (2 ^ 18) (lit< tt)) (λ e. whole_and_more value (2 ^ 18) _ (lit< tt))
+down14_up value h =
+    cond_both (nat_le value 8192) _ _ (λ u. u / 2 ^ 18 ≡ value) (λ e. whole value (2 ^ 18) (lit< tt))
+    (λ e. whole_and_more value (2 ^ 18) _ (lit< tt))
 
 pub release_down_up : (velocity : ℕ) → velocity < 128 → release_down (up velocity 7 16) ≡ velocity
 unfolding up release_down
-release_down_up velocity h = cond_both (nat_le velocity 64) _ _ (λ u. u / 512 ≡ velocity) (λ e. whole velocity 512 (lit< tt)) (λ e. whole_and_more velocity 512 _ (lit< tt))
+release_down_up velocity h =
+    cond_both (nat_le velocity 64) _ _ (λ u. u / 512 ≡ velocity) (λ e. whole velocity 512 (lit< tt))
+    (λ e. whole_and_more velocity 512 _ (lit< tt))
 
 pub velocity_down_up : (velocity : ℕ) → 0 < velocity → velocity < 128 → velocity_down (up velocity 7 16) ≡ velocity
 unfolding release_down velocity_down
@@ -47,7 +55,8 @@ release_down_fits velocity h = (div-lt_iff_lt-mul {k = 512} {x = velocity} {y = 
 
 pub velocity_down_fits : (velocity : ℕ) → velocity < 2 ^ 16 → velocity_down velocity < 128
 unfolding release_down velocity_down
-velocity_down_fits velocity h = lt_of_le_of_lt (max-le {k = 127} (lit≤ tt) (le-pred_of_lt {m = 128} (release_down_fits velocity h))) (lit< tt)
+velocity_down_fits velocity h =
+    lt_of_le_of_lt (max-le {k = 127} (lit≤ tt) (le-pred_of_lt {m = 128} (release_down_fits velocity h))) (lit< tt)
 
 pub velocity_down_above_zero : (velocity : ℕ) → 0 < velocity_down velocity
 unfolding velocity_down

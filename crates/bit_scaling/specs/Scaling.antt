@@ -9,7 +9,8 @@ IsScaling narrow wide = ((narrow ≡ 7) × (wide ≡ 16)) ⊎ ((narrow ≡ 7) ×
 unfoldable pub up : ℕ → ℕ → ℕ → ℕ
 up value narrow wide =
     if nat_le value (2 ^ (narrow - 1)) then value * 2 ^ (wide - narrow)
-    else value * 2 ^ (wide - narrow) + min (2 ^ (wide - narrow) - 1) ((value - 2 ^ (narrow - 1)) * 2 ^ (wide - narrow) / (2 ^ (narrow - 1) - 1))
+    else value * 2 ^ (wide - narrow)
+    + min (2 ^ (wide - narrow) - 1) ((value - 2 ^ (narrow - 1)) * 2 ^ (wide - narrow) / (2 ^ (narrow - 1) - 1))
 
 -- a value of 32 bits as one of 7
 unfoldable pub down7 : ℕ → ℕ

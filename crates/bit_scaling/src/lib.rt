@@ -1,5 +1,5 @@
-//! Raises and lowers values between 7, 14, 16 and 32 bits: up by the min-centre-max scaling of M2-115-U, down by taking the upper
-//! bits.
+//! Raises and lowers values between 7, 14, 16 and 32 bits: up by the min-centre-max scaling of M2-115-U, down
+//! by taking the upper bits.
 #![tactic(auto)]
 
 pub mod laws;

@@ -1,13 +1,13 @@
-// Raising: a value up to the centre is shifted; above it, the bits below its highest are also repeated after it. The part of a
-// value above the centre is 0 up to the centre, so one sum covers both cases without a branch, which random values would
-// mispredict.
+// Raising: a value up to the centre is shifted; above it, the bits below its highest are also repeated after
+// it. The part of a value above the centre is 0 up to the centre, so one sum covers both cases without a
+// branch, which random values would mispredict.
 ghost use Rattle.std.specs.Prelude.{◌≡◌, ◌<◌, ◌^◌};
 ghost use Rattle.bit_scaling.specs.Scaling.{up, IsScaling};
 
 use voice_messages::{U7, U14};
 
-/// A value of `narrow` bits raised to `wide` bits (M2-115-U, min-centre-max scaling). The scalings are from 7 to 16, from 7 to 32
-/// and from 14 to 32 bits.
+/// A value of `narrow` bits raised to `wide` bits (M2-115-U, min-centre-max scaling). The scalings are from 7
+/// to 16, from 7 to 32 and from 14 to 32 bits.
 pub fn up(value: u32, narrow: u32, wide: u32) -> u32
     requires scaling { IsScaling narrow wide }
     requires fits { value < 2 ^ narrow }

@@ -1,14 +1,15 @@
 -- What a rehearsal keeps is what its course says; and what is held was told by a reply.
-use Rattle.std.proofs.Common.{◌≡◌, ◌⊎◌, inl, inr, ◌∙◌, ap, sym, refl, subst, ℕ, zero, suc, Bool, true, false, if◌then◌else◌, nat_lt, List, [], ◌∷◌, ◌++◌, length, map, slice_get, Option, Some, None, option_map}
+use Rattle.std.proofs.Common.{◌≡◌, ◌⊎◌, inl, inr, ◌∙◌, ap, sym, refl, subst, ℕ, zero, suc, Bool, true, false, if◌then◌else◌}
+use Rattle.std.proofs.Common.{nat_lt, List, [], ◌∷◌, ◌++◌, length, map, slice_get, Option, Some, None, option_map}
 use Rattle.std.specs.Prelude.{Ok, Err}
-use Rattle.ci_messages.specs.Places.{byte_at}
+use Rattle.ci_messages.specs.Positions.{byte_at}
 use Rattle.function_blocks.specs.Profiles.{profiles_are_distinct}
-use Rattle.function_blocks.specs.Setups.{Facts}
+use Rattle.function_blocks.specs.Setups.{SetupData}
 use Rattle.ci_responder.specs.Held.{heard_in, reply_in}
-use Rattle.ci_responder.specs.History.{held_at as responder_at, reply_at}
+use Rattle.ci_responder.specs.History.{responder_at, reply_at}
 use Rattle.ci_responder.specs.Laws.{HeldIsTheHistory}
-use Rattle.ci_responder.specs.Messages.{Told}
-use Rattle.ci_responder.specs.Read.{told_in}
+use Rattle.ci_responder.specs.Messages.{Received}
+use Rattle.ci_responder.specs.Read.{received_in}
 use Rattle.ci_responder.specs.Replies.{message_of_payload}
 use Rattle.ci_initiator.specs.declared.event.Event.{Event}
 use Rattle.ci_initiator.specs.declared.event.Event.TheVariants as event
@@ -22,10 +23,12 @@ use Rattle.ci_initiator.specs.declared.watch.Watch.{Watch}
 use Rattle.ci_initiator.specs.Asks.{asked, group_asked}
 use Rattle.ci_initiator.specs.Incoming.{Incoming, incoming_in}
 use Rattle.ci_initiator.specs.Rows.{is_gone, tells, tells_by}
-use Rattle.ci_initiator.specs.History.{Entry, entries, held_at, last_told, newer_or, noted_at, peer_at, since_gone}
+use Rattle.ci_initiator.specs.History.{Entry, entries, held_at, last_told, noted_at, peer_at, since_gone}
+use Rattle.ci_responder.specs.History.{newer_or}
 use Rattle.ci_initiator.specs.Stage.{Stage, ask_with, next_stage, note_with, reply_sent, reply_with, stage_after, with_reply}
 use Rattle.ci_initiator.specs.Watching.{HasIds, own_muid, watches_of_setup}
-use Rattle.ci_initiator.specs.Course.{Course, IsTold, Made, course_of, held_in, made, more, stage_of, was_on, with_ask, with_heard, with_told}
+use Rattle.ci_initiator.specs.Course.{Course, IsTold, Made, course_of, held_in, made, more}
+use Rattle.ci_initiator.specs.Course.{stage_of, was_on, with_ask, initiator_hears, responder_hears}
 use Rattle.ci_initiator.proofs.Histories.{after_follows, same-watches}
 use Rattle.ci_initiator.proofs.ListLaws.{IsIn, got-in, in-either, in-left, place-of}
 use Rattle.ci_initiator.proofs.Read.{address-again}
@@ -46,12 +49,13 @@ length-map : {X Y : Type 0} (f : X → Y) (xs : List X) → length (map f xs) �
 length-map f [] = refl
 length-map f (x ∷ xs) = ap suc (length-map f xs)
 
-sent-of : (group : ℕ) (past : List Told) (reply : Option (List ℕ)) → map (λ m. m.sent) (made group past reply) ≡ reply_sent group reply
+sent-of : (group : ℕ) (past : List Received) (reply : Option (List ℕ)) → map (λ m. m.sent) (made group past reply) ≡ reply_sent group reply
 sent-of group past None = refl
 sent-of group past (Some payload) = refl
 
-module _ (law : HeldIsTheHistory) (setup : Facts) (distinct : profiles_are_distinct setup.profiles ≡ true) (course : Course) where
-  asking : (group : ℕ) (bytes : Option (List ℕ)) → stage_after (stage_of setup course) (ask_with (stage_of setup course) group bytes) ≡ stage_of setup (with_ask course group bytes)
+module _ (law : HeldIsTheHistory) (setup : SetupData) (distinct : profiles_are_distinct setup.profiles ≡ true) (course : Course) where
+  asking : (group : ℕ) (bytes : Option (List ℕ))
+      → stage_after (stage_of setup course) (ask_with (stage_of setup course) group bytes) ≡ stage_of setup (with_ask course group bytes)
   asking group None = refl
   asking group (Some bytes) = by (nat_lt (length course.asks) 1024)
     where
@@ -63,52 +67,69 @@ module _ (law : HeldIsTheHistory) (setup : Facts) (distinct : profiles_are_disti
       by true = refl
       by false = refl
 
-  answering : (sent : Option Sent) → stage_after (stage_of setup course) (reply_with (stage_of setup course) sent) ≡ stage_of setup (with_told setup course sent)
+  answering : (sent : Option Sent)
+      → stage_after (stage_of setup course) (reply_with (stage_of setup course) sent) ≡ stage_of setup (responder_hears setup course sent)
   answering None = refl
   answering (Some sent) =
-      ap (λ n. stage_after (stage_of setup course) (if nat_lt n 1024 then Ok next else Err fault.TooMany)) (length-map (λ m. m.sent) course.replies)
+      ap (λ n. stage_after (stage_of setup course) (if nat_lt n 1024 then Ok next else Err fault.TooMany))
+      (length-map (λ m. m.sent) course.replies)
       ∙ by (nat_lt (length course.replies) 1024)
     where
-      told : Told
-      told = told_in sent.group sent.bytes
+      told : Received
+      told = received_in sent.group sent.bytes
 
       next : Outcome × Stage
-      next = (outcome.Heard (heard_in (responder_at setup 512 course.told) told), with_reply (stage_of setup course) sent)
+      next = (outcome.Heard (heard_in (responder_at setup 512 course.responder_heard) told), with_reply (stage_of setup course) sent)
 
       kept : List Sent
       kept = map (λ m. m.sent) course.replies
 
-      replies : kept ++ reply_sent sent.group (reply_in (responder_at setup 512 course.told) told)
-          ≡ map (λ m. m.sent) (course.replies ++ made told.group (told ∷ course.told) (reply_at setup 512 course.told told))
+      replies : kept ++ reply_sent sent.group (reply_in (responder_at setup 512 course.responder_heard) told)
+          ≡ map (λ m. m.sent)
+          (course.replies ++ made told.group (told ∷ course.responder_heard) (reply_at setup 512 course.responder_heard told))
       replies =
-          ap (λ r. kept ++ reply_sent sent.group r) (law.reply setup 512 course.told told)
-          ∙ ap (λ xs. kept ++ xs) (sym (sent-of told.group (told ∷ course.told) (reply_at setup 512 course.told told)))
-          ∙ sym (map-append (λ m. m.sent) course.replies (made told.group (told ∷ course.told) (reply_at setup 512 course.told told)))
+          ap (λ r. kept ++ reply_sent sent.group r) (law.reply setup 512 course.responder_heard told)
+          ∙ ap (λ xs. kept ++ xs)
+          (sym (sent-of told.group (told ∷ course.responder_heard) (reply_at setup 512 course.responder_heard told)))
+          ∙ sym (map-append (λ m. m.sent) course.replies
+          (made told.group (told ∷ course.responder_heard) (reply_at setup 512 course.responder_heard told)))
 
       longer : Course
       longer = record course {
-        told = told ∷ course.told;
-        replies = course.replies ++ made told.group (told ∷ course.told) (reply_at setup 512 course.told told);
+        responder_heard = told ∷ course.responder_heard;
+        replies = course.replies ++ made told.group (told ∷ course.responder_heard) (reply_at setup 512 course.responder_heard told);
       }
 
-      by : (b : Bool) → stage_after (stage_of setup course) (if b then Ok next else Err fault.TooMany) ≡ stage_of setup (if b then longer else course)
-      by true = (λ j. record (stage_of setup course) { responder = law.after setup 512 course.told told distinct j; replies = replies j })
+      by : (b : Bool)
+          → stage_after (stage_of setup course) (if b then Ok next else Err fault.TooMany) ≡ stage_of setup (if b then longer else course)
+      by true =
+          (λ j. record (stage_of setup course)
+          { responder = law.after setup 512 course.responder_heard told distinct j; replies = replies j })
       by false = refl
 
-  noting : (m : Option Made) → stage_after (stage_of setup course) (note_with (stage_of setup course) (option_map (λ m. m.sent) m)) ≡ stage_of setup (with_heard setup course m)
+  noting : (m : Option Made)
+      → stage_after (stage_of setup course) (note_with (stage_of setup course) (option_map (λ m. m.sent) m))
+      ≡ stage_of setup (initiator_hears setup course m)
   noting None = refl
   noting (Some m) = (λ j. record (stage_of setup course) {
-    initiator = after_follows (own_muid setup.blocks) (watches_of_setup setup) course.heard (incoming_in m.sent.group m.sent.bytes) j;
+    initiator =
+        after_follows (own_muid setup.blocks) (watches_of_setup setup) course.initiator_heard (incoming_in m.sent.group m.sent.bytes) j;
   })
 
-  pub more-follows : (event : Event) → stage_after (stage_of setup course) (next_stage (stage_of setup course) event) ≡ stage_of setup (more setup course event)
+  pub more-follows : (event : Event)
+      → stage_after (stage_of setup course) (next_stage (stage_of setup course) event) ≡ stage_of setup (more setup course event)
   more-follows (event.Ask what) =
-      ap (λ ws. stage_after (stage_of setup course) (ask_with (stage_of setup course) (group_asked ws what) (asked (own_muid setup.blocks) (peer_at (own_muid setup.blocks) (watches_of_setup setup) course.heard) ws what)))
-      (same-watches (held_at (own_muid setup.blocks) (watches_of_setup setup) course.heard) (watches_of_setup setup))
-      ∙ asking (group_asked (watches_of_setup setup) what) (asked (own_muid setup.blocks) (peer_at (own_muid setup.blocks) (watches_of_setup setup) course.heard) (watches_of_setup setup) what)
+      ap (λ ws. stage_after (stage_of setup course)
+      (ask_with (stage_of setup course) (group_asked ws what)
+      (asked (own_muid setup.blocks) (peer_at (own_muid setup.blocks) (watches_of_setup setup) course.initiator_heard) ws what)))
+      (same-watches (held_at (own_muid setup.blocks) (watches_of_setup setup) course.initiator_heard) (watches_of_setup setup))
+      ∙ asking (group_asked (watches_of_setup setup) what)
+      (asked (own_muid setup.blocks) (peer_at (own_muid setup.blocks) (watches_of_setup setup) course.initiator_heard)
+      (watches_of_setup setup) what)
   more-follows (event.ToResponder n) = answering (slice_get course.asks n)
   more-follows (event.ToInitiator n) =
-      ap (λ s. stage_after (stage_of setup course) (note_with (stage_of setup course) s)) (get-map (λ m. m.sent) course.replies n) ∙ noting (slice_get course.replies n)
+      ap (λ s. stage_after (stage_of setup course) (note_with (stage_of setup course) s)) (get-map (λ m. m.sent) course.replies n)
+      ∙ noting (slice_get course.replies n)
 
 -- ---- what is held
 
@@ -133,50 +154,54 @@ last-in muid watches watch on (d ∷ past) is = by (is_gone row) is (last-in mui
     before : List Entry
     before = since_gone (entries muid watches past)
 
-    newest : (o : Option Bool) → tells_by row d watch ≡ o → newer_or o (last_told watch before) ≡ Some on → Earlier → (e : Incoming) × IsIn e (d ∷ past) × (tells e watch ≡ Some on)
+    newest : (o : Option Bool) → tells_by row d watch ≡ o → newer_or o (last_told watch before) ≡ Some on → Earlier
+        → (e : Incoming) × IsIn e (d ∷ past) × (tells e watch ≡ Some on)
     newest None told is earlier = let rest = earlier is in (rest.0, inr rest.1, rest.2)
     newest (Some x) told is earlier = (d, inl refl, tells-of row d watch on (told ∙ is))
 
-    by : (b : Bool) → last_told watch (if b then [] else record { heard = d; noted = row } ∷ before) ≡ Some on → Earlier → (e : Incoming) × IsIn e (d ∷ past) × (tells e watch ≡ Some on)
+    by : (b : Bool) → last_told watch (if b then [] else record { heard = d; noted = row } ∷ before) ≡ Some on → Earlier
+        → (e : Incoming) × IsIn e (d ∷ past) × (tells e watch ≡ Some on)
     by true is earlier = absurd (no-some on is)
     by false is earlier = newest (tells_by row d watch) refl is earlier
 
 -- a reply was made to a message, after those before it
-record IsMade (setup : Facts) (reply : Made) : Type 0 where
-  past : List Told
+record IsMade (setup : SetupData) (reply : Made) : Type 0 where
+  past : List Received
   group : ℕ
   bytes : List ℕ
   payload : List ℕ
-  past_is : reply.past ≡ told_in group bytes ∷ past
-  replied : reply_at setup 512 past (told_in group bytes) ≡ Some payload
+  past_is : reply.past ≡ received_in group bytes ∷ past
+  replied : reply_at setup 512 past (received_in group bytes) ≡ Some payload
   sent_is : reply.sent ≡ record { group = group; bytes = message_of_payload payload }
 
 -- what was heard is a reply, and replies were made
-record Holds (setup : Facts) (course : Course) : Type 0 where
-  heard : (d : Incoming) → IsIn d course.heard → (r : Made) × IsIn r course.replies × (d ≡ incoming_in r.sent.group r.sent.bytes)
+record Holds (setup : SetupData) (course : Course) : Type 0 where
+  heard : (d : Incoming) → IsIn d course.initiator_heard → (r : Made) × IsIn r course.replies × (d ≡ incoming_in r.sent.group r.sent.bytes)
   replies : (r : Made) → IsIn r course.replies → IsMade setup r
 
-module _ (setup : Facts) (course : Course) (holds : Holds setup course) where
+module _ (setup : SetupData) (course : Course) (holds : Holds setup course) where
   after-ask : (group : ℕ) (bytes : Option (List ℕ)) → Holds setup (with_ask course group bytes)
   after-ask group None = holds
   after-ask group (Some bytes) = by (nat_lt (length course.asks) 1024)
     where
-      by : (b : Bool) → Holds setup (if b then record course { asks = course.asks ++ record { group = group; bytes = bytes } ∷ [] } else course)
+      by : (b : Bool)
+          → Holds setup (if b then record course { asks = course.asks ++ record { group = group; bytes = bytes } ∷ [] } else course)
       by true = record { heard = holds.heard; replies = holds.replies }
       by false = holds
 
-  after-told : (sent : Option Sent) → Holds setup (with_told setup course sent)
+  after-told : (sent : Option Sent) → Holds setup (responder_hears setup course sent)
   after-told None = holds
   after-told (Some sent) = by (nat_lt (length course.replies) 1024)
     where
-      told : Told
-      told = told_in sent.group sent.bytes
+      told : Received
+      told = received_in sent.group sent.bytes
 
-      new-made : (o : Option (List ℕ)) → reply_at setup 512 course.told told ≡ o → (r : Made) → IsIn r (made told.group (told ∷ course.told) o) → IsMade setup r
+      new-made : (o : Option (List ℕ)) → reply_at setup 512 course.responder_heard told ≡ o → (r : Made)
+          → IsIn r (made told.group (told ∷ course.responder_heard) o) → IsMade setup r
       new-made None is r none = elim none [ ]
       new-made (Some payload) is r (inr none) = elim none [ ]
       new-made (Some payload) is r (inl same) = record {
-        past = course.told;
+        past = course.responder_heard;
         group = sent.group;
         bytes = sent.bytes;
         payload = payload;
@@ -185,25 +210,31 @@ module _ (setup : Facts) (course : Course) (holds : Holds setup course) where
         sent_is = ap (λ m. m.sent) same;
       }
 
-      made-by : (r : Made) → IsIn r course.replies ⊎ IsIn r (made told.group (told ∷ course.told) (reply_at setup 512 course.told told)) → IsMade setup r
+      made-by : (r : Made)
+          → IsIn r course.replies
+          ⊎ IsIn r (made told.group (told ∷ course.responder_heard) (reply_at setup 512 course.responder_heard told))
+          → IsMade setup r
       made-by r (inl earlier) = holds.replies r earlier
-      made-by r (inr new) = new-made (reply_at setup 512 course.told told) refl r new
+      made-by r (inr new) = new-made (reply_at setup 512 course.responder_heard told) refl r new
 
       more-replies : List Made
-      more-replies = made told.group (told ∷ course.told) (reply_at setup 512 course.told told)
+      more-replies = made told.group (told ∷ course.responder_heard) (reply_at setup 512 course.responder_heard told)
 
-      by : (b : Bool) → Holds setup (if b then record course { told = told ∷ course.told; replies = course.replies ++ more-replies } else course)
+      by : (b : Bool)
+          → Holds setup (if b
+          then record course { responder_heard = told ∷ course.responder_heard; replies = course.replies ++ more-replies } else course)
       by true = record {
         heard = λ d is. let earlier = holds.heard d is in (earlier.0, in-left earlier.0 course.replies more-replies earlier.1, earlier.2);
         replies = λ r is. made-by r (in-either r course.replies more-replies is);
       }
       by false = holds
 
-  after-heard : (n : ℕ) (m : Option Made) → slice_get course.replies n ≡ m → Holds setup (with_heard setup course m)
+  after-heard : (n : ℕ) (m : Option Made) → slice_get course.replies n ≡ m → Holds setup (initiator_hears setup course m)
   after-heard n None is = holds
   after-heard n (Some m) is = record { heard = λ d within. by d within; replies = holds.replies }
     where
-      by : (d : Incoming) → IsIn d (incoming_in m.sent.group m.sent.bytes ∷ course.heard) → (r : Made) × IsIn r course.replies × (d ≡ incoming_in r.sent.group r.sent.bytes)
+      by : (d : Incoming) → IsIn d (incoming_in m.sent.group m.sent.bytes ∷ course.initiator_heard)
+          → (r : Made) × IsIn r course.replies × (d ≡ incoming_in r.sent.group r.sent.bytes)
       by d (inl same) = (m, got-in m course.replies n is, same)
       by d (inr earlier) = holds.heard d earlier
 
@@ -212,24 +243,28 @@ module _ (setup : Facts) (course : Course) (holds : Holds setup course) where
   after-event (event.ToResponder n) = after-told (slice_get course.asks n)
   after-event (event.ToInitiator n) = after-heard n (slice_get course.replies n) refl
 
-all-hold : (setup : Facts) (events : List Event) → Holds setup (course_of setup events)
+all-hold : (setup : SetupData) (events : List Event) → Holds setup (course_of setup events)
 all-hold setup [] = record { heard = λ d is. absurd is; replies = λ r is. absurd is }
 all-hold setup (event ∷ past) = after-event setup (course_of setup past) (all-hold setup past) event
 
-pub held-is-told : (setup : Facts) → profiles_are_distinct setup.profiles ≡ true → HasIds setup.profiles → (events : List Event) (watch : Watch) (on : Bool) →
+pub held-is-told : (setup : SetupData) → profiles_are_distinct setup.profiles ≡ true → HasIds setup.profiles
+    → (events : List Event) (watch : Watch) (on : Bool) →
     held_in setup (course_of setup events) watch ≡ Some on → IsTold setup (course_of setup events) watch on
 held-is-told setup distinct five events watch on held =
     let course : Course = course_of setup events in
     let holds : Holds setup course = all-hold setup events in
-    let last = last-in (own_muid setup.blocks) (watches_of_setup setup) watch on course.heard held in
+    let last = last-in (own_muid setup.blocks) (watches_of_setup setup) watch on course.initiator_heard held in
     let heard = holds.heard last.0 last.1 in
     let reply : Made = heard.0 in
     let is_made : IsMade setup reply = holds.replies reply heard.1 in
     let place = place-of reply course.replies heard.1 in
-    let told : tells (incoming_in reply.sent.group reply.sent.bytes) watch ≡ Some on = subst (λ d. tells d watch ≡ Some on) heard.2 last.2 in
-    let again : tells (incoming_in is_made.group (message_of_payload is_made.payload)) watch ≡ Some on = subst (λ s. tells (incoming_in s.group s.bytes) watch ≡ Some on) is_made.sent_is told in
-    let was : was_on setup (told_in is_made.group is_made.bytes ∷ is_made.past) watch ≡ Some on =
-    told-was setup distinct five is_made.past (told_in is_made.group is_made.bytes) (address-again (byte_at is_made.bytes 2)) watch on is_made.payload is_made.replied again in
+    let told : tells (incoming_in reply.sent.group reply.sent.bytes) watch ≡ Some on =
+    subst (λ d. tells d watch ≡ Some on) heard.2 last.2 in
+    let again : tells (incoming_in is_made.group (message_of_payload is_made.payload)) watch ≡ Some on =
+    subst (λ s. tells (incoming_in s.group s.bytes) watch ≡ Some on) is_made.sent_is told in
+    let was : was_on setup (received_in is_made.group is_made.bytes ∷ is_made.past) watch ≡ Some on =
+    told-was setup distinct five is_made.past (received_in is_made.group is_made.bytes) (address-again (byte_at is_made.bytes 2)) watch on
+    is_made.payload is_made.replied again in
     record {
       number = place.0;
       reply = reply;

@@ -1,7 +1,9 @@
 -- Items of lists.
-use Rattle.std.proofs.Common.{arith, ◌≡◌, ◌⊎◌, inl, inr, ◌<◌, ◌≤◌, ◌+◌, ◌∙◌, ap, sym, refl, ℕ, zero, suc, Bool, false, ◌||◌, List, [], ◌∷◌, ◌++◌, length, map, take, drop, slice_set, slice_get, slice_index, slice_index_or, Some, None, unwrap_or, ◌*◌, ◌/◌, not, cond, nat_lt}
+use Rattle.std.proofs.Common.{arith, ◌≡◌, ◌⊎◌, inl, inr, ◌<◌, ◌≤◌, ◌+◌, ◌∙◌, ap, sym, refl, ℕ, zero, suc, Bool}
+use Rattle.std.proofs.Common.{false, ◌||◌, List, [], ◌∷◌, ◌++◌, length, map, take, drop, slice_set, slice_get}
+use Rattle.std.proofs.Common.{slice_index, slice_index_or, Some, None, unwrap_or, ◌*◌, ◌/◌, not, cond, nat_lt}
 use Rattle.std.specs.List.{position, position_or_len}
-use Rattle.ci_messages.specs.Places.{part_at}
+use Rattle.ci_messages.specs.Positions.{part_at}
 use Rattle.std.proofs.lemmas.List.{length-drop}
 use Rattle.std.specs.Str.{bytes_eq}
 use Rattle.ci_initiator.specs.Incoming.{lists}
@@ -19,7 +21,8 @@ module _ {X : Type 0} (change : X → X) where
   next-is (x ∷ xs) zero d within = refl
   next-is (x ∷ xs) (suc k) d within = next-is xs k d (omega (arith, within))
 
-  pub one-more : (xs : List X) (k : ℕ) (d : X) → k < length xs → slice_set (first-changed k xs) k (change (slice_index_or xs k d)) ≡ first-changed (suc k) xs
+  pub one-more : (xs : List X) (k : ℕ) (d : X) → k < length xs
+      → slice_set (first-changed k xs) k (change (slice_index_or xs k d)) ≡ first-changed (suc k) xs
   one-more [] k d within = absurd (omega (arith, within))
   one-more (x ∷ xs) zero d within = refl
   one-more (x ∷ xs) (suc k) d within = ap (λ rest. change x ∷ rest) (one-more xs k d (omega (arith, within)))
@@ -113,7 +116,8 @@ drop-more (suc n) (x ∷ xs) =
     drop-more n xs ∙ ap (λ m. drop m (x ∷ xs)) (sym one)
 
 -- the id at place k, and those after it
-pub lists-at : (id ids : List ℕ) (k : ℕ) → k < length ids / 5 → lists id (drop (5 * k) ids) ≡ (bytes_eq (part_at ids (5 * k) 5) id || lists id (drop (5 * (k + 1)) ids))
+pub lists-at : (id ids : List ℕ) (k : ℕ) → k < length ids / 5
+    → lists id (drop (5 * k) ids) ≡ (bytes_eq (part_at ids (5 * k) 5) id || lists id (drop (5 * (k + 1)) ids))
 lists-at id ids k within =
     let enough : 5 ≤ length (drop (5 * k) ids) = omega (arith, within, length-drop (5 * k) ids) in
     let next : 5 * k + 5 ≡ 5 * (k + 1) = omega arith in

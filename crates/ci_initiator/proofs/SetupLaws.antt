@@ -1,5 +1,7 @@
 -- What is taken from a setup.
-use Rattle.std.proofs.Common.{arith, ◌≡◌, ◌⊎◌, inl, inr, ◌<◌, ◌≤◌, ◌+◌, ◌-◌, ◌∙◌, ap, sym, refl, subst, ℕ, zero, suc, Bool, true, false, not, if◌then◌else◌, ◌==◌, ◌&&◌, ◌||◌, List, [], ◌∷◌, ◌++◌, length, length-append, nat_lt, ◌*◌, take, drop, slice_get, Option, Some, None, unwrap_or, true≢false}
+use Rattle.std.proofs.Common.{arith, ◌≡◌, ◌⊎◌, inl, inr, ◌<◌, ◌≤◌, ◌+◌, ◌-◌, ◌∙◌, ap, sym, refl, subst, ℕ, zero, suc, Bool}
+use Rattle.std.proofs.Common.{true, false, not, if◌then◌else◌, ◌==◌, ◌&&◌, ◌||◌, List, [], ◌∷◌, ◌++◌, length}
+use Rattle.std.proofs.Common.{length-append, nat_lt, ◌*◌, take, drop, slice_get, Option, Some, None, unwrap_or, true≢false}
 use Rattle.std.proofs.lemmas.Bool.{eqb-true, eq-eqb, ltb-true}
 use Rattle.std.proofs.lemmas.Bool.Decides.{nat_tests}
 use Rattle.std.proofs.lemmas.List.Elements.{All-head, All-tail}
@@ -14,20 +16,14 @@ use Rattle.function_blocks.specs.Blocks.{IsBlock, muids_of}
 use Rattle.function_blocks.specs.Profiles.{is_same_profile, profiles_are_distinct, same_place}
 use Rattle.ci_responder.specs.SameKeys.{left, right}
 use Rattle.ci_initiator.specs.Known.{are_different, same_watch}
-use Rattle.ci_initiator.specs.Watching.{IsLeastUnnamed, first_unnamed, has_ci_at, is_named, names_muid, own_muid, watch_at, watch_where, watched_block}
+use Rattle.ci_initiator.specs.Watching.{IsLeastUnnamed, first_unnamed, has_ci_at, is_named}
+use Rattle.ci_initiator.specs.Watching.{names_muid, own_muid, watch_at, watch_where, watched_block}
 
 -- ---- items by their places
 
 or-true : (a b : Bool) → b ≡ true → (a || b) ≡ true
 or-true true b is = refl
 or-true false b is = is
-
-pub any-at : {X : Type 0} (p : X → Bool) (xs : List X) (n : ℕ) (x : X) → slice_get xs n ≡ Some x → p x ≡ true → list_any p xs ≡ true
-any-at p [] n x is passes = let e : None ≡ Some x = is in cc
-any-at p (y ∷ ys) zero x is passes =
-    let same : y ≡ x = ap (λ o. unwrap_or o x) is in
-    ap (λ b. b || list_any p ys) (ap p same ∙ passes)
-any-at p (y ∷ ys) (suc n) x is passes = or-true (p y) (list_any p ys) (any-at p ys n x is passes)
 
 any-append : {X : Type 0} (p : X → Bool) (xs ys : List X) → list_any p (xs ++ ys) ≡ (list_any p xs || list_any p ys)
 any-append p [] ys = refl
@@ -42,16 +38,6 @@ take-next [] n x is = let e : None ≡ Some x = is in cc
 take-next (y ∷ ys) zero x is = ap (λ o. unwrap_or o x ∷ []) is
 take-next (y ∷ ys) (suc n) x is = ap (λ zs. y ∷ zs) (take-next ys n x is)
 
-pub none-more : {X : Type 0} (p : X → Bool) (xs : List X) (n : ℕ) (x : X) → slice_get xs n ≡ Some x → list_any p (take n xs) ≡ false → p x ≡ false →
-    list_any p (take (suc n) xs) ≡ false
-none-more p xs n x is none not_it =
-    ap (list_any p) (take-next xs n x is) ∙ any-append p (take n xs) (x ∷ []) ∙ (λ j. none j || (not_it j || false))
-
-pub not-past : {X : Type 0} (n : ℕ) (xs : List X) → slice_get xs n ≡ None → n < length xs → ⊥
-not-past n [] e below = omega (arith, below)
-not-past zero (x ∷ xs) e below = let h : Some x ≡ None = e in cc
-not-past (suc n) (x ∷ xs) e below = not-past n xs e (omega (arith, below))
-
 drop-next : {X : Type 0} (xs : List X) (n : ℕ) (x : X) → slice_get xs n ≡ Some x → drop n xs ≡ x ∷ drop (suc n) xs
 drop-next [] n x is = let e : None ≡ Some x = is in cc
 drop-next (y ∷ ys) zero x is = ap (λ o. unwrap_or o x ∷ ys) is
@@ -65,12 +51,14 @@ take-all (x ∷ xs) (suc n) few = ap (λ ys. x ∷ ys) (take-all xs n (omega (ar
 
 -- ---- the watched block
 
-pub block-here : (blocks : List Block) (ps : List Profile) (n : ℕ) (p : Profile) → slice_get ps n ≡ Some p → has_ci_at blocks p.block ≡ true →
+pub block-here : (blocks : List Block) (ps : List Profile) (n : ℕ) (p : Profile) → slice_get ps n ≡ Some p
+    → has_ci_at blocks p.block ≡ true →
     watched_block blocks (drop n ps) ≡ Some p.block
 block-here blocks ps n p is has =
     ap (watched_block blocks) (drop-next ps n p is) ∙ ap (λ b. if b then Some p.block else watched_block blocks (drop (suc n) ps)) has
 
-pub block-later : (blocks : List Block) (ps : List Profile) (n : ℕ) (p : Profile) → slice_get ps n ≡ Some p → has_ci_at blocks p.block ≡ false →
+pub block-later : (blocks : List Block) (ps : List Profile) (n : ℕ) (p : Profile) → slice_get ps n ≡ Some p
+    → has_ci_at blocks p.block ≡ false →
     watched_block blocks (drop n ps) ≡ watched_block blocks (drop (suc n) ps)
 block-later blocks ps n p is has =
     ap (watched_block blocks) (drop-next ps n p is) ∙ ap (λ b. if b then Some p.block else watched_block blocks (drop (suc n) ps)) has
@@ -81,7 +69,8 @@ pub unnamed-here : (blocks : List Block) (k : ℕ) (tries : ℕ) → is_named bl
 unnamed-here blocks k zero named = refl
 unnamed-here blocks k (suc tries) named = ap (λ b. if b then first_unnamed blocks tries (k + 1 + 1) else k + 1) named
 
-pub named-here : (blocks : List Block) (tries k : ℕ) → k < tries → is_named blocks (k + 1) ≡ true → first_unnamed blocks (tries - k) (k + 1) ≡ first_unnamed blocks (tries - (k + 1)) (k + 1 + 1)
+pub named-here : (blocks : List Block) (tries k : ℕ) → k < tries → is_named blocks (k + 1) ≡ true
+    → first_unnamed blocks (tries - k) (k + 1) ≡ first_unnamed blocks (tries - (k + 1)) (k + 1 + 1)
 named-here blocks tries k within named =
     let one : tries - k ≡ suc (tries - (k + 1)) = omega (arith, within) in
     ap (λ t. first_unnamed blocks t (k + 1)) one ∙ ap (λ b. if b then first_unnamed blocks (tries - (k + 1)) (k + 1 + 1) else k + 1) named
@@ -103,7 +92,8 @@ flat-append f (x ∷ xs) y = ap (λ rest. f x ++ rest) (flat-append f xs y) ∙ 
 
 pub watches-more : (watched : Option ℕ) (first : ℕ) (ps : List Profile) (n : ℕ) (p : Profile) → slice_get ps n ≡ Some p →
     flat_map (watch_where watched first) (take (suc n) ps) ≡ flat_map (watch_where watched first) (take n ps) ++ watch_where watched first p
-watches-more watched first ps n p is = ap (flat_map (watch_where watched first)) (take-next ps n p is) ∙ flat-append (watch_where watched first) (take n ps) p
+watches-more watched first ps n p is =
+    ap (flat_map (watch_where watched first)) (take-next ps n p is) ∙ flat-append (watch_where watched first) (take n ps) p
 
 pub few-watches : (watched : Option ℕ) (first : ℕ) (ps : List Profile) → length (flat_map (watch_where watched first) ps) ≤ length ps
 few-watches None first [] = omega arith
@@ -121,7 +111,8 @@ both true b one other = other
 both false b one other = one
 
 -- the same watch is of the same profile
-same-places : (first : ℕ) (a b : Place) (one other : List ℕ) → same_watch (watch_at first a one) (watch_at first b other) ≡ true → (same_place a b && bytes_eq one other) ≡ true
+same-places : (first : ℕ) (a b : Place) (one other : List ℕ) → same_watch (watch_at first a one) (watch_at first b other) ≡ true
+    → (same_place a b && bytes_eq one other) ≡ true
 same-places first place.Function place.Function one other same = right (first == first) _ same
 same-places first (place.Group g) (place.Group h) one other same = both (g == h) _ (left (g == h) _ same) (right (g == h) _ same)
 same-places first (place.Channel g c) (place.Channel h d) one other same =
@@ -136,25 +127,34 @@ same-places first (place.Channel g c) (place.Group h) one other same = absurd (t
 
 -- another watch of the block is of another profile
 module _ (number first : ℕ) where
-  another : (p : Profile) (ps : List Profile) → p.block ≡ number → list_any (same_watch (watch_at first p.place p.id)) (flat_map (watch_where (Some number) first) ps) ≡ true →
+  another : (p : Profile) (ps : List Profile) → p.block ≡ number
+      → list_any (same_watch (watch_at first p.place p.id)) (flat_map (watch_where (Some number) first) ps) ≡ true →
       list_any (is_same_profile p) ps ≡ true
   another p [] of any = absurd (true≢false (sym any))
   another p (q ∷ qs) of any = by (q.block == number) refl any (another p qs of)
     where
       -- what holds of the other watches
       Later : Type 0
-      Later = list_any (same_watch (watch_at first p.place p.id)) (flat_map (watch_where (Some number) first) qs) ≡ true → list_any (is_same_profile p) qs ≡ true
+      Later =
+          list_any (same_watch (watch_at first p.place p.id)) (flat_map (watch_where (Some number) first) qs) ≡ true
+          → list_any (is_same_profile p) qs ≡ true
 
       here : (c : Bool) → q.block ≡ number → same_watch (watch_at first p.place p.id) (watch_at first q.place q.id) ≡ c →
-          (c || list_any (same_watch (watch_at first p.place p.id)) (flat_map (watch_where (Some number) first) qs)) ≡ true → Later → list_any (is_same_profile p) (q ∷ qs) ≡ true
+          (c || list_any (same_watch (watch_at first p.place p.id)) (flat_map (watch_where (Some number) first) qs)) ≡ true → Later
+          → list_any (is_same_profile p) (q ∷ qs) ≡ true
       here true at same any later =
-          let is : is_same_profile p q ≡ true = both (p.block == q.block) _ (eq-eqb p.block q.block (of ∙ sym at)) (same-places first p.place q.place p.id q.id same) in
+          let is : is_same_profile p q ≡ true =
+          both (p.block == q.block) _ (eq-eqb p.block q.block (of ∙ sym at)) (same-places first p.place q.place p.id q.id same) in
           ap (λ b. b || list_any (is_same_profile p) qs) is
       here false at same any later = or-true (is_same_profile p q) (list_any (is_same_profile p) qs) (later any)
 
-      by : (b : Bool) → (q.block == number) ≡ b → list_any (same_watch (watch_at first p.place p.id)) ((if b then watch_at first q.place q.id ∷ [] else []) ++ flat_map (watch_where (Some number) first) qs) ≡ true →
+      by : (b : Bool) → (q.block == number) ≡ b
+          → list_any (same_watch (watch_at first p.place p.id))
+          ((if b then watch_at first q.place q.id ∷ [] else []) ++ flat_map (watch_where (Some number) first) qs)
+          ≡ true →
           Later → list_any (is_same_profile p) (q ∷ qs) ≡ true
-      by true at any later = here (same_watch (watch_at first p.place p.id) (watch_at first q.place q.id)) (eqb-true q.block number at) refl any later
+      by true at any later =
+          here (same_watch (watch_at first p.place p.id) (watch_at first q.place q.id)) (eqb-true q.block number at) refl any later
       by false at any later = or-true (is_same_profile p q) (list_any (is_same_profile p) qs) (later any)
 
   not-is : (b : Bool) → not b ≡ true → b ≡ false
@@ -165,7 +165,8 @@ module _ (number first : ℕ) where
   is-not true never = absurd (never refl)
   is-not false never = refl
 
-  pub different : (ps : List Profile) → profiles_are_distinct ps ≡ true → are_different (flat_map (watch_where (Some number) first) ps) ≡ true
+  pub different : (ps : List Profile) → profiles_are_distinct ps ≡ true
+      → are_different (flat_map (watch_where (Some number) first) ps) ≡ true
   different [] distinct = refl
   different (p ∷ ps) distinct = by (p.block == number) refl (different ps (right _ _ distinct))
     where
@@ -174,14 +175,16 @@ module _ (number first : ℕ) where
       by false at rest = rest
       by true at rest =
           both (not (list_any (same_watch (watch_at first p.place p.id)) (flat_map (watch_where (Some number) first) ps))) _
-          (is-not _ (λ any. true≢false (sym (another p ps (eqb-true p.block number at) any) ∙ not-is (list_any (is_same_profile p) ps) (left _ _ distinct))))
+          (is-not _ (λ any. true≢false
+          (sym (another p ps (eqb-true p.block number at) any) ∙ not-is (list_any (is_same_profile p) ps) (left _ _ distinct))))
           rest
 
 none-watched : (first : ℕ) (ps : List Profile) → flat_map (watch_where None first) ps ≡ []
 none-watched first [] = refl
 none-watched first (p ∷ ps) = none-watched first ps
 
-pub all-different : (watched : Option ℕ) (first : ℕ) (ps : List Profile) → profiles_are_distinct ps ≡ true → are_different (flat_map (watch_where watched first) ps) ≡ true
+pub all-different : (watched : Option ℕ) (first : ℕ) (ps : List Profile) → profiles_are_distinct ps ≡ true
+    → are_different (flat_map (watch_where watched first) ps) ≡ true
 all-different None first ps distinct = ap are_different (none-watched first ps)
 all-different (Some number) first ps distinct = different number first ps distinct
 
@@ -245,8 +248,10 @@ abbrev Found : List Block → ℕ → ℕ → ℕ → Type 0
 Found blocks tries start r =
     ((n : ℕ) → start ≤ n → n < r → is_named blocks n ≡ true) × (start ≤ r) × ((is_named blocks r ≡ false) ⊎ (r ≡ tries + start))
 
-found-later : (blocks : List Block) (tries start r : ℕ) → is_named blocks start ≡ true → Found blocks tries (start + 1) r → Found blocks (suc tries) start r
-found-later blocks tries start r named found = ((λ n least below. from n (start == n) refl least below), omega (arith, found.1), last found.2)
+found-later : (blocks : List Block) (tries start r : ℕ) → is_named blocks start ≡ true → Found blocks tries (start + 1) r
+    → Found blocks (suc tries) start r
+found-later blocks tries start r named found =
+    ((λ n least below. from n (start == n) refl least below), omega (arith, found.1), last found.2)
   where
     from : (n : ℕ) (b : Bool) → (start == n) ≡ b → start ≤ n → n < r → is_named blocks n ≡ true
     from n true same least below = ap (is_named blocks) (sym (eqb-true start n same)) ∙ named
@@ -273,15 +278,22 @@ least-for blocks tries few =
     found-muid : ℕ
     found-muid = first_unnamed blocks tries 1
 
-    upto : (k : ℕ) (b : Bool) → (k == found-muid) ≡ b → is_named blocks found-muid ≡ true → 0 < k → k ≤ found-muid → is_named blocks k ≡ true
+    upto : (k : ℕ) (b : Bool) → (k == found-muid) ≡ b → is_named blocks found-muid ≡ true → 0 < k → k ≤ found-muid
+        → is_named blocks k ≡ true
     upto k true same named some within = ap (is_named blocks) (eqb-true k found-muid same) ∙ named
     upto k false other named some within = (found-from blocks tries 1).0 k (omega (arith, some)) (grind (arith, other, within))
 
-    by : (b : Bool) → is_named blocks found-muid ≡ b → (is_named blocks found-muid ≡ false) ⊎ (found-muid ≡ tries + 1) → is_named blocks found-muid ≡ false
+    by : (b : Bool) → is_named blocks found-muid ≡ b → (is_named blocks found-muid ≡ false) ⊎ (found-muid ≡ tries + 1)
+        → is_named blocks found-muid ≡ false
     by false is other = is
     by true is (inl unnamed) = unnamed
     by true is (inr all) =
-        absurd (omega (arith, few, all, among-few found-muid (muids_of blocks) (λ k some within. named-among blocks k (upto k (k == found-muid) refl is some within))))
+        absurd (omega (
+          arith,
+          few,
+          all,
+          among-few found-muid (muids_of blocks) (λ k some within. named-among blocks k (upto k (k == found-muid) refl is some within)),
+        ))
 
 pub least_unnamed : (blocks : List Block) → IsLeastUnnamed blocks (own_muid blocks)
 least_unnamed blocks =
@@ -308,9 +320,11 @@ length-flat (b ∷ bs) fit =
     let one : IsBlock b = All-head IsBlock b bs fit in
     omega (arith, length-append b.muids (muids_of bs), one.few_muids, length-flat bs (All-tail IsBlock b bs fit))
 
-pub least-of-setup : (blocks : List Block) (tries : ℕ) → All IsBlock blocks → tries ≡ 16 * length blocks → IsLeastUnnamed blocks (first_unnamed blocks tries 1)
+pub least-of-setup : (blocks : List Block) (tries : ℕ) → All IsBlock blocks → tries ≡ 16 * length blocks
+    → IsLeastUnnamed blocks (first_unnamed blocks tries 1)
 least-of-setup blocks tries fit all = least-for blocks tries (omega (arith, all, length-flat blocks fit))
 
-pub found-is-own : (blocks : List Block) (tries : ℕ) → All IsBlock blocks → tries ≡ 16 * length blocks → first_unnamed blocks tries 1 ≡ own_muid blocks
+pub found-is-own : (blocks : List Block) (tries : ℕ) → All IsBlock blocks → tries ≡ 16 * length blocks
+    → first_unnamed blocks tries 1 ≡ own_muid blocks
 found-is-own blocks tries fit all =
     least-once blocks (first_unnamed blocks tries 1) (own_muid blocks) (least-of-setup blocks tries fit all) (least_unnamed blocks)

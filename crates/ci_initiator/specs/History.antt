@@ -2,8 +2,9 @@
 use Rattle.std.specs.Prelude.{ℕ, Bool, if◌then◌else◌, List, [], ◌∷◌, Option, Some, None}
 use Rattle.ci_initiator.specs.declared.watch.Watch.{Watch}
 use Rattle.ci_initiator.specs.declared.noted.Noted.{Noted}
+use Rattle.ci_responder.specs.History.{newer_or}
 use Rattle.ci_initiator.specs.Incoming.{Incoming}
-use Rattle.ci_initiator.specs.Rows.{row_of, is_gone, is_peer, tells_by}
+use Rattle.ci_initiator.specs.Rows.{noted_row, is_gone, is_peer, tells_by}
 
 -- a message that was heard, and what was noted of it
 pub record Entry : Type 0 where
@@ -20,11 +21,6 @@ abbrev pub older_or : {A : Type 0} → Option A → Option A → Option A
 older_or (Some older) newer = Some older
 older_or None newer = newer
 
--- the newer of two, where it is there
-abbrev pub newer_or : {A : Type 0} → Option A → Option A → Option A
-newer_or (Some newer) older = Some newer
-newer_or None older = older
-
 -- the source of the first message that was noted as the peer's
 abbrev pub first_peer : List Entry → Option ℕ
 first_peer [] = None
@@ -40,7 +36,7 @@ module _ (muid : ℕ) (watches : List Watch) where
   abbrev pub entries : List Incoming → List Entry
   entries [] = []
   entries (heard ∷ past) =
-      record { heard = heard; noted = row_of muid (first_peer (since_gone (entries past))) watches heard }
+      record { heard = heard; noted = noted_row muid (first_peer (since_gone (entries past))) watches heard }
       ∷ entries past
 
   -- the peer: the source of the first message of a peer after the last one by which it was gone
@@ -49,7 +45,7 @@ module _ (muid : ℕ) (watches : List Watch) where
 
   -- what is noted of a message that comes after these
   abbrev pub noted_at : List Incoming → Incoming → Noted
-  noted_at past heard = row_of muid (peer_at past) watches heard
+  noted_at past heard = noted_row muid (peer_at past) watches heard
 
   -- what is held of a watch: what the last message says that told of it, unless the peer was gone after it
   abbrev pub held_at : List Incoming → Watch → Option Bool

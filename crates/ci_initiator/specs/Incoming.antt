@@ -8,18 +8,18 @@ use Rattle.ci_messages.specs.declared.view.Address.TheVariants as address
 use Rattle.ci_messages.specs.declared.view.Body.{Body}
 use Rattle.ci_messages.specs.declared.view.Body.TheVariants as body
 use Rattle.ci_messages.specs.declared.view.CiView.{CiView}
-use Rattle.ci_messages.specs.Places.{byte_at, number2_at, number4_at, part_at}
+use Rattle.ci_messages.specs.Positions.{byte_at, number2_at, number4_at, part_at}
 use Rattle.ci_messages.specs.Reading.{address_of, body_of, message_kind}
 
 -- what a message says
-pub data Said : Type 0 where
-  device : Said  -- a Reply to Discovery
-  invalidate : ℕ → Said  -- of a MUID
-  report : List ℕ → Bool → Said  -- a profile, by its id, is on or off
-  inventory : List ℕ → List ℕ → Said  -- the ids of the profiles of a place that are on, and of those that are off
-  other : Said
+pub data SaidToInitiator : Type 0 where
+  device : SaidToInitiator  -- a Reply to Discovery
+  invalidate : ℕ → SaidToInitiator  -- of a MUID
+  report : List ℕ → Bool → SaidToInitiator  -- a profile, by its id, is on or off
+  inventory : List ℕ → List ℕ → SaidToInitiator  -- the ids of the profiles of a place that are on, and of those that are off
+  other : SaidToInitiator
 
-abbrev pub said_in : Body → Said
+abbrev pub said_in : Body → SaidToInitiator
 said_in (body.DiscoveryReply manufacturer family model revision category size path block) = device
 said_in (body.Invalidate target) = invalidate target
 said_in (body.EnabledReport id channels) = report id.bytes true
@@ -33,7 +33,7 @@ pub record Incoming : Type 0 where
   pub address : Address
   pub source : ℕ
   pub destination : ℕ
-  pub said : Said
+  pub said : SaidToInitiator
 
 -- what a view tells, wherever the bytes are that it borrows
 abbrev pub incoming_of : ℕ → CiView → Incoming
@@ -50,7 +50,7 @@ abbrev pub ids_from : List ℕ → ℕ → List ℕ
 ids_from body at = part_at body (at + 2) (5 * number2_at body at)
 
 -- what a body of a kind says, by its bytes
-abbrev pub said_by : Kind → List ℕ → Said
+abbrev pub said_by : Kind → List ℕ → SaidToInitiator
 said_by kind.DiscoveryReply body = device
 said_by kind.Invalidate body = invalidate (number4_at body 0)
 said_by kind.EnabledReport body = report (part_at body 0 5) true

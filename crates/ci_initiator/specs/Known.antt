@@ -8,9 +8,10 @@ use Rattle.ci_initiator.specs.declared.watch.Watched.{Watched}
 use Rattle.ci_initiator.specs.declared.noted.Noted.{Noted}
 use Rattle.ci_initiator.specs.declared.noted.Noted.TheVariants as noted
 use Rattle.ci_initiator.specs.Incoming.{Incoming}
-use Rattle.ci_initiator.specs.Rows.{row_of, same_address, tells}
+use Rattle.ci_initiator.specs.Rows.{noted_row, same_address, tells}
 use Rattle.ci_initiator.specs.Asks.{asked}
-use Rattle.ci_initiator.specs.History.{held_at, newer_or, peer_at}
+use Rattle.ci_initiator.specs.History.{held_at, peer_at}
+use Rattle.ci_responder.specs.History.{newer_or}
 
 -- its own MUID, the peer's, and what it holds of each watch
 pub record Known : Type 0 where
@@ -28,7 +29,7 @@ abbrev pub watches_of : Known → List Watch
 watches_of known = map (λ watched. watched.watch) known.watched
 
 abbrev pub noted_in : Known → Incoming → Noted
-noted_in known heard = row_of known.muid known.peer (watches_of known) heard
+noted_in known heard = noted_row known.muid known.peer (watches_of known) heard
 
 -- what is held of a watch after a message that is noted so
 abbrev pub held_by : Noted → Incoming → Watched → Watched

@@ -2,7 +2,7 @@
 use Rattle.std.specs.Prelude.{◌≡◌, ℕ, Bool, true, List, ◌∷◌, slice_get, Some}
 use Rattle.function_blocks.specs.declared.setup.Block.{Block}
 use Rattle.function_blocks.specs.Profiles.{profiles_are_distinct}
-use Rattle.function_blocks.specs.Setups.{Facts, IsSetup}
+use Rattle.function_blocks.specs.Setups.{SetupData, IsSetup}
 use Rattle.function_blocks.specs.declared.setup.Profile.{Profile}
 use Rattle.ci_responder.specs.Keys.{key_of}
 use Rattle.ci_messages.specs.declared.view.CiView.{CiView}
@@ -27,7 +27,7 @@ pub record KnownIsTheHistory : Type 0 where
 -- What a rehearsal keeps after any events is what their course says.
 abbrev pub StageIsTheCourse : Type 0
 StageIsTheCourse =
-    (setup : Facts) → profiles_are_distinct setup.profiles ≡ true → (course : Course) (event : Event) →
+    (setup : SetupData) → profiles_are_distinct setup.profiles ≡ true → (course : Course) (event : Event) →
     stage_after (stage_of setup course) (next_stage (stage_of setup course) event)
     ≡ stage_of setup (more setup course event)
 
@@ -35,7 +35,7 @@ StageIsTheCourse =
 -- profile is on, and when that reply was made it was on; and likewise off.
 abbrev pub HeldIsTold : Type 0
 HeldIsTold =
-    (setup : Facts) → profiles_are_distinct setup.profiles ≡ true → HasIds setup.profiles →
+    (setup : SetupData) → profiles_are_distinct setup.profiles ≡ true → HasIds setup.profiles →
     (events : List Event) (watch : Watch) (on : Bool) →
     held_in setup (course_of setup events) watch ≡ Some on → IsTold setup (course_of setup events) watch on
 
@@ -46,7 +46,7 @@ OwnMuidIsTheLeast = (blocks : List Block) → IsLeastUnnamed blocks (own_muid bl
 -- The profile that a watch is of, by the block of its group, is one of the setup's.
 abbrev pub WatchesAreOfTheSetup : Type 0
 WatchesAreOfTheSetup =
-    (setup : Facts) → IsSetup setup → (k : ℕ) (watch : Watch) → slice_get (watches_of_setup setup) k ≡ Some watch →
+    (setup : SetupData) → IsSetup setup → (k : ℕ) (watch : Watch) → slice_get (watches_of_setup setup) k ≡ Some watch →
     (n : ℕ) × (profile : Profile) × (slice_get setup.profiles n ≡ Some profile)
     × (key_of_watch setup watch ≡ Some (key_of profile))
 

@@ -7,7 +7,7 @@ use Rattle.ci_responder.specs.Rows.{broadcast}
 use Rattle.ci_initiator.specs.declared.watch.Watch.{Watch}
 use Rattle.ci_initiator.specs.declared.noted.Noted.{Noted}
 use Rattle.ci_initiator.specs.declared.noted.Noted.TheVariants as noted
-use Rattle.ci_initiator.specs.Incoming.{Said, Incoming, device, invalidate, report, inventory, other, lists}
+use Rattle.ci_initiator.specs.Incoming.{SaidToInitiator, Incoming, device, invalidate, report, inventory, other, lists}
 
 abbrev pub same_address : Address → Address → Bool
 same_address (address.Channel channel) (address.Channel another) = channel == another
@@ -34,7 +34,7 @@ told_row None = noted.Other
 told_row (Some k) = noted.Told k
 
 -- the row of a message that is for the initiator, by the peer that is known
-abbrev pub row_of_said : Option ℕ → List Watch → Incoming → Said → Noted
+abbrev pub row_of_said : Option ℕ → List Watch → Incoming → SaidToInitiator → Noted
 row_of_said peer watches incoming device =
     if is_none peer || is_from peer incoming.source then noted.Peer else noted.Other
 row_of_said peer watches incoming (invalidate target) = if is_from peer target then noted.Gone else noted.Other
@@ -45,14 +45,14 @@ row_of_said peer watches incoming (inventory on off) =
 row_of_said peer watches incoming other = noted.Other
 
 -- the row of a message for the initiator of this MUID
-abbrev pub row_of : ℕ → Option ℕ → List Watch → Incoming → Noted
-row_of muid peer watches incoming =
+abbrev pub noted_row : ℕ → Option ℕ → List Watch → Incoming → Noted
+noted_row muid peer watches incoming =
     if incoming.source == muid then noted.Other
     else if not (incoming.destination == muid || incoming.destination == broadcast) then noted.Other
     else row_of_said peer watches incoming incoming.said
 
 -- what is said of a profile by its id
-abbrev pub state_told : List ℕ → Said → Option Bool
+abbrev pub state_told : List ℕ → SaidToInitiator → Option Bool
 state_told id (report another on) = if bytes_eq another id then Some on else None
 state_told id (inventory on off) = if lists id on then Some true else if lists id off then Some false else None
 state_told id _ = None

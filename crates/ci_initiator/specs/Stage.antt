@@ -1,11 +1,11 @@
 -- What a rehearsal keeps, and what one event does to it.
-use Rattle.std.specs.Prelude.{◌≡◌, ℕ, ◌-◌, ◌/◌, ◌%◌, ◌==◌, nat_lt, if◌then◌else◌, List, [], ◌∷◌, ◌++◌, length, slice_get, Option, Some, None, Result, Ok, Err}
-use Rattle.std.specs.List.{All}
-use Rattle.function_blocks.specs.Setups.{Facts}
+use Rattle.std.specs.Prelude.{◌≡◌, ℕ, ◌-◌, ◌/◌, ◌%◌, ◌==◌, nat_lt, if◌then◌else◌, List, [], ◌∷◌}
+use Rattle.std.specs.Prelude.{◌++◌, length, slice_get, Option, Some, None, Result, Ok, Err}
+use Rattle.function_blocks.specs.Setups.{SetupData}
 use Rattle.ci_responder.specs.Held.{Held, after as responder_after, heard_in, reply_in}
-use Rattle.ci_responder.specs.History.{held_at}
-use Rattle.ci_responder.specs.Read.{told_in}
-use Rattle.ci_responder.specs.Replies.{IsMessage, message_of_payload}
+use Rattle.ci_responder.specs.History.{responder_at}
+use Rattle.ci_responder.specs.Read.{received_in}
+use Rattle.ci_responder.specs.Replies.{message_of_payload}
 use Rattle.ci_initiator.specs.declared.ask.Ask.{Ask}
 use Rattle.ci_initiator.specs.declared.ask.Ask.TheVariants as ask
 use Rattle.ci_initiator.specs.declared.event.Event.{Event}
@@ -27,14 +27,11 @@ pub record Stage : Type 0 where
   pub asks : List Sent
   pub replies : List Sent
 
-abbrev pub IsSent : List Sent → Type 0
-IsSent messages = All (λ sent. IsMessage sent.bytes) messages
-
 -- a setup's rehearsal at its start; the responder takes exclusives of up to 512 bytes
-abbrev pub first_stage : Facts → Stage
+abbrev pub first_stage : SetupData → Stage
 first_stage setup = record {
   initiator = known_at (own_muid setup.blocks) (watches_of_setup setup) [];
-  responder = held_at setup 512 [];
+  responder = responder_at setup 512 [];
   asks = [];
   replies = [];
 }
@@ -72,14 +69,14 @@ reply_sent group (Some payload) = record { group = group; bytes = message_of_pay
 
 abbrev pub with_reply : Stage → Sent → Stage
 with_reply stage sent = record stage {
-  responder = responder_after stage.responder (told_in sent.group sent.bytes);
-  replies = stage.replies ++ reply_sent sent.group (reply_in stage.responder (told_in sent.group sent.bytes));
+  responder = responder_after stage.responder (received_in sent.group sent.bytes);
+  replies = stage.replies ++ reply_sent sent.group (reply_in stage.responder (received_in sent.group sent.bytes));
 }
 
 abbrev pub reply_with : Stage → Option Sent → Result (Told × Stage) EventFault
 reply_with stage None = Err fault.BadEvent
 reply_with stage (Some sent) =
-    if_few stage.replies (told.Heard (heard_in stage.responder (told_in sent.group sent.bytes)), with_reply stage sent)
+    if_few stage.replies (told.Heard (heard_in stage.responder (received_in sent.group sent.bytes)), with_reply stage sent)
 
 abbrev pub note_with : Stage → Option Sent → Result (Told × Stage) EventFault
 note_with stage None = Err fault.BadEvent

@@ -1,5 +1,6 @@
 -- What an initiator takes from a setup to rehearse with its responder.
-use Rattle.std.specs.Prelude.{◌≡◌, ℕ, ◌+◌, ◌<◌, ◌≤◌, ◌==◌, Bool, true, false, if◌then◌else◌, List, [], ◌∷◌, length, slice_get, Option, Some, None}
+use Rattle.std.specs.Prelude.{◌≡◌, ℕ, ◌+◌, ◌<◌, ◌≤◌, ◌==◌, Bool, true, false, if◌then◌else◌}
+use Rattle.std.specs.Prelude.{List, [], ◌∷◌, length, slice_get, Option, Some, None}
 use Rattle.std.proofs.Common.{zero, suc}
 use Rattle.std.specs.List.{All, flat_map, list_any}
 use Rattle.ci_messages.specs.declared.view.Address.TheVariants as address
@@ -8,7 +9,7 @@ use Rattle.function_blocks.specs.declared.setup.Place.{Place}
 use Rattle.function_blocks.specs.declared.setup.Place.TheVariants as place
 use Rattle.function_blocks.specs.declared.setup.Profile.{Profile}
 use Rattle.function_blocks.specs.Blocks.{has_ci, muids_of}
-use Rattle.function_blocks.specs.Setups.{Facts}
+use Rattle.function_blocks.specs.Setups.{SetupData}
 use Rattle.ci_initiator.specs.declared.watch.Watch.{Watch}
 
 -- a block of the setup names a MUID, whether it uses it or not
@@ -72,7 +73,7 @@ first_group blocks (Some number) = first_group_of (slice_get blocks number)
 abbrev pub watches_of_block : List Block → List Profile → Option ℕ → List Watch
 watches_of_block blocks profiles watched = flat_map (watch_where watched (first_group blocks watched)) profiles
 
-abbrev pub watches_of_setup : Facts → List Watch
+abbrev pub watches_of_setup : SetupData → List Watch
 watches_of_setup setup = watches_of_block setup.blocks setup.profiles (watched_block setup.blocks setup.profiles)
 
 -- ids of profiles have five bytes

@@ -1,12 +1,15 @@
 // The messages that ask (M2-101-UM).
-ghost use Rattle.std.specs.Prelude.{◌≡◌, ◌<◌, ◌^◌, [], length};
-ghost use Rattle.ci_responder.specs.Replies.{IsMessage};
-ghost use Rattle.ci_initiator.specs.Asks.{discovery, inquiry, set_off, set_on};
+ghost use Rattle.std.specs.Prelude.{◌≡◌, ◌<◌, ◌^◌};
+ghost use Rattle.ci_initiator.specs.Asks.{
+  discovery as discovery_of,
+  inquiry as inquiry_of,
+  set_off as set_off_of,
+  set_on as set_on_of,
+};
 
 use crate::watch::Watch;
 use ci_messages::{Address, BROADCAST, Body, CiView, PROFILE_CONFIGURATION};
-use ci_responder::put_message;
-use midi_edge::ShortList;
+use ci_responder::CiMessage;
 
 /// The version of the message format.
 const VERSION: u8 = 2;
@@ -14,96 +17,88 @@ const VERSION: u8 = 2;
 /// The most bytes of a System Exclusive message that is taken.
 const MOST_BYTES: u32 = 512;
 
-/// Writes Discovery into an empty list.
-pub(crate) fn put_discovery(muid: u32, into: &mut ShortList<u8, 512>)
-    requires muid { muid < 0x0FFFFF00 }
-    requires empty { into.old ≡ [] }
-    ensures bytes { into.new ≡ discovery muid }
-    ensures message { IsMessage into.new }
+/// Discovery.
+pub(crate) fn discovery(muid: u32) -> CiMessage
+    requires { muid < 0x0FFFFF00 }
+    ensures { result ≡ discovery_of muid }
 {
-    let view = CiView {
+    let body = Body::Discovery {
+        manufacturer: [0; 3],
+        family: [0; 2],
+        model: [0; 2],
+        revision: [0; 4],
+        category: PROFILE_CONFIGURATION,
+        size: MOST_BYTES,
+        path: 0,
+    };
+    CiMessage::new(&CiView {
         address: Address::Block,
-        sub: 0x70,
+        sub: body.sub(),
         version: VERSION,
         source: muid,
         destination: BROADCAST,
-        body: Body::Discovery {
-            manufacturer: [0; 3],
-            family: [0; 2],
-            model: [0; 2],
-            revision: [0; 4],
-            category: PROFILE_CONFIGURATION,
-            size: MOST_BYTES,
-            path: 0,
-        },
-    };
-    put_message(&view, into);
+        body,
+    })
 }
 
-/// Writes a Profile Inquiry into an empty list.
-pub(crate) fn put_inquiry(muid: u32, peer: u32, watch: &Watch, into: &mut ShortList<u8, 512>)
+/// A Profile Inquiry.
+pub(crate) fn inquiry(muid: u32, peer: u32, watch: &Watch) -> CiMessage
     requires muid { muid < 0x0FFFFF00 }
     requires peer { peer < 2 ^ 28 }
-    requires empty { into.old ≡ [] }
-    ensures bytes { into.new ≡ inquiry muid peer watch.now }
-    ensures message { IsMessage into.new }
+    ensures { result ≡ inquiry_of muid peer watch.now }
 {
     // tells that the channel of the address is below 16
     watch.address.channels();
-    let view = CiView {
+    let body = Body::ProfileInquiry;
+    CiMessage::new(&CiView {
         address: watch.address,
-        sub: 0x20,
+        sub: body.sub(),
         version: VERSION,
         source: muid,
         destination: peer,
-        body: Body::ProfileInquiry,
-    };
-    put_message(&view, into);
+        body,
+    })
 }
 
-/// Writes a Set Profile On into an empty list.
-pub(crate) fn put_set_on(muid: u32, peer: u32, watch: &Watch, into: &mut ShortList<u8, 512>)
+/// A Set Profile On.
+pub(crate) fn set_on(muid: u32, peer: u32, watch: &Watch) -> CiMessage
     requires muid { muid < 0x0FFFFF00 }
     requires peer { peer < 2 ^ 28 }
-    requires empty { into.old ≡ [] }
-    ensures bytes { into.new ≡ set_on muid peer watch.now }
-    ensures message { IsMessage into.new }
+    ensures { result ≡ set_on_of muid peer watch.now }
 {
     let id = watch.id;
     // tells that the id is five data bytes
     id.data_bytes();
     let channels = watch.address.channels();
-    let view = CiView {
+    let body = Body::SetOn { id, channels };
+    CiMessage::new(&CiView {
         address: watch.address,
-        sub: 0x22,
+        sub: body.sub(),
         version: VERSION,
         source: muid,
         destination: peer,
-        body: Body::SetOn { id, channels },
-    };
-    put_message(&view, into);
+        body,
+    })
 }
 
-/// Writes a Set Profile Off into an empty list.
-pub(crate) fn put_set_off(muid: u32, peer: u32, watch: &Watch, into: &mut ShortList<u8, 512>)
+/// A Set Profile Off.
+pub(crate) fn set_off(muid: u32, peer: u32, watch: &Watch) -> CiMessage
     requires muid { muid < 0x0FFFFF00 }
     requires peer { peer < 2 ^ 28 }
-    requires empty { into.old ≡ [] }
-    ensures bytes { into.new ≡ set_off muid peer watch.now }
-    ensures message { IsMessage into.new }
+    ensures { result ≡ set_off_of muid peer watch.now }
 {
     let id = watch.id;
     // tells that the id is five data bytes
     id.data_bytes();
     // tells that the channel of the address is below 16
     watch.address.channels();
-    let view = CiView {
+    let body = Body::SetOff { id };
+    CiMessage::new(&CiView {
         address: watch.address,
-        sub: 0x23,
+        sub: body.sub(),
         version: VERSION,
         source: muid,
         destination: peer,
-        body: Body::SetOff { id },
-    };
-    put_message(&view, into);
+        body,
+    })
 }

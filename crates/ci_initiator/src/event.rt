@@ -4,7 +4,8 @@ use crate::noted::Noted;
 use ci_responder::Heard;
 use thiserror::Error;
 
-/// What happens next in a rehearsal. A message is delivered by its number, as often and in whatever order the events say.
+/// What happens next in a rehearsal. A message is delivered by its
+/// number, as often and in whatever order the events say.
 #[derive(Clone, Copy, Debug, PartialEq, Eq)]
 pub enum Event {
     /// The initiator asks, and its message is kept as the next of its messages.

@@ -9,18 +9,20 @@ ghost use Rattle.ci_initiator.specs.Incoming.{incoming_of};
 ghost use Rattle.ci_initiator.specs.Known.{after, after_by, are_different, asked_by, known_at, noted_in, watches_of};
 
 use crate::ask::Ask;
-use crate::asking::{put_discovery, put_inquiry, put_set_off, put_set_on};
+use crate::asking::{discovery, inquiry, set_off, set_on};
 use crate::noted::Noted;
-use crate::rows::{hold, row_of};
+use crate::rows::{hold, noted_row};
 use crate::watch::{Watch, Watched};
 use ci_messages::CiView;
+use ci_responder::CiMessage;
 use midi_edge::{NoMemory, ShortList};
 use std::alloc::Global;
 use std::marker::Model;
 use voice_messages::U4;
 
-/// Asks a peer for its profiles, and holds what the peer tells of those that are watched (M2-101-UM, profile configuration). To a
-/// contract it is what it knows: its own MUID, the peer's, and what it holds of each watch.
+/// Asks a peer for its profiles, and holds what the peer tells of those that are watched (M2-101-UM, profile
+/// configuration). To a contract it is what it knows: its own MUID, the peer's, and what it holds of each
+/// watch.
 #[derive(Drop)]
 pub struct Initiator {
     pub(crate) muid: u32,
@@ -39,8 +41,9 @@ impl Model for Initiator {
 }
 
 impl Initiator {
-    /// An initiator with a MUID of its own, below 0FFFFF00, and at most 64 watches that are all different (`watches_differ`). At first
-    /// no peer is known, and nothing is held. Takes all memory that it ever takes; `NoMemory` where there isn't so much.
+    /// An initiator with a MUID of its own, below 0FFFFF00, and at most 64 watches that are all different
+    /// (`watches_differ`). At first no peer is known, and nothing is held. Takes all memory that it ever
+    /// takes; `NoMemory` where there isn't so much.
     pub fn new(alloc: Global, muid: u32, watches: &[Watch]) -> Result<Initiator, NoMemory>
         requires muid { muid < 0x0FFFFF00 }
         requires few { length watches.now ≤ 64 }
@@ -87,30 +90,42 @@ impl Initiator {
         Some((peer, watched.watch))
     }
 
-    /// Writes what is asked as a message from F0 to F7 into an empty list (M2-101-UM): Discovery to all at the function block, with
-    /// an identity of zeros, the category of profiles, 512 as the most bytes and the output path 0; the others to the peer at the
-    /// watch's address, Set Profile On with the count 1 for a channel and 0 otherwise. All are of version 02, and
-    /// `ci_messages::read` takes them. The watch must be there, and for all but Discovery a peer must be known: `can_ask` tells both.
+    /// What is asked, as a message (M2-101-UM): Discovery to all at the function block, with an identity of
+    /// zeros, the category of profiles, 512 as the most bytes and the output path 0; the others to the peer
+    /// at the watch's address, Set Profile On with the count 1 for a channel and 0 otherwise. All are of
+    /// version 02. `None` exactly where the watch isn't there, or, for all but Discovery, no peer is known.
+    pub fn asked(&self, what: Ask) -> Option<CiMessage>
+        ensures { result ≡ asked_by self.now what }
+    {
+        match what {
+            Ask::Discover => Some(discovery(self.muid)),
+            Ask::Inquire(k) => match self.peer_and_watch(k) {
+                Some((peer, watch)) => Some(inquiry(self.muid, peer, &watch)),
+                None => None,
+            },
+            Ask::On(k) => match self.peer_and_watch(k) {
+                Some((peer, watch)) => Some(set_on(self.muid, peer, &watch)),
+                None => None,
+            },
+            Ask::Off(k) => match self.peer_and_watch(k) {
+                Some((peer, watch)) => Some(set_off(self.muid, peer, &watch)),
+                None => None,
+            },
+        }
+    }
+
+    /// Writes what is asked, from F0 to F7, into an empty list; `ci_messages::read` takes it. The watch must
+    /// be there, and for all but Discovery a peer must be known: `can_ask` tells both.
     pub fn ask(&self, what: Ask, into: &mut ShortList<u8, 512>)
         requires asks { is_some (asked_by self.now what) ≡ true }
         requires empty { into.old ≡ [] }
         ensures bytes { asked_by self.now what ≡ Some into.new }
         ensures message { IsMessage into.new }
     {
-        match what {
-            Ask::Discover => put_discovery(self.muid, into),
-            Ask::Inquire(k) => match self.peer_and_watch(k) {
-                Some((peer, watch)) => put_inquiry(self.muid, peer, &watch, into),
-                None => unreachable!(),
-            },
-            Ask::On(k) => match self.peer_and_watch(k) {
-                Some((peer, watch)) => put_set_on(self.muid, peer, &watch, into),
-                None => unreachable!(),
-            },
-            Ask::Off(k) => match self.peer_and_watch(k) {
-                Some((peer, watch)) => put_set_off(self.muid, peer, &watch, into),
-                None => unreachable!(),
-            },
+        match self.asked(what) {
+            Some(message) => into.extend(message.as_slice()),
+            // it can be asked
+            None => unreachable!(),
         }
     }
 
@@ -120,7 +135,7 @@ impl Initiator {
         ensures noted { result ≡ noted_in self.old (incoming_of group view.now) }
         ensures after { self.new ≡ after self.old (incoming_of group view.now) }
     {
-        let noted = row_of(self.muid, self.peer, self.watched.as_slice(), group, view);
+        let noted = noted_row(self.muid, self.peer, self.watched.as_slice(), group, view);
         self.note(noted, group, view);
         noted
     }
@@ -150,7 +165,8 @@ impl Initiator {
         self.watched.len()
     }
 
-    /// The group on which is asked: that of the watch, and for Discovery that of watch 0; 0 where there is no such watch.
+    /// The group on which is asked: that of the watch, and for Discovery
+    /// that of watch 0; 0 where there is no such watch.
     pub fn group_asked(&self, what: Ask) -> U4
         ensures { result ≡ group_asked (watches_of self.now) what }
     {
@@ -171,8 +187,8 @@ impl Initiator {
         }
     }
 
-    /// What is held of watch `k`, counted from 0: whether the peer has last told that the profile is on. `None` exactly where
-    /// nothing is held.
+    /// What is held of watch `k`, counted from 0: whether the peer has last told that the profile is on.
+    /// `None` exactly where nothing is held.
     pub fn holds(&self, k: usize) -> Option<bool>
         requires { k < length self.now.watched }
         ensures { option_map (λ watched. watched.held) (slice_get self.now.watched k) ≡ Some result }

@@ -1,4 +1,5 @@
-//! An initiator of MIDI-CI, which asks a peer for its profiles and holds what the peer tells, and rehearsals of it.
+//! An initiator of MIDI-CI, which asks a peer for its profiles and
+//! holds what the peer tells, and rehearsals of it.
 #![tactic(auto)]
 
 pub mod ask;

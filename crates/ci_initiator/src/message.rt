@@ -13,23 +13,21 @@ ghost use Rattle.std.specs.Prelude.{
   vec_capacity,
   vec_len,
   IfOk,
-  IfSome,
 };
 ghost use Rattle.std.specs.Option.{option_map};
-ghost use Rattle.ci_responder.specs.Replies.{IsMessage};
-ghost use Rattle.ci_initiator.specs.Stage.{IsSent};
 
-use midi_edge::{NoMemory, ShortList};
+use ci_responder::CiMessage;
+use midi_edge::NoMemory;
 use std::alloc::Global;
 use std::marker::Model;
 use voice_messages::U4;
 
 /// A message that was sent on a group.
-#[derive(Debug, PartialEq, Eq, Drop)]
+#[derive(Debug, Drop)]
 pub struct Sent {
     pub group: U4,
     /// From F0 to F7.
-    pub bytes: ShortList<u8, 512>,
+    pub bytes: CiMessage,
 }
 
 /// The most messages that one side sends.
@@ -44,26 +42,23 @@ pub(crate) struct Messages {
 impl Model for Messages {
     ghost use Rattle.std.specs.Prelude.{◌≤◌, List, vec_capacity};
     ghost use Rattle.ci_initiator.specs.declared.message.Sent.{Sent};
-    ghost use Rattle.ci_initiator.specs.Stage.{IsSent};
 
     ghost Value = { List Sent };
 
     ghost view = { λ m. m.sent.items };
 
-    ghost invariant = { λ m. (1024 ≤ vec_capacity m.sent) × IsSent m.sent.items };
+    ghost invariant = { λ m. 1024 ≤ vec_capacity m.sent };
 }
 
 // Adds a message, for which memory is reserved.
 fn keep(messages: &mut Vec<Sent>, sent: Sent)
-    requires few { vec_len messages.old < vec_capacity messages.old }
-    requires sent { IsSent messages.old.items }
-    requires message { IsMessage sent.bytes }
+    requires { vec_len messages.old < vec_capacity messages.old }
     ensures items { messages.new.items ≡ messages.old.items ++ sent ∷ [] }
     ensures capacity { vec_capacity messages.old ≤ vec_capacity messages.new }
-    ensures sent { IsSent messages.new.items }
 {
     match messages.push(sent) {
         Ok(()) => {}
+        // there is room for one more
         Err(_) => unreachable!(),
     }
 }
@@ -88,16 +83,14 @@ impl Messages {
 
     /// The message of a number, counted from 0.
     pub(crate) fn get(&self, number: usize) -> Option<&Sent>
-        ensures value { option_map (λ sent. sent.now) result ≡ slice_get self.now number }
-        ensures message { IfSome result (λ sent. IsMessage sent.now.bytes) }
+        ensures { option_map (λ sent. sent.now) result ≡ slice_get self.now number }
     {
         self.sent.get(number)
     }
 
     /// Keeps one more.
     pub(crate) fn push(&mut self, sent: Sent)
-        requires few { length self.old < 1024 }
-        requires message { IsMessage sent.bytes }
+        requires { length self.old < 1024 }
         ensures { self.new ≡ self.old ++ sent ∷ [] }
     {
         keep(&mut self.sent, sent);

@@ -1,8 +1,9 @@
 // What is noted of a message.
 
-/// What an initiator notes of a MIDI-CI message (M2-101-UM): the first of these that applies, but for `Other`, which also comes
-/// first, for a message with the initiator's own MUID as source and for one that is neither for it nor for all. Own rules are the
-/// order, what is held, and that a message with the initiator's own MUID as source is passed over.
+/// What an initiator notes of a MIDI-CI message (M2-101-UM): the first of these that applies, but for
+/// `Other`, which also comes first, for a message with the initiator's own MUID as source and for one that is
+/// neither for it nor for all. Own rules are the order, what is held, and that a message with the initiator's
+/// own MUID as source is passed over.
 #[derive(Clone, Copy, Debug, PartialEq, Eq)]
 pub enum Noted {
     /// Nothing.
@@ -13,6 +14,7 @@ pub enum Noted {
     Gone,
     /// The peer reports that the profile of this watch is on or off, and so it is held.
     Told(usize),
-    /// The peer tells the profiles of a place. Those watched that are in the first list are held on, those in the second off.
+    /// The peer tells the profiles of a place. Those watched that are in
+    /// the first list are held on, those in the second off.
     Inventory,
 }

@@ -1,11 +1,11 @@
 // A rehearsal.
-ghost use Rattle.std.specs.Prelude.{◌≡◌, ◌<◌, ◌≤◌, ◌++◌, ℕ, List, Option, [], length, slice_get, true, IfOk, Some};
+ghost use Rattle.std.specs.Prelude.{◌≡◌, ◌<◌, ◌≤◌, ◌++◌, ℕ, List, Option, length, slice_get, true, IfOk, Some};
 ghost use Rattle.std.specs.Option.{option_map};
 ghost use Rattle.function_blocks.specs.Profiles.{profiles_are_distinct};
-ghost use Rattle.ci_responder.specs.Held.{after as responder_after, heard_in, reply_in};
+ghost use Rattle.ci_responder.specs.Held.{after as responder_after, heard_in, message_in};
 ghost use Rattle.ci_responder.specs.Keys.{state_in};
-ghost use Rattle.ci_responder.specs.Read.{told_in};
-ghost use Rattle.ci_responder.specs.Replies.{IsMessage, IsReply, message_of_reply};
+ghost use Rattle.ci_responder.specs.Read.{received_in};
+ghost use Rattle.ci_responder.specs.Replies.{message_of_reply};
 ghost use Rattle.ci_initiator.specs.Asks.{group_asked};
 ghost use Rattle.ci_initiator.specs.Incoming.{incoming_in};
 ghost use Rattle.ci_initiator.specs.Known.{after, asked_by, noted_in, watches_of};
@@ -31,9 +31,9 @@ use crate::noted::Noted;
 use crate::watching::{own_muid, watches};
 use ci_messages::laws::views_that_are_read_fit;
 use ci_messages::read;
-use ci_responder::{Heard, Key, Responder};
+use ci_responder::{CiMessage, Heard, Key, Responder};
 use function_blocks::Setup;
-use midi_edge::{NoMemory, ShortList};
+use midi_edge::NoMemory;
 use std::alloc::Global;
 use std::marker::Model;
 use voice_messages::U4;
@@ -41,8 +41,8 @@ use voice_messages::U4;
 /// The most bytes of a System Exclusive message that the responder tells to take.
 const ROOM: u32 = 512;
 
-/// An initiator and the responder of a setup (M2-101-UM), and the messages that each has sent, which are delivered as events say
-/// (own rule). To a contract it is both sides and the two lists of messages.
+/// An initiator and the responder of a setup (M2-101-UM), and the messages that each has sent, which are
+/// delivered as events say (own rule). To a contract it is both sides and the two lists of messages.
 #[derive(Drop)]
 pub struct Rehearsal {
     pub(crate) initiator: Initiator,
@@ -94,27 +94,24 @@ fn event_of(kind: u8, number: u16) -> Option<Event>
     }
 }
 
-// The responder hears a message, and its reply is written into an empty list.
-fn respond(responder: &mut Responder, sent: &Sent, reply: &mut ShortList<u8, 512>) -> Heard
-    requires message { IsMessage sent.now.bytes }
-    requires empty { reply.old ≡ [] }
-    ensures heard { result ≡ heard_in responder.old (told_in sent.now.group sent.now.bytes) }
-    ensures after { responder.new ≡ responder_after responder.old (told_in sent.now.group sent.now.bytes) }
-    ensures message { reply.new ≡
-        message_of_reply (reply_in responder.old (told_in sent.now.group sent.now.bytes)) }
-    ensures reply { IsReply reply.new }
+// The responder hears a message: what it did with it, and its reply.
+fn respond(responder: &mut Responder, sent: &Sent) -> (Heard, Option<CiMessage>)
+    ensures heard { result.0 ≡ heard_in responder.old (received_in sent.now.group sent.now.bytes) }
+    ensures after { responder.new
+        ≡ responder_after responder.old (received_in sent.now.group sent.now.bytes) }
+    ensures reply { result.1 ≡ message_in responder.old (received_in sent.now.group sent.now.bytes) }
 {
     views_that_are_read_fit();
     ci_responder::views_tell_their_bytes();
     match read(sent.bytes.as_slice()) {
-        Ok(view) => responder.hear_message(sent.group, &view, reply),
+        Ok(view) => responder.hear_message(sent.group, &view),
+        // a message that was sent has no fault
         Err(_) => unreachable!(),
     }
 }
 
 // The initiator hears a message.
 fn note(initiator: &mut Initiator, sent: &Sent) -> Noted
-    requires { IsMessage sent.now.bytes }
     ensures noted { result ≡ noted_in initiator.old (incoming_in sent.now.group sent.now.bytes) }
     ensures after { initiator.new ≡ after initiator.old (incoming_in sent.now.group sent.now.bytes) }
 {
@@ -122,15 +119,17 @@ fn note(initiator: &mut Initiator, sent: &Sent) -> Noted
     crate::laws::views_tell_their_bytes();
     match read(sent.bytes.as_slice()) {
         Ok(view) => initiator.hear(sent.group, &view),
+        // a message that was sent has no fault
         Err(_) => unreachable!(),
     }
 }
 
 impl Rehearsal {
-    /// The rehearsal of a setup (own rule). The responder is the setup's. The initiator has the least MUID from 1 on that the setup
-    /// doesn't name, and watches the profiles of one function block, in the setup's order: of the first profile's whose block has
-    /// MIDI-CI. Where no profile's block has it, nothing is watched. A profile of the function block is watched on its first group.
-    /// Takes all memory that it ever takes; `NoMemory` where there isn't so much.
+    /// The rehearsal of a setup (own rule). The responder is the setup's. The initiator has the least MUID
+    /// from 1 on that the setup doesn't name, and watches the profiles of one function block, in the setup's
+    /// order: of the first profile's whose block has MIDI-CI. Where no profile's block has it, nothing is
+    /// watched. A profile of the function block is watched on its first group. Takes all memory that it ever
+    /// takes; `NoMemory` where there isn't so much.
     pub fn new(alloc: Global, setup: &Setup) -> Result<Rehearsal, NoMemory>
         ensures first { IfOk result (λ rehearsal. rehearsal ≡ first_stage setup.now) }
         ensures least { IfOk result (λ rehearsal.
@@ -157,8 +156,8 @@ impl Rehearsal {
         self.initiator.watches()
     }
 
-    /// What the initiator holds of watch `k`, counted from 0: whether the responder has last told it that the profile is on
-    /// (M2-101-UM, profile configuration). `None` exactly where nothing is held.
+    /// What the initiator holds of watch `k`, counted from 0: whether the responder has last told it that the
+    /// profile is on (M2-101-UM, profile configuration). `None` exactly where nothing is held.
     pub fn holds(&self, k: usize) -> Option<bool>
         requires { k < length self.now.initiator.watched }
         ensures { option_map (λ watched. watched.held) (slice_get self.now.initiator.watched k)
@@ -167,23 +166,25 @@ impl Rehearsal {
         self.initiator.holds(k)
     }
 
-    /// Whether a profile of the responder is on (M2-101-UM, profile configuration); `None` exactly where the setup doesn't name it.
+    /// Whether a profile of the responder is on (M2-101-UM, profile
+    /// configuration); `None` exactly where the setup doesn't name it.
     pub fn profile_is_on(&self, key: &Key) -> Option<bool>
         ensures { result ≡ state_in self.now.responder.states key.now }
     {
         self.responder.profile_is_on(key)
     }
 
-    /// Takes the event of a kind and a number (own rule; the messages are those of M2-101-UM). Takes no memory, and after an error
-    /// nothing has changed.
+    /// Takes the event of a kind and a number (own rule; the messages are those of M2-101-UM). Takes no
+    /// memory, and after an error nothing has changed.
     ///
-    /// Kind 0 asks: number 0 for Discovery, and 1 + 3k, 2 + 3k and 3 + 3k for an inquiry, a switch on and a switch off of watch k,
-    /// on the group of the watch; Discovery is sent on that of watch 0, or on 0. Kind 1 delivers the initiator's message of this
-    /// number to the responder, and kind 2 the reply of this number to the initiator; both count from 0.
+    /// Kind 0 asks: number 0 for Discovery, and 1 + 3k, 2 + 3k and 3 + 3k for an inquiry, a switch on and a
+    /// switch off of watch k, on the group of the watch; Discovery is sent on that of watch 0, or on 0. Kind
+    /// 1 delivers the initiator's message of this number to the responder, and kind 2 the reply of this
+    /// number to the initiator; both count from 0.
     ///
-    /// `BadEvent` is returned exactly when the kind is above 2, the message or the watch isn't there, or the initiator asks for
-    /// more than Discovery and knows no peer. Otherwise `TooMany` is returned exactly when kind 0 finds 1,024 messages of the
-    /// initiator, or kind 1 finds 1,024 replies.
+    /// `BadEvent` is returned exactly when the kind is above 2, the message or the watch isn't there, or the
+    /// initiator asks for more than Discovery and knows no peer. Otherwise `TooMany` is returned exactly when
+    /// kind 0 finds 1,024 messages of the initiator, or kind 1 finds 1,024 replies.
     pub fn event(&mut self, kind: u8, number: u16) -> Result<Told, EventFault>
         ensures { Steps (next_by self.old (event_of_kind kind number)) self.old self.new result }
     {
@@ -207,15 +208,13 @@ impl Rehearsal {
         ensures { Steps (ask_with self.old (group_asked (watches_of self.old.initiator) what)
             (asked_by self.old.initiator what)) self.old self.new result }
     {
-        if !self.initiator.can_ask(what) {
+        let Some(bytes) = self.initiator.asked(what) else {
             return Err(EventFault::BadEvent);
-        }
+        };
         if self.asks.is_full() {
             return Err(EventFault::TooMany);
         }
         let group = self.initiator.group_asked(what);
-        let mut bytes = ShortList::new();
-        self.initiator.ask(what, &mut bytes);
         self.asks.push(Sent { group, bytes });
         Ok(Told::Asked)
     }
@@ -229,10 +228,9 @@ impl Rehearsal {
         if self.replies.is_full() {
             return Err(EventFault::TooMany);
         }
-        let mut bytes = ShortList::new();
-        let heard = respond(&mut self.responder, sent, &mut bytes);
         let group = sent.group;
-        keep_reply(&mut self.replies, group, bytes);
+        let (heard, reply) = respond(&mut self.responder, sent);
+        keep_reply(&mut self.replies, group, reply);
         Ok(Told::Heard(heard))
     }
 
@@ -248,13 +246,12 @@ impl Rehearsal {
 }
 
 // Keeps a reply, if there is one.
-fn keep_reply(replies: &mut Messages, group: U4, bytes: ShortList<u8, 512>)
-    requires few { length replies.old < 1024 }
-    requires reply { IsReply bytes }
-    ensures { (reply : Option (List ℕ)) → bytes ≡ message_of_reply reply →
-        replies.new ≡ replies.old ++ reply_sent group reply }
+fn keep_reply(replies: &mut Messages, group: U4, reply: Option<CiMessage>)
+    requires { length replies.old < 1024 }
+    ensures { (payload : Option (List ℕ)) → reply ≡ message_of_reply payload →
+        replies.new ≡ replies.old ++ reply_sent group payload }
 {
-    if !bytes.is_empty() {
+    if let Some(bytes) = reply {
         replies.push(Sent { group, bytes });
     }
 }

@@ -1,7 +1,7 @@
 // The row of a message, and what it tells of a watch.
 ghost use Rattle.std.specs.Prelude.{◌≡◌, ◌≤◌, ◌+◌, length, map, position};
 ghost use Rattle.std.specs.Str.{bytes_eq};
-ghost use Rattle.ci_messages.specs.Places.{part_at};
+ghost use Rattle.ci_messages.specs.Positions.{part_at};
 ghost use Rattle.ci_initiator.specs.Incoming.{
   incoming_of,
   inventory,
@@ -14,7 +14,7 @@ ghost use Rattle.ci_initiator.specs.Rows.{
   is_at as is_at_watch,
   is_from as is_from_peer,
   is_report_of as is_report_of_watch,
-  row_of as row_of_message,
+  noted_row,
   row_of_said,
   state_told,
   tells as tells_of_watch,
@@ -202,14 +202,14 @@ fn row_by_body(peer: Option<u32>, watched: &[Watched], group: U4, view: &CiView<
 }
 
 /// The row of a message, for the initiator of a MUID that knows this peer.
-pub(crate) fn row_of(
+pub(crate) fn noted_row(
     muid: u32,
     peer: Option<u32>,
     watched: &[Watched],
     group: U4,
     view: &CiView<'_>,
 ) -> Noted
-    ensures { result ≡ row_of_message muid peer (map (λ watched. watched.watch) watched.now)
+    ensures { result ≡ noted_row muid peer (map (λ watched. watched.watch) watched.now)
         (incoming_of group view.now) }
 {
     let is_for_us = view.destination == muid || view.destination == BROADCAST;

@@ -6,7 +6,8 @@ ghost use Rattle.ci_initiator.specs.Known.{are_different, same_watch};
 use ci_messages::{Address, ProfileId};
 use voice_messages::U4;
 
-/// A profile of a peer that an initiator watches: its address on a group, and its id (M2-101-UM, profile configuration).
+/// A profile of a peer that an initiator watches: its address on a
+/// group, and its id (M2-101-UM, profile configuration).
 #[derive(Clone, Copy, Debug, PartialEq, Eq)]
 pub struct Watch {
     /// The group on which it is asked for and told of, 0 to 15.

@@ -38,17 +38,7 @@ fn names(block: &Block, muid: u32) -> bool
 fn is_named(setup: &Setup, muid: u32) -> bool
     ensures { result ≡ is_named_by setup.now.blocks muid }
 {
-    for number in 0..setup.block_count() {
-        match setup.block(number) {
-            Some(block) => {
-                if names(block, muid) {
-                    return true;
-                }
-            }
-            None => unreachable!(),
-        }
-    }
-    false
+    setup.blocks().iter().any(|block| names(block, muid))
 }
 
 // The first number from 1 on that the setup doesn't name, within so many.
@@ -89,15 +79,9 @@ fn has_ci_at(setup: &Setup, number: u8) -> bool
 fn watched_block(setup: &Setup) -> Option<u8>
     ensures { result ≡ watched_block_of setup.now.blocks setup.now.profiles }
 {
-    for k in 0..setup.profile_count() {
-        match setup.profile(k) {
-            Some(profile) => {
-                let block = profile.block;
-                if has_ci_at(setup, block) {
-                    return Some(block);
-                }
-            }
-            None => unreachable!(),
+    for profile in setup.profiles() {
+        if has_ci_at(setup, profile.block) {
+            return Some(profile.block);
         }
     }
     None
@@ -158,7 +142,8 @@ fn watch_at(first: U4, place: Place, id: ProfileId) -> Watch
     }
 }
 
-// Adds the watch of an address on a group and of an id. It takes the parts, since the toolchain proves no push of a whole watch here.
+// Adds the watch of an address on a group and of an id. It takes the parts, since the toolchain proves no
+// push of a whole watch here.
 fn push_watch(
     watches: &mut Vec<Watch>,
     group: U4,
@@ -204,15 +189,12 @@ pub(crate) fn watches(alloc: Global, setup: &Setup) -> Result<Vec<Watch>, NoMemo
 {
     let watched = watched_block(setup);
     let first = first_group(setup, watched);
-    let count = setup.profile_count();
-    let Ok(mut watches) = Vec::with_capacity(alloc, count) else {
+    let profiles = setup.profiles();
+    let Ok(mut watches) = Vec::with_capacity(alloc, profiles.len()) else {
         return Err(NoMemory);
     };
-    for k in 0..count {
-        match setup.profile(k) {
-            Some(profile) => add_watch(&mut watches, watched, first, profile)?,
-            None => unreachable!(),
-        }
+    for profile in profiles {
+        add_watch(&mut watches, watched, first, profile)?;
     }
     Ok(watches)
 }

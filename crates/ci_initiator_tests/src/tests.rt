@@ -1,4 +1,5 @@
-// Messages by hand from the tables of M2-101-UM, and rehearsals with a responder of one block and one profile.
+// Messages by hand from the tables of M2-101-UM, and rehearsals with
+// a responder of one block and one profile.
 use ci_initiator::{Ask, EventFault, Initiator, Noted, Rehearsal, Told, Watch, watches_differ};
 use ci_messages::laws::views_that_are_read_fit;
 use ci_messages::{Address, ProfileId, read};
@@ -63,7 +64,8 @@ fn a_profile_is_switched_on(rt: HostRuntime) {
     assert_eq!(rt; rehearsal.profile_is_on(&profile_key()), Some(true));
 }
 
-// The report of the first switch comes again, after the second one: it is believed, and the responder's profile is off.
+// The report of the first switch comes again, after the second one:
+// it is believed, and the responder's profile is off.
 #[test]
 fn an_old_report_is_believed(rt: HostRuntime) {
     let mut rehearsal = opened(rt.alloc()).expect(&rt, "no memory");

@@ -1,10 +1,12 @@
 -- Fields that are written hold what was written.
-use Rattle.std.proofs.Common.{◌≡◌, ◌∙◌, ap, sym, refl, subst, ℕ, List, [], ◌∷◌, ◌++◌, ◌+◌, ◌*◌, ◌/◌, ◌%◌, length, drop, arith, length-append, append_assoc, append-nil}
+use Rattle.std.proofs.Common.{◌≡◌, ◌∙◌, ap, sym, refl, subst, ℕ, List, [], ◌∷◌, ◌++◌, ◌+◌, ◌*◌, ◌/◌}
+use Rattle.std.proofs.Common.{◌%◌, length, drop, arith, length-append, append_assoc, append-nil}
 use Rattle.std.proofs.lemmas.List.{length-replicate}
 use Rattle.std.proofs.Math.Nat.{mod-add-div}
 use Rattle.std.proofs.Math.Seq.{drop-append_seam}
-use Rattle.ci_messages.specs.Places.{part_at, number2_at, bytes2}
-use Rattle.ci_messages.specs.Fields.{Field, Value, byte, number2, number4, bytes, counted, reserved, absent, unread, number, list, nothing, HasField, HasFields, FitsField, FitsFields, size_at, end_of_fields, bytes_of_field, bytes_of_fields}
+use Rattle.ci_messages.specs.Positions.{part_at, number2_at, bytes2}
+use Rattle.ci_messages.specs.Fields.{Field, Value, byte, number2, number4, bytes, counted, reserved, absent, unread, number, list, nothing}
+use Rattle.ci_messages.specs.Fields.{HasField, HasFields, FitsField, FitsFields, size_at, end_of_fields, bytes_of_field, bytes_of_fields}
 use Rattle.ci_messages.proofs.PlaceLaws.{byte_at-byte, number2_at-bytes2, number4_at-bytes4, part_at-list}
 
 -- nothing follows the bytes that are left unread

@@ -3,3 +3,4 @@ pub mod PlaceLaws
 pub mod FieldLaws
 pub mod WrittenLaws
 pub mod ReadLaws
+pub mod KindLaws

@@ -2,7 +2,7 @@
 use Rattle.std.proofs.Common.{◌≡◌, ◌∙◌, ap, ℕ, List, ◌∷◌, ◌++◌, ◌+◌, ◌*◌, ◌/◌, ◌%◌, length, take, arith}
 use Rattle.std.proofs.lemmas.List.{get_or-append-add}
 use Rattle.std.proofs.Math.Seq.{take-append_seam, drop-append_seam}
-use Rattle.ci_messages.specs.Places.{byte_at, part_at, number2_at, number4_at, bytes2, bytes4}
+use Rattle.ci_messages.specs.Positions.{byte_at, part_at, number2_at, number4_at, bytes2, bytes4}
 
 -- the nth byte of what follows
 pub byte_at-append : (before after : List ℕ) (n at : ℕ) → at ≡ length before + n →

@@ -1,5 +1,7 @@
 -- What is read fits.
-use Rattle.std.proofs.Common.{◌≡◌, ◌∙◌, ap, sym, refl, subst, ℕ, List, [], ◌∷◌, ◌++◌, Option, None, Some, ◌+◌, ◌*◌, ◌%◌, ◌<◌, ◌≤◌, ◌^◌, ◌==◌, nat_lt, is_none, length, drop, Bool, true, false, ◌||◌, if◌then◌else◌, arith, length-append, length-drop}
+use Rattle.std.proofs.Common.{◌≡◌, ◌∙◌, ap, sym, refl, subst, ℕ, List, [], ◌∷◌, ◌++◌, Option, None}
+use Rattle.std.proofs.Common.{Some, ◌+◌, ◌*◌, ◌%◌, ◌<◌, ◌≤◌, ◌^◌, ◌==◌, nat_lt, is_none, length, drop}
+use Rattle.std.proofs.Common.{Bool, true, false, ◌||◌, if◌then◌else◌, arith, length-append, length-drop}
 use Rattle.std.proofs.Math.ListN.{get_or-append}
 use Rattle.std.proofs.Math.Nat.{mul-mod_right}
 use Rattle.std.proofs.lemmas.Bool.{ltb-false, ltb-true}
@@ -11,10 +13,12 @@ use Rattle.ci_messages.specs.declared.view.Address.TheVariants as address
 use Rattle.ci_messages.specs.declared.view.CiFault.{CiFault}
 use Rattle.ci_messages.specs.declared.view.CiFault.TheVariants as fault
 use Rattle.ci_messages.specs.declared.view.CiView.{CiView}
-use Rattle.ci_messages.specs.Places.{byte_at, part_at, number2_at, number4_at}
-use Rattle.ci_messages.specs.Fields.{Field, Value, IsData, byte, number2, number4, bytes, counted, reserved, absent, unread, number, list, nothing, HasField, HasFields, FitsField, FitsFields, size_at, end_of_fields}
+use Rattle.ci_messages.specs.Positions.{byte_at, part_at, number2_at, number4_at}
+use Rattle.ci_messages.specs.Fields.{Field, Value, IsData, byte, number2, number4, bytes, counted, reserved, absent, unread}
+use Rattle.ci_messages.specs.Fields.{number, list, nothing, HasField, HasFields, FitsField, FitsFields, size_at, end_of_fields}
 use Rattle.ci_messages.specs.Messages.{body_kind, fields_of, format_of, values_of}
-use Rattle.ci_messages.specs.Reading.{CiSpells, IsExclusive, address_of, body_of, ci_fault, is_not_ci, is_reserved, is_short, is_short_body, message_format, message_kind}
+use Rattle.ci_messages.specs.Reading.{CiSpells, IsExclusive, address_of, body_of, ci_fault, is_not_ci}
+use Rattle.ci_messages.specs.Reading.{is_reserved, is_short, is_short_body, message_format, message_kind}
 use Rattle.ci_messages.specs.Writing.{IsAddress, IsView}
 use Rattle.ci_messages.proofs.DataLaws.{body_is_data}
 

@@ -1,5 +1,6 @@
 -- A message that is written is read again.
-use Rattle.std.proofs.Common.{◌≡◌, ◌∙◌, ap, sym, refl, subst, ℕ, List, [], ◌∷◌, ◌++◌, None, Some, Result, Ok, Err, ◌+◌, ◌-◌, ◌/◌, ◌%◌, ◌<◌, ◌≤◌, ◌^◌, nat_lt, length, take, false, arith, length-append}
+use Rattle.std.proofs.Common.{◌≡◌, ◌∙◌, ap, sym, refl, subst, ℕ, List, [], ◌∷◌, ◌++◌, None, Some, Result, Ok, Err}
+use Rattle.std.proofs.Common.{◌+◌, ◌-◌, ◌/◌, ◌%◌, ◌<◌, ◌≤◌, ◌^◌, nat_lt, length, take, false, arith, length-append}
 use Rattle.std.specs.Prelude.{IsOkAnd}
 use Rattle.std.proofs.Math.Nat.{div-le_self}
 use Rattle.std.proofs.Math.Seq.{take-append_seam}
@@ -14,8 +15,9 @@ use Rattle.ci_messages.specs.declared.view.Address.TheVariants as address
 use Rattle.ci_messages.specs.declared.view.Body.{Body}
 use Rattle.ci_messages.specs.declared.view.CiFault.{CiFault}
 use Rattle.ci_messages.specs.declared.view.CiView.{CiView}
-use Rattle.ci_messages.specs.Places.{bytes2, bytes4}
-use Rattle.ci_messages.specs.Fields.{Field, Value, IsData, byte, number2, number4, bytes, counted, reserved, absent, unread, number, list, nothing, FitsField, FitsFields, end_of_fields, bytes_of_field, bytes_of_fields}
+use Rattle.ci_messages.specs.Positions.{bytes2, bytes4}
+use Rattle.ci_messages.specs.Fields.{Field, Value, IsData, byte, number2, number4, bytes, counted, reserved, absent, unread}
+use Rattle.ci_messages.specs.Fields.{number, list, nothing, FitsField, FitsFields, end_of_fields, bytes_of_field, bytes_of_fields}
 use Rattle.ci_messages.specs.Messages.{fields_of, body_kind, format_of, kind_of, values_of}
 use Rattle.ci_messages.specs.Reading.{CiSpells, IsExclusive, Reads, SpellsBody, address_of, body_of, ci_fault, is_short_body}
 use Rattle.ci_messages.specs.Writing.{FitsBody, IsAddress, IsView, SameView, address_number, body_bytes, head_bytes, message_bytes}

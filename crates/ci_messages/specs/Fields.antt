@@ -1,6 +1,6 @@
 -- Fields of a body, as the tables of M2-101-UM list them one after the other.
 use Rattle.std.specs.Prelude.{◌≡◌, ℕ, ◌+◌, ◌-◌, ◌*◌, ◌/◌, ◌%◌, ◌<◌, ◌^◌, List, [], ◌∷◌, ◌++◌, length, drop, replicate, All}
-use Rattle.ci_messages.specs.Places.{byte_at, part_at, number2_at, number4_at, bytes2, bytes4}
+use Rattle.ci_messages.specs.Positions.{byte_at, part_at, number2_at, number4_at, bytes2, bytes4}
 
 -- what a field holds
 pub data Value : Type 0 where

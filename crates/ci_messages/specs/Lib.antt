@@ -1,4 +1,4 @@
-pub mod Places
+pub mod Positions
 pub mod Fields
 pub mod Messages
 pub mod Reading

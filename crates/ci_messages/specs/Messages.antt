@@ -31,6 +31,24 @@ kind_of sub version =
     else if nat_le 0x30 sub && nat_le sub 0x3F then kind.Property
     else kind.Other
 
+-- The sub-id of a kind of message: the only one, but for Property Exchange, which has 30 to 3F, and for what has no kind of its own.
+-- Of these it is the least.
+abbrev pub sub_of : Kind → ℕ
+sub_of kind.Discovery = 0x70
+sub_of kind.DiscoveryReply = 0x71
+sub_of kind.EndpointInquiry = 0x72
+sub_of kind.EndpointReply = 0x73
+sub_of kind.Invalidate = 0x7E
+sub_of kind.Nak = 0x7F
+sub_of kind.ProfileInquiry = 0x20
+sub_of kind.ProfileReply = 0x21
+sub_of kind.SetOn = 0x22
+sub_of kind.SetOff = 0x23
+sub_of kind.EnabledReport = 0x24
+sub_of kind.DisabledReport = 0x25
+sub_of kind.Property = 0x30
+sub_of kind.Other = 0x00
+
 -- Messages of version 01 are in the short format (own rule), all others in the full one of version 02.
 abbrev pub format_of : ℕ → Format
 format_of version = if version == 1 then format.Short else format.Full

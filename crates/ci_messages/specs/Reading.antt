@@ -1,5 +1,6 @@
 -- What reading a message answers.
-use Rattle.std.specs.Prelude.{◌≡◌, ℕ, ◌<◌, ◌≤◌, ◌-◌, ◌==◌, nat_le, nat_lt, Bool, true, false, ◌||◌, not, if◌then◌else◌, List, [], ◌∷◌, ◌++◌, length, Option, Some, None, is_none, Result, MatchResult}
+use Rattle.std.specs.Prelude.{◌≡◌, ℕ, ◌<◌, ◌≤◌, ◌-◌, ◌==◌, nat_le, nat_lt, Bool, true, false, ◌||◌, not, if◌then◌else◌}
+use Rattle.std.specs.Prelude.{List, [], ◌∷◌, ◌++◌, length, Option, Some, None, is_none, Result, MatchResult}
 use Rattle.ci_messages.specs.declared.kind.Format.{Format}
 use Rattle.ci_messages.specs.declared.kind.Kind.{Kind}
 use Rattle.ci_messages.specs.declared.view.Address.{Address}
@@ -8,7 +9,7 @@ use Rattle.ci_messages.specs.declared.view.Body.{Body}
 use Rattle.ci_messages.specs.declared.view.CiFault.{CiFault}
 use Rattle.ci_messages.specs.declared.view.CiFault.TheVariants as fault
 use Rattle.ci_messages.specs.declared.view.CiView.{CiView}
-use Rattle.ci_messages.specs.Places.{byte_at, part_at, number4_at}
+use Rattle.ci_messages.specs.Positions.{byte_at, part_at, number4_at}
 use Rattle.ci_messages.specs.Fields.{Field, Value, IsData, HasFields, end_of_fields}
 use Rattle.ci_messages.specs.Messages.{fields_of, body_kind, format_of, kind_of, values_of}
 

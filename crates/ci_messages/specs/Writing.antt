@@ -5,7 +5,7 @@ use Rattle.ci_messages.specs.declared.view.Address.{Address}
 use Rattle.ci_messages.specs.declared.view.Address.TheVariants as address
 use Rattle.ci_messages.specs.declared.view.Body.{Body}
 use Rattle.ci_messages.specs.declared.view.CiView.{CiView}
-use Rattle.ci_messages.specs.Places.{bytes4}
+use Rattle.ci_messages.specs.Positions.{bytes4}
 use Rattle.ci_messages.specs.Fields.{FitsFields, bytes_of_fields}
 use Rattle.ci_messages.specs.Messages.{fields_of, body_kind, format_of, kind_of, values_of}
 

@@ -3,7 +3,7 @@
 
 mod kind;
 pub mod laws;
-mod places;
+mod positions;
 pub mod reading;
 pub mod view;
 pub mod writing;

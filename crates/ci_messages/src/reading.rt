@@ -16,7 +16,7 @@ ghost use Rattle.std.specs.Prelude.{
 ghost use Rattle.ci_messages.specs.declared.kind.Format.{Format};
 ghost use Rattle.ci_messages.specs.declared.kind.Format.TheVariants as formats;
 ghost use Rattle.ci_messages.specs.declared.kind.Kind.TheVariants as kind;
-ghost use Rattle.ci_messages.specs.Places.{part_at, number2_at};
+ghost use Rattle.ci_messages.specs.Positions.{part_at, number2_at};
 ghost use Rattle.ci_messages.specs.Fields.{IsData, bytes, list, nothing, number, reserved};
 ghost use Rattle.ci_messages.specs.Messages.{block_in, channels_in, full_only, path_in};
 ghost use Rattle.ci_messages.specs.Reading.{
@@ -30,7 +30,7 @@ ghost use Rattle.ci_messages.specs.Reading.{
 };
 
 use crate::kind::{Format, Kind};
-use crate::places::{array, number_of_four, number_of_two, part, profile_id};
+use crate::positions::{array, number_of_four, number_of_two, part, profile_id};
 use crate::view::{Address, Body, CiFault, CiView, NO_BLOCK, ProfileId};
 use voice_messages::U4;
 
@@ -128,7 +128,8 @@ fn endpoint_inquiry<'a>(body: &'a [u8]) -> Option<Body<'a>>
     Some(Body::EndpointInquiry { status })
 }
 
-// The items of `size` bytes each that follow their count at a place; `None` exactly when the bytes end too early.
+// The items of `size` bytes each that follow their count at a place;
+// `None` exactly when the bytes end too early.
 fn counted<'a>(body: &'a [u8], at: usize, size: usize) -> Option<&'a [u8]>
     requires place { at ≤ length body.now }
     requires size { size ≤ 5 }
@@ -295,17 +296,18 @@ fn body_bytes(message: &[u8]) -> &[u8]
     part(message, BODY, message.len() - SHORTEST)
 }
 
-/// Reads a message (M2-101-UM) from its exclusive, which has data bytes between F0 and F7. The view borrows the texts, lists and
-/// unread bytes of the exclusive. Bytes that follow the fields of a body are ignored.
+/// Reads a message (M2-101-UM) from its exclusive, which has data bytes between F0 and F7. The view borrows
+/// the texts, lists and unread bytes of the exclusive. Bytes that follow the fields of a body are ignored.
 ///
 /// A fault is the first of these that applies:
 /// - `NotCi`: there are fewer than 6 bytes, or byte 2 (F0 is byte 1) isn't 7E, or byte 4 isn't 0D;
-/// - `Short`: there are fewer than 15 bytes, or the version is 1 or more and the body ends before its fields do;
+/// - `Short`: there are fewer than 15 bytes, or the version is 1 or more and the body ends before its fields
+///   do;
 /// - `BadAddress`: the address is none of 00 to 0F, 7E and 7F;
 /// - `ReservedMuid`: the source is 0FFFFF00 or above.
 ///
-/// A version above 02 is kept, and its messages are read as those of version 02. Messages of version 01 are read in short
-/// forms, which `Body` lists, and the body of a message of version 00 is `Other` (own rules).
+/// A version above 02 is kept, and its messages are read as those of version 02. Messages of version 01 are
+/// read in short forms, which `Body` lists, and the body of a message of version 00 is `Other` (own rules).
 pub fn read<'a>(message: &'a [u8]) -> Result<CiView<'a>, CiFault>
     requires { IsExclusive message.now }
     ensures { Reads message.now result }

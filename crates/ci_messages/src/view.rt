@@ -8,7 +8,8 @@ pub const BROADCAST: u32 = 0x0FFF_FFFF;
 /// The number that stands for no function block (M2-101-UM, Reply to Discovery).
 pub const NO_BLOCK: u8 = 0x7F;
 
-/// The bit of Profile Configuration among the categories of MIDI-CI that a device supports (M2-101-UM, Discovery).
+/// The bit of Profile Configuration among the categories of MIDI-CI
+/// that a device supports (M2-101-UM, Discovery).
 pub const PROFILE_CONFIGURATION: u8 = 4;
 
 /// What a message is about (M2-101-UM, device id).
@@ -26,8 +27,8 @@ impl Address {
     ghost use Rattle.std.specs.Prelude.{◌≡◌, ◌<◌};
     ghost use Rattle.ci_messages.specs.Writing.{IsAddress, channels_of};
 
-    /// The number of channels of a profile at this address: one for a channel (own rule), and none for the group or the function
-    /// block (M2-101-UM, profile configuration).
+    /// The number of channels of a profile at this address: one for a channel (own rule), and none for the
+    /// group or the function block (M2-101-UM, profile configuration).
     pub fn channels(self) -> u16
         ensures value { result ≡ channels_of self }
         ensures few { result < 2 }
@@ -86,14 +87,17 @@ pub struct CiView<'a> {
     pub body: Body<'a>,
 }
 
-/// What is between the destination and F7, by sub-id. A message of version 02 or above has the fields of version 02.
+/// What is between the destination and F7, by sub-id. A message of
+/// version 02 or above has the fields of version 02.
 ///
-/// A message of version 01 has short forms of them (own rule, and no claim about an earlier edition of MIDI-CI): in a Discovery
-/// and its reply the path has no place and is 0, in the reply the block is 7F, in 22, 24 and 25 the channels are 0, and 23 has
-/// no reserved bytes; a NAK has no bytes at all, so all its numbers are 0 and its text is empty; 72 and 73 are `Other`. The body
-/// of a message of version 00 is `Other`, whatever its sub-id (own rule).
+/// A message of version 01 has short forms of them (own rule, and no claim about an earlier edition of
+/// MIDI-CI): in a Discovery and its reply the path has no place and is 0, in the reply the block is 7F, in
+/// 22, 24 and 25 the channels are 0, and 23 has no reserved bytes; a NAK has no bytes at all, so all its
+/// numbers are 0 and its text is empty; 72 and 73 are `Other`. The body of a message of version 00 is
+/// `Other`, whatever its sub-id (own rule).
 ///
-/// A `u8` is a data byte, 0 to 127. A `u16` has 14 bits and a `u32` 28. Arrays and borrowed bytes are data bytes.
+/// A `u8` is a data byte, 0 to 127. A `u16` has 14 bits and a `u32`
+/// 28. Arrays and borrowed bytes are data bytes.
 #[derive(Clone, Copy, Debug, PartialEq, Eq)]
 pub enum Body<'a> {
     /// 70: Discovery.
@@ -186,6 +190,35 @@ pub enum Body<'a> {
     Property(&'a [u8]),
     /// Any other sub-id, 72 and 73 of version 01, and every message of version 00, unread.
     Other(&'a [u8]),
+}
+
+impl<'a> Body<'a> {
+    ghost use Rattle.std.specs.Prelude.{◌≡◌, ◌<◌};
+    ghost use Rattle.ci_messages.specs.Messages.{body_kind, sub_of};
+
+    /// The sub-id of a message with this body (M2-101-UM): its only one, but for `Property` and `Other`, of
+    /// which it is the least, 30 and 00.
+    pub fn sub(&self) -> u8
+        ensures value { result ≡ sub_of (body_kind self.now) }
+        ensures data_byte { result < 128 }
+    {
+        match self {
+            Body::Discovery { .. } => 0x70,
+            Body::DiscoveryReply { .. } => 0x71,
+            Body::EndpointInquiry { .. } => 0x72,
+            Body::EndpointReply { .. } => 0x73,
+            Body::Invalidate { .. } => 0x7E,
+            Body::Nak { .. } => 0x7F,
+            Body::ProfileInquiry => 0x20,
+            Body::ProfileReply { .. } => 0x21,
+            Body::SetOn { .. } => 0x22,
+            Body::SetOff { .. } => 0x23,
+            Body::EnabledReport { .. } => 0x24,
+            Body::DisabledReport { .. } => 0x25,
+            Body::Property(_) => 0x30,
+            Body::Other(_) => 0x00,
+        }
+    }
 }
 
 /// Why an exclusive is not read as a message.

@@ -5,7 +5,7 @@ ghost use Rattle.ci_messages.specs.declared.view.CiFault.{CiFault};
 ghost use Rattle.ci_messages.specs.declared.view.CiView.{CiView};
 ghost use Rattle.ci_messages.specs.Fields.{bytes, bytes_of_fields, list, nothing, number};
 ghost use Rattle.ci_messages.specs.Messages.{block_in, channels_in, fields_of, path_in};
-ghost use Rattle.ci_messages.specs.Places.{bytes2, bytes4};
+ghost use Rattle.ci_messages.specs.Positions.{bytes2, bytes4};
 ghost use Rattle.ci_messages.specs.Reading.{Reads};
 ghost use Rattle.ci_messages.specs.Writing.{
   FitsBody,
@@ -243,9 +243,10 @@ fn put_message(view: &CiView<'_>, into: &mut Message)
 
 /// Writes the bytes of a message (M2-101-UM), from F0 to F7, into an empty list. Reserved bytes are zeros.
 ///
-/// The version is 1 to 127, the body is the one that the sub-id and version name, each number fits its bytes, borrowed bytes are
-/// data bytes, a list of profiles has five bytes for each, in version 01 the fields without a place have the values that `Body`
-/// lists, and the message has at most 512 bytes. If its source is below 0FFFFF00, it is read back as the same view.
+/// The version is 1 to 127, the body is the one that the sub-id and version name, each number fits its bytes,
+/// borrowed bytes are data bytes, a list of profiles has five bytes for each, in version 01 the fields
+/// without a place have the values that `Body` lists, and the message has at most 512 bytes. If its source is
+/// below 0FFFFF00, it is read back as the same view.
 pub fn write(view: &CiView<'_>, into: &mut ShortList<u8, 512>)
     requires view { IsView view.now }
     requires version { 1 ≤ view.now.version }

@@ -9,7 +9,8 @@ use midi_edge::ShortList;
 use std::test::Fail;
 use voice_messages::{U4, U7};
 
-// The bytes between F0 and F7 of a message with a body, from MUID 5 to 19088743 at channel 2; `None` where there are more than 510.
+// The bytes between F0 and F7 of a message with a body, from MUID 5 to 19088743 at channel 2; `None` where
+// there are more than 510.
 fn payload(sub: u8, version: u8, body: &[u8]) -> Option<ShortList<u8, 510>> {
     let message = CiMessage {
         address: 0x02,

@@ -5,4 +5,5 @@ pub mod ListLaws
 pub mod OneBlock
 pub mod PacketLaws
 pub mod ReplyLaws
-pub mod ToldLaws
+pub mod ReceivedLaws
+pub mod RowLaws

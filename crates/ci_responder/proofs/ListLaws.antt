@@ -1,5 +1,6 @@
 -- Items of a list by their places.
-use Rattle.std.proofs.Common.{arith, ◌≡◌, ◌<◌, ◌+◌, ◌-◌, ◌∙◌, ap, sym, refl, ℕ, zero, suc, List, [], ◌∷◌, ◌++◌, length, length-append, take, drop, get_or, slice_get, None, Some, is_some, true≢false}
+use Rattle.std.proofs.Common.{arith, ◌≡◌, ◌<◌, ◌+◌, ◌-◌, ◌∙◌, ap, sym, refl, ℕ, zero, suc, List, [], ◌∷◌, ◌++◌}
+use Rattle.std.proofs.Common.{length, length-append, take, drop, get_or, slice_get, None, Some, is_some, true≢false}
 use Rattle.std.proofs.lemmas.List.{take_more}
 
 -- the item at a place
@@ -26,7 +27,8 @@ take-front [] ys = refl
 take-front (x ∷ xs) ys = ap (λ rest. x ∷ rest) (take-front xs ys)
 
 -- what stands between the first item and the last
-pub between : (payload message : List ℕ) (first last : ℕ) → message ≡ first ∷ (payload ++ last ∷ []) → take (length message - 1 - 1) (drop 1 message) ≡ payload
+pub between : (payload message : List ℕ) (first last : ℕ) → message ≡ first ∷ (payload ++ last ∷ [])
+    → take (length message - 1 - 1) (drop 1 message) ≡ payload
 between payload message first last is =
     let count : length (first ∷ (payload ++ last ∷ [])) - 1 - 1 ≡ length payload = omega (arith, length-append payload (last ∷ [])) in
     ap (λ m. take (length m - 1 - 1) (drop 1 m)) is

@@ -1,10 +1,11 @@
 -- The block of a group is the one that has it.
-use Rattle.std.proofs.Common.{arith, ◌≡◌, ◌<◌, ◌+◌, ◌∙◌, ap, sym, refl, ℕ, zero, suc, Bool, true, false, cond, not, ◌&&◌, nat_le, nat_lt, List, [], ◌∷◌, length, slice_get, None, Some, unwrap_or, true≢false}
+use Rattle.std.proofs.Common.{arith, ◌≡◌, ◌<◌, ◌+◌, ◌∙◌, ap, sym, refl, ℕ, zero, suc, Bool, true, false, cond, not}
+use Rattle.std.proofs.Common.{◌&&◌, nat_le, nat_lt, List, [], ◌∷◌, length, slice_get, None, Some, unwrap_or, true≢false}
 use Rattle.std.proofs.lemmas.Bool.{leb-true, lt-ltb, ltb-true}
 use Rattle.std.specs.List.{list_all, position_or_len}
 use Rattle.function_blocks.specs.declared.setup.Block.{Block}
 use Rattle.function_blocks.specs.Blocks.{are_apart, has_ci, shares_group}
-use Rattle.function_blocks.specs.Setups.{Facts}
+use Rattle.function_blocks.specs.Setups.{SetupData}
 use Rattle.ci_responder.specs.History.{block_of, covers}
 use Rattle.ci_responder.specs.SameKeys.{left, right}
 use Rattle.ci_responder.proofs.ListLaws.{got}
@@ -42,21 +43,26 @@ all-at p (y ∷ ys) zero x all is =
 all-at p (y ∷ ys) (suc n) x all is = all-at p ys n x (right (p y) (list_all p ys) all) is
 
 -- the first block that has a group is the one that is known to have it
-placed : (group : ℕ) (bs : List Block) (n : ℕ) (b : Block) → are_apart bs ≡ true → slice_get bs n ≡ Some b → covers group b ≡ true → position_or_len (covers group) bs ≡ n
+placed : (group : ℕ) (bs : List Block) (n : ℕ) (b : Block) → are_apart bs ≡ true → slice_get bs n ≡ Some b → covers group b ≡ true
+    → position_or_len (covers group) bs ≡ n
 placed group [] n b apart is has = let e : None ≡ Some b = is in cc
 placed group (a ∷ bs) zero b apart is has =
     let same : a ≡ b = ap (λ o. unwrap_or o b) is in
     ap (λ t. cond (not t) (1 + position_or_len (covers group) bs) 0) (ap (covers group) same ∙ has)
-placed group (a ∷ bs) (suc n) b apart is has = by (covers group a) refl (placed group bs n b (right (list_all (λ other. not (shares_group a other)) bs) (are_apart bs) apart) is has)
+placed group (a ∷ bs) (suc n) b apart is has =
+    by (covers group a) refl (placed group bs n b (right (list_all (λ other. not (shares_group a other)) bs) (are_apart bs) apart) is has)
   where
-    by : (c : Bool) → covers group a ≡ c → position_or_len (covers group) bs ≡ n → cond (not c) (1 + position_or_len (covers group) bs) 0 ≡ suc n
+    by : (c : Bool) → covers group a ≡ c → position_or_len (covers group) bs ≡ n
+        → cond (not c) (1 + position_or_len (covers group) bs) 0 ≡ suc n
     by false other rest = omega (arith, rest)
     by true it rest =
         absurd (not-both (shares_group a b)
-        (all-at (λ other. not (shares_group a other)) bs n b (left (list_all (λ other. not (shares_group a other)) bs) (are_apart bs) apart) is)
+        (all-at (λ other. not (shares_group a other)) bs n b (left (list_all (λ other. not (shares_group a other)) bs) (are_apart bs) apart)
+        is)
         (share group a b it has))
 
-pub one_has : (setup : Facts) (group number : ℕ) (block : Block) → are_apart setup.blocks ≡ true → slice_get setup.blocks number ≡ Some block → covers group block ≡ true →
+pub one_has : (setup : SetupData) (group number : ℕ) (block : Block) → are_apart setup.blocks ≡ true
+    → slice_get setup.blocks number ≡ Some block → covers group block ≡ true →
     block_of setup group ≡ Some number
 one_has setup group number block apart is has =
     let at : position_or_len (covers group) setup.blocks ≡ number = placed group setup.blocks number block apart is has in
@@ -65,7 +71,8 @@ one_has setup group number block apart is has =
     ∙ ap (λ b. cond b (Some number) None) (lt-ltb number (length setup.blocks) within)
 
 -- what is found passes
-found : {X : Type 0} (p : X → Bool) (xs : List X) → position_or_len p xs < length xs → (x : X) × (slice_get xs (position_or_len p xs) ≡ Some x) × (p x ≡ true)
+found : {X : Type 0} (p : X → Bool) (xs : List X) → position_or_len p xs < length xs
+    → (x : X) × (slice_get xs (position_or_len p xs) ≡ Some x) × (p x ≡ true)
 found p [] within = absurd (omega (arith, within))
 found {X = X} p (y ∷ ys) within = by (p y) refl within (found p ys)
   where
@@ -78,7 +85,7 @@ found {X = X} p (y ∷ ys) within = by (p y) refl within (found p ys)
         let next : 1 + position_or_len p ys ≡ suc (position_or_len p ys) = omega arith in
         (more.0, ap (slice_get (y ∷ ys)) next ∙ more.1, more.2)
 
-pub found_has : (setup : Facts) (group number : ℕ) → block_of setup group ≡ Some number →
+pub found_has : (setup : SetupData) (group number : ℕ) → block_of setup group ≡ Some number →
     (block : Block) × (slice_get setup.blocks number ≡ Some block) × (covers group block ≡ true)
 found_has setup group number is = by (nat_lt at (length setup.blocks)) refl is
   where

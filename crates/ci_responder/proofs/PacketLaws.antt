@@ -1,5 +1,6 @@
 -- Packets that are added to replies.
-use Rattle.std.proofs.Common.{ℕ, ◌≡◌, ◌<◌, ◌≤◌, ◌+◌, ◌*◌, ◌∙◌, refl, sym, List, [], ◌∷◌, ◌++◌, arith, suc, subst, None, Some, drop, length, nat_lt, inl, inr}
+use Rattle.std.proofs.Common.{ℕ, ◌≡◌, ◌<◌, ◌≤◌, ◌+◌, ◌*◌, ◌∙◌, refl, sym, List, [], ◌∷◌, ◌++◌}
+use Rattle.std.proofs.Common.{arith, suc, subst, None, Some, drop, length, nat_lt, inl, inr}
 use Rattle.std.proofs.lemmas.Bool.{cases_Bool, lt-ltb, ltb-false, ltb-true}
 use Rattle.std.proofs.lemmas.List.Elements.{All-drop, All-take}
 use Rattle.std.specs.Fork.{slice_chunk}
@@ -48,7 +49,8 @@ part-few bytes few = omega (arith, few)
 
 -- one more packet of a payload
 pub first-more : (group : ℕ) (bytes : List ℕ) (k : ℕ) (p : Form × List ℕ) (now new : List ℕ) → p ≡ part bytes k →
-    AddsPackets (first_packets group bytes k) [] now → AddsPacket (packet.Exclusive group p.0 p.1) now new → AddsPackets (first_packets group bytes (k + 1)) [] new
+    AddsPackets (first_packets group bytes k) [] now → AddsPacket (packet.Exclusive group p.0 p.1) now new
+    → AddsPackets (first_packets group bytes (k + 1)) [] new
 first-more group bytes k p now new same before adds =
     let P : (Form × List ℕ) → Type 0 = λ q. AddsPacket (packet.Exclusive group q.0 q.1) now new in
     let last : Packet = packet.Exclusive group (form_at (part_count bytes) k) (slice_chunk bytes 6 k) in

@@ -1,14 +1,11 @@
 -- Replies in both formats.
-use Rattle.std.proofs.Common.{◌≡◌, ◌≤◌, ◌<◌, ◌==◌, ℕ, Bool, true, false, if◌then◌else◌, List, [], ◌∷◌, ◌++◌, length, refl, arith}
+use Rattle.std.proofs.Common.{◌≡◌, ◌≤◌, ◌<◌, ◌==◌, ℕ, Bool, true, false, if◌then◌else◌, [], ◌∷◌, length, refl, arith}
 use Rattle.ci_messages.specs.declared.kind.Format.{Format}
 use Rattle.ci_messages.specs.declared.kind.Format.TheVariants as format
 use Rattle.ci_messages.specs.declared.kind.Kind.{Kind}
 use Rattle.ci_messages.specs.declared.kind.Kind.TheVariants as kind
-use Rattle.ci_messages.specs.declared.view.Address.{Address}
 use Rattle.ci_messages.specs.Fields.{FitsField, bytes_of_fields, number}
 use Rattle.ci_messages.specs.Messages.{block_in, kind_of, path_in}
-use Rattle.ci_messages.specs.Places.{bytes4}
-use Rattle.ci_messages.specs.Writing.{address_number}
 
 -- a message of this sub-id and version is of this kind
 abbrev pub Is : Kind → ℕ → ℕ → Type 0
@@ -34,8 +31,3 @@ path_is_data format.Full path fits = fits
 path_is_data format.Short path fits =
     let none : number path ≡ number 0 = fits in
     let zero : path ≡ 0 = cc in omega (arith, zero)
-
--- a payload by its version and the bytes of its body
-abbrev pub with_body : Address → ℕ → ℕ → ℕ → ℕ → List ℕ → List ℕ
-with_body address sub source destination version body =
-    0x7E ∷ address_number address ∷ 0x0D ∷ sub ∷ version ∷ ((bytes4 source ++ bytes4 destination) ++ body)

@@ -1,5 +1,6 @@
 -- What a responder holds, and what one message does to it.
-use Rattle.std.specs.Prelude.{◌≡◌, ◌<◌, ◌≤◌, ◌^◌, ℕ, Bool, ◌+◌, ◌&&◌, nat_le, nat_lt, if◌then◌else◌, List, [], ◌∷◌, length, slice_get, position, Option, None, Some, option_map, option_and_then}
+use Rattle.std.specs.Prelude.{◌≡◌, ◌<◌, ◌≤◌, ◌^◌, ℕ, Bool, ◌+◌, ◌&&◌, nat_le, nat_lt, if◌then◌else◌, List, []}
+use Rattle.std.specs.Prelude.{◌∷◌, length, slice_get, position, Option, None, Some, option_map, option_and_then}
 use Rattle.std.proofs.Common.{zero, suc}
 use Rattle.std.specs.List.{All}
 use Rattle.std.specs.Map.{set_value}
@@ -11,9 +12,9 @@ use Rattle.ci_responder.specs.declared.heard.Heard.{Heard}
 use Rattle.ci_responder.specs.declared.heard.Heard.TheVariants as heard
 use Rattle.ci_responder.specs.declared.keys.Key.{Key}
 use Rattle.ci_responder.specs.Keys.{same_key}
-use Rattle.ci_responder.specs.Messages.{Said, Told, switch, key_at}
+use Rattle.ci_responder.specs.Messages.{SaidToResponder, Received, switch, key_at}
 use Rattle.ci_responder.specs.Rows.{heard_by, loses_muid, names}
-use Rattle.ci_responder.specs.Replies.{Sender, replies_by, reply_by}
+use Rattle.ci_responder.specs.Replies.{Sender, message_of_reply, replies_by, reply_by}
 
 -- the blocks by number, the profiles in the setup's order, and what replies tell of the device
 pub record Held : Type 0 where
@@ -57,13 +58,13 @@ abbrev pub muid_in : List CiBlock → ℕ → Option ℕ
 muid_in blocks block = option_and_then muid_of (slice_get blocks block)
 
 -- what a message is heard as, by its block, if it has one
-abbrev pub heard_for : Held → Told → Option ℕ → Heard
-heard_for held told None = heard.NoBlock
-heard_for held told (Some block) =
-    heard_by (muid_in held.blocks block) (names held.states block told told.message.said) told.message
+abbrev pub heard_for : Held → Received → Option ℕ → Heard
+heard_for held received None = heard.NoBlock
+heard_for held received (Some block) =
+    heard_by (muid_in held.blocks block) (names held.states block received received.message.said) received.message
 
-abbrev pub heard_in : Held → Told → Heard
-heard_in held told = heard_for held told (block_in held.blocks told.group)
+abbrev pub heard_in : Held → Received → Heard
+heard_in held received = heard_for held received (block_in held.blocks received.group)
 
 -- a block that has used up one more MUID
 abbrev pub next : CiBlock → CiBlock
@@ -80,20 +81,20 @@ abbrev pub blocks_by : Heard → ℕ → List CiBlock → List CiBlock
 blocks_by heard block blocks = if loses_muid heard then change_at next block blocks else blocks
 
 -- the profiles behind a message: a switch that is answered switches its own
-abbrev pub states_by : Heard → Said → ℕ → Told → List (Key × Bool) → List (Key × Bool)
-states_by heard.Answered (switch id on) block told states = set_value (same_key (key_at block told id)) states on
-states_by _ _ block told states = states
+abbrev pub states_by : Heard → SaidToResponder → ℕ → Received → List (Key × Bool) → List (Key × Bool)
+states_by heard.Answered (switch id on) block received states = set_value (same_key (key_at block received id)) states on
+states_by _ _ block received states = states
 
-abbrev pub after_for : Held → Told → Option ℕ → Held
-after_for held told None = held
-after_for held told (Some block) = record held {
-  blocks = blocks_by (heard_for held told (Some block)) block held.blocks;
-  states = states_by (heard_for held told (Some block)) told.message.said block told held.states;
+abbrev pub after_for : Held → Received → Option ℕ → Held
+after_for held received None = held
+after_for held received (Some block) = record held {
+  blocks = blocks_by (heard_for held received (Some block)) block held.blocks;
+  states = states_by (heard_for held received (Some block)) received.message.said block received held.states;
 }
 
 -- what is held behind a message
-abbrev pub after : Held → Told → Held
-after held told = after_for held told (block_in held.blocks told.group)
+abbrev pub after : Held → Received → Held
+after held received = after_for held received (block_in held.blocks received.group)
 
 abbrev pub sender_of : Held → ℕ → ℕ → Sender
 sender_of held block muid = record {
@@ -109,9 +110,13 @@ abbrev pub sender_in : Held → Option ℕ → Option Sender
 sender_in held block = option_and_then (λ n. option_map (sender_of held n) (muid_in held.blocks n)) block
 
 -- the payload of the reply to a message
-abbrev pub reply_in : Held → Told → Option (List ℕ)
-reply_in held told = reply_by (sender_in held (block_in held.blocks told.group)) (heard_in held told) told
+abbrev pub reply_in : Held → Received → Option (List ℕ)
+reply_in held received = reply_by (sender_in held (block_in held.blocks received.group)) (heard_in held received) received
+
+-- the reply as a message, if there is one
+abbrev pub message_in : Held → Received → Option (List ℕ)
+message_in held received = message_of_reply (reply_in held received)
 
 -- the packets of the reply
-abbrev pub replies_in : Held → Told → List Packet
-replies_in held told = replies_by (sender_in held (block_in held.blocks told.group)) (heard_in held told) told
+abbrev pub replies_in : Held → Received → List Packet
+replies_in held received = replies_by (sender_in held (block_in held.blocks received.group)) (heard_in held received) received

@@ -3,6 +3,7 @@ pub mod SameKeys
 pub mod Messages
 pub mod Read
 pub mod Rows
+pub mod RowOrder
 pub mod Replies
 pub mod Held
 pub mod History

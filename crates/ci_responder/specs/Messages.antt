@@ -11,15 +11,15 @@ use Rattle.function_blocks.specs.declared.setup.Place.TheVariants as place
 use Rattle.ci_responder.specs.declared.keys.Key.{Key}
 
 -- what a message asks for or says
-pub data Said : Type 0 where
-  discovery : ℕ → Said  -- with an output path
-  endpoint : ℕ → Said  -- an inquiry of the endpoint, with a status
-  invalidate : ℕ → Said  -- of a MUID
-  profiles : Said  -- an inquiry of profiles
-  switch : ProfileId → Bool → Said  -- a profile is set on or off
-  other : Said
+pub data SaidToResponder : Type 0 where
+  discovery : ℕ → SaidToResponder  -- with an output path
+  endpoint : ℕ → SaidToResponder  -- an inquiry of the endpoint, with a status
+  invalidate : ℕ → SaidToResponder  -- of a MUID
+  profiles : SaidToResponder  -- an inquiry of profiles
+  switch : ProfileId → Bool → SaidToResponder  -- a profile is set on or off
+  other : SaidToResponder
 
-abbrev pub said_in : Body → Said
+abbrev pub said_in : Body → SaidToResponder
 said_in (body.Discovery manufacturer family model revision category size path) = discovery path
 said_in (body.EndpointInquiry status) = endpoint status
 said_in (body.Invalidate target) = invalidate target
@@ -34,11 +34,11 @@ pub record Message : Type 0 where
   pub version : ℕ
   pub source : ℕ
   pub destination : ℕ
-  pub said : Said
+  pub said : SaidToResponder
 
 -- what a view says, wherever the bytes stand that it lends
-abbrev pub message_of : CiView → Message
-message_of view = record {
+abbrev pub viewed_message : CiView → Message
+viewed_message view = record {
   address = view.address;
   sub = view.sub;
   version = view.version;
@@ -48,12 +48,12 @@ message_of view = record {
 }
 
 -- a message, and the group on which it came
-pub record Told : Type 0 where
+pub record Received : Type 0 where
   pub group : ℕ
   pub message : Message
 
-abbrev pub told_of : ℕ → CiView → Told
-told_of group view = record { group = group; message = message_of view }
+abbrev pub received_of : ℕ → CiView → Received
+received_of group view = record { group = group; message = viewed_message view }
 
 -- The place of an address (M2-101-UM, device id): a channel of the message's group, that group, or the function block.
 abbrev pub place_at : Address → ℕ → Place
@@ -62,5 +62,5 @@ place_at address.Group group = place.Group group
 place_at address.Block group = place.Function
 
 -- the key of the profile with this id at the message's place in a block
-abbrev pub key_at : ℕ → Told → ProfileId → Key
-key_at block told id = record { block = block; place = place_at told.message.address told.group; id = id }
+abbrev pub key_at : ℕ → Received → ProfileId → Key
+key_at block received id = record { block = block; place = place_at received.message.address received.group; id = id }

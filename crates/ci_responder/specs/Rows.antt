@@ -4,7 +4,7 @@ use Rattle.ci_responder.specs.declared.heard.Heard.{Heard}
 use Rattle.ci_responder.specs.declared.heard.Heard.TheVariants as heard
 use Rattle.ci_responder.specs.declared.keys.Key.{Key}
 use Rattle.ci_responder.specs.Keys.{state_in}
-use Rattle.ci_responder.specs.Messages.{Said, Message, Told, key_at, discovery, endpoint, invalidate, profiles, switch}
+use Rattle.ci_responder.specs.Messages.{SaidToResponder, Message, Received, key_at, discovery, endpoint, invalidate, profiles, switch}
 
 abbrev pub broadcast : ℕ
 broadcast = 0x0FFFFFFF
@@ -24,20 +24,20 @@ abbrev pub is_for : ℕ → ℕ → Bool
 is_for muid destination = destination == muid || destination == broadcast
 
 -- it invalidates a MUID, and that one isn't this
-abbrev pub is_of_another : ℕ → Said → Bool
+abbrev pub is_of_another : ℕ → SaidToResponder → Bool
 is_of_another muid (invalidate target) = not (target == muid)
 is_of_another muid _ = false
 
-abbrev pub is_invalidate : Said → Bool
+abbrev pub is_invalidate : SaidToResponder → Bool
 is_invalidate (invalidate target) = true
 is_invalidate _ = false
 
-abbrev pub is_discovery : Said → Bool
+abbrev pub is_discovery : SaidToResponder → Bool
 is_discovery (discovery path) = true
 is_discovery _ = false
 
 -- It is answered. A switch is, where the setup names its profile.
-abbrev pub is_answered : Bool → Said → Bool
+abbrev pub is_answered : Bool → SaidToResponder → Bool
 is_answered named (discovery path) = true
 is_answered named (endpoint status) = status == 0
 is_answered named profiles = true
@@ -45,8 +45,8 @@ is_answered named (switch id on) = named
 is_answered named _ = false
 
 -- the row of a message for a block in which this MUID is in force
-abbrev pub row_of : ℕ → Bool → Message → Heard
-row_of muid named message =
+abbrev pub heard_row : ℕ → Bool → Message → Heard
+heard_row muid named message =
     if message.source == muid then heard.Collision
     else if message.version == 0 then heard.OldVersion
     else if not (is_for muid message.destination) then heard.NotOurs
@@ -61,12 +61,12 @@ row_of muid named message =
 -- the same by the MUID in force, if there is one
 abbrev pub heard_by : Option ℕ → Bool → Message → Heard
 heard_by None named message = heard.Silent
-heard_by (Some muid) named message = row_of muid named message
+heard_by (Some muid) named message = heard_row muid named message
 
 -- a message switches a profile that is named
-abbrev pub names : List (Key × Bool) → ℕ → Told → Said → Bool
-names states block told (switch id on) = is_some (state_in states (key_at block told id))
-names states block told _ = false
+abbrev pub names : List (Key × Bool) → ℕ → Received → SaidToResponder → Bool
+names states block received (switch id on) = is_some (state_in states (key_at block received id))
+names states block received _ = false
 
 -- a block loses its MUID by a message that it hears so
 abbrev pub loses_muid : Heard → Bool

@@ -1,3 +1,4 @@
+-- For proofs alone: no contract of a public call rests on what stands here.
 -- The same key is an equal key.
 use Rattle.std.proofs.Common.{subst, ◌≡◌, ap, sym, refl, Bool, true, false, ◌==◌, ◌&&◌, [], ◌∷◌, ◌++◌, IsTrue, true≢false}
 use Rattle.std.proofs.lemmas.Bool.{eqb-true, eq-eqb}
@@ -26,7 +27,8 @@ both false b one other = one
 place-is : (a b : Place) → same_place a b ≡ true → a ≡ b
 place-is place.Function place.Function same = refl
 place-is (place.Group g) (place.Group h) same = ap place.Group (eqb-true g h same)
-place-is (place.Channel g c) (place.Channel h d) same = (λ j. place.Channel (eqb-true g h (left (g == h) (c == d) same) j) (eqb-true c d (right (g == h) (c == d) same) j))
+place-is (place.Channel g c) (place.Channel h d) same =
+    (λ j. place.Channel (eqb-true g h (left (g == h) (c == d) same) j) (eqb-true c d (right (g == h) (c == d) same) j))
 place-is place.Function (place.Group h) same = absurd (true≢false (sym same))
 place-is place.Function (place.Channel h d) same = absurd (true≢false (sym same))
 place-is (place.Group g) place.Function same = absurd (true≢false (sym same))

@@ -7,16 +7,19 @@ pub enum Heard {
     NoBlock,
     /// The block has used up its MUIDs. Nothing is done.
     Silent,
-    /// The source is the block's own MUID. It is invalidated, and the block takes the next of its list or becomes silent.
+    /// The source is the block's own MUID. It is invalidated, and the
+    /// block takes the next of its list or becomes silent.
     Collision,
     /// Version 00 of the message format. Nothing is done.
     OldVersion,
-    /// The destination is neither the block's MUID nor broadcast, or another MUID is invalidated. Nothing is done.
+    /// The destination is neither the block's MUID nor broadcast, or
+    /// another MUID is invalidated. Nothing is done.
     NotOurs,
     /// The block's MUID is invalidated. It takes the next of its list or becomes silent, without a reply.
     Moved,
-    /// Sub-ids 21, 24 to 27, 29, 71, 73, 7D and 7F: a reply, a report, an ACK or a NAK. Those of Process Inquiry (41, 43 and 44)
-    /// aren't among them, and are `Nak` where nothing before it applies (own rule). Nothing is done.
+    /// Sub-ids 21, 24 to 27, 29, 71, 73, 7D and 7F: a reply, a report, an ACK or a NAK. Those of Process
+    /// Inquiry (41, 43 and 44) aren't among them, and are `Nak` where nothing before it applies (own rule).
+    /// Nothing is done.
     Report,
     /// To broadcast, and not Discovery. Nothing is done.
     Broadcast,

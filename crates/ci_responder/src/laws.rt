@@ -1,10 +1,12 @@
 // Laws over the definitions alone.
+ghost use Rattle.ci_responder.specs.RowOrder.{RowsInOrder, WorkedRows};
 ghost use Rattle.ci_responder.specs.Laws.{BlockOfIsTheOne, HeldIsTheHistory, SwitchesStandAlone, ViewsTellTheirBytes};
 
-/// What a responder holds after any messages, of all groups, is what their history says, searched from the newest message back:
-/// the MUID in force of each block, what one more message is heard as, the reply to it, and whether each profile is on. Where
-/// no two profiles have the same key, hearing one more message leaves what the longer history says; so a switch leaves all
-/// other profiles as they were, and a change of MUID all of them.
+/// What a responder holds after any messages, of all groups, is what their history says, searched from the
+/// newest message back: the MUID in force of each block, what one more message is heard as, the reply to it,
+/// and whether each profile is on. Where no two profiles have the same key, hearing one more message leaves
+/// what the longer history says; so a switch leaves all other profiles as they were, and a change of MUID all
+/// of them.
 pub fn held_is_the_history()
     ensures { HeldIsTheHistory }
 {}
@@ -14,13 +16,23 @@ pub fn switches_stand_alone()
     ensures { SwitchesStandAlone }
 {}
 
-/// The block of a group, by which the history tells which block hears a message, is an active block with MIDI-CI that has the
-/// group. Where no two of them share a group, as in each setup, it is the only one, and there is none only where no block has it.
+/// The block of a group, by which the history tells which block hears a message, is an active block with
+/// MIDI-CI that has the group. Where no two of them share a group, as in each setup, it is the only one, and
+/// there is none only where no block has it.
 pub fn block_of_a_group_is_the_one()
     ensures { BlockOfIsTheOne }
 {}
 
-/// What a view of a message tells is a function of the message's bytes and its group, by the places of M2-101-UM.
+/// What a view of a message tells is a function of the message's
+/// bytes and its group, by the places of M2-101-UM.
 pub fn views_tell_their_bytes()
     ensures { ViewsTellTheirBytes }
+{}
+
+/// The rows of a message stand in their order: a message from the block's own MUID is a collision, whatever
+/// its version, and any other of version 00 is an old one; and each of some worked messages, to which two
+/// rows apply, is heard as the first of them.
+pub fn rows_stand_in_their_order()
+    ensures order { RowsInOrder }
+    ensures worked { WorkedRows }
 {}

@@ -6,7 +6,9 @@ pub mod heard;
 mod kept;
 pub mod keys;
 pub mod laws;
+pub mod message;
 mod opening;
+mod owner;
 mod packets;
 mod profiles;
 mod replying;
@@ -16,9 +18,10 @@ mod rows;
 pub use crate::heard::Heard;
 pub use crate::keys::Key;
 pub use crate::laws::{
-    block_of_a_group_is_the_one, held_is_the_history, switches_stand_alone, views_tell_their_bytes,
+    block_of_a_group_is_the_one, held_is_the_history, rows_stand_in_their_order,
+    switches_stand_alone, views_tell_their_bytes,
 };
-pub use crate::packets::put_message;
+pub use crate::message::CiMessage;
 pub use crate::responder::Responder;
 pub use ci_messages::ProfileId;
 pub use function_blocks::Place;

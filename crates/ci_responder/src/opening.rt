@@ -34,17 +34,14 @@ pub(crate) fn kept_blocks(alloc: Global, setup: &Setup) -> Result<Vec<CiBlock>, 
     ensures fits { IfOk result (λ blocks. All IsCiBlock blocks.items) }
     ensures few { IfOk result (λ blocks. length blocks.items ≤ 32) }
 {
-    let count = setup.block_count();
-    let Ok(mut blocks) = Vec::with_capacity(alloc, count as usize) else {
+    let blocks = setup.blocks();
+    let Ok(mut kept) = Vec::with_capacity(alloc, blocks.len()) else {
         return Err(NoMemory);
     };
-    for number in 0..count {
-        match setup.block(number) {
-            Some(block) => add_block(&mut blocks, block)?,
-            None => unreachable!(),
-        }
+    for block in blocks {
+        add_block(&mut kept, block)?;
     }
-    Ok(blocks)
+    Ok(kept)
 }
 
 // Adds a profile at the end.
@@ -72,15 +69,12 @@ pub(crate) fn first_states(alloc: Global, setup: &Setup) -> Result<IndexMap<Key,
     ensures value { IfOk result (λ states. states.entries ≡ first_states_of setup.now.profiles) }
     ensures few { IfOk result (λ states. length states.entries ≤ 64) }
 {
-    let count = setup.profile_count();
-    let Ok(mut states) = IndexMap::with_capacity(alloc, count) else {
+    let profiles = setup.profiles();
+    let Ok(mut states) = IndexMap::with_capacity(alloc, profiles.len()) else {
         return Err(NoMemory);
     };
-    for k in 0..count {
-        match setup.profile(k) {
-            Some(profile) => add(&mut states, profile)?,
-            None => unreachable!(),
-        }
+    for profile in profiles {
+        add(&mut states, profile)?;
     }
     Ok(states)
 }

@@ -79,7 +79,8 @@ fn add_listed(ids: &mut Ids, key: &Key, on: bool, block: u8, place: &Place)
     }
 }
 
-/// The ids of the profiles of a block and place, those that are on and those that are off, in the setup's order.
+/// The ids of the profiles of a block and place, those that are on
+/// and those that are off, in the setup's order.
 pub(crate) fn ids_at(states: &IndexMap<Key, bool>, block: u8, place: &Place) -> Ids
     requires { length states.now.entries ≤ 64 }
     ensures on { result.on ≡ ids_of true block place.now states.now.entries }
@@ -97,6 +98,7 @@ pub(crate) fn ids_at(states: &IndexMap<Key, bool>, block: u8, place: &Place) -> 
     for k in 0..states.len() {
         match states.get_index(k) {
             Some((key, on)) => add_listed(&mut ids, key, *on, block, place),
+            // there is a profile for each number below the count
             None => unreachable!(),
         }
     }

@@ -1,22 +1,21 @@
 // The replies, by the row of the message.
-ghost use Rattle.std.specs.Prelude.{◌≡◌, ◌<◌, ◌≤◌, ◌==◌, ℕ, Some, true, false, if◌then◌else◌, [], length};
+ghost use Rattle.std.specs.Prelude.{◌≡◌, ◌<◌, ◌≤◌, ◌==◌, ℕ, Some, false, if◌then◌else◌};
 ghost use Rattle.ci_messages.specs.declared.view.Body.TheVariants as body;
-ghost use Rattle.ci_messages.specs.Fields.{FitsField, IsData, byte, bytes_of_field, number};
+ghost use Rattle.ci_messages.specs.Fields.{FitsField, byte, bytes_of_field, number};
 ghost use Rattle.ci_messages.specs.Messages.{channels_in, format_of, full_only};
 ghost use Rattle.ci_messages.specs.Writing.{IsView, channels_of};
 ghost use Rattle.ci_responder.specs.Held.{sender_of};
 ghost use Rattle.ci_responder.specs.Messages.{
   discovery,
   endpoint,
-  message_of,
+  viewed_message,
   profiles,
   said_in,
   switch,
-  told_of,
+  received_of,
 };
 ghost use Rattle.ci_responder.specs.Replies.{
-  answer_to,
-  IsReply,
+  reply_row,
   invalidation,
   message_of_payload,
   message_of_reply,
@@ -26,24 +25,16 @@ ghost use Rattle.ci_responder.specs.Replies.{
 };
 
 use crate::heard::Heard;
-use crate::packets::put_message;
+use crate::message::CiMessage;
+use crate::owner::Owner;
 use crate::profiles::{ids_at, place_of};
 use crate::responder::Responder;
 use ci_messages::{Address, BROADCAST, Body, CiView, NO_BLOCK, PROFILE_CONFIGURATION, ProfileId};
 use function_blocks::Identity;
-use midi_edge::{ShortList, U4};
-
-/// The function block that a message is for, with its MUID in force, and the group on which it replies.
-#[derive(Clone, Copy, Debug, PartialEq, Eq)]
-pub(crate) struct Owner {
-    pub(crate) group: U4,
-    pub(crate) block: u8,
-    pub(crate) muid: u32,
-}
 
 // The version of the reply to a message: 01 to a message of version 01, else 02 (own rule).
 fn reply_version(view: &CiView<'_>) -> u8
-    ensures value { result ≡ reply_version_of (message_of view.now) }
+    ensures value { result ≡ reply_version_of (viewed_message view.now) }
     ensures least { 1 ≤ result }
     ensures most { result ≤ 2 }
 {
@@ -60,7 +51,8 @@ fn placed(version: u8, value: u8, otherwise: u8) -> u8
     if version == 1 { otherwise } else { value }
 }
 
-// The number of channels that a report tells: that of its address, and none where version 01 has no place for it (own rule).
+// The number of channels that a report tells: that of its address, and
+// none where version 01 has no place for it (own rule).
 fn channels_told(version: u8, address: Address) -> u16
     ensures fits { FitsField (channels_in (format_of version)) (number result) }
     ensures bytes { bytes_of_field (channels_in (format_of version)) (number result)
@@ -69,126 +61,95 @@ fn channels_told(version: u8, address: Address) -> u16
     if version == 1 { 0 } else { address.channels() }
 }
 
-// The sub-id and the body of a report that a profile is on, or that it is off.
-fn report_of(id: ProfileId, channels: u16, on: bool) -> (u8, Body<'static>)
-    ensures { result ≡ (if on then (0x24, body.EnabledReport id channels)
-        else (0x25, body.DisabledReport id channels)) }
+// The body of a report that a profile is on, or that it is off.
+fn report_of(id: ProfileId, channels: u16, on: bool) -> Body<'static>
+    ensures { result ≡ (if on then body.EnabledReport id channels else body.DisabledReport id channels) }
 {
     if on {
-        (0x24, Body::EnabledReport { id, channels })
+        Body::EnabledReport { id, channels }
     } else {
-        (0x25, Body::DisabledReport { id, channels })
+        Body::DisabledReport { id, channels }
     }
 }
 
 impl Responder {
-    /// Writes the reply of a block to a message that is heard so into an empty list; there are no bytes where there is none.
-    pub(crate) fn reply(
-        &self,
-        owner: &Owner,
-        heard: Heard,
-        view: &CiView<'_>,
-        reply: &mut ShortList<u8, 512>,
-    )
-        requires view { IsView view.now }
-        requires muid { owner.now.muid < 0x0FFFFF00 }
-        requires block { owner.now.block < 128 }
-        requires empty { reply.old ≡ [] }
-        ensures message { reply.new ≡ message_of_reply
+    /// The reply of a block to a message that is heard so; `None` where there is none.
+    pub(crate) fn reply(&self, owner: &Owner, heard: Heard, view: &CiView<'_>) -> Option<CiMessage>
+        requires { IsView view.now }
+        ensures { result ≡ message_of_reply
             (reply_to (sender_of self.now owner.now.block owner.now.muid) heard
-            (told_of owner.now.group view.now)) }
-        ensures reply { IsReply reply.new }
+            (received_of owner.now.group view.now)) }
     {
         match heard {
-            Heard::Collision => self.invalidate(owner, view, reply),
-            Heard::Answered => self.answer(owner, view, reply),
-            Heard::Nak => self.refuse(owner, view, reply),
-            _ => {}
+            Heard::Collision => Some(self.invalidate(owner, view)),
+            Heard::Answered => self.answer(owner, view),
+            Heard::Nak => Some(self.refuse(owner, view)),
+            _ => None,
         }
     }
 
-    fn invalidate(&self, owner: &Owner, view: &CiView<'_>, reply: &mut ShortList<u8, 512>)
-        requires muid { owner.now.muid < 0x0FFFFF00 }
-        requires empty { reply.old ≡ [] }
-        ensures message { reply.new ≡ message_of_payload
-            (invalidation (sender_of self.now owner.now.block owner.now.muid) (message_of view.now)) }
-        ensures reply { IsReply reply.new }
+    fn invalidate(&self, owner: &Owner, view: &CiView<'_>) -> CiMessage
+        ensures { result ≡ message_of_payload
+            (invalidation (sender_of self.now owner.now.block owner.now.muid) (viewed_message view.now)) }
     {
         let version = reply_version(view);
-        let message = CiView {
+        let body = Body::Invalidate { target: owner.muid };
+        CiMessage::new(&CiView {
             address: Address::Block,
-            sub: 0x7E,
+            sub: body.sub(),
             version,
             source: owner.muid,
             destination: BROADCAST,
-            body: Body::Invalidate { target: owner.muid },
-        };
-        put_message(&message, reply);
+            body,
+        })
     }
 
-    fn refuse(&self, owner: &Owner, view: &CiView<'_>, reply: &mut ShortList<u8, 512>)
-        requires view { IsView view.now }
-        requires muid { owner.now.muid < 0x0FFFFF00 }
-        requires empty { reply.old ≡ [] }
-        ensures message { reply.new ≡ message_of_payload
-            (refusal (sender_of self.now owner.now.block owner.now.muid) (message_of view.now)) }
-        ensures reply { IsReply reply.new }
+    fn refuse(&self, owner: &Owner, view: &CiView<'_>) -> CiMessage
+        requires { IsView view.now }
+        ensures { result ≡ message_of_payload
+            (refusal (sender_of self.now owner.now.block owner.now.muid) (viewed_message view.now)) }
     {
         let version = reply_version(view);
         let original = placed(version, view.sub, 0);
-        let message = CiView {
+        let body = Body::Nak {
+            original,
+            code: 0,
+            value: 0,
+            details: [0; 5],
+            text: &[],
+        };
+        CiMessage::new(&CiView {
             address: view.address,
-            sub: 0x7F,
+            sub: body.sub(),
             version,
             source: owner.muid,
             destination: view.source,
-            body: Body::Nak {
-                original,
-                code: 0,
-                value: 0,
-                details: [0; 5],
-                text: &[],
-            },
-        };
-        put_message(&message, reply);
+            body,
+        })
     }
 
-    fn answer(&self, owner: &Owner, view: &CiView<'_>, reply: &mut ShortList<u8, 512>)
-        requires view { IsView view.now }
-        requires muid { owner.now.muid < 0x0FFFFF00 }
-        requires block { owner.now.block < 128 }
-        requires empty { reply.old ≡ [] }
-        ensures message { reply.new ≡ message_of_reply
-            (answer_to (sender_of self.now owner.now.block owner.now.muid)
-            (told_of owner.now.group view.now) (said_in view.now.body)) }
-        ensures reply { IsReply reply.new }
+    fn answer(&self, owner: &Owner, view: &CiView<'_>) -> Option<CiMessage>
+        requires { IsView view.now }
+        ensures { result ≡ message_of_reply
+            (reply_row (sender_of self.now owner.now.block owner.now.muid)
+            (received_of owner.now.group view.now) (said_in view.now.body)) }
     {
         match &view.body {
-            Body::Discovery { path, .. } => self.tell_device(owner, view, *path, reply),
-            Body::EndpointInquiry { .. } => self.tell_product_id(owner, view, reply),
-            Body::ProfileInquiry => self.tell_profiles(owner, view, reply),
-            Body::SetOn { id, .. } => self.report(owner, view, *id, true, reply),
-            Body::SetOff { id } => self.report(owner, view, *id, false, reply),
-            _ => {}
+            Body::Discovery { path, .. } => Some(self.tell_device(owner, view, *path)),
+            Body::EndpointInquiry { .. } => Some(self.tell_product_id(owner, view)),
+            Body::ProfileInquiry => Some(self.tell_profiles(owner, view)),
+            Body::SetOn { id, .. } => Some(self.report(owner, view, *id, true)),
+            Body::SetOff { id } => Some(self.report(owner, view, *id, false)),
+            _ => None,
         }
     }
 
-    fn tell_device(
-        &self,
-        owner: &Owner,
-        view: &CiView<'_>,
-        path: u8,
-        reply: &mut ShortList<u8, 512>,
-    )
+    fn tell_device(&self, owner: &Owner, view: &CiView<'_>, path: u8) -> CiMessage
         requires view { IsView view.now }
         requires path { path < 128 }
-        requires muid { owner.now.muid < 0x0FFFFF00 }
-        requires block { owner.now.block < 128 }
-        requires empty { reply.old ≡ [] }
-        ensures message { reply.new ≡ message_of_reply
-            (answer_to (sender_of self.now owner.now.block owner.now.muid)
-            (told_of owner.now.group view.now) (discovery path)) }
-        ensures reply { IsReply reply.new }
+        ensures { Some result ≡ message_of_reply
+            (reply_row (sender_of self.now owner.now.block owner.now.muid)
+            (received_of owner.now.group view.now) (discovery path)) }
     {
         let Identity {
             manufacturer,
@@ -199,107 +160,91 @@ impl Responder {
         let version = reply_version(view);
         let path = placed(version, path, 0);
         let block = placed(version, owner.block, NO_BLOCK);
-        let message = CiView {
+        let body = Body::DiscoveryReply {
+            manufacturer,
+            family,
+            model,
+            revision,
+            category: PROFILE_CONFIGURATION,
+            size: self.room,
+            path,
+            block,
+        };
+        CiMessage::new(&CiView {
             address: Address::Block,
-            sub: 0x71,
+            sub: body.sub(),
             version,
             source: owner.muid,
             destination: view.source,
-            body: Body::DiscoveryReply {
-                manufacturer,
-                family,
-                model,
-                revision,
-                category: PROFILE_CONFIGURATION,
-                size: self.room,
-                path,
-                block,
-            },
-        };
-        put_message(&message, reply);
+            body,
+        })
     }
 
     // Version 01 has no such reply.
-    fn tell_product_id(&self, owner: &Owner, view: &CiView<'_>, reply: &mut ShortList<u8, 512>)
+    fn tell_product_id(&self, owner: &Owner, view: &CiView<'_>) -> CiMessage
         requires view { IsView view.now }
         requires version { (view.now.version == 1) ≡ false }
-        requires muid { owner.now.muid < 0x0FFFFF00 }
-        requires empty { reply.old ≡ [] }
-        ensures message { (status : ℕ) → reply.new ≡ message_of_reply
-            (answer_to (sender_of self.now owner.now.block owner.now.muid)
-            (told_of owner.now.group view.now) (endpoint status)) }
-        ensures reply { IsReply reply.new }
+        ensures { (status : ℕ) → Some result ≡ message_of_reply
+            (reply_row (sender_of self.now owner.now.block owner.now.muid)
+            (received_of owner.now.group view.now) (endpoint status)) }
     {
         let version = reply_version(view);
-        let message = CiView {
+        let body = Body::EndpointReply {
+            status: 0,
+            text: self.product_id.as_slice(),
+        };
+        CiMessage::new(&CiView {
             address: view.address,
-            sub: 0x73,
+            sub: body.sub(),
             version,
             source: owner.muid,
             destination: view.source,
-            body: Body::EndpointReply {
-                status: 0,
-                text: self.product_id.as_slice(),
-            },
-        };
-        put_message(&message, reply);
+            body,
+        })
     }
 
-    fn tell_profiles(&self, owner: &Owner, view: &CiView<'_>, reply: &mut ShortList<u8, 512>)
-        requires view { IsView view.now }
-        requires muid { owner.now.muid < 0x0FFFFF00 }
-        requires empty { reply.old ≡ [] }
-        ensures message { reply.new ≡ message_of_reply
-            (answer_to (sender_of self.now owner.now.block owner.now.muid)
-            (told_of owner.now.group view.now) profiles) }
-        ensures reply { IsReply reply.new }
+    fn tell_profiles(&self, owner: &Owner, view: &CiView<'_>) -> CiMessage
+        requires { IsView view.now }
+        ensures { Some result ≡ message_of_reply
+            (reply_row (sender_of self.now owner.now.block owner.now.muid)
+            (received_of owner.now.group view.now) profiles) }
     {
         let place = place_of(view.address, owner.group);
         let ids = ids_at(&self.states, owner.block, &place);
         let version = reply_version(view);
-        let message = CiView {
+        let body = Body::ProfileReply {
+            on: ids.on.as_slice(),
+            off: ids.off.as_slice(),
+        };
+        CiMessage::new(&CiView {
             address: view.address,
-            sub: 0x21,
+            sub: body.sub(),
             version,
             source: owner.muid,
             destination: view.source,
-            body: Body::ProfileReply {
-                on: ids.on.as_slice(),
-                off: ids.off.as_slice(),
-            },
-        };
-        put_message(&message, reply);
+            body,
+        })
     }
 
     // Reports for all that a profile is on, or that it is off.
-    fn report(
-        &self,
-        owner: &Owner,
-        view: &CiView<'_>,
-        id: ProfileId,
-        on: bool,
-        reply: &mut ShortList<u8, 512>,
-    )
-        requires view { IsView view.now }
-        requires muid { owner.now.muid < 0x0FFFFF00 }
-        requires id { (length id.bytes ≡ 5) × IsData id.bytes }
-        requires empty { reply.old ≡ [] }
-        ensures message { reply.new ≡ message_of_reply
-            (answer_to (sender_of self.now owner.now.block owner.now.muid)
-            (told_of owner.now.group view.now) (switch id on)) }
-        ensures reply { IsReply reply.new }
+    fn report(&self, owner: &Owner, view: &CiView<'_>, id: ProfileId, on: bool) -> CiMessage
+        requires { IsView view.now }
+        ensures { Some result ≡ message_of_reply
+            (reply_row (sender_of self.now owner.now.block owner.now.muid)
+            (received_of owner.now.group view.now) (switch id on)) }
     {
+        // tells that the id is five data bytes
+        id.data_bytes();
         let version = reply_version(view);
         let channels = channels_told(version, view.address);
-        let (sub, body) = report_of(id, channels, on);
-        let message = CiView {
+        let body = report_of(id, channels, on);
+        CiMessage::new(&CiView {
             address: view.address,
-            sub,
+            sub: body.sub(),
             version,
             source: owner.muid,
             destination: BROADCAST,
             body,
-        };
-        put_message(&message, reply);
+        })
     }
 }

@@ -3,22 +3,22 @@ ghost use Rattle.std.specs.Prelude.{◌≡◌, ◌<◌, ◌≤◌, [], true, len
 ghost use Rattle.ump_grammar.specs.Replies.{AddsPackets};
 ghost use Rattle.ci_messages.specs.Writing.{IsView};
 ghost use Rattle.ci_responder.specs.declared.heard.Heard.TheVariants as heard;
-ghost use Rattle.ci_responder.specs.Held.{after, blocks_by, heard_in, muid_in, replies_in, reply_in, states_by};
-ghost use Rattle.ci_responder.specs.History.{held_at};
+ghost use Rattle.ci_responder.specs.Held.{after, blocks_by, heard_in, message_in, muid_in, replies_in, states_by};
+ghost use Rattle.ci_responder.specs.History.{responder_at};
 ghost use Rattle.ci_responder.specs.Keys.{state_in};
-ghost use Rattle.ci_responder.specs.Messages.{key_at as key_at_place, said_in, told_of};
-ghost use Rattle.ci_responder.specs.Replies.{IsReply, message_of_reply};
+ghost use Rattle.ci_responder.specs.Messages.{key_at as key_at_place, said_in, received_of};
 ghost use Rattle.ci_responder.specs.Rows.{loses_muid, names};
 
 use crate::blocks::{block_of, muid_of, spend};
 use crate::heard::Heard;
 use crate::kept::CiBlock;
 use crate::keys::Key;
+use crate::message::CiMessage;
 use crate::opening::{first_states, kept_blocks};
-use crate::packets::push_reply;
+use crate::owner::Owner;
+use crate::packets::push_message;
 use crate::profiles::{place_of, state, switch};
-use crate::replying::Owner;
-use crate::rows::row_of;
+use crate::rows::heard_row;
 use ci_messages::{Body, CiView, ProfileId};
 use function_blocks::{Identity, Setup};
 use indexmap::IndexMap;
@@ -27,8 +27,8 @@ use std::alloc::Global;
 use std::marker::Model;
 use ump_grammar::Replies;
 
-/// Answers the MIDI-CI messages for the function blocks of a setup (M2-101-UM). To a contract it is what it holds: for each
-/// block how many of its MUIDs are used up, and for each profile whether it is on.
+/// Answers the MIDI-CI messages for the function blocks of a setup (M2-101-UM). To a contract it is what it
+/// holds: for each block how many of its MUIDs are used up, and for each profile whether it is on.
 #[derive(Drop)]
 pub struct Responder {
     blocks: Vec<CiBlock>,
@@ -62,7 +62,7 @@ impl Model for Responder {
 
 // The key of the profile with this id at a message's place in a block.
 fn key_at(owner: &Owner, view: &CiView<'_>, id: ProfileId) -> Key
-    ensures { result ≡ key_at_place owner.now.block (told_of owner.now.group view.now) id }
+    ensures { result ≡ key_at_place owner.now.block (received_of owner.now.group view.now) id }
 {
     Key {
         block: owner.block,
@@ -72,13 +72,13 @@ fn key_at(owner: &Owner, view: &CiView<'_>, id: ProfileId) -> Key
 }
 
 impl Responder {
-    /// A responder that has used up no MUID, with its profiles as the setup has them. `room` is the most bytes of a System
-    /// Exclusive message that it tells to take, 6 to 1,048,576. Takes all memory that it ever takes; `NoMemory` where there
-    /// isn't so much.
+    /// A responder that has used up no MUID, with its profiles as the setup has them. `room` is the most
+    /// bytes of a System Exclusive message that it tells to take, 6 to 1,048,576. Takes all memory that it
+    /// ever takes; `NoMemory` where there isn't so much.
     pub fn new(alloc: Global, setup: &Setup, room: u32) -> Result<Responder, NoMemory>
         requires least { 6 ≤ room }
         requires most { room ≤ 1048576 }
-        ensures { IfOk result (λ responder. responder ≡ held_at setup.now room []) }
+        ensures { IfOk result (λ responder. responder ≡ responder_at setup.now room []) }
     {
         let blocks = kept_blocks(alloc, setup)?;
         let states = first_states(alloc, setup)?;
@@ -93,8 +93,8 @@ impl Responder {
         })
     }
 
-    /// The MUID in force of a function block, counted from 0; it is below 0FFFFF00. `None` exactly where the block has no MIDI-CI or
-    /// has used up its MUIDs, or where there is no such block.
+    /// The MUID in force of a function block, counted from 0; it is below 0FFFFF00. `None` exactly where the
+    /// block has no MIDI-CI or has used up its MUIDs, or where there is no such block.
     pub fn muid(&self, block: u8) -> Option<u32>
         ensures value { result ≡ muid_in self.now.blocks block }
         ensures fits { IfSome result (λ muid. muid < 0x0FFFFF00) }
@@ -109,57 +109,52 @@ impl Responder {
         state(&self.states, key)
     }
 
-    /// Hears a message that `ci_messages::read` gives, on its group, and adds the packets of the reply to `replies`, which is
-    /// empty. Takes no memory. The reply goes out on the same group, and has at most 114 words.
+    /// Hears a message that `ci_messages::read` gives, on its group, and adds the packets of the reply to
+    /// `replies`, which is empty. Takes no memory. The reply goes out on the same group, and has at most 114
+    /// words.
     pub fn hear(&mut self, group: U4, view: &CiView<'_>, replies: &mut Replies) -> Heard
         requires view { IsView view.now }
         requires empty { replies.old ≡ [] }
-        ensures heard { result ≡ heard_in self.old (told_of group view.now) }
-        ensures after { self.new ≡ after self.old (told_of group view.now) }
-        ensures replies { AddsPackets (replies_in self.old (told_of group view.now)) [] replies.new }
+        ensures heard { result ≡ heard_in self.old (received_of group view.now) }
+        ensures after { self.new ≡ after self.old (received_of group view.now) }
+        ensures replies { AddsPackets (replies_in self.old (received_of group view.now)) [] replies.new }
         ensures few { length replies.new ≤ 114 }
     {
-        let mut reply = ShortList::new();
-        let heard = self.hear_message(group, view, &mut reply);
-        push_reply(replies, group, reply.as_slice());
+        let (heard, reply) = self.hear_message(group, view);
+        if let Some(message) = reply {
+            push_message(replies, group, &message);
+        }
         heard
     }
 
-    /// The same, but writes the reply as a message from F0 to F7 into an empty list. It has no bytes where there is no reply,
-    /// and otherwise at most 344; `ci_messages::read` takes it. It goes out on the same group.
-    pub fn hear_message(
-        &mut self,
-        group: U4,
-        view: &CiView<'_>,
-        reply: &mut ShortList<u8, 512>,
-    ) -> Heard
-        requires view { IsView view.now }
-        requires empty { reply.old ≡ [] }
-        ensures heard { result ≡ heard_in self.old (told_of group view.now) }
-        ensures after { self.new ≡ after self.old (told_of group view.now) }
-        ensures message { reply.new ≡ message_of_reply (reply_in self.old (told_of group view.now)) }
-        ensures reply { IsReply reply.new }
+    /// The same, but gives the reply as a message, which goes out on
+    /// the same group; `None` where there is no reply.
+    pub fn hear_message(&mut self, group: U4, view: &CiView<'_>) -> (Heard, Option<CiMessage>)
+        requires { IsView view.now }
+        ensures heard { result.0 ≡ heard_in self.old (received_of group view.now) }
+        ensures after { self.new ≡ after self.old (received_of group view.now) }
+        ensures reply { result.1 ≡ message_in self.old (received_of group view.now) }
     {
         let Some(number) = block_of(self.blocks.as_slice(), group) else {
-            return Heard::NoBlock;
+            return (Heard::NoBlock, None);
         };
         let Some(muid) = muid_of(self.blocks.as_slice(), number) else {
-            return Heard::Silent;
+            return (Heard::Silent, None);
         };
         let owner = Owner {
             group,
             block: number as u8,
             muid,
         };
-        let heard = row_of(muid, self.is_named(&owner, view), view);
-        self.reply(&owner, heard, view, reply);
+        let heard = heard_row(muid, self.is_named(&owner, view), view);
+        let reply = self.reply(&owner, heard, view);
         self.change(&owner, heard, view);
-        heard
+        (heard, reply)
     }
 
     // Whether a message switches a profile that the setup names at its place in the block.
     fn is_named(&self, owner: &Owner, view: &CiView<'_>) -> bool
-        ensures { result ≡ names self.now.states owner.now.block (told_of owner.now.group view.now)
+        ensures { result ≡ names self.now.states owner.now.block (received_of owner.now.group view.now)
             (said_in view.now.body) }
     {
         match &view.body {
@@ -180,8 +175,8 @@ impl Responder {
         requires { loses_muid heard ≡ true → is_some (muid_in self.old.blocks owner.now.block) ≡ true }
         ensures { self.new ≡ record self.old {
           blocks = blocks_by heard owner.now.block self.old.blocks;
-          states = states_by heard (said_in view.now.body) owner.now.block (told_of owner.now.group view.now)
-              self.old.states;
+          states = states_by heard (said_in view.now.body) owner.now.block
+              (received_of owner.now.group view.now) self.old.states;
         } }
     {
         match heard {
@@ -196,7 +191,7 @@ impl Responder {
     fn switch(&mut self, owner: &Owner, view: &CiView<'_>)
         ensures { self.new ≡ record self.old {
           states = states_by heard.Answered (said_in view.now.body) owner.now.block
-              (told_of owner.now.group view.now) self.old.states;
+              (received_of owner.now.group view.now) self.old.states;
         } }
     {
         match &view.body {

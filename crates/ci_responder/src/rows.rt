@@ -1,6 +1,6 @@
 // The row of a message.
 ghost use Rattle.std.specs.Prelude.{◌≡◌};
-ghost use Rattle.ci_responder.specs.Messages.{message_of, said_in};
+ghost use Rattle.ci_responder.specs.Messages.{viewed_message, said_in};
 ghost use Rattle.ci_responder.specs.Rows.{
   is_answered as is_answered_of,
   is_discovery as is_discovery_of,
@@ -9,13 +9,14 @@ ghost use Rattle.ci_responder.specs.Rows.{
   is_of_another as is_of_another_muid,
   is_property as is_property_of,
   is_report as is_report_of,
-  row_of as row_of_message,
+  heard_row,
 };
 
 use crate::heard::Heard;
 use ci_messages::{BROADCAST, Body, CiView};
 
-// Whether this is the sub-id of a reply, a report, an ACK or a NAK, Process Inquiry's replies apart (own rule).
+// Whether this is the sub-id of a reply, a report, an ACK or a NAK,
+// Process Inquiry's replies apart (own rule).
 fn is_report(sub: u8) -> bool
     ensures { result ≡ is_report_of sub }
 {
@@ -71,10 +72,10 @@ fn is_answered(is_named: bool, body: &Body<'_>) -> bool
     }
 }
 
-/// The row of a message for a block in which this MUID is in force. `is_named` tells whether it switches a profile that the
-/// setup names.
-pub(crate) fn row_of(muid: u32, is_named: bool, view: &CiView<'_>) -> Heard
-    ensures { result ≡ row_of_message muid is_named (message_of view.now) }
+/// The row of a message for a block in which this MUID is in force. `is_named` tells whether it switches a
+/// profile that the setup names.
+pub(crate) fn heard_row(muid: u32, is_named: bool, view: &CiView<'_>) -> Heard
+    ensures { result ≡ heard_row muid is_named (viewed_message view.now) }
 {
     let is_to_all = view.destination == BROADCAST;
     if view.source == muid {

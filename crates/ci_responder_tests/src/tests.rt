@@ -1,4 +1,5 @@
-// Messages by hand from the tables of M2-101-UM, heard by a responder of one block with two MUIDs and one profile.
+// Messages by hand from the tables of M2-101-UM, heard by a responder
+// of one block with two MUIDs and one profile.
 use ci_messages::laws::views_that_are_read_fit;
 use ci_messages::read;
 use ci_responder::*;
@@ -214,7 +215,8 @@ fn short<'a>(address: u8, sub: u8, destination: Muid, body: &'a [u8]) -> CiMessa
     message
 }
 
-// A reply to a message of version 01 is of version 01: without a path and a block, without channels, without the bytes of a NAK.
+// A reply to a message of version 01 is of version 01: without a path and
+// a block, without channels, without the bytes of a NAK.
 #[test]
 fn a_peer_of_version_01_is_answered(rt: HostRuntime) {
     let mut responder = opened(rt.alloc()).expect(&rt, "no memory");

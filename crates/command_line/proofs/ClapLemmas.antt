@@ -9,7 +9,7 @@ use Rattle.clap.specs.declared.error.Error.{Error}
 use Rattle.clap.specs.declared.error.kind.ErrorKind.{ErrorKind}
 use Rattle.clap.specs.declared.error.kind.ErrorKind.TheVariants as kind
 use Rattle.clap.proofs.OnLiterals.{clap_on_literals}
-use Rattle.command_line.specs.Words.{cli, is_taken}
+use Rattle.command_line.specs.Rules.{cli, is_taken}
 
 pub free : is_simple_and_free cli ≡ true
 unfolding cli clap_on_literals
@@ -20,20 +20,25 @@ unfolding cli clap_on_literals
 simple = refl
 
 pub taken : (a : App) (words : List Text) → a ≡ cli → (is_simple_and_free a ≡ true → fault_of a words ≡ []) → is_taken words ≡ true
-taken a words e = subst (λ a. (is_simple_and_free a ≡ true → fault_of a words ≡ []) → is_taken words ≡ true) (sym e) (λ h. ap is_empty (h free))
+taken a words e =
+    subst (λ a. (is_simple_and_free a ≡ true → fault_of a words ≡ []) → is_taken words ≡ true) (sym e) (λ h. ap is_empty (h free))
 
 among : (ks : Kinds) (k : ErrorKind) → IsAmong k ks → is_empty ks ≡ false
 among [] k h = absurd h
 among (x ∷ xs) k h = search (rules, arith)
 
-refused_at : (words : List Text) (e : Error) (k : ErrorKind) → k ≡ kind_of e → (k ≡ kind.OutOfMemory → ⊥) → HasKind (fault_of cli words) e → is_taken words ≡ false
+refused_at : (words : List Text) (e : Error) (k : ErrorKind) → k ≡ kind_of e → (k ≡ kind.OutOfMemory → ⊥) → HasKind (fault_of cli words) e
+    → is_taken words ≡ false
 refused_at words e k same other (inl memory) = absurd (other (same ∙ memory))
 refused_at words e k same other (inr h) = among (fault_of cli words) (kind_of e) h
 
 pub refused : (a : App) (words : List Text) (e : Error) (k : ErrorKind) → a ≡ cli → k ≡ kind_of e → (k ≡ kind.OutOfMemory → ⊥)
     → (is_simple_and_free a ≡ true → HasKind (fault_of a words) e) → is_taken words ≡ false
 refused a words e k is_cli same other =
-    subst (λ a. (is_simple_and_free a ≡ true → HasKind (fault_of a words) e) → is_taken words ≡ false) (sym is_cli) (λ h. refused_at words e k same other (h free))
+    subst (λ a. (is_simple_and_free a ≡ true → HasKind (fault_of a words) e) → is_taken words ≡ false) (sym is_cli)
+    (λ h. refused_at words e k same other (h free))
 
-pub entered_of : (a : App) (words : List Text) (found : Option (Text × List Row)) → a ≡ cli → (is_simple a ≡ true → found ≡ subcommand_of a words) → found ≡ subcommand_of cli words
-entered_of a words found e = subst (λ a. (is_simple a ≡ true → found ≡ subcommand_of a words) → found ≡ subcommand_of cli words) (sym e) (λ h. h simple)
+pub entered_of : (a : App) (words : List Text) (found : Option (Text × List Row)) → a ≡ cli
+    → (is_simple a ≡ true → found ≡ subcommand_of a words) → found ≡ subcommand_of cli words
+entered_of a words found e =
+    subst (λ a. (is_simple a ≡ true → found ≡ subcommand_of a words) → found ≡ subcommand_of cli words) (sym e) (λ h. h simple)

@@ -6,7 +6,8 @@ use Rattle.command_line.specs.declared.subcommand.Argument.{Argument}
 use Rattle.command_line.specs.declared.subcommand.Subcommand.{Subcommand}
 use Rattle.command_line.specs.Words.{rule_for, shape_for, with_rules, with_shapes}
 
-pub next_rule : (before after : App) (xs : List Argument) (i : ℕ) (d : Argument) (all : App) → i < length xs → after ≡ with_rule before (rule_for (get_or xs i d))
+pub next_rule : (before after : App) (xs : List Argument) (i : ℕ) (d : Argument) (all : App) → i < length xs
+    → after ≡ with_rule before (rule_for (get_or xs i d))
     → with_rules before (map rule_for (drop i xs)) ≡ all → with_rules after (map rule_for (drop (i + 1) xs)) ≡ all
 next_rule before after xs i d all below more rest =
     ap (λ a. with_rules a (map rule_for (drop (i + 1) xs))) more

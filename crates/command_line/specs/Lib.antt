@@ -1,3 +1,11 @@
 pub mod Asked
-pub mod Words
+pub mod Endpoint
+pub mod Numbers
+pub mod Rehearse
 pub mod Rules
+pub mod SelfTest
+pub mod Show
+pub mod Sysex8
+pub mod Translate
+pub mod Usb
+pub mod Words

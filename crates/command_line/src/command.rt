@@ -1,80 +1,54 @@
 // What a command line asks for.
-use midi_edge::U4;
+use crate::endpoint::EndpointOptions;
+use crate::self_test::SelfTestOptions;
+use crate::show::{ByteLineOptions, PacketLineOptions};
+use crate::sysex8::Sysex8Options;
+use crate::translate::{BackOptions, DownOptions, UpOptions};
+use crate::usb::PackOptions;
 
-/// What a command line asks for. `compact` says that what the receiver of a lane already has isn't sent again, `paired` that
-/// controllers 1 to 31 but 6 are seen at fourteen bits, each with the controller whose index is greater by 32, `little` that each word
-/// of a recording has its least significant byte first, `state` that the lines end with those of the state that the input
-/// leaves, and `room` is the greatest number of bytes of an exclusive between F0 and F7, 6 to 1,048,576.
+/// What a command line asks for: the names that it gives, and the options of its pass.
 #[derive(Clone, Copy, Debug, PartialEq, Eq)]
 pub enum Command<'a> {
     /// `translate down`: words become a MIDI 1.0 stream for each group, in this folder.
     Down {
         folder: &'a str,
-        compact: bool,
-        paired: bool,
-        little: bool,
-        room: u32,
+        options: DownOptions,
     },
-    /// `translate up`: MIDI 1.0 bytes become words of this group.
-    Up {
-        group: U4,
-        paired: bool,
-        little: bool,
-        room: u32,
-    },
-    /// `translate back`: MIDI 1.0 bytes become words of this group, and these become bytes again.
-    Back {
-        group: U4,
-        paired: bool,
-        room: u32,
-    },
+    /// `translate up`: MIDI 1.0 bytes become words of one group.
+    Up(UpOptions),
+    /// `translate back`: MIDI 1.0 bytes become words of one group, and these become bytes again.
+    Back(BackOptions),
     /// `show`: the packets of words become lines.
-    Show {
-        state: bool,
-        little: bool,
-        room: u32,
-    },
+    Show(PacketLineOptions),
     /// `show --bytes`: the messages of MIDI 1.0 bytes become lines.
-    ShowBytes {
-        state: bool,
-        room: u32,
-    },
-    /// `endpoint`: the exclusives and stream messages in words are answered by the endpoint of this setup. The name of the
-    /// setup may be any text, also the empty one.
+    ShowBytes(ByteLineOptions),
+    /// `endpoint`: the exclusives and stream messages in words are answered by the endpoint of this setup.
+    /// The name of the setup may be any text, also the empty one.
     Endpoint {
         setup: &'a str,
-        little: bool,
-        room: u32,
+        options: EndpointOptions,
     },
     /// `usb split`: USB-MIDI 1.0 events become a MIDI 1.0 stream for each cable, in this folder.
     UsbSplit {
         folder: &'a str,
     },
-    /// `usb pack`: MIDI 1.0 bytes become events of this cable.
-    UsbPack {
-        cable: U4,
-        room: u32,
-    },
-    /// `sysex8`: the 8-bit exclusives in words are joined, those of at most so many streams at once, 1 to 64, and their bytes go to the
-    /// lane of each group, in this folder; `room` is the greatest number of bytes of one, 13 to 1,048,576.
+    /// `usb pack`: MIDI 1.0 bytes become events of one cable.
+    UsbPack(PackOptions),
+    /// `sysex8`: the 8-bit exclusives in words are joined, and their
+    /// bytes go to the lane of each group, in this folder.
     Sysex8 {
         folder: &'a str,
-        streams: u8,
-        little: bool,
-        room: u32,
+        options: Sysex8Options,
     },
-    /// `rehearse`: events of a rehearsal between a MIDI-CI initiator and the responder of this setup become lines. The name of the
-    /// setup may be any text, also the empty one.
+    /// `rehearse`: events of a rehearsal between a MIDI-CI initiator and the responder of this setup become
+    /// lines. The name of the setup may be any text, also the empty one.
     Rehearse {
         setup: &'a str,
     },
     /// `clip`: the packets of a clip file become lines.
     Clip,
-    /// `selftest`: so many packets of this seed, 1 to 1,000,000, are taken down, up and down again, and are counted.
-    SelfTest {
-        seed: u32,
-        packets: u32,
-    },
+    /// `selftest`: packets of a seed are taken down, up and down again, and are counted.
+    SelfTest(SelfTestOptions),
 }
 
 /// Why words give no command.

@@ -2,35 +2,25 @@
 ghost use Rattle.std.specs.Prelude.{◌≡◌, Some, None, true, false, codes, [], ◌∷◌};
 ghost use Rattle.command_line.specs.Asked.{down, up, back, show, show_bytes, endpoint, usb_split, usb_pack, sysex8, rehearse, clip, self_test};
 ghost use Rattle.command_line.specs.Rules.{command_of};
+ghost use Rattle.command_line.specs.declared.translate.LaneStyle.TheVariants.{Plain, Compact};
+ghost use Rattle.ump_words.specs.declared.words.Order.TheVariants.{Big, Little};
 
 /// `translate down` with its folder, alone and with all that may be left out.
 pub fn down_is_taken()
     ensures least { command_of (codes "translate" ∷ codes "down" ∷ codes "--folder" ∷ codes "F" ∷ [])
-        ≡ Some (down (record {
-          folder = codes "F";
-          compact = false;
-          paired = false;
-          little = false;
-          room = 1048576;
-        })) }
+        ≡ Some (down (codes "F") (record { style = Plain; paired = false; order = Big; room = 1048576 })) }
     ensures most { command_of (codes "translate" ∷ codes "down" ∷ codes "--room" ∷ codes "6"
         ∷ codes "--little" ∷ codes "--compact" ∷ codes "--paired" ∷ codes "--folder" ∷ codes "F" ∷ [])
-        ≡ Some (down (record {
-          folder = codes "F";
-          compact = true;
-          paired = true;
-          little = true;
-          room = 6;
-        })) }
+        ≡ Some (down (codes "F") (record { style = Compact; paired = true; order = Little; room = 6 })) }
 {}
 
 /// `translate up`, alone and with all that may be left out.
 pub fn up_is_taken()
     ensures least { command_of (codes "translate" ∷ codes "up" ∷ [])
-        ≡ Some (up (record { group = 0; paired = false; little = false; room = 1048576 })) }
+        ≡ Some (up (record { group = 0; paired = false; order = Big; room = 1048576 })) }
     ensures most { command_of (codes "translate" ∷ codes "up" ∷ codes "--group" ∷ codes "15"
         ∷ codes "--little" ∷ codes "--paired" ∷ codes "--room" ∷ codes "6" ∷ [])
-        ≡ Some (up (record { group = 15; paired = true; little = true; room = 6 })) }
+        ≡ Some (up (record { group = 15; paired = true; order = Little; room = 6 })) }
 {}
 
 /// `translate back`, alone and with all that may be left out.
@@ -45,10 +35,10 @@ pub fn back_is_taken()
 /// `show`, of words and of bytes, alone and with all that may be left out.
 pub fn show_is_taken()
     ensures words { command_of (codes "show" ∷ [])
-        ≡ Some (show (record { state = false; little = false; room = 1048576 })) }
+        ≡ Some (show (record { state = false; order = Big; room = 1048576 })) }
     ensures most_words { command_of
         (codes "show" ∷ codes "--state" ∷ codes "--little" ∷ codes "--room" ∷ codes "6" ∷ [])
-        ≡ Some (show (record { state = true; little = true; room = 6 })) }
+        ≡ Some (show (record { state = true; order = Little; room = 6 })) }
     ensures bytes { command_of (codes "show" ∷ codes "--bytes" ∷ [])
         ≡ Some (show_bytes (record { state = false; room = 1048576 })) }
     ensures most_bytes { command_of
@@ -59,16 +49,16 @@ pub fn show_is_taken()
 /// `endpoint` with its setup, alone and with all that may be left out.
 pub fn endpoint_is_taken()
     ensures least { command_of (codes "endpoint" ∷ codes "S" ∷ [])
-        ≡ Some (endpoint (record { setup = codes "S"; little = false; room = 1048576 })) }
+        ≡ Some (endpoint (codes "S") (record { order = Big; room = 1048576 })) }
     ensures most { command_of
         (codes "endpoint" ∷ codes "S" ∷ codes "--little" ∷ codes "--room" ∷ codes "6" ∷ [])
-        ≡ Some (endpoint (record { setup = codes "S"; little = true; room = 6 })) }
+        ≡ Some (endpoint (codes "S") (record { order = Little; room = 6 })) }
 {}
 
 /// `usb split` with its folder.
 pub fn usb_split_is_taken()
     ensures { command_of (codes "usb" ∷ codes "split" ∷ codes "--folder" ∷ codes "F" ∷ [])
-        ≡ Some (usb_split (record { folder = codes "F" })) }
+        ≡ Some (usb_split (codes "F")) }
 {}
 
 /// `usb pack`, alone and with all that may be left out.
@@ -83,17 +73,17 @@ pub fn usb_pack_is_taken()
 /// `sysex8` with its folder, alone and with all that may be left out.
 pub fn sysex8_is_taken()
     ensures least { command_of (codes "sysex8" ∷ codes "--folder" ∷ codes "F" ∷ [])
-        ≡ Some (sysex8 (record { folder = codes "F"; streams = 16; little = false; room = 1048576 })) }
+        ≡ Some (sysex8 (codes "F") (record { streams = 16; order = Big; room = 1048576 })) }
     ensures most { command_of
         (codes "sysex8" ∷ codes "--folder" ∷ codes "F" ∷ codes "--streams" ∷ codes "64" ∷ codes "--little"
         ∷ codes "--room" ∷ codes "13" ∷ [])
-        ≡ Some (sysex8 (record { folder = codes "F"; streams = 64; little = true; room = 13 })) }
+        ≡ Some (sysex8 (codes "F") (record { streams = 64; order = Little; room = 13 })) }
 {}
 
 /// `rehearse` with its setup.
 pub fn rehearse_is_taken()
     ensures { command_of (codes "rehearse" ∷ codes "S" ∷ [])
-        ≡ Some (rehearse (record { setup = codes "S" })) }
+        ≡ Some (rehearse (codes "S")) }
 {}
 
 /// `clip`, which has no other words.

@@ -1,13 +1,28 @@
-//! The command line: its words are read with `clap` into a command.
+//! The command line: its words are read with `clap` into a command. Each subcommand has a file, with its
+//! options, its words and how they are read.
 #![tactic(auto)]
 
+mod clip;
 mod command;
+mod endpoint;
 pub mod laws;
 mod matches;
 mod numbers;
 mod parser;
 mod reading;
+mod rehearse;
+mod self_test;
+mod show;
 mod subcommand;
+mod sysex8;
+mod translate;
+mod usb;
 
 pub use crate::command::{Command, WordsFault};
+pub use crate::endpoint::EndpointOptions;
 pub use crate::reading::command_line;
+pub use crate::self_test::SelfTestOptions;
+pub use crate::show::{ByteLineOptions, PacketLineOptions};
+pub use crate::sysex8::Sysex8Options;
+pub use crate::translate::{BackOptions, DownOptions, LaneStyle, UpOptions};
+pub use crate::usb::PackOptions;

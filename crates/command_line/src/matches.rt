@@ -4,13 +4,15 @@ ghost use Rattle.std.specs.Option.{option_copied};
 ghost use Rattle.clap.specs.Words.{found_of, rows_of};
 ghost use Rattle.clap.specs.Simple.{subcommand_of, subcommand_rows_of};
 ghost use Rattle.clap.specs.Walk.{first_of};
-ghost use Rattle.command_line.specs.Words.{cli, is_taken, is_set};
+ghost use Rattle.command_line.specs.Rules.{cli, is_taken};
+ghost use Rattle.command_line.specs.Words.{is_given as has_value, is_set, word_order as order_by};
 
 use crate::command::WordsFault;
 use crate::parser::parser;
 use clap::ArgMatches;
 use clap::error::ErrorKind;
 use std::alloc::Global;
+use ump_words::Order;
 
 // The matches of the words.
 pub fn matches_of<'a>(alloc: Global, words: &'a [String]) -> Result<ArgMatches<'a>, WordsFault>
@@ -55,5 +57,23 @@ pub fn is_flag_set(matches: &ArgMatches<'_>, id: &str) -> bool
     match text(matches, id) {
         Some(value) => value == "true",
         None => false,
+    }
+}
+
+// Whether an option is given.
+pub fn is_given(matches: &ArgMatches<'_>, id: &str) -> bool
+    ensures { result ≡ has_value id.now (rows_of (found_of matches.now)) }
+{
+    text(matches, id).is_some()
+}
+
+// The order of the bytes of a word.
+pub fn word_order(matches: &ArgMatches<'_>) -> Order
+    ensures { result ≡ order_by (rows_of (found_of matches.now)) }
+{
+    if is_flag_set(matches, "little") {
+        Order::Little
+    } else {
+        Order::Big
     }
 }

@@ -1,73 +1,25 @@
-// The command that `clap` reads: one simple command, without short names, aliases, defaults or rules of one word on another.
+// The command that `clap` reads: one simple command, without short
+// names, aliases, defaults or rules of one word on another.
 ghost use Rattle.std.specs.Prelude.{◌≡◌, false, IfOk, map};
 ghost use Rattle.clap.specs.Words.{app_of, rule_of, with_subcommand};
 ghost use Rattle.clap.specs.declared.builder.command.Command.TheViews.{out-Command};
-ghost use Rattle.command_line.specs.Words.{rule_for, shape_for, bare_app, with_rules, with_shapes, cli};
+ghost use Rattle.command_line.specs.Rules.{bare_app, cli};
+ghost use Rattle.command_line.specs.Words.{rule_for, shape_for, with_rules, with_shapes};
 
 use crate::subcommand::{Argument, Subcommand};
+use crate::{clip, endpoint, rehearse, self_test, show, sysex8, translate, usb};
 use clap::{Arg, ArgAction, Command};
 use std::alloc::{AllocError, Global};
 
 const SUBCOMMANDS: [Subcommand<'static>; 8] = [
-    Subcommand {
-        name: "translate",
-        arguments: &[
-            Argument::Positional("direction"),
-            Argument::Option("folder"),
-            Argument::Option("group"),
-            Argument::Flag("compact"),
-            Argument::Flag("paired"),
-            Argument::Flag("little"),
-            Argument::Option("room"),
-        ],
-    },
-    Subcommand {
-        name: "show",
-        arguments: &[
-            Argument::Flag("bytes"),
-            Argument::Flag("state"),
-            Argument::Flag("little"),
-            Argument::Option("room"),
-        ],
-    },
-    Subcommand {
-        name: "endpoint",
-        arguments: &[
-            Argument::Positional("setup"),
-            Argument::Flag("little"),
-            Argument::Option("room"),
-        ],
-    },
-    Subcommand {
-        name: "usb",
-        arguments: &[
-            Argument::Positional("direction"),
-            Argument::Option("folder"),
-            Argument::Option("cable"),
-            Argument::Option("room"),
-        ],
-    },
-    Subcommand {
-        name: "sysex8",
-        arguments: &[
-            Argument::Option("folder"),
-            Argument::Option("streams"),
-            Argument::Flag("little"),
-            Argument::Option("room"),
-        ],
-    },
-    Subcommand {
-        name: "rehearse",
-        arguments: &[Argument::Positional("setup")],
-    },
-    Subcommand {
-        name: "clip",
-        arguments: &[],
-    },
-    Subcommand {
-        name: "selftest",
-        arguments: &[Argument::Positional("seed"), Argument::Option("packets")],
-    },
+    translate::WORDS,
+    show::WORDS,
+    endpoint::WORDS,
+    usb::WORDS,
+    sysex8::WORDS,
+    rehearse::WORDS,
+    clip::WORDS,
+    self_test::WORDS,
 ];
 
 fn arg_of<'a>(alloc: Global, argument: Argument<'a>) -> Arg<'a>
@@ -137,7 +89,7 @@ fn bare_command<'a>(alloc: Global) -> Command<'a>
 }
 
 // The command with all its subcommands.
-#[tactic(auto, unfolding(crate::specs::Words::cli))]
+#[tactic(auto, unfolding(crate::specs::Rules::cli))]
 pub fn parser<'a>(alloc: Global) -> Result<Command<'a>, AllocError>
     ensures app { IfOk result (λ c. app_of c ≡ cli) }
 {

@@ -39,169 +39,187 @@ fn is_command(rt: &impl Abort, alloc: Global, row: &str) -> Result<(), Fail> {
 
 const DOWN: &str = "\
 translate down --folder F
-Down { folder: \"F\", compact: false, paired: false, little: false, room: 1048576 }
+Down { folder: \"F\", options: DownOptions { style: Plain, paired: false, order: Big, room: 1048576 } }
 
 translate down --folder F --little
-Down { folder: \"F\", compact: false, paired: false, little: true, room: 1048576 }
+Down { folder: \"F\", options: DownOptions { style: Plain, paired: false, order: Little, room: 1048576 } }
 
 translate down --folder F --room 6
-Down { folder: \"F\", compact: false, paired: false, little: false, room: 6 }
+Down { folder: \"F\", options: DownOptions { style: Plain, paired: false, order: Big, room: 6 } }
 
 translate down --folder F --little --room 100
-Down { folder: \"F\", compact: false, paired: false, little: true, room: 100 }
+Down { folder: \"F\", options: DownOptions { style: Plain, paired: false, order: Little, room: 100 } }
 
 translate down --room 100 --little --folder F
-Down { folder: \"F\", compact: false, paired: false, little: true, room: 100 }
+Down { folder: \"F\", options: DownOptions { style: Plain, paired: false, order: Little, room: 100 } }
 
 translate down --folder F --compact
-Down { folder: \"F\", compact: true, paired: false, little: false, room: 1048576 }
+Down { folder: \"F\", options: DownOptions { style: Compact, paired: false, order: Big, room: 1048576 } }
 
 translate down --folder F --compact --little
-Down { folder: \"F\", compact: true, paired: false, little: true, room: 1048576 }
+Down { folder: \"F\", options: DownOptions { style: Compact, paired: false, order: Little, room: 1048576 } }
 
 translate down --compact --room 6 --folder F
-Down { folder: \"F\", compact: true, paired: false, little: false, room: 6 }
+Down { folder: \"F\", options: DownOptions { style: Compact, paired: false, order: Big, room: 6 } }
 
 translate down --folder F --compact --little --room 100
-Down { folder: \"F\", compact: true, paired: false, little: true, room: 100 }";
+Down { folder: \"F\", options: DownOptions { style: Compact, paired: false, order: Little, room: 100 } }
+
+translate down --folder F --compact --paired --little --room 100
+Down { folder: \"F\", options: DownOptions { style: Compact, paired: true, order: Little, room: 100 } }
+
+translate down --room 100 --little --paired --compact --folder F
+Down { folder: \"F\", options: DownOptions { style: Compact, paired: true, order: Little, room: 100 } }";
 
 const UP: &str = "\
 translate up
-Up { group: U4 { value: 0 }, paired: false, little: false, room: 1048576 }
+Up(UpOptions { group: U4 { value: 0 }, paired: false, order: Big, room: 1048576 })
 
 translate up --group 3
-Up { group: U4 { value: 3 }, paired: false, little: false, room: 1048576 }
+Up(UpOptions { group: U4 { value: 3 }, paired: false, order: Big, room: 1048576 })
 
 translate up --little
-Up { group: U4 { value: 0 }, paired: false, little: true, room: 1048576 }
+Up(UpOptions { group: U4 { value: 0 }, paired: false, order: Little, room: 1048576 })
 
 translate up --room 7
-Up { group: U4 { value: 0 }, paired: false, little: false, room: 7 }
+Up(UpOptions { group: U4 { value: 0 }, paired: false, order: Big, room: 7 })
 
 translate up --group 15 --little --room 1048576
-Up { group: U4 { value: 15 }, paired: false, little: true, room: 1048576 }
+Up(UpOptions { group: U4 { value: 15 }, paired: false, order: Little, room: 1048576 })
 
 translate up --room 9 --little --group 6
-Up { group: U4 { value: 6 }, paired: false, little: true, room: 9 }";
+Up(UpOptions { group: U4 { value: 6 }, paired: false, order: Little, room: 9 })
+
+translate up --group 6 --paired --little --room 9
+Up(UpOptions { group: U4 { value: 6 }, paired: true, order: Little, room: 9 })
+
+translate up --room 9 --little --paired --group 6
+Up(UpOptions { group: U4 { value: 6 }, paired: true, order: Little, room: 9 })";
 
 const BACK: &str = "\
 translate back
-Back { group: U4 { value: 0 }, paired: false, room: 1048576 }
+Back(BackOptions { group: U4 { value: 0 }, paired: false, room: 1048576 })
 
 translate back --group 12
-Back { group: U4 { value: 12 }, paired: false, room: 1048576 }
+Back(BackOptions { group: U4 { value: 12 }, paired: false, room: 1048576 })
 
 translate back --room 6
-Back { group: U4 { value: 0 }, paired: false, room: 6 }
+Back(BackOptions { group: U4 { value: 0 }, paired: false, room: 6 })
 
 translate back --group 1 --room 10
-Back { group: U4 { value: 1 }, paired: false, room: 10 }
+Back(BackOptions { group: U4 { value: 1 }, paired: false, room: 10 })
 
 translate back --room 10 --group 1
-Back { group: U4 { value: 1 }, paired: false, room: 10 }";
+Back(BackOptions { group: U4 { value: 1 }, paired: false, room: 10 })
+
+translate back --group 1 --paired --room 10
+Back(BackOptions { group: U4 { value: 1 }, paired: true, room: 10 })
+
+translate back --room 10 --paired --group 1
+Back(BackOptions { group: U4 { value: 1 }, paired: true, room: 10 })";
 
 // Each direction takes `--paired`, at any place.
 const PAIRED: &str = "\
 translate down --folder F --paired
-Down { folder: \"F\", compact: false, paired: true, little: false, room: 1048576 }
+Down { folder: \"F\", options: DownOptions { style: Plain, paired: true, order: Big, room: 1048576 } }
 
 translate down --paired --compact --folder F
-Down { folder: \"F\", compact: true, paired: true, little: false, room: 1048576 }
+Down { folder: \"F\", options: DownOptions { style: Compact, paired: true, order: Big, room: 1048576 } }
 
 translate --paired down --little --room 6 --folder F
-Down { folder: \"F\", compact: false, paired: true, little: true, room: 6 }
+Down { folder: \"F\", options: DownOptions { style: Plain, paired: true, order: Little, room: 6 } }
 
 translate up --paired
-Up { group: U4 { value: 0 }, paired: true, little: false, room: 1048576 }
+Up(UpOptions { group: U4 { value: 0 }, paired: true, order: Big, room: 1048576 })
 
 translate up --group 3 --paired --little --room 7
-Up { group: U4 { value: 3 }, paired: true, little: true, room: 7 }
+Up(UpOptions { group: U4 { value: 3 }, paired: true, order: Little, room: 7 })
 
 translate back --paired
-Back { group: U4 { value: 0 }, paired: true, room: 1048576 }
+Back(BackOptions { group: U4 { value: 0 }, paired: true, room: 1048576 })
 
 translate back --paired --room 10 --group 1
-Back { group: U4 { value: 1 }, paired: true, room: 10 }";
+Back(BackOptions { group: U4 { value: 1 }, paired: true, room: 10 })";
 
 const SHOW: &str = "\
 show
-Show { state: false, little: false, room: 1048576 }
+Show(PacketLineOptions { state: false, order: Big, room: 1048576 })
 
 show --little
-Show { state: false, little: true, room: 1048576 }
+Show(PacketLineOptions { state: false, order: Little, room: 1048576 })
 
 show --room 6
-Show { state: false, little: false, room: 6 }
+Show(PacketLineOptions { state: false, order: Big, room: 6 })
 
 show --little --room 8
-Show { state: false, little: true, room: 8 }
+Show(PacketLineOptions { state: false, order: Little, room: 8 })
 
 show --room 8 --little
-Show { state: false, little: true, room: 8 }
+Show(PacketLineOptions { state: false, order: Little, room: 8 })
 
 show --state
-Show { state: true, little: false, room: 1048576 }
+Show(PacketLineOptions { state: true, order: Big, room: 1048576 })
 
 show --state --little
-Show { state: true, little: true, room: 1048576 }
+Show(PacketLineOptions { state: true, order: Little, room: 1048576 })
 
 show --state --room 6
-Show { state: true, little: false, room: 6 }
+Show(PacketLineOptions { state: true, order: Big, room: 6 })
 
 show --state --little --room 8
-Show { state: true, little: true, room: 8 }
+Show(PacketLineOptions { state: true, order: Little, room: 8 })
 
 show --room 8 --little --state
-Show { state: true, little: true, room: 8 }
+Show(PacketLineOptions { state: true, order: Little, room: 8 })
 
 show --bytes
-ShowBytes { state: false, room: 1048576 }
+ShowBytes(ByteLineOptions { state: false, room: 1048576 })
 
 show --bytes --room 11
-ShowBytes { state: false, room: 11 }
+ShowBytes(ByteLineOptions { state: false, room: 11 })
 
 show --room 11 --bytes
-ShowBytes { state: false, room: 11 }
+ShowBytes(ByteLineOptions { state: false, room: 11 })
 
 show --bytes --state
-ShowBytes { state: true, room: 1048576 }
+ShowBytes(ByteLineOptions { state: true, room: 1048576 })
 
 show --bytes --state --room 11
-ShowBytes { state: true, room: 11 }
+ShowBytes(ByteLineOptions { state: true, room: 11 })
 
 show --room 11 --state --bytes
-ShowBytes { state: true, room: 11 }";
+ShowBytes(ByteLineOptions { state: true, room: 11 })";
 
 const ENDPOINT: &str = "\
 endpoint S
-Endpoint { setup: \"S\", little: false, room: 1048576 }
+Endpoint { setup: \"S\", options: EndpointOptions { order: Big, room: 1048576 } }
 
 endpoint S --little
-Endpoint { setup: \"S\", little: true, room: 1048576 }
+Endpoint { setup: \"S\", options: EndpointOptions { order: Little, room: 1048576 } }
 
 endpoint S --room 6
-Endpoint { setup: \"S\", little: false, room: 6 }
+Endpoint { setup: \"S\", options: EndpointOptions { order: Big, room: 6 } }
 
 endpoint S --little --room 8
-Endpoint { setup: \"S\", little: true, room: 8 }
+Endpoint { setup: \"S\", options: EndpointOptions { order: Little, room: 8 } }
 
 endpoint S --room 8 --little
-Endpoint { setup: \"S\", little: true, room: 8 }
+Endpoint { setup: \"S\", options: EndpointOptions { order: Little, room: 8 } }
 
 endpoint a/b.toml --room 1048576
-Endpoint { setup: \"a/b.toml\", little: false, room: 1048576 }
+Endpoint { setup: \"a/b.toml\", options: EndpointOptions { order: Big, room: 1048576 } }
 
 endpoint ''
-Endpoint { setup: \"\", little: false, room: 1048576 }
+Endpoint { setup: \"\", options: EndpointOptions { order: Big, room: 1048576 } }
 
 endpoint '' --little
-Endpoint { setup: \"\", little: true, room: 1048576 }
+Endpoint { setup: \"\", options: EndpointOptions { order: Little, room: 1048576 } }
 
 endpoint --room 7 S
-Endpoint { setup: \"S\", little: false, room: 7 }
+Endpoint { setup: \"S\", options: EndpointOptions { order: Big, room: 7 } }
 
 endpoint -- -x
-Endpoint { setup: \"-x\", little: false, room: 1048576 }";
+Endpoint { setup: \"-x\", options: EndpointOptions { order: Big, room: 1048576 } }";
 
 const USB: &str = "\
 usb split --folder F
@@ -214,22 +232,22 @@ usb split --folder=
 UsbSplit { folder: \"\" }
 
 usb pack
-UsbPack { cable: U4 { value: 0 }, room: 1048576 }
+UsbPack(PackOptions { cable: U4 { value: 0 }, room: 1048576 })
 
 usb pack --cable 15
-UsbPack { cable: U4 { value: 15 }, room: 1048576 }
+UsbPack(PackOptions { cable: U4 { value: 15 }, room: 1048576 })
 
 usb pack --room 64
-UsbPack { cable: U4 { value: 0 }, room: 64 }
+UsbPack(PackOptions { cable: U4 { value: 0 }, room: 64 })
 
 usb pack --cable 15 --room 6
-UsbPack { cable: U4 { value: 15 }, room: 6 }
+UsbPack(PackOptions { cable: U4 { value: 15 }, room: 6 })
 
 usb pack --room 6 --cable 15
-UsbPack { cable: U4 { value: 15 }, room: 6 }
+UsbPack(PackOptions { cable: U4 { value: 15 }, room: 6 })
 
 usb --cable=0000000003 pack
-UsbPack { cable: U4 { value: 3 }, room: 1048576 }";
+UsbPack(PackOptions { cable: U4 { value: 3 }, room: 1048576 })";
 
 const REHEARSE: &str = "\
 rehearse a.toml
@@ -242,58 +260,67 @@ const CLIP: &str = "clip\nClip";
 
 const SYSEX8: &str = "\
 sysex8 --folder F
-Sysex8 { folder: \"F\", streams: 16, little: false, room: 1048576 }
+Sysex8 { folder: \"F\", options: Sysex8Options { streams: 16, order: Big, room: 1048576 } }
 
 sysex8 --folder=
-Sysex8 { folder: \"\", streams: 16, little: false, room: 1048576 }
+Sysex8 { folder: \"\", options: Sysex8Options { streams: 16, order: Big, room: 1048576 } }
 
 sysex8 --streams 1 --folder F
-Sysex8 { folder: \"F\", streams: 1, little: false, room: 1048576 }
+Sysex8 { folder: \"F\", options: Sysex8Options { streams: 1, order: Big, room: 1048576 } }
 
 sysex8 --folder F --streams 64 --little --room 13
-Sysex8 { folder: \"F\", streams: 64, little: true, room: 13 }";
+Sysex8 { folder: \"F\", options: Sysex8Options { streams: 64, order: Little, room: 13 } }
+
+sysex8 --room 13 --little --streams 64 --folder F
+Sysex8 { folder: \"F\", options: Sysex8Options { streams: 64, order: Little, room: 13 } }
+
+sysex8 --folder F --little
+Sysex8 { folder: \"F\", options: Sysex8Options { streams: 16, order: Little, room: 1048576 } }
+
+sysex8 --folder F --room 20
+Sysex8 { folder: \"F\", options: Sysex8Options { streams: 16, order: Big, room: 20 } }";
 
 const SELFTEST: &str = "\
 selftest 0
-SelfTest { seed: 0, packets: 10000 }
+SelfTest(SelfTestOptions { seed: 0, packets: 10000 })
 
 selftest 4294967295
-SelfTest { seed: 4294967295, packets: 10000 }
+SelfTest(SelfTestOptions { seed: 4294967295, packets: 10000 })
 
 selftest 7 --packets 1
-SelfTest { seed: 7, packets: 1 }
+SelfTest(SelfTestOptions { seed: 7, packets: 1 })
 
 selftest --packets 1000000 7
-SelfTest { seed: 7, packets: 1000000 }
+SelfTest(SelfTestOptions { seed: 7, packets: 1000000 })
 
 selftest 0000000007 --packets=0000000009
-SelfTest { seed: 7, packets: 9 }";
+SelfTest(SelfTestOptions { seed: 7, packets: 9 })";
 
 // Words that aren't canonical, and yet are a command by what `clap` states and by the rules.
 const OTHER: &str = "\
 translate --folder F down
-Down { folder: \"F\", compact: false, paired: false, little: false, room: 1048576 }
+Down { folder: \"F\", options: DownOptions { style: Plain, paired: false, order: Big, room: 1048576 } }
 
 translate down --folder=F
-Down { folder: \"F\", compact: false, paired: false, little: false, room: 1048576 }
+Down { folder: \"F\", options: DownOptions { style: Plain, paired: false, order: Big, room: 1048576 } }
 
 translate down --folder=
-Down { folder: \"\", compact: false, paired: false, little: false, room: 1048576 }
+Down { folder: \"\", options: DownOptions { style: Plain, paired: false, order: Big, room: 1048576 } }
 
 translate down --folder ''
-Down { folder: \"\", compact: false, paired: false, little: false, room: 1048576 }
+Down { folder: \"\", options: DownOptions { style: Plain, paired: false, order: Big, room: 1048576 } }
 
 translate --folder=-x down
-Down { folder: \"-x\", compact: false, paired: false, little: false, room: 1048576 }
+Down { folder: \"-x\", options: DownOptions { style: Plain, paired: false, order: Big, room: 1048576 } }
 
 translate up --group 0000000003
-Up { group: U4 { value: 3 }, paired: false, little: false, room: 1048576 }
+Up(UpOptions { group: U4 { value: 3 }, paired: false, order: Big, room: 1048576 })
 
 translate up --room=0000000006
-Up { group: U4 { value: 0 }, paired: false, little: false, room: 6 }
+Up(UpOptions { group: U4 { value: 0 }, paired: false, order: Big, room: 6 })
 
 translate -- back
-Back { group: U4 { value: 0 }, paired: false, room: 1048576 }";
+Back(BackOptions { group: U4 { value: 0 }, paired: false, room: 1048576 })";
 
 #[test]
 fn words_that_are_commands(rt: HostRuntime) -> Result<(), Fail> {

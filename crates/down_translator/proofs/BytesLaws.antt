@@ -5,7 +5,8 @@ pub one_written : (bytes : List ℕ) (first : ℕ) → length bytes ≡ 3 → ta
 one_written [] first three = absurd (omega arith)
 one_written (_ ∷ bytes) first three = refl
 
-pub two_written : (bytes : List ℕ) (first second : ℕ) → length bytes ≡ 3 → take 2 (slice_set (slice_set bytes 0 first) 1 second) ≡ first ∷ second ∷ []
+pub two_written : (bytes : List ℕ) (first second : ℕ) → length bytes ≡ 3
+    → take 2 (slice_set (slice_set bytes 0 first) 1 second) ≡ first ∷ second ∷ []
 two_written [] first second three = absurd (omega arith)
 two_written (_ ∷ []) first second three = absurd (omega arith)
 two_written (_ ∷ _ ∷ bytes) first second three = refl

@@ -1,5 +1,6 @@
 -- What is held is the definition that looks back over the packets.
-use Rattle.std.proofs.Common.{ℕ, ◌≡◌, ◌≢◌, ◌<◌, ◌≤◌, ◌∙◌, ap, refl, List, [], ◌∷◌, ◌++◌, length, Option, Some, None, Bool, true, false, cond}
+use Rattle.std.proofs.Common.{ℕ, ◌≡◌, ◌≢◌, ◌<◌, ◌≤◌, ◌∙◌, ap, refl, List, [], ◌∷◌, ◌++◌}
+use Rattle.std.proofs.Common.{length, Option, Some, None, Bool, true, false, cond}
 use Rattle.std.proofs.lemmas.List.Elements.{recursion_from_All}
 use Rattle.std.specs.Option.{option_map}
 use Rattle.voice_messages.specs.declared.voice2.Form.{Form}
@@ -7,18 +8,19 @@ use Rattle.voice_messages.specs.declared.voice2.Form.TheVariants as form
 use Rattle.ump_grammar.specs.declared.packet.Packet.{Packet}
 use Rattle.ump_grammar.specs.declared.packet.Packet.TheVariants as packet
 use Rattle.ump_grammar.specs.Ranges.{IsPacket}
-use Rattle.sysex_groups.specs.Exclusives.{Answer, held, whole, stray, restarted, restarted_whole, too_long, Part, Room, opened, joined, started, ended_by, passes_by, fits, goes_on, bytes_of, start_of, answer_from}
-use Rattle.sysex_groups.specs.Table.{Begun, answer_to, begun_in, begun_of, table_after, AreParts}
+use Rattle.sysex_groups.specs.Exclusives.{Answer, held, whole, stray, restarted, restarted_whole, too_long, Part, Room, opened}
+use Rattle.sysex_groups.specs.Exclusives.{joined, started, ended_by, passes_by, fits, goes_on, bytes_of, start_of, answer_from}
+use Rattle.sysex_groups.specs.Table.{Begun, answer_to, begun_in, begun_of, table_over, AreParts}
 use Rattle.sysex_groups.specs.Laws.{FedPartsAreTheDefinition}
-use Rattle.voice_state.specs.declared.listed.BadStep.{BadStep}
-use Rattle.voice_state.specs.declared.listed.BadStep.TheVariants as bad
-use Rattle.voice_state.specs.Parts.{Placed, parts_of, whole_by}
-use Rattle.voice_state.specs.Packets.{IsInRange}
-use Rattle.voice_state.specs.Listing.{begun_before}
-use Rattle.voice_state.specs.Refusal.{bad_step}
-use Rattle.voice_state.specs.Styles.{Style}
+use Rattle.midi_meaning.specs.declared.listed.BadStep.{BadStep}
+use Rattle.midi_meaning.specs.declared.listed.BadStep.TheVariants as bad
+use Rattle.midi_meaning.specs.Parts.{Placed, parts_of, whole_by}
+use Rattle.midi_meaning.specs.Packets.{IsInRange}
+use Rattle.midi_meaning.specs.Listing.{begun_before}
+use Rattle.midi_meaning.specs.Refusal.{bad_step}
+use Rattle.midi_meaning.specs.Styles.{Style}
 use Rattle.down_translator.specs.Held.{DownState, whole_in, begun_at_in, bad_answer, refusal_in, down_after, unless_refused}
-use Rattle.down_translator.specs.Lanes.{lanes_after}
+use Rattle.down_translator.specs.KeptLanes.{lanes_after}
 use Rattle.down_translator.specs.Recording.{AreInRange, state_of}
 
 -- ---- ranges
@@ -34,7 +36,8 @@ packet_in_range (packet.Flex g w) h = tt
 packet_in_range (packet.Stream f s l w x y) h = tt
 packet_in_range (packet.Reserved w) h = tt
 
-more_parts : (offset : ℕ) (p : Packet) (past : List Placed) → IsInRange p → AreParts (parts_of past) → AreParts (parts_of (record { offset = offset; packet = p } ∷ past))
+more_parts : (offset : ℕ) (p : Packet) (past : List Placed) → IsInRange p → AreParts (parts_of past)
+    → AreParts (parts_of (record { offset = offset; packet = p } ∷ past))
 more_parts offset (packet.Exclusive g f bytes) past h a = ((h.0, h.1), a)
 more_parts offset (packet.Utility s v) past h a = a
 more_parts offset (packet.System g m) past h a = a
@@ -51,7 +54,7 @@ parts_in_range (placed ∷ past) a = more_parts placed.offset placed.packet past
 
 -- ---- what is open
 
-table_room : (room : ℕ) (parts : List Part) → (table_after room parts).room ≡ room
+table_room : (room : ℕ) (parts : List Part) → (table_over room parts).room ≡ room
 table_room room [] = refl
 table_room room (part ∷ parts) = table_room room parts
 
@@ -65,7 +68,8 @@ begun-start (Some parts) = refl
 
 -- an answer is that the exclusive is too long exactly when the part exceeds the limit
 bad-answer : (room : Room) (f : Form) (start : Option ℕ) (before : Option (List ℕ)) (bytes : List ℕ) (alone : Bool) →
-    bad_answer (answer_from (cond (goes_on f) None start) (ended_by room f before bytes) (cond (goes_on f) (passes_by room before bytes) false) (cond (goes_on f) alone false)) ≡
+    bad_answer (answer_from (cond (goes_on f) None start) (ended_by room f before bytes)
+    (cond (goes_on f) (passes_by room before bytes) false) (cond (goes_on f) alone false)) ≡
     cond (cond (goes_on f) (passes_by room before bytes) false) (Some bad.ExclusiveTooLong) None
 bad-answer room form.Complete None before bytes alone = refl
 bad-answer room form.Complete (Some start) before bytes alone = refl
@@ -81,7 +85,9 @@ bad-answer room form.End start None bytes true = refl
 bad-answer room form.End start None bytes false = refl
 bad-answer room form.End start (Some before) bytes alone = go (fits room (length (before ++ bytes))) alone
   where
-    go : (t u : Bool) → bad_answer (answer_from None (cond t (Some (before ++ bytes)) None) (cond t false true) u) ≡ cond (cond t false true) (Some bad.ExclusiveTooLong) None
+    go : (t u : Bool)
+        → bad_answer (answer_from None (cond t (Some (before ++ bytes)) None) (cond t false true) u)
+        ≡ cond (cond t false true) (Some bad.ExclusiveTooLong) None
     go true u = refl
     go false u = refl
 
@@ -93,14 +99,17 @@ module _ (paired : Bool) where
     pub begun : begun_at_in (state_of paired style room past) p ≡ begun_before (Some room) (parts_of past) p
     pub refusal : refusal_in (state_of paired style room past) p ≡ bad_step (Some room) (parts_of past) p
 
-  pub held-told : FedPartsAreTheDefinition → (style : Style) (room : ℕ) (past : List Placed) → 6 ≤ room → AreInRange past → (p : Packet) → IsTold style room past p
+  pub held-told : FedPartsAreTheDefinition → (style : Style) (room : ℕ) (past : List Placed) → 6 ≤ room → AreInRange past → (p : Packet)
+      → IsTold style room past p
   held-told fed style room past least a (packet.Exclusive g f bytes) =
       let parts : List Part = parts_of past in
       let part : Part = record { group = g; form = f; bytes = bytes; offset = 0 } in
       let open_is = fed.begun room parts least (parts_in_range past a) g in
       record {
         whole =
-            ap (λ r. ended_by (Some r) f (option_map (λ (begun : Begun). begun.bytes) (begun_in (state_of paired style room past).exclusives g)) bytes) (table_room room parts)
+            ap (λ r. ended_by (Some r) f
+            (option_map (λ (begun : Begun). begun.bytes) (begun_in (state_of paired style room past).exclusives g)) bytes)
+            (table_room room parts)
             ∙ ap (λ o. ended_by (Some room) f (option_map (λ (begun : Begun). begun.bytes) o) bytes) open_is
             ∙ ap (λ o. ended_by (Some room) f o bytes) (begun-bytes (opened (Some room) g parts));
         begun = ap (option_map (λ (begun : Begun). begun.start)) open_is ∙ begun-start (opened (Some room) g parts);
@@ -119,10 +128,13 @@ module _ (paired : Bool) where
 
   -- ---- what comes after a packet
 
-  pub held-behind : (style : Style) (room : ℕ) (past : List Placed) (placed : Placed) → down_after placed.offset placed.packet (state_of paired style room past) ≡ state_of paired style room (placed ∷ past)
+  pub held-behind : (style : Style) (room : ℕ) (past : List Placed) (placed : Placed)
+      → down_after placed.offset placed.packet (state_of paired style room past) ≡ state_of paired style room (placed ∷ past)
   held-behind style room past placed = go placed.offset placed.packet
     where
-      go : (offset : ℕ) (p : Packet) → down_after offset p (state_of paired style room past) ≡ state_of paired style room (record { offset = offset; packet = p } ∷ past)
+      go : (offset : ℕ) (p : Packet)
+          → down_after offset p (state_of paired style room past)
+          ≡ state_of paired style room (record { offset = offset; packet = p } ∷ past)
       go offset (packet.Exclusive g f bytes) = refl
       go offset (packet.Utility s v) = refl
       go offset (packet.System g m) = refl
@@ -144,11 +156,14 @@ only-too-long (restarted_whole start bytes) why is other = let e = is in cc
 only-too-long too_long why is other = other (let e = is in cc)
 
 -- a refused data increment or decrement leaves the translator as it was
-pub unchanged : (state : DownState) (offset : ℕ) (p : Packet) (why : BadStep) → refusal_in state p ≡ Some why → why ≢ bad.ExclusiveTooLong → down_after offset p state ≡ state
+pub unchanged : (state : DownState) (offset : ℕ) (p : Packet) (why : BadStep) → refusal_in state p ≡ Some why → why ≢ bad.ExclusiveTooLong
+    → down_after offset p state ≡ state
 unchanged state offset (packet.Voice1 g m) why is other =
-    ap (λ r. record { exclusives = state.exclusives; lanes = lanes_after (unless_refused r (Some g)) None (packet.Voice1 g m) state.lanes }) is
+    ap (λ r. record { exclusives = state.exclusives; lanes = lanes_after (unless_refused r (Some g)) None (packet.Voice1 g m) state.lanes })
+    is
 unchanged state offset (packet.Voice2 g m) why is other =
-    ap (λ r. record { exclusives = state.exclusives; lanes = lanes_after (unless_refused r (Some g)) None (packet.Voice2 g m) state.lanes }) is
+    ap (λ r. record { exclusives = state.exclusives; lanes = lanes_after (unless_refused r (Some g)) None (packet.Voice2 g m) state.lanes })
+    is
 unchanged state offset (packet.Exclusive g f bytes) why is other =
     let part : Part = record { group = g; form = f; bytes = bytes; offset = 0 } in
     absurd (only-too-long (answer_to state.exclusives part) why is other)

@@ -2,7 +2,7 @@ pub mod BytesLaws
 pub mod ExclusiveLaws
 pub mod HeldLaws
 pub mod LaneLaws
-pub mod LoneLaws
+pub mod DirectLaws
 pub mod LoweredLaws
 pub mod PieceLaws
 pub mod RecordingLaws

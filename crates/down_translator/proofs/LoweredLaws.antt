@@ -1,6 +1,7 @@
--- A message that has a value, except for a control change that isn't lone, is carried by one MIDI 1.0 message, and in plain style that is
+-- A direct message, except for a control change that isn't direct, is carried by one MIDI 1.0 message, and in plain style that is
 -- its whole step.
-use Rattle.std.proofs.Common.{List, ◌≡◌, ◌+◌, ◌*◌, ◌/◌, ◌%◌, ◌^◌, ℕ, Bool, true, false, [], ◌∷◌, refl, sym, ap, ◌∙◌, subst, arith, Option, Some, None, ◌≤◌, ◌<◌, length, take, min}
+use Rattle.std.proofs.Common.{List, ◌≡◌, ◌+◌, ◌*◌, ◌/◌, ◌%◌, ◌^◌, ℕ, Bool, true, false, [], ◌∷◌, refl}
+use Rattle.std.proofs.Common.{sym, ap, ◌∙◌, subst, arith, Option, Some, None, ◌≤◌, ◌<◌, length, take, min}
 use Rattle.std.specs.Prelude.{◌==◌, ◌&&◌, not, if◌then◌else◌, nat_lt}
 use Rattle.std.specs.List.{flat_map}
 use Rattle.std.proofs.lemmas.List.{append-nil, length-take}
@@ -8,8 +9,8 @@ use Rattle.std.proofs.lemmas.List.Elements.{All-take}
 use Rattle.sysex_groups.specs.Exclusives.{IsData}
 use Rattle.std.specs.Option.{option_map, option_to_list}
 use Rattle.bit_scaling.specs.Scaling.{down7, down14, release_down}
-use Rattle.encoded_packets.specs.declared.value_message.ValueMessage.{ValueMessage}
-use Rattle.encoded_packets.specs.ValueMessages.{IsValueMessage, has_value, message_by, message_of, one_of_six}
+use Rattle.direct_packets.specs.declared.direct_message.DirectMessage.{DirectMessage}
+use Rattle.direct_packets.specs.DirectMessages.{IsDirectMessage, has_direct_kind, message_by, direct_voice, one_of_six}
 use Rattle.voice_messages.specs.declared.voice1.Voice1.{Voice1}
 use Rattle.voice_messages.specs.declared.voice1.Voice1.TheVariants as voice1
 use Rattle.voice_messages.specs.declared.voice2.Voice2.{Voice2}
@@ -17,22 +18,24 @@ use Rattle.voice_messages.specs.declared.voice2.Voice2.TheVariants as voice2
 use Rattle.midi1_bytes.specs.Messages.{spelled, spelled_voice, voice}
 use Rattle.ump_grammar.specs.declared.packet.Packet.{Packet}
 use Rattle.ump_grammar.specs.declared.packet.Packet.TheVariants as packet
-use Rattle.voice_state.specs.declared.listed.Listed.{Listed}
-use Rattle.voice_state.specs.declared.listed.Kind.{Kind}
-use Rattle.voice_state.specs.declared.listed.Kind.TheVariants as kinds
-use Rattle.voice_state.specs.Controllers.{Role, channel_mode, data_decrement, data_increment, is_lone, plain, reset_all, pairing, role_of}
-use Rattle.voice_state.specs.Registers.{Registers}
-use Rattle.voice_state.specs.LaneState.{LaneState, channels_after2, channels_after_control2, lane_state_after}
-use Rattle.voice_state.specs.Listing.{control_kind, is_carried_role, is_carried_voice, line_offset, voice_kind}
-use Rattle.voice_state.specs.Plain.{control_messages, voice_messages}
-use Rattle.voice_state.specs.Refusal.{bad_role, bad_voice2}
-use Rattle.voice_state.specs.Styles.{Style, plain_style, compact_style}
+use Rattle.midi_meaning.specs.declared.listed.Listed.{Listed}
+use Rattle.midi_meaning.specs.declared.listed.Kind.{Kind}
+use Rattle.midi_meaning.specs.declared.listed.Kind.TheVariants as kinds
+use Rattle.midi_meaning.specs.Controllers.{Role, channel_mode, data_decrement, data_increment}
+use Rattle.midi_meaning.specs.Controllers.{is_direct, plain, reset_all, pairing, role_of}
+use Rattle.midi_meaning.specs.Registers.{Registers}
+use Rattle.midi_meaning.specs.LaneState.{LaneState, channels_after2, channels_after_control2, lane_state_after}
+use Rattle.midi_meaning.specs.Listing.{control_kind, is_carried_role, is_carried_voice, line_offset, voice_kind}
+use Rattle.midi_meaning.specs.Plain.{control_messages, voice_messages}
+use Rattle.midi_meaning.specs.Refusal.{bad_role, bad_voice2}
+use Rattle.midi_meaning.specs.Styles.{Style, plain_style, compact_style}
 use Rattle.down_translator.specs.declared.carried.Carried.{Carried}
 use Rattle.down_translator.specs.Carried.{lane_in, line_in}
 use Rattle.down_translator.specs.declared.lowered.LoweredMessage.{LoweredMessage}
 use Rattle.down_translator.specs.Held.{DownState, down_after, paired_of, unless_refused}
-use Rattle.down_translator.specs.Lanes.{is_plain, is_single, lane_at, lanes_after, states_by, voice_piece}
-use Rattle.down_translator.specs.Lowered.{IsWholeStep, attribute_line, bytes_of, first_by, has_attribute, is_lone_message, is_lone_packet, is_whole, second_by, voice_by, voice_of}
+use Rattle.down_translator.specs.KeptLanes.{is_plain, is_single, lane_at, lanes_after, states_by, voice_piece}
+use Rattle.down_translator.specs.Lowered.{IsDirectStep, attribute_line, lowered_bytes, first_by, has_attribute}
+use Rattle.down_translator.specs.Lowered.{message_goes_direct, packet_goes_direct, goes_direct, second_by, voice_by, voice_of}
 use Rattle.down_translator.specs.Step.{IsStep, lane_of}
 
 -- the upper seven bits of a value, of the upper sixteen and of the upper fourteen
@@ -44,14 +47,15 @@ same_bend : (value : ℕ) → down7 value ≡ down14 value / 128
 unfolding down7 down14
 same_bend value = omega arith
 
-module _ (m : ValueMessage) where
+module _ (m : DirectMessage) where
   abbrev IsSpelled : ℕ → Type 0
   IsSpelled o = m.status / 16 ≡ o → m.status ∷ first_by o m ∷ option_to_list (second_by o m) ≡ spelled_voice (voice_by o m)
 
   status-is : (o : ℕ) → m.status / 16 ≡ o → m.status ≡ o * 16 + m.status % 16
   status-is o e = omega arith
 
-  pub spelled_lowered : IsValueMessage m → m.status ∷ first_by (m.status / 16) m ∷ option_to_list (second_by (m.status / 16) m) ≡ spelled_voice (voice_of m)
+  pub spelled_lowered : IsDirectMessage m
+      → m.status ∷ first_by (m.status / 16) m ∷ option_to_list (second_by (m.status / 16) m) ≡ spelled_voice (voice_of m)
   spelled_lowered is =
       one_of_six IsSpelled
       (λ e. let status = status-is 0x8 e in let last = same_release m.value in cc)
@@ -69,7 +73,8 @@ single_accepted paired data_increment e = cc
 single_accepted paired data_decrement e = cc
 single_accepted paired _ e = refl
 
-single_messages : (role : Role) (channel index value : ℕ) → is_single role ≡ true → control_messages role channel index value ≡ voice (voice1.Control channel index (down7 value)) ∷ []
+single_messages : (role : Role) (channel index value : ℕ) → is_single role ≡ true
+    → control_messages role channel index value ≡ voice (voice1.Control channel index (down7 value)) ∷ []
 single_messages channel_mode channel index value e = refl
 single_messages reset_all channel index value e = refl
 single_messages plain channel index value e = refl
@@ -87,22 +92,24 @@ single_kind reset_all e = refl
 single_kind plain e = refl
 single_kind _ e = cc
 
-lone_single : (role : Role) → is_lone role ≡ true → is_single role ≡ true
-lone_single channel_mode e = refl
-lone_single plain e = refl
-lone_single _ e = cc
+direct_single : (role : Role) → is_direct role ≡ true → is_single role ≡ true
+direct_single channel_mode e = refl
+direct_single plain e = refl
+direct_single _ e = cc
 
 -- it leaves the registers as they are
-lone_kept : (paired : Bool) (role : Role) (channel : ℕ) (channels : List Registers) → is_lone (pairing paired role) ≡ true → channels ≡ channels_after_control2 role channel channels
-lone_kept paired reset_all channel channels e = cc
-lone_kept paired _ channel channels e = refl
+direct_kept : (paired : Bool) (role : Role) (channel : ℕ) (channels : List Registers) → is_direct (pairing paired role) ≡ true
+    → channels ≡ channels_after_control2 role channel channels
+direct_kept paired reset_all channel channels e = cc
+direct_kept paired _ channel channels e = refl
 
 -- ---- the step of a packet that is carried by one message
 
 abbrev pub line_by : ℕ → ℕ → Option Kind → Option Listed
 line_by offset group kind = option_map (λ kind. record { offset = line_offset kind None offset; group = Some group; kind = kind }) kind
 
-attribute_by : (offset group : ℕ) (none : Bool) → attribute_line offset group (not none) ≡ line_by offset group (if none then None else Some kinds.NoteAttribute)
+attribute_by : (offset group : ℕ) (none : Bool)
+    → attribute_line offset group (not none) ≡ line_by offset group (if none then None else Some kinds.NoteAttribute)
 attribute_by offset group true = refl
 attribute_by offset group false = refl
 
@@ -119,7 +126,8 @@ module _ (state : DownState) (is_plain_style : state.lanes.style ≡ plain_style
   p = packet.Voice2 group message
 
   single_step : (single : Voice1) (left_out : Bool) (carried : Carried) → IsSingle (paired_of state) offset group message single left_out
-      → carried.piece.now ≡ spelled_voice single → lane_in carried ≡ group → line_in carried ≡ attribute_line offset group left_out → IsStep state offset p carried
+      → carried.piece.now ≡ spelled_voice single → lane_in carried ≡ group → line_in carried ≡ attribute_line offset group left_out
+      → IsStep state offset p carried
   single_step single left_out carried is piece lane line =
       record {
         accepted = is.accepted;
@@ -135,15 +143,17 @@ module _ (state : DownState) (is_plain_style : state.lanes.style ≡ plain_style
       let kept : LaneState = lane_state_after (paired_of state) (lane_at state.lanes.states group) None p in
       let behind : lanes_after (unless_refused (bad_voice2 message) (Some group)) None p state.lanes ≡ state.lanes =
       ap (λ bad. lanes_after (unless_refused bad (Some group)) None p state.lanes) accepted
-      ∙ ap (λ style. record { style = state.lanes.style; paired = state.lanes.paired; states = states_by style group kept state.lanes.states }) is_plain_style in
+      ∙ ap (λ style.
+      record { style = state.lanes.style; paired = state.lanes.paired; states = states_by style group kept state.lanes.states })
+      is_plain_style in
       ap (λ lanes. record { exclusives = state.exclusives; lanes = lanes }) behind
 
 -- ---- by the opcode
 
-lone_control : (o : ℕ) (lone : Bool) → (if o == 0xB then lone else true) ≡ true → o ≡ 0xB → lone ≡ true
-lone_control o lone h e = ap (λ n. if n == 0xB then lone else true) (sym e) ∙ h
+direct_control : (o : ℕ) (direct : Bool) → (if o == 0xB then direct else true) ≡ true → o ≡ 0xB → direct ≡ true
+direct_control o direct h e = ap (λ n. if n == 0xB then direct else true) (sym e) ∙ h
 
-module _ (paired : Bool) (m : ValueMessage) (offset : ℕ) (lone : is_lone_message paired m ≡ true) where
+module _ (paired : Bool) (m : DirectMessage) (offset : ℕ) (direct : message_goes_direct paired m ≡ true) where
   abbrev left_out_by : ℕ → Bool
   left_out_by o = nat_lt o 0xA && not (m.attribute_type == 0)
 
@@ -151,10 +161,22 @@ module _ (paired : Bool) (m : ValueMessage) (offset : ℕ) (lone : is_lone_messa
   IsSingleBy o = m.status / 16 ≡ o → IsSingle paired offset m.group (message_by o m) (voice_by o m) (left_out_by o)
 
   single-8 : IsSingleBy 0x8
-  single-8 e = record { accepted = refl; messages = refl; carried = refl; line = attribute_by offset m.group (m.attribute_type == 0); kept = λ channels. refl }
+  single-8 e = record {
+    accepted = refl;
+    messages = refl;
+    carried = refl;
+    line = attribute_by offset m.group (m.attribute_type == 0);
+    kept = λ channels. refl;
+  }
 
   single-9 : IsSingleBy 0x9
-  single-9 e = record { accepted = refl; messages = refl; carried = refl; line = attribute_by offset m.group (m.attribute_type == 0); kept = λ channels. refl }
+  single-9 e = record {
+    accepted = refl;
+    messages = refl;
+    carried = refl;
+    line = attribute_by offset m.group (m.attribute_type == 0);
+    kept = λ channels. refl;
+  }
 
   single-A : IsSingleBy 0xA
   single-A e = record { accepted = refl; messages = refl; carried = refl; line = refl; kept = λ channels. refl }
@@ -162,14 +184,14 @@ module _ (paired : Bool) (m : ValueMessage) (offset : ℕ) (lone : is_lone_messa
   single-B : IsSingleBy 0xB
   single-B e =
       let role : Role = pairing paired (role_of m.index) in
-      let lone_role : is_lone role ≡ true = lone_control (m.status / 16) (is_lone role) lone e in
-      let single : is_single role ≡ true = lone_single role lone_role in
+      let direct_role : is_direct role ≡ true = direct_control (m.status / 16) (is_direct role) direct e in
+      let single : is_single role ≡ true = direct_single role direct_role in
       record {
         accepted = single_accepted paired (role_of m.index) single;
         messages = single_messages role (m.status % 16) m.index m.value single;
         carried = single_carried role single;
         line = sym (ap (λ kind. line_by offset m.group kind) (single_kind role single));
-        kept = λ channels. lone_kept paired (role_of m.index) (m.status % 16) channels lone_role;
+        kept = λ channels. direct_kept paired (role_of m.index) (m.status % 16) channels direct_role;
       }
 
   single-D : IsSingleBy 0xD
@@ -178,61 +200,73 @@ module _ (paired : Bool) (m : ValueMessage) (offset : ℕ) (lone : is_lone_messa
   single-E : IsSingleBy 0xE
   single-E e = record { accepted = refl; messages = refl; carried = refl; line = refl; kept = λ channels. refl }
 
-  pub is_single_of : IsValueMessage m → IsSingle paired offset m.group (message_of m) (voice_of m) (has_attribute m)
+  pub is_single_of : IsDirectMessage m → IsSingle paired offset m.group (direct_voice m) (voice_of m) (has_attribute m)
   is_single_of is = one_of_six IsSingleBy single-8 single-9 single-A single-B single-D single-E (m.status / 16) is.opcode refl
 
 -- such a message is a packet that one message carries, and no others are
-lone_packet : (paired : Bool) (m : ValueMessage) → IsValueMessage m → is_lone_packet paired (packet.Voice2 m.group (message_of m)) ≡ is_lone_message paired m
-lone_packet paired m is =
-    let Same : ℕ → Type 0 = λ o. is_lone_packet paired (packet.Voice2 m.group (message_by o m)) ≡ (if o == 0xB then is_lone (pairing paired (role_of m.index)) else true) in
+direct_packet : (paired : Bool) (m : DirectMessage) → IsDirectMessage m
+    → packet_goes_direct paired (packet.Voice2 m.group (direct_voice m)) ≡ message_goes_direct paired m
+direct_packet paired m is =
+    let Same : ℕ → Type 0 =
+    λ o. packet_goes_direct paired (packet.Voice2 m.group (message_by o m))
+    ≡ (if o == 0xB then is_direct (pairing paired (role_of m.index)) else true) in
     one_of_six Same refl refl refl refl refl refl (m.status / 16) is.opcode
 
-no_lone_packet : (paired : Bool) (p : Packet) → has_value p ≡ false → is_lone_packet paired p ≡ false
-no_lone_packet paired (packet.Voice2 group (voice2.Control channel index value)) none = cc
-no_lone_packet paired (packet.Voice2 group message) none = none
-no_lone_packet paired p none = none
+no_direct_packet : (paired : Bool) (p : Packet) → has_direct_kind p ≡ false → packet_goes_direct paired p ≡ false
+no_direct_packet paired (packet.Voice2 group (voice2.Control channel index value)) none = cc
+no_direct_packet paired (packet.Voice2 group message) none = none
+no_direct_packet paired p none = none
 
-none_else : (whole lone : Bool) → lone ≡ false → (whole && lone) ≡ false
-none_else true lone e = e
-none_else false lone e = refl
+none_else : (whole direct : Bool) → direct ≡ false → (whole && direct) ≡ false
+none_else true direct e = e
+none_else false direct e = refl
 
-pub not_whole : (state : DownState) (p : Packet) → has_value p ≡ false → is_whole state p ≡ false
-not_whole state p none = none_else (is_plain state.lanes.style) (is_lone_packet state.lanes.paired p) (no_lone_packet state.lanes.paired p none)
+pub not_direct : (state : DownState) (p : Packet) → has_direct_kind p ≡ false → goes_direct state p ≡ false
+not_direct state p none =
+    none_else (is_plain state.lanes.style) (packet_goes_direct state.lanes.paired p) (no_direct_packet state.lanes.paired p none)
 
-pub same_whole : (state : DownState) (p : Packet) (m : ValueMessage) → IsValueMessage m → p ≡ packet.Voice2 m.group (message_of m) →
-    is_whole state p ≡ (is_plain state.lanes.style && is_lone_message state.lanes.paired m)
-same_whole state p m is same =
-    ap (is_whole state) same ∙ ap (λ lone. is_plain state.lanes.style && lone) (lone_packet state.lanes.paired m is)
+pub same_direct : (state : DownState) (p : Packet) (m : DirectMessage) → IsDirectMessage m → p ≡ packet.Voice2 m.group (direct_voice m) →
+    goes_direct state p ≡ (is_plain state.lanes.style && message_goes_direct state.lanes.paired m)
+same_direct state p m is same =
+    ap (goes_direct state) same ∙ ap (λ direct. is_plain state.lanes.style && direct) (direct_packet state.lanes.paired m is)
 
-both : (whole lone : Bool) → (whole && lone) ≡ true → (whole ≡ true) × (lone ≡ true)
-both true lone e = (refl, e)
-both false lone e = cc
+both : (whole direct : Bool) → (whole && direct) ≡ true → (whole ≡ true) × (direct ≡ true)
+both true direct e = (refl, e)
+both false direct e = cc
 
 plain_is : (style : Style) → is_plain style ≡ true → style ≡ plain_style
 plain_is plain_style e = refl
 plain_is compact_style e = cc
 
-pub whole_step : (state : DownState) (p : Packet) (m : ValueMessage) (l : LoweredMessage) → IsValueMessage m → p ≡ packet.Voice2 m.group (message_of m)
-    → (is_plain state.lanes.style && is_lone_message state.lanes.paired m) ≡ true
-    → l.lane ≡ m.group → bytes_of l ≡ spelled_voice (voice_of m) → l.has_attribute ≡ has_attribute m → IsWholeStep state p l
-whole_step state p m l is same whole lane bytes attribute =
-    let Whole : Packet → Type 0 = λ q. IsWholeStep state q l in
-    let told = both (is_plain state.lanes.style) (is_lone_message state.lanes.paired m) whole in
+pub direct_step : (state : DownState) (p : Packet) (m : DirectMessage) (l : LoweredMessage) → IsDirectMessage m
+    → p ≡ packet.Voice2 m.group (direct_voice m)
+    → (is_plain state.lanes.style && message_goes_direct state.lanes.paired m) ≡ true
+    → l.lane ≡ m.group → lowered_bytes l ≡ spelled_voice (voice_of m) → l.has_attribute ≡ has_attribute m → IsDirectStep state p l
+direct_step state p m l is same whole lane bytes attribute =
+    let Whole : Packet → Type 0 = λ q. IsDirectStep state q l in
+    let told = both (is_plain state.lanes.style) (message_goes_direct state.lanes.paired m) whole in
     let is_plain_style : state.lanes.style ≡ plain_style = plain_is state.lanes.style told.0 in
     subst Whole (sym same) (record {
-      whole = same_whole state (packet.Voice2 m.group (message_of m)) m is refl ∙ whole;
+      whole = same_direct state (packet.Voice2 m.group (direct_voice m)) m is refl ∙ whole;
       lane = omega (arith, lane, is.group);
       step = λ offset carried told_as.
-          single_step state is_plain_style offset m.group (message_of m) (voice_of m) (has_attribute m) carried (is_single_of state.lanes.paired m offset told.1 is)
+          single_step state is_plain_style offset m.group (direct_voice m) (voice_of m) (has_attribute m) carried
+          (is_single_of state.lanes.paired m offset told.1 is)
           (told_as.piece ∙ bytes) (told_as.lane ∙ lane)
-          (told_as.line ∙ ap (λ group. attribute_line offset group l.has_attribute) lane ∙ ap (λ left_out. attribute_line offset m.group left_out) attribute);
-      after = λ offset. after_plain state is_plain_style offset m.group (message_of m) (is_single_of state.lanes.paired m offset told.1 is).accepted;
+          (told_as.line
+          ∙ ap (λ group. attribute_line offset group l.has_attribute) lane
+          ∙ ap (λ left_out. attribute_line offset m.group left_out) attribute);
+      after =
+          λ offset. after_plain state is_plain_style offset m.group (direct_voice m)
+          (is_single_of state.lanes.paired m offset told.1 is).accepted;
     })
 
 -- ---- the bytes that a part counts
 
 pub few_of : (count : ℕ) (places : List ℕ) → count ≤ 6 → length (take count places) ≤ 6
-few_of count places few = let same : length (take count places) ≡ min count (length places) = length-take count places in omega (arith, few, same)
+few_of count places few =
+    let same : length (take count places) ≡ min count (length places) = length-take count places in
+    omega (arith, few, same)
 
 pub data_of : (count : ℕ) (places : List ℕ) → IsData places → IsData (take count places)
 data_of count places each = All-take (λ byte. byte < 128) count places each

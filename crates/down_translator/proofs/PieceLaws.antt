@@ -1,5 +1,6 @@
 -- What is written of a packet and kept of its lane, by the status bytes that are written.
-use Rattle.std.proofs.Common.{ℕ, ◌≡◌, ◌≢◌, ◌<◌, ◌∙◌, ap, sym, refl, arith, List, [], ◌∷◌, ◌++◌, length, Option, Some, None, Bool, true, false, cond}
+use Rattle.std.proofs.Common.{ℕ, ◌≡◌, ◌≢◌, ◌<◌, ◌∙◌, ap, sym, refl, arith, List, [], ◌∷◌}
+use Rattle.std.proofs.Common.{◌++◌, length, Option, Some, None, Bool, true, false, cond}
 use Rattle.std.proofs.lemmas.List.{append-nil, set-get_or}
 use Rattle.std.proofs.lemmas.Option.{same_Some}
 use Rattle.std.specs.Prelude.{drop, if◌then◌else◌, slice_index}
@@ -14,20 +15,22 @@ use Rattle.voice_messages.specs.declared.voice2.Voice2.{Voice2}
 use Rattle.voice_messages.specs.declared.voice2.Voice2.TheVariants as voice2
 use Rattle.ump_grammar.specs.declared.packet.Packet.TheVariants as packet
 use Rattle.bit_scaling.specs.Scaling.{down7, down14}
-use Rattle.midi1_bytes.specs.Messages.{Message, message_of, voice, spelled}
-use Rattle.midi1_bytes.specs.RunningStatus.{is_running, running_after, running_after_all, without_status, written_under}
-use Rattle.voice_state.specs.Registers.{Registers, is_null, unset_registers, with_bank, with_selected}
-use Rattle.voice_state.specs.Controllers.{Role, reset_all, channel_mode, coarse, fine, plain, role_of, pairing}
-use Rattle.voice_state.specs.Roles.{registers_behind}
-use Rattle.voice_state.specs.Plain.{control_messages, pair_messages, program_messages, set_messages, voice_messages}
-use Rattle.voice_state.specs.Compact.{has_bank, is_selected, needed_set, needed_voice}
-use Rattle.voice_state.specs.Listing.{voice_kind}
-use Rattle.voice_state.specs.LaneState.{LaneState, at_registers_of, channels_after1, channels_after2, channels_after_control2, lane_state_after, new_lane, registers_at}
-use Rattle.voice_state.specs.Styles.{Style, plain_style, compact_style}
+use Rattle.midi1_bytes.specs.Messages.{Message, system_message, voice, spelled}
+use Rattle.midi1_bytes.specs.RunningStatus.{is_running, running_after, running_over, without_status, written_under}
+use Rattle.midi_meaning.specs.Registers.{Registers, is_null, unset_registers, with_bank, with_selected}
+use Rattle.midi_meaning.specs.Controllers.{Role, reset_all, channel_mode, coarse, fine, plain, role_of, pairing}
+use Rattle.midi_meaning.specs.Roles.{registers_after}
+use Rattle.midi_meaning.specs.Plain.{control_messages, pair_messages, program_messages, set_messages, voice_messages}
+use Rattle.midi_meaning.specs.Compact.{has_bank, is_selected, needed_set, needed_voice}
+use Rattle.midi_meaning.specs.Listing.{voice_kind}
+use Rattle.midi_meaning.specs.LaneState.{LaneState, at_registers_of, channels_after1, channels_after2}
+use Rattle.midi_meaning.specs.LaneState.{channels_after_control2, lane_state_after, new_lane, registers_at}
+use Rattle.midi_meaning.specs.Styles.{Style, plain_style, compact_style}
 use Rattle.down_translator.specs.declared.statuses.Statuses.{Statuses}
 use Rattle.down_translator.specs.declared.statuses.Statuses.TheVariants.{All, Changes}
-use Rattle.down_translator.specs.Lanes.{IsAlone, Lanes, after_system, is_pair, is_single, is_there, kept_by, lane_at, lanes_after, piece_by, statuses_in, unless_there, with_lane}
-use Rattle.down_translator.specs.Statuses.{statuses_after, statuses_after_all, written_all, written_in}
+use Rattle.down_translator.specs.KeptLanes.{IsUnpaired, KeptLanes, after_system, is_pair, is_single, is_there, kept_by}
+use Rattle.down_translator.specs.KeptLanes.{lane_at, lanes_after, piece_by, statuses_in, unless_there, with_lane}
+use Rattle.down_translator.specs.Statuses.{statuses_after, statuses_over, written_all, written_in}
 
 written_plain : (messages : List Message) → written_all All messages ≡ flat_map spelled messages
 written_plain [] = refl
@@ -38,25 +41,28 @@ written_compact [] running = refl
 written_compact (message ∷ messages) running =
     ap (λ bytes. without_status running (spelled message) ++ bytes) (written_compact messages (running_after message running))
 
-after_plain : (messages : List Message) → statuses_after_all messages All ≡ All
+after_plain : (messages : List Message) → statuses_over messages All ≡ All
 after_plain [] = refl
 after_plain (message ∷ messages) = after_plain messages
 
-after_compact : (messages : List Message) (running : Option ℕ) → statuses_after_all messages (Changes running) ≡ Changes (running_after_all messages running)
+after_compact : (messages : List Message) (running : Option ℕ)
+    → statuses_over messages (Changes running) ≡ Changes (running_over messages running)
 after_compact [] running = refl
 after_compact (message ∷ messages) running = after_compact messages (running_after message running)
 
 -- the messages that select leave the running status that the others leave
 set_runs : (registers : Registers) (channel : ℕ) (param : Param) (value : ℕ) (running : Option ℕ) (null there : Bool) →
-    running_after_all (if null then [] else if there then drop 2 (set_messages channel param value) else set_messages channel param value) running
-    ≡ running_after_all (if null then [] else set_messages channel param value) running
+    running_over (if null then [] else if there then drop 2 (set_messages channel param value) else set_messages channel param value)
+    running
+    ≡ running_over (if null then [] else set_messages channel param value) running
 set_runs registers channel param value running true there = refl
 set_runs registers channel param value running false true = refl
 set_runs registers channel param value running false false = refl
 
 program_runs : (channel program : ℕ) (bank : Bank) (running : Option ℕ) (there : Bool) →
-    running_after_all (if there then drop 2 (program_messages channel program (Some bank)) else program_messages channel program (Some bank)) running
-    ≡ running_after_all (program_messages channel program (Some bank)) running
+    running_over (if there then drop 2 (program_messages channel program (Some bank)) else program_messages channel program (Some bank))
+    running
+    ≡ running_over (program_messages channel program (Some bank)) running
 program_runs channel program bank running true = refl
 program_runs channel program bank running false = refl
 
@@ -74,13 +80,14 @@ unless_is : (there : Bool) (messages : List Message) → unless_there there mess
 unless_is true messages = refl
 unless_is false messages = refl
 
-by_statuses : (lanes : Lanes) (group : ℕ) (message : Voice2) (some all : Statuses) → some ≡ all →
+by_statuses : (lanes : KeptLanes) (group : ℕ) (message : Voice2) (some all : Statuses) → some ≡ all →
     kept_by group some (channels_after2 message) lanes ≡ kept_by group all (channels_after2 message) lanes
 by_statuses lanes group message some all same = ap (λ statuses. kept_by group statuses (channels_after2 message) lanes) same
 
 -- the same change of registers, after messages that are the same
-by_change : (lanes : Lanes) (group : ℕ) (statuses : Statuses) (change other : List Registers → List Registers) →
-    ((channels : List Registers) → change channels ≡ other channels) → kept_by group statuses change lanes ≡ kept_by group statuses other lanes
+by_change : (lanes : KeptLanes) (group : ℕ) (statuses : Statuses) (change other : List Registers → List Registers) →
+    ((channels : List Registers) → change channels ≡ other channels)
+    → kept_by group statuses change lanes ≡ kept_by group statuses other lanes
 by_change lanes group All change other same = refl
 by_change lanes group (Changes running) change other same =
     ap (λ channels. with_lane group (record { running = running; channels = channels }) lanes) (same (lane_at lanes.states group).channels)
@@ -120,21 +127,21 @@ is_pair-true coarse is = refl
 is_pair-true _ is = cc
 
 -- without pairs nothing is a pair
-alone_pair : (paired : Bool) (role : Role) → paired ≡ false → is_pair (pairing paired role) ≡ false
-alone_pair true role is = absurd (cc is)
-alone_pair false coarse is = refl
-alone_pair false fine is = refl
-alone_pair false _ is = refl
+unpaired_pair : (paired : Bool) (role : Role) → paired ≡ false → is_pair (pairing paired role) ≡ false
+unpaired_pair true role is = absurd (cc is)
+unpaired_pair false coarse is = refl
+unpaired_pair false fine is = refl
+unpaired_pair false _ is = refl
 
 -- what is no control change of paired controllers is carried as without pairs
-pub alone : (paired : Bool) (message : Voice2) → IsAlone paired message → voice_messages false message ≡ voice_messages paired message
+pub alone : (paired : Bool) (message : Voice2) → IsUnpaired paired message → voice_messages false message ≡ voice_messages paired message
 alone paired (voice2.Control channel index value) is = ap (λ p. voice_messages p (voice2.Control channel index value)) (sym is)
 alone paired message is = refl
 
 -- and is listed as without pairs
-pub alone_kind : (paired : Bool) (message : Voice2) → IsAlone paired message → voice_kind paired message ≡ voice_kind false message
-alone_kind paired (voice2.Control channel index value) is = ap (λ p. voice_kind p (voice2.Control channel index value)) is
-alone_kind paired message is = refl
+pub unpaired_kind : (paired : Bool) (message : Voice2) → IsUnpaired paired message → voice_kind paired message ≡ voice_kind false message
+unpaired_kind paired (voice2.Control channel index value) is = ap (λ p. voice_kind p (voice2.Control channel index value)) is
+unpaired_kind paired message is = refl
 
 -- a pair is no single message
 control_one : (role : Role) (channel index value : ℕ) (single : Voice1) → control_messages role channel index value ≡ voice single ∷ [] →
@@ -146,7 +153,7 @@ control_one _ channel index value single same = absurd (omega (arith, ap length 
 
 control_changed : (paired : Bool) (role : Role) (channel index value : ℕ) (single : Voice1) (channels : List Registers) →
     control_messages (pairing paired role) channel index value ≡ voice single ∷ [] →
-    at_registers_of channel (registers_behind role (down7 value)) channels ≡ channels_after_control2 role channel channels
+    at_registers_of channel (registers_after role (down7 value)) channels ≡ channels_after_control2 role channel channels
 control_changed paired reset_all channel index value single channels same = refl
 control_changed paired channel_mode channel index value single channels same = set-get_or channels channel unset_registers
 control_changed paired coarse channel index value single channels same = set-get_or channels channel unset_registers
@@ -155,26 +162,30 @@ control_changed paired plain channel index value single channels same = set-get_
 control_changed paired _ channel index value single channels same = absurd (omega (arith, ap length same))
 
 -- of a control change that is neither single nor a pair nothing is written
-pub single_control : (role : Role) (channel index value : ℕ) → is_single role ≡ true → control_messages role channel index value ≡ voice (voice1.Control channel index (down7 value)) ∷ []
+pub single_control : (role : Role) (channel index value : ℕ) → is_single role ≡ true
+    → control_messages role channel index value ≡ voice (voice1.Control channel index (down7 value)) ∷ []
 single_control channel_mode channel index value is = refl
 single_control reset_all channel index value is = refl
 single_control plain channel index value is = refl
 single_control _ channel index value is = absurd (cc is)
 
-pub no_single_control : (role : Role) (channel index value : ℕ) → is_single role ≡ false → length (control_messages role channel index value) ≢ 1
+pub no_single_control : (role : Role) (channel index value : ℕ) → is_single role ≡ false
+    → length (control_messages role channel index value) ≢ 1
 no_single_control channel_mode channel index value is = absurd (cc is)
 no_single_control reset_all channel index value is = absurd (cc is)
 no_single_control plain channel index value is = absurd (cc is)
 no_single_control _ channel index value is = λ same. omega (arith, same)
 
-no_control : (role : Role) (channel index value : ℕ) → length (control_messages role channel index value) ≢ 1 → is_pair role ≡ false → control_messages role channel index value ≡ []
+no_control : (role : Role) (channel index value : ℕ) → length (control_messages role channel index value) ≢ 1 → is_pair role ≡ false
+    → control_messages role channel index value ≡ []
 no_control channel_mode channel index value some is = absurd (some refl)
 no_control reset_all channel index value some is = absurd (some refl)
 no_control plain channel index value some is = absurd (some refl)
 no_control coarse channel index value some is = absurd (cc is)
 no_control _ channel index value some is = refl
 
-unchanged_control : (paired : Bool) (role : Role) (channel index value : ℕ) (channels : List Registers) → length (control_messages (pairing paired role) channel index value) ≢ 1 → channels ≡ channels_after_control2 role channel channels
+unchanged_control : (paired : Bool) (role : Role) (channel index value : ℕ) (channels : List Registers)
+    → length (control_messages (pairing paired role) channel index value) ≢ 1 → channels ≡ channels_after_control2 role channel channels
 unchanged_control paired reset_all channel index value channels some = absurd (some refl)
 unchanged_control paired _ channel index value channels some = refl
 
@@ -187,7 +198,7 @@ needed_in paired compact_style registers message = needed_voice paired registers
 
 module _ (paired : Bool) where
   needed_runs : (registers : ℕ → Registers) (message : Voice2) (running : Option ℕ) →
-      running_after_all (needed_voice paired registers message) running ≡ running_after_all (voice_messages paired message) running
+      running_over (needed_voice paired registers message) running ≡ running_over (voice_messages paired message) running
   needed_runs registers (voice2.Set channel param value) running =
       set_runs (registers channel) channel param (down14 value) running (is_null param) (is_selected (registers channel) param)
   needed_runs registers (voice2.Program channel program None) running = refl
@@ -238,24 +249,28 @@ module _ (paired : Bool) where
       ∙ piece2 style lane group (voice2.Program channel program (Some bank))
 
   kept1_in : (style : Style) (states : List LaneState) (group : ℕ) (message : Voice1) →
-      kept_by group (statuses_after (voice message) (statuses_in style (lane_at states group))) (channels_after1 message) (record { style = style; paired = paired; states = states })
+      kept_by group (statuses_after (voice message) (statuses_in style (lane_at states group))) (channels_after1 message)
+      (record { style = style; paired = paired; states = states })
       ≡ lanes_after (Some group) None (packet.Voice1 group message) (record { style = style; paired = paired; states = states })
   kept1_in plain_style states group message = refl
   kept1_in compact_style states group message = refl
 
   kept2_in : (style : Style) (states : List LaneState) (group : ℕ) (message : Voice2) →
-      kept_by group (statuses_after_all (needed_in paired style (registers_at (lane_at states group).channels) message) (statuses_in style (lane_at states group)))
+      kept_by group (statuses_over (needed_in paired style (registers_at (lane_at states group).channels) message)
+      (statuses_in style (lane_at states group)))
       (channels_after2 message) (record { style = style; paired = paired; states = states })
       ≡ lanes_after (Some group) None (packet.Voice2 group message) (record { style = style; paired = paired; states = states })
   kept2_in plain_style states group message =
-      by_statuses (record { style = plain_style; paired = paired; states = states }) group message _ _ (after_plain (voice_messages paired message))
+      by_statuses (record { style = plain_style; paired = paired; states = states }) group message _ _
+      (after_plain (voice_messages paired message))
   kept2_in compact_style states group message =
       let lane : LaneState = lane_at states group in
       let messages : List Message = needed_voice paired (registers_at lane.channels) message in
       by_statuses (record { style = compact_style; paired = paired; states = states }) group message _ _
       (after_compact messages lane.running ∙ ap Changes (needed_runs (registers_at lane.channels) message lane.running))
 
-  system-kept : (lane : LaneState) (group : ℕ) (message : System) → after_system message lane ≡ lane_state_after paired lane None (packet.System group message)
+  system-kept : (lane : LaneState) (group : ℕ) (message : System)
+      → after_system message lane ≡ lane_state_after paired lane None (packet.System group message)
   system-kept lane group (system.Quarter value) = refl
   system-kept lane group (system.Position value) = refl
   system-kept lane group (system.Song value) = refl
@@ -268,7 +283,7 @@ module _ (paired : Bool) where
   system-kept lane group system.Reset = refl
 
   pub piece_system : (style : Style) (lane : LaneState) (group : ℕ) (message : System) →
-      flat_map spelled (message_of message ∷ []) ≡ piece_by paired style lane None (packet.System group message)
+      flat_map spelled (system_message message ∷ []) ≡ piece_by paired style lane None (packet.System group message)
   piece_system style lane group message = refl
 
   -- what is needed of such a message is all of it
@@ -280,16 +295,19 @@ module _ (paired : Bool) where
   needed_single registers (voice2.Program channel program (Some bank)) single same = absurd (omega (arith, ap length same))
   needed_single registers message single same = same
 
-  pub single_piece : (style : Style) (lane : LaneState) (group : ℕ) (message : Voice2) (single : Voice1) → voice_messages paired message ≡ voice single ∷ [] →
+  pub single_piece : (style : Style) (lane : LaneState) (group : ℕ) (message : Voice2) (single : Voice1)
+      → voice_messages paired message ≡ voice single ∷ [] →
       piece_by paired style lane None (packet.Voice1 group single) ≡ piece_by paired style lane None (packet.Voice2 group message)
   single_piece plain_style lane group message single same = ap (flat_map spelled) (sym same)
   single_piece compact_style lane group message single same =
       ap (written_under lane.running) (sym (needed_single (registers_at lane.channels) message single same))
 
   -- the same by what it is without pairs
-  pub alone_piece : (style : Style) (lane : LaneState) (group : ℕ) (message : Voice2) (single : Voice1) → IsAlone paired message → voice_messages false message ≡ voice single ∷ [] →
+  pub unpaired_piece : (style : Style) (lane : LaneState) (group : ℕ) (message : Voice2) (single : Voice1) → IsUnpaired paired message
+      → voice_messages false message ≡ voice single ∷ [] →
       piece_by paired style lane None (packet.Voice1 group single) ≡ piece_by paired style lane None (packet.Voice2 group message)
-  alone_piece style lane group message single is same = single_piece style lane group message single (sym (alone paired message is) ∙ same)
+  unpaired_piece style lane group message single is same =
+      single_piece style lane group message single (sym (alone paired message is) ∙ same)
 
   changed_single : (message : Voice2) (single : Voice1) → voice_messages paired message ≡ voice single ∷ [] →
       (channels : List Registers) → channels_after1 single channels ≡ channels_after2 message channels
@@ -297,7 +315,8 @@ module _ (paired : Bool) where
   changed_single (voice2.NoteOn channel note velocity attribute_type attribute) single same channels = by_one _ single same channels
   changed_single (voice2.PolyPressure channel note value) single same channels = by_one _ single same channels
   changed_single (voice2.Control channel index value) single same channels =
-      by_one (voice1.Control channel index (down7 value)) single (control_one (pairing paired (role_of index)) channel index value single same) channels
+      by_one (voice1.Control channel index (down7 value)) single
+      (control_one (pairing paired (role_of index)) channel index value single same) channels
       ∙ control_changed paired (role_of index) channel index value single channels same
   changed_single (voice2.Set channel param value) single same channels =
       absurd (set_not_single (is_null param) channel param (down14 value) single same)
@@ -313,7 +332,8 @@ module _ (paired : Bool) where
   unsent_piece compact_style lane group message none needed = sym (ap (written_under lane.running) needed)
 
   same_lane : (style : Style) (states : List LaneState) (group : ℕ) →
-      record { style = style; paired = paired; states = states } ≡ with_lane group (lane_at states group) (record { style = style; paired = paired; states = states })
+      record { style = style; paired = paired; states = states }
+      ≡ with_lane group (lane_at states group) (record { style = style; paired = paired; states = states })
   same_lane plain_style states group = refl
   same_lane compact_style states group =
       ap (λ states. record { style = compact_style; paired = paired; states = states }) (sym (set-get_or states group new_lane))
@@ -326,12 +346,13 @@ module _ (paired : Bool) where
       (ap (λ t. cond t [] (set_messages channel param (down14 value))) null)
       (ap (λ t. cond t [] (needed_set (registers_at lane.channels channel) channel param (down14 value))) null)
 
-  unsent : (message : Voice2) → IsAlone paired message → length (voice_messages paired message) ≢ 1 → is_several message ≡ false → voice_messages paired message ≡ []
+  unsent : (message : Voice2) → IsUnpaired paired message → length (voice_messages paired message) ≢ 1 → is_several message ≡ false
+      → voice_messages paired message ≡ []
   unsent (voice2.NoteOff channel note velocity attribute_type attribute) is some few = absurd (some refl)
   unsent (voice2.NoteOn channel note velocity attribute_type attribute) is some few = absurd (some refl)
   unsent (voice2.PolyPressure channel note value) is some few = absurd (some refl)
   unsent (voice2.Control channel index value) is some few =
-      no_control (pairing paired (role_of index)) channel index value some (alone_pair paired (role_of index) is)
+      no_control (pairing paired (role_of index)) channel index value some (unpaired_pair paired (role_of index) is)
   unsent (voice2.Set channel param value) is some few = absurd (cc few)
   unsent (voice2.Program channel program None) is some few = absurd (some refl)
   unsent (voice2.Program channel program (Some bank)) is some few = absurd (cc few)
@@ -339,7 +360,8 @@ module _ (paired : Bool) where
   unsent (voice2.Bend channel value) is some few = absurd (some refl)
   unsent message is some few = refl
 
-  needed_unsent : (registers : ℕ → Registers) (message : Voice2) → is_several message ≡ false → needed_voice paired registers message ≡ voice_messages paired message
+  needed_unsent : (registers : ℕ → Registers) (message : Voice2) → is_several message ≡ false
+      → needed_voice paired registers message ≡ voice_messages paired message
   needed_unsent registers (voice2.Set channel param value) few = absurd (cc few)
   needed_unsent registers (voice2.Program channel program None) few = refl
   needed_unsent registers (voice2.Program channel program (Some bank)) few = absurd (cc few)
@@ -347,13 +369,15 @@ module _ (paired : Bool) where
 
   changed_unsent : (message : Voice2) → length (voice_messages paired message) ≢ 1 → is_several message ≡ false →
       (channels : List Registers) → channels ≡ channels_after2 message channels
-  changed_unsent (voice2.Control channel index value) some few channels = unchanged_control paired (role_of index) channel index value channels some
+  changed_unsent (voice2.Control channel index value) some few channels =
+      unchanged_control paired (role_of index) channel index value channels some
   changed_unsent (voice2.Set channel param value) some few channels = absurd (cc few)
   changed_unsent (voice2.Program channel program None) some few channels = refl
   changed_unsent (voice2.Program channel program (Some bank)) some few channels = absurd (cc few)
   changed_unsent message some few channels = refl
 
-  pub no_piece : (style : Style) (lane : LaneState) (group : ℕ) (message : Voice2) → IsAlone paired message → length (voice_messages paired message) ≢ 1 → is_several message ≡ false →
+  pub no_piece : (style : Style) (lane : LaneState) (group : ℕ) (message : Voice2) → IsUnpaired paired message
+      → length (voice_messages paired message) ≢ 1 → is_several message ≡ false →
       [] ≡ piece_by paired style lane None (packet.Voice2 group message)
   no_piece style lane group message is some few =
       unsent_piece style lane group message (unsent message is some few)
@@ -362,35 +386,42 @@ module _ (paired : Bool) where
   -- both halves of a pair
   pair_needs : (style : Style) (registers : ℕ → Registers) (channel index value : ℕ) → is_pair (pairing paired (role_of index)) ≡ true →
       pair_messages channel index (down14 value) ≡ needed_in paired style registers (voice2.Control channel index value)
-  pair_needs plain_style registers channel index value is = sym (ap (λ role. control_messages role channel index value) (is_pair-true (pairing paired (role_of index)) is))
-  pair_needs compact_style registers channel index value is = sym (ap (λ role. control_messages role channel index value) (is_pair-true (pairing paired (role_of index)) is))
+  pair_needs plain_style registers channel index value is =
+      sym (ap (λ role. control_messages role channel index value) (is_pair-true (pairing paired (role_of index)) is))
+  pair_needs compact_style registers channel index value is =
+      sym (ap (λ role. control_messages role channel index value) (is_pair-true (pairing paired (role_of index)) is))
 
   pub piece_pair : (style : Style) (lane : LaneState) (group channel index value : ℕ) → is_pair (pairing paired (role_of index)) ≡ true →
-      written_all (statuses_in style lane) (pair_messages channel index (down14 value)) ≡ piece_by paired style lane None (packet.Voice2 group (voice2.Control channel index value))
+      written_all (statuses_in style lane) (pair_messages channel index (down14 value))
+      ≡ piece_by paired style lane None (packet.Voice2 group (voice2.Control channel index value))
   piece_pair style lane group channel index value is =
       ap (written_all (statuses_in style lane)) (pair_needs style (registers_at lane.channels) channel index value is)
       ∙ piece2 style lane group (voice2.Control channel index value)
 
-  pub control_piece : (style : Style) (lane : LaneState) (group channel index value : ℕ) → length (voice_messages paired (voice2.Control channel index value)) ≢ 1 → is_pair (pairing paired (role_of index)) ≡ false →
+  pub control_piece : (style : Style) (lane : LaneState) (group channel index value : ℕ)
+      → length (voice_messages paired (voice2.Control channel index value)) ≢ 1 → is_pair (pairing paired (role_of index)) ≡ false →
       [] ≡ piece_by paired style lane None (packet.Voice2 group (voice2.Control channel index value))
   control_piece style lane group channel index value some is =
-      let none : control_messages (pairing paired (role_of index)) channel index value ≡ [] = no_control (pairing paired (role_of index)) channel index value some is in
+      let none : control_messages (pairing paired (role_of index)) channel index value ≡ [] =
+      no_control (pairing paired (role_of index)) channel index value some is in
       unsent_piece style lane group (voice2.Control channel index value) none none
 
-pub kept1 : (lanes : Lanes) (group : ℕ) (message : Voice1) →
+pub kept1 : (lanes : KeptLanes) (group : ℕ) (message : Voice1) →
     kept_by group (statuses_after (voice message) (statuses_in lanes.style (lane_at lanes.states group))) (channels_after1 message) lanes
     ≡ lanes_after (Some group) None (packet.Voice1 group message) lanes
 kept1 lanes group message = kept1_in lanes.paired lanes.style lanes.states group message
 
-kept2 : (lanes : Lanes) (group : ℕ) (message : Voice2) →
-    kept_by group (statuses_after_all (needed_in lanes.paired lanes.style (registers_at (lane_at lanes.states group).channels) message) (statuses_in lanes.style (lane_at lanes.states group)))
+kept2 : (lanes : KeptLanes) (group : ℕ) (message : Voice2) →
+    kept_by group (statuses_over (needed_in lanes.paired lanes.style (registers_at (lane_at lanes.states group).channels) message)
+    (statuses_in lanes.style (lane_at lanes.states group)))
     (channels_after2 message) lanes
     ≡ lanes_after (Some group) None (packet.Voice2 group message) lanes
 kept2 lanes group message = kept2_in lanes.paired lanes.style lanes.states group message
 
-pub kept_set : (lanes : Lanes) (group channel : ℕ) (param : Param) (value : ℕ) → is_null param ≡ false →
-    kept_by group (statuses_after_all
-    (unless_there (is_there lanes.style (is_selected (registers_at (lane_at lanes.states group).channels channel) param)) (set_messages channel param (down14 value)))
+pub kept_set : (lanes : KeptLanes) (group channel : ℕ) (param : Param) (value : ℕ) → is_null param ≡ false →
+    kept_by group (statuses_over
+    (unless_there (is_there lanes.style (is_selected (registers_at (lane_at lanes.states group).channels channel) param))
+    (set_messages channel param (down14 value)))
     (statuses_in lanes.style (lane_at lanes.states group)))
     (at_registers_of channel (with_selected param)) lanes
     ≡ lanes_after (Some group) None (packet.Voice2 group (voice2.Set channel param value)) lanes
@@ -399,72 +430,95 @@ kept_set lanes group channel param value there =
     by_change lanes group _ (at_registers_of channel (with_selected param)) (channels_after2 (voice2.Set channel param value))
     (λ channels. sym (ap (λ t. cond t channels (at_registers_of channel (with_selected param) channels)) there))
     ∙ by_statuses lanes group (voice2.Set channel param value) _ _
-    (ap (λ messages. statuses_after_all messages (statuses_in lanes.style lane)) (set_needs lanes.paired lanes.style (registers_at lane.channels) channel param value there))
+    (ap (λ messages. statuses_over messages (statuses_in lanes.style lane))
+    (set_needs lanes.paired lanes.style (registers_at lane.channels) channel param value there))
     ∙ kept2 lanes group (voice2.Set channel param value)
 
-pub kept_program : (lanes : Lanes) (group channel program : ℕ) (bank : Bank) →
-    kept_by group (statuses_after_all
-    (unless_there (is_there lanes.style (has_bank (registers_at (lane_at lanes.states group).channels channel) bank)) (program_messages channel program (Some bank)))
+pub kept_program : (lanes : KeptLanes) (group channel program : ℕ) (bank : Bank) →
+    kept_by group (statuses_over
+    (unless_there (is_there lanes.style (has_bank (registers_at (lane_at lanes.states group).channels channel) bank))
+    (program_messages channel program (Some bank)))
     (statuses_in lanes.style (lane_at lanes.states group)))
     (at_registers_of channel (with_bank bank)) lanes
     ≡ lanes_after (Some group) None (packet.Voice2 group (voice2.Program channel program (Some bank))) lanes
 kept_program lanes group channel program bank =
     let lane : LaneState = lane_at lanes.states group in
     by_statuses lanes group (voice2.Program channel program (Some bank)) _ _
-    (ap (λ messages. statuses_after_all messages (statuses_in lanes.style lane)) (program_needs lanes.paired lanes.style (registers_at lane.channels) channel program bank))
+    (ap (λ messages. statuses_over messages (statuses_in lanes.style lane))
+    (program_needs lanes.paired lanes.style (registers_at lane.channels) channel program bank))
     ∙ kept2 lanes group (voice2.Program channel program (Some bank))
 
-pub kept_system : (lanes : Lanes) (group : ℕ) (message : System) →
-    with_lane group (after_system message (lane_at lanes.states group)) lanes ≡ lanes_after (Some group) None (packet.System group message) lanes
-kept_system lanes group message = ap (λ lane. with_lane group lane lanes) (system-kept lanes.paired (lane_at lanes.states group) group message)
+pub kept_system : (lanes : KeptLanes) (group : ℕ) (message : System) →
+    with_lane group (after_system message (lane_at lanes.states group)) lanes
+    ≡ lanes_after (Some group) None (packet.System group message) lanes
+kept_system lanes group message =
+    ap (λ lane. with_lane group lane lanes) (system-kept lanes.paired (lane_at lanes.states group) group message)
 
-pub kept_single : (lanes : Lanes) (group : ℕ) (message : Voice2) (single : Voice1) → voice_messages lanes.paired message ≡ voice single ∷ [] →
+pub kept_single : (lanes : KeptLanes) (group : ℕ) (message : Voice2) (single : Voice1)
+    → voice_messages lanes.paired message ≡ voice single ∷ [] →
     lanes_after (Some group) None (packet.Voice1 group single) lanes ≡ lanes_after (Some group) None (packet.Voice2 group message) lanes
 kept_single lanes group message single same =
     let lane : LaneState = lane_at lanes.states group in
-    ap (λ messages. with_lane group (record { running = running_after_all messages lane.running; channels = channels_after1 single lane.channels }) lanes) (sym same)
-    ∙ ap (λ channels. with_lane group (record { running = running_after_all (voice_messages lanes.paired message) lane.running; channels = channels }) lanes)
+    ap (λ messages. with_lane group
+    (record { running = running_over messages lane.running; channels = channels_after1 single lane.channels }) lanes)
+    (sym same)
+    ∙ ap (λ channels. with_lane group
+    (record { running = running_over (voice_messages lanes.paired message) lane.running; channels = channels }) lanes)
     (changed_single lanes.paired message single same lane.channels)
 
-pub kept_alone : (lanes : Lanes) (group : ℕ) (message : Voice2) (single : Voice1) → IsAlone lanes.paired message → voice_messages false message ≡ voice single ∷ [] →
+pub kept_unpaired : (lanes : KeptLanes) (group : ℕ) (message : Voice2) (single : Voice1) → IsUnpaired lanes.paired message
+    → voice_messages false message ≡ voice single ∷ [] →
     lanes_after (Some group) None (packet.Voice1 group single) lanes ≡ lanes_after (Some group) None (packet.Voice2 group message) lanes
-kept_alone lanes group message single is same = kept_single lanes group message single (sym (alone lanes.paired message is) ∙ same)
+kept_unpaired lanes group message single is same = kept_single lanes group message single (sym (alone lanes.paired message is) ∙ same)
 
-unsent_kept : (lanes : Lanes) (group : ℕ) (message : Voice2) → voice_messages lanes.paired message ≡ [] →
-    ((channels : List Registers) → channels ≡ channels_after2 message channels) → lanes ≡ lanes_after (Some group) None (packet.Voice2 group message) lanes
+unsent_kept : (lanes : KeptLanes) (group : ℕ) (message : Voice2) → voice_messages lanes.paired message ≡ [] →
+    ((channels : List Registers) → channels ≡ channels_after2 message channels)
+    → lanes ≡ lanes_after (Some group) None (packet.Voice2 group message) lanes
 unsent_kept lanes group message none same =
     let lane : LaneState = lane_at lanes.states group in
     same_lane lanes.paired lanes.style lanes.states group
     ∙ ap (λ channels. with_lane group (record { running = lane.running; channels = channels }) lanes) (same lane.channels)
-    ∙ ap (λ messages. with_lane group (record { running = running_after_all messages lane.running; channels = channels_after2 message lane.channels }) lanes) (sym none)
+    ∙ ap (λ messages. with_lane group
+    (record { running = running_over messages lane.running; channels = channels_after2 message lane.channels }) lanes)
+    (sym none)
 
-pub null_kept : (lanes : Lanes) (group channel : ℕ) (param : Param) (value : ℕ) → is_null param ≡ true →
+pub null_kept : (lanes : KeptLanes) (group channel : ℕ) (param : Param) (value : ℕ) → is_null param ≡ true →
     lanes ≡ lanes_after (Some group) None (packet.Voice2 group (voice2.Set channel param value)) lanes
 null_kept lanes group channel param value null =
     unsent_kept lanes group (voice2.Set channel param value)
     (ap (λ t. cond t [] (set_messages channel param (down14 value))) null)
     (λ channels. sym (ap (λ t. cond t channels (at_registers_of channel (with_selected param) channels)) null))
 
-pub kept_none : (lanes : Lanes) (group : ℕ) (message : Voice2) → IsAlone lanes.paired message → length (voice_messages lanes.paired message) ≢ 1 → is_several message ≡ false →
+pub kept_none : (lanes : KeptLanes) (group : ℕ) (message : Voice2) → IsUnpaired lanes.paired message
+    → length (voice_messages lanes.paired message) ≢ 1 → is_several message ≡ false →
     lanes ≡ lanes_after (Some group) None (packet.Voice2 group message) lanes
 kept_none lanes group message is some few =
     unsent_kept lanes group message (unsent lanes.paired message is some few) (changed_unsent lanes.paired message some few)
 
-pub kept_pair : (lanes : Lanes) (group channel index value : ℕ) → is_pair (pairing lanes.paired (role_of index)) ≡ true →
-    kept_by group (statuses_after_all (pair_messages channel index (down14 value)) (statuses_in lanes.style (lane_at lanes.states group))) (λ channels. channels) lanes
+pub kept_pair : (lanes : KeptLanes) (group channel index value : ℕ) → is_pair (pairing lanes.paired (role_of index)) ≡ true →
+    kept_by group (statuses_over (pair_messages channel index (down14 value)) (statuses_in lanes.style (lane_at lanes.states group)))
+    (λ channels. channels) lanes
     ≡ lanes_after (Some group) None (packet.Voice2 group (voice2.Control channel index value)) lanes
 kept_pair lanes group channel index value is =
     let lane : LaneState = lane_at lanes.states group in
     by_change lanes group _ (λ channels. channels) (channels_after2 (voice2.Control channel index value))
-    (λ channels. unchanged_control lanes.paired (role_of index) channel index value channels (pair_length lanes.paired index channel value is))
+    (λ channels. unchanged_control lanes.paired (role_of index) channel index value channels
+    (pair_length lanes.paired index channel value is))
     ∙ by_statuses lanes group (voice2.Control channel index value) _ _
-    (ap (λ messages. statuses_after_all messages (statuses_in lanes.style lane)) (pair_needs lanes.paired lanes.style (registers_at lane.channels) channel index value is))
+    (ap (λ messages. statuses_over messages (statuses_in lanes.style lane))
+    (pair_needs lanes.paired lanes.style (registers_at lane.channels) channel index value is))
     ∙ kept2 lanes group (voice2.Control channel index value)
   where
-    pair_length : (paired : Bool) (index channel value : ℕ) → is_pair (pairing paired (role_of index)) ≡ true → length (control_messages (pairing paired (role_of index)) channel index value) ≢ 1
-    pair_length paired index channel value is = λ same. omega (arith, ap (λ role. length (control_messages role channel index value)) (sym (is_pair-true (pairing paired (role_of index)) is)) ∙ same)
+    pair_length : (paired : Bool) (index channel value : ℕ) → is_pair (pairing paired (role_of index)) ≡ true
+        → length (control_messages (pairing paired (role_of index)) channel index value) ≢ 1
+    pair_length paired index channel value is = λ same. omega (
+      arith,
+      ap (λ role. length (control_messages role channel index value)) (sym (is_pair-true (pairing paired (role_of index)) is)) ∙ same,
+    )
 
-pub kept_control : (lanes : Lanes) (group channel index value : ℕ) → length (voice_messages lanes.paired (voice2.Control channel index value)) ≢ 1 → is_pair (pairing lanes.paired (role_of index)) ≡ false →
+pub kept_control : (lanes : KeptLanes) (group channel index value : ℕ)
+    → length (voice_messages lanes.paired (voice2.Control channel index value)) ≢ 1
+    → is_pair (pairing lanes.paired (role_of index)) ≡ false →
     lanes ≡ lanes_after (Some group) None (packet.Voice2 group (voice2.Control channel index value)) lanes
 kept_control lanes group channel index value some is =
     unsent_kept lanes group (voice2.Control channel index value)

@@ -2,9 +2,9 @@
 use Rattle.std.proofs.Common.{◌≡◌, refl}
 use Rattle.voice_messages.specs.declared.voice1.System.{System}
 use Rattle.voice_messages.specs.declared.voice1.System.TheVariants as system
-use Rattle.midi1_bytes.specs.Messages.{message_of, spelled, spelled_system}
+use Rattle.midi1_bytes.specs.Messages.{system_message, spelled, spelled_system}
 
-pub spelled_message_of : (message : System) → spelled (message_of message) ≡ spelled_system message
+pub spelled_message_of : (message : System) → spelled (system_message message) ≡ spelled_system message
 spelled_message_of (system.Quarter value) = refl
 spelled_message_of (system.Position value) = refl
 spelled_message_of (system.Song value) = refl

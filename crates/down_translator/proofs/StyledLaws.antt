@@ -1,6 +1,7 @@
 -- The piece by what is kept of a lane is the one that looks back over the lane's bytes, and it is there exactly when the packet is
 -- carried.
-use Rattle.std.proofs.Common.{ℕ, ◌≡◌, ◌<◌, ◌+◌, ◌/◌, ◌%◌, ◌∙◌, ap, sym, refl, arith, List, [], ◌∷◌, ◌++◌, length, reverse, Option, Some, None, Bool, true, false, cond, not}
+use Rattle.std.proofs.Common.{ℕ, ◌≡◌, ◌<◌, ◌+◌, ◌/◌, ◌%◌, ◌∙◌, ap, sym, refl, arith, List, [], ◌∷◌}
+use Rattle.std.proofs.Common.{◌++◌, length, reverse, Option, Some, None, Bool, true, false, cond, not}
 use Rattle.std.proofs.lemmas.Bool.{cond_both, eqb-true}
 use Rattle.std.proofs.lemmas.Option.{same_Some}
 use Rattle.std.specs.Prelude.{◌↔◌, ◌==◌, IsTrue, drop}
@@ -17,23 +18,24 @@ use Rattle.ump_grammar.specs.declared.packet.Packet.{Packet}
 use Rattle.ump_grammar.specs.declared.packet.Packet.TheVariants as packet
 use Rattle.bit_scaling.specs.Scaling.{down7, down14, release_down, velocity_down}
 use Rattle.midi1_bytes.specs.Laws.{StatusesThatRunCanBeLeftOut}
-use Rattle.midi1_bytes.specs.Messages.{Message, exclusive, message_of, spelled, spelled_voice, voice}
+use Rattle.midi1_bytes.specs.Messages.{Message, exclusive, system_message, spelled, spelled_voice, voice}
 use Rattle.midi1_bytes.specs.RunningStatus.{is_running, running_after, without_status, written_under}
 use Rattle.midi1_bytes.specs.Sorts.{Sort, voice_status, sort_of}
 use Rattle.midi1_bytes.specs.Stream.{last_status, running, running_by, running_under, without_real_time}
-use Rattle.voice_state.specs.Registers.{Registers, is_null}
-use Rattle.voice_state.specs.Controllers.{Role, channel_mode, reset_all, coarse, plain, number_lsb_index, number_msb_index, pairing, role_of}
-use Rattle.voice_state.specs.Compact.{after_reset, compact_piece, has_bank, is_selected, needed_voice}
-use Rattle.voice_state.specs.LaneState.{LaneState, lane_state_behind, registers_at}
-use Rattle.voice_state.specs.Lanes.{lane_bytes}
-use Rattle.voice_state.specs.Laws.{CarriedPacketsHaveAPiece}
-use Rattle.voice_state.specs.Listing.{is_carried, is_carried_role, is_carried_voice}
-use Rattle.voice_state.specs.Packets.{IsInRange}
-use Rattle.voice_state.specs.Parts.{whole_of}
-use Rattle.voice_state.specs.Plain.{control_messages, plain_piece, program_messages, set_messages}
-use Rattle.voice_state.specs.StyleLaws.{KeptLanesAreThoseOfTheRecording}
-use Rattle.voice_state.specs.Styles.{Style, plain_style, compact_style, styled_behind}
-use Rattle.down_translator.specs.Lanes.{piece_by}
+use Rattle.midi_meaning.specs.Registers.{Registers, is_null}
+use Rattle.midi_meaning.specs.Controllers.{Role, channel_mode, reset_all, coarse, plain}
+use Rattle.midi_meaning.specs.Controllers.{number_lsb_index, number_msb_index, pairing, role_of}
+use Rattle.midi_meaning.specs.Compact.{since_reset, compact_piece, has_bank, is_selected, needed_voice}
+use Rattle.midi_meaning.specs.LaneState.{LaneState, lane_state_over, registers_at}
+use Rattle.midi_meaning.specs.Lanes.{lane_bytes}
+use Rattle.midi_meaning.specs.Laws.{CarriedPacketsHaveAPiece}
+use Rattle.midi_meaning.specs.Listing.{is_carried, is_carried_role, is_carried_voice}
+use Rattle.midi_meaning.specs.Packets.{IsInRange}
+use Rattle.midi_meaning.specs.Parts.{whole_of}
+use Rattle.midi_meaning.specs.Plain.{control_messages, plain_piece, program_messages, set_messages}
+use Rattle.midi_meaning.specs.StyleLaws.{KeptLanesAreThoseOfTheRecording}
+use Rattle.midi_meaning.specs.Styles.{Style, plain_style, compact_style, styled_over}
+use Rattle.down_translator.specs.KeptLanes.{piece_by}
 use Rattle.down_translator.specs.Step.{lane_of}
 use Rattle.down_translator.proofs.Spelling.{spelled_message_of}
 
@@ -41,20 +43,35 @@ use Rattle.down_translator.proofs.Spelling.{spelled_message_of}
 
 -- at least a data byte is left of a voice message
 left : (running : Option ℕ) (message : Voice1) (rest : List ℕ) → 0 < length (without_status running (spelled_voice message) ++ rest)
-left running (voice1.NoteOff ch n v) rest = cond_both (is_running running (0x80 + ch)) (n ∷ v ∷ []) ((0x80 + ch) ∷ n ∷ v ∷ []) (λ l. 0 < length (l ++ rest)) (λ e. omega arith) (λ e. omega arith)
-left running (voice1.NoteOn ch n v) rest = cond_both (is_running running (0x90 + ch)) (n ∷ v ∷ []) ((0x90 + ch) ∷ n ∷ v ∷ []) (λ l. 0 < length (l ++ rest)) (λ e. omega arith) (λ e. omega arith)
-left running (voice1.PolyPressure ch n v) rest = cond_both (is_running running (0xa0 + ch)) (n ∷ v ∷ []) ((0xa0 + ch) ∷ n ∷ v ∷ []) (λ l. 0 < length (l ++ rest)) (λ e. omega arith) (λ e. omega arith)
-left running (voice1.Control ch n v) rest = cond_both (is_running running (0xb0 + ch)) (n ∷ v ∷ []) ((0xb0 + ch) ∷ n ∷ v ∷ []) (λ l. 0 < length (l ++ rest)) (λ e. omega arith) (λ e. omega arith)
-left running (voice1.Program ch v) rest = cond_both (is_running running (0xc0 + ch)) (v ∷ []) ((0xc0 + ch) ∷ v ∷ []) (λ l. 0 < length (l ++ rest)) (λ e. omega arith) (λ e. omega arith)
-left running (voice1.Pressure ch v) rest = cond_both (is_running running (0xd0 + ch)) (v ∷ []) ((0xd0 + ch) ∷ v ∷ []) (λ l. 0 < length (l ++ rest)) (λ e. omega arith) (λ e. omega arith)
-left running (voice1.Bend ch v) rest = cond_both (is_running running (0xe0 + ch)) ((v % 128) ∷ (v / 128) ∷ []) ((0xe0 + ch) ∷ (v % 128) ∷ (v / 128) ∷ []) (λ l. 0 < length (l ++ rest)) (λ e. omega arith) (λ e. omega arith)
+left running (voice1.NoteOff ch n v) rest =
+    cond_both (is_running running (0x80 + ch)) (n ∷ v ∷ []) ((0x80 + ch) ∷ n ∷ v ∷ []) (λ l. 0 < length (l ++ rest)) (λ e. omega arith)
+    (λ e. omega arith)
+left running (voice1.NoteOn ch n v) rest =
+    cond_both (is_running running (0x90 + ch)) (n ∷ v ∷ []) ((0x90 + ch) ∷ n ∷ v ∷ []) (λ l. 0 < length (l ++ rest)) (λ e. omega arith)
+    (λ e. omega arith)
+left running (voice1.PolyPressure ch n v) rest =
+    cond_both (is_running running (0xa0 + ch)) (n ∷ v ∷ []) ((0xa0 + ch) ∷ n ∷ v ∷ []) (λ l. 0 < length (l ++ rest)) (λ e. omega arith)
+    (λ e. omega arith)
+left running (voice1.Control ch n v) rest =
+    cond_both (is_running running (0xb0 + ch)) (n ∷ v ∷ []) ((0xb0 + ch) ∷ n ∷ v ∷ []) (λ l. 0 < length (l ++ rest)) (λ e. omega arith)
+    (λ e. omega arith)
+left running (voice1.Program ch v) rest =
+    cond_both (is_running running (0xc0 + ch)) (v ∷ []) ((0xc0 + ch) ∷ v ∷ []) (λ l. 0 < length (l ++ rest)) (λ e. omega arith)
+    (λ e. omega arith)
+left running (voice1.Pressure ch v) rest =
+    cond_both (is_running running (0xd0 + ch)) (v ∷ []) ((0xd0 + ch) ∷ v ∷ []) (λ l. 0 < length (l ++ rest)) (λ e. omega arith)
+    (λ e. omega arith)
+left running (voice1.Bend ch v) rest =
+    cond_both (is_running running (0xe0 + ch)) ((v % 128) ∷ (v / 128) ∷ []) ((0xe0 + ch) ∷ (v % 128) ∷ (v / 128) ∷ [])
+    (λ l. 0 < length (l ++ rest)) (λ e. omega arith) (λ e. omega arith)
 
 -- some voice messages, or none
 abbrev Begins : Option ℕ → Bool → List Message → Type 0
 Begins running carried messages = IsTrue carried ↔ (0 < length (written_under running messages))
 
 begins : (running : Option ℕ) (message : Voice1) (messages : List Message) → Begins running true (voice message ∷ messages)
-begins running message messages = ((λ e. left running message (written_under (running_after (voice message) running) messages)), (λ h. refl))
+begins running message messages =
+    ((λ e. left running message (written_under (running_after (voice message) running) messages)), (λ h. refl))
 
 none_begin : (running : Option ℕ) → Begins running false []
 none_begin running = ((λ e. cc), (λ h. absurd (omega (arith, h))))
@@ -63,7 +80,8 @@ control_begins : (running : Option ℕ) (role : Role) (ch i v : ℕ) → Begins 
 control_begins running channel_mode ch i v = begins running (voice1.Control ch i (down7 v)) []
 control_begins running reset_all ch i v = begins running (voice1.Control ch i (down7 v)) []
 control_begins running plain ch i v = begins running (voice1.Control ch i (down7 v)) []
-control_begins running coarse ch i v = begins running (voice1.Control ch i (down14 v / 128)) (voice (voice1.Control ch (i + 32) (down14 v % 128)) ∷ [])
+control_begins running coarse ch i v =
+    begins running (voice1.Control ch i (down14 v / 128)) (voice (voice1.Control ch (i + 32) (down14 v % 128)) ∷ [])
 control_begins running _ ch i v = none_begin running
 
 set_begins : (running : Option ℕ) (channel : ℕ) (param : Param) (value : ℕ) (null there : Bool) →
@@ -73,18 +91,23 @@ set_begins running channel param value false true =
     begins running (voice1.Control channel 6 (value / 128)) (voice (voice1.Control channel 38 (value % 128)) ∷ [])
 set_begins running channel param value false false =
     begins running (voice1.Control channel (number_msb_index param.kind) param.bank)
-    (voice (voice1.Control channel (number_lsb_index param.kind) param.index) ∷ voice (voice1.Control channel 6 (value / 128)) ∷ voice (voice1.Control channel 38 (value % 128)) ∷ [])
+    (voice (voice1.Control channel (number_lsb_index param.kind) param.index) ∷ voice (voice1.Control channel 6 (value / 128))
+    ∷ voice (voice1.Control channel 38 (value % 128)) ∷ [])
 
 program_begins : (running : Option ℕ) (channel program : ℕ) (bank : Bank) (there : Bool) →
     Begins running true (cond there (drop 2 (program_messages channel program (Some bank))) (program_messages channel program (Some bank)))
 program_begins running channel program bank true = begins running (voice1.Program channel program) []
 program_begins running channel program bank false =
-    begins running (voice1.Control channel 0 bank.msb) (voice (voice1.Control channel 32 bank.lsb) ∷ voice (voice1.Program channel program) ∷ [])
+    begins running (voice1.Control channel 0 bank.msb)
+    (voice (voice1.Control channel 32 bank.lsb) ∷ voice (voice1.Program channel program) ∷ [])
 
 -- the lane of a piece that is lent
-lane_from : (group : ℕ) (carried : Bool) (bytes : List ℕ) → (IsTrue carried ↔ (0 < length bytes)) → cond (length bytes == 0) 0 group ≡ lane_of (Some group) carried
+lane_from : (group : ℕ) (carried : Bool) (bytes : List ℕ) → (IsTrue carried ↔ (0 < length bytes))
+    → cond (length bytes == 0) 0 group ≡ lane_of (Some group) carried
 lane_from group true [] h = absurd (omega (arith, h.0 refl))
-lane_from group true (b ∷ bytes) h = cond_both (length (b ∷ bytes) == 0) 0 group (λ l. l ≡ group) (λ e. absurd (omega (arith, eqb-true (length (b ∷ bytes)) 0 e))) (λ e. refl)
+lane_from group true (b ∷ bytes) h =
+    cond_both (length (b ∷ bytes) == 0) 0 group (λ l. l ≡ group) (λ e. absurd (omega (arith, eqb-true (length (b ∷ bytes)) 0 e)))
+    (λ e. refl)
 lane_from group false [] h = refl
 lane_from group false (b ∷ bytes) h = cc (h.1 (omega arith))
 
@@ -103,9 +126,12 @@ exclusive_whole past bytes = go (running past) (no_voice (last_status (without_r
   where
     go : (r : Option ℕ) → (r ≡ Some 0xf0 → ⊥) → without_status r (0xf0 ∷ bytes ++ 0xf7 ∷ []) ≡ 0xf0 ∷ bytes ++ 0xf7 ∷ []
     go None h = refl
-    go (Some s) h = cond_both (eqb s 0xf0) (bytes ++ 0xf7 ∷ []) (0xf0 ∷ bytes ++ 0xf7 ∷ []) (λ l. l ≡ 0xf0 ∷ bytes ++ 0xf7 ∷ []) (λ e. absurd (h (ap Some (eqb-true s 0xf0 e)))) (λ e. refl)
+    go (Some s) h =
+        cond_both (eqb s 0xf0) (bytes ++ 0xf7 ∷ []) (0xf0 ∷ bytes ++ 0xf7 ∷ []) (λ l. l ≡ 0xf0 ∷ bytes ++ 0xf7 ∷ [])
+        (λ e. absurd (h (ap Some (eqb-true s 0xf0 e)))) (λ e. refl)
 
-system_whole : StatusesThatRunCanBeLeftOut → (past : List ℕ) (message : System) → without_status (running past) (spelled (message_of message)) ≡ spelled (message_of message)
+system_whole : StatusesThatRunCanBeLeftOut → (past : List ℕ) (message : System)
+    → without_status (running past) (spelled (system_message message)) ≡ spelled (system_message message)
 system_whole statuses past message =
     ap (without_status (running past)) (spelled_message_of message) ∙ statuses.system message past ∙ sym (spelled_message_of message)
 
@@ -116,7 +142,8 @@ module _ (paired : Bool) where
   voice_begins running registers (voice2.NoteOn ch n v t a) = begins running (voice1.NoteOn ch n (velocity_down v)) []
   voice_begins running registers (voice2.PolyPressure ch n v) = begins running (voice1.PolyPressure ch n (down7 v)) []
   voice_begins running registers (voice2.Control ch i v) = control_begins running (pairing paired (role_of i)) ch i v
-  voice_begins running registers (voice2.Set ch param v) = set_begins running ch param (down14 v) (is_null param) (is_selected (registers ch) param)
+  voice_begins running registers (voice2.Set ch param v) =
+      set_begins running ch param (down14 v) (is_null param) (is_selected (registers ch) param)
   voice_begins running registers (voice2.Shift ch param v) = none_begin running
   voice_begins running registers (voice2.Program ch p None) = begins running (voice1.Program ch p) []
   voice_begins running registers (voice2.Program ch p (Some bank)) = program_begins running ch p bank (has_bank (registers ch) bank)
@@ -126,7 +153,8 @@ module _ (paired : Bool) where
   voice_begins running registers (voice2.NoteBend ch n v) = none_begin running
   voice_begins running registers (voice2.NoteManagement ch n f) = none_begin running
 
-  pub plain_is : (lane : LaneState) (whole : Option (List ℕ)) (p : Packet) → piece_by paired plain_style lane whole p ≡ plain_piece paired whole p
+  pub plain_is : (lane : LaneState) (whole : Option (List ℕ)) (p : Packet)
+      → piece_by paired plain_style lane whole p ≡ plain_piece paired whole p
   plain_is lane whole (packet.Voice1 g m) = refl
   plain_is lane whole (packet.Voice2 g m) = refl
   plain_is lane whole (packet.Utility s v) = refl
@@ -152,35 +180,45 @@ module _ (paired : Bool) where
   something pieces style lane whole (packet.Reserved wd) = pieces whole (packet.Reserved wd)
 
   pub lent1 : CarriedPacketsHaveAPiece paired → (style : Style) (lane : LaneState) (group : ℕ) (m : Voice1) →
-      cond (length (piece_by paired style lane None (packet.Voice1 group m)) == 0) 0 group ≡ lane_of (Some group) (is_carried paired None (packet.Voice1 group m))
+      cond (length (piece_by paired style lane None (packet.Voice1 group m)) == 0) 0 group
+      ≡ lane_of (Some group) (is_carried paired None (packet.Voice1 group m))
   lent1 pieces style lane group m =
-      lane_from group (is_carried paired None (packet.Voice1 group m)) (piece_by paired style lane None (packet.Voice1 group m)) (something pieces style lane None (packet.Voice1 group m))
+      lane_from group (is_carried paired None (packet.Voice1 group m)) (piece_by paired style lane None (packet.Voice1 group m))
+      (something pieces style lane None (packet.Voice1 group m))
 
   pub lent2 : CarriedPacketsHaveAPiece paired → (style : Style) (lane : LaneState) (group : ℕ) (m : Voice2) →
-      cond (length (piece_by paired style lane None (packet.Voice2 group m)) == 0) 0 group ≡ lane_of (Some group) (is_carried paired None (packet.Voice2 group m))
+      cond (length (piece_by paired style lane None (packet.Voice2 group m)) == 0) 0 group
+      ≡ lane_of (Some group) (is_carried paired None (packet.Voice2 group m))
   lent2 pieces style lane group m =
-      lane_from group (is_carried paired None (packet.Voice2 group m)) (piece_by paired style lane None (packet.Voice2 group m)) (something pieces style lane None (packet.Voice2 group m))
+      lane_from group (is_carried paired None (packet.Voice2 group m)) (piece_by paired style lane None (packet.Voice2 group m))
+      (something pieces style lane None (packet.Voice2 group m))
 
   pub lent_system : CarriedPacketsHaveAPiece paired → (style : Style) (lane : LaneState) (group : ℕ) (m : System) →
-      cond (length (piece_by paired style lane None (packet.System group m)) == 0) 0 group ≡ lane_of (Some group) (is_carried paired None (packet.System group m))
+      cond (length (piece_by paired style lane None (packet.System group m)) == 0) 0 group
+      ≡ lane_of (Some group) (is_carried paired None (packet.System group m))
   lent_system pieces style lane group m =
-      lane_from group (is_carried paired None (packet.System group m)) (piece_by paired style lane None (packet.System group m)) (something pieces style lane None (packet.System group m))
+      lane_from group (is_carried paired None (packet.System group m)) (piece_by paired style lane None (packet.System group m))
+      (something pieces style lane None (packet.System group m))
 
   -- ---- the piece that looks back
 
-  pub looks_back : StatusesThatRunCanBeLeftOut → KeptLanesAreThoseOfTheRecording paired → (past : List Packet) (p : Packet) (group : ℕ) → AllByRecursion IsInRange past → IsInRange p →
-      piece_by paired compact_style (lane_state_behind paired past group) (whole_of past p) p
-      ≡ compact_piece paired (reverse (lane_bytes group (styled_behind paired compact_style past))) (whole_of past p) p
+  pub looks_back : StatusesThatRunCanBeLeftOut → KeptLanesAreThoseOfTheRecording paired → (past : List Packet) (p : Packet) (group : ℕ)
+      → AllByRecursion IsInRange past → IsInRange p →
+      piece_by paired compact_style (lane_state_over paired past group) (whole_of past p) p
+      ≡ compact_piece paired (reverse (lane_bytes group (styled_over paired compact_style past))) (whole_of past p) p
   looks_back statuses kept past (packet.Voice1 g m) group a h = kept.piece past (packet.Voice1 g m) group a h
   looks_back statuses kept past (packet.Voice2 g m) group a h = kept.piece past (packet.Voice2 g m) group a h
   looks_back statuses kept past (packet.System g m) group a h =
-      let before : List ℕ = after_reset (reverse (lane_bytes group (styled_behind paired compact_style past))) in
+      let before : List ℕ = since_reset (reverse (lane_bytes group (styled_over paired compact_style past))) in
       ap (λ l. l ++ []) (sym (system_whole statuses before m))
   looks_back statuses kept past (packet.Exclusive g f bytes) group a h = go (whole_of past (packet.Exclusive g f bytes))
     where
-      go : (whole : Option (List ℕ)) → plain_piece paired whole (packet.Exclusive g f bytes) ≡ compact_piece paired (reverse (lane_bytes group (styled_behind paired compact_style past))) whole (packet.Exclusive g f bytes)
+      go : (whole : Option (List ℕ))
+          → plain_piece paired whole (packet.Exclusive g f bytes)
+          ≡ compact_piece paired (reverse (lane_bytes group (styled_over paired compact_style past))) whole (packet.Exclusive g f bytes)
       go None = refl
-      go (Some whole) = ap (λ l. l ++ []) (sym (exclusive_whole (after_reset (reverse (lane_bytes group (styled_behind paired compact_style past)))) whole))
+      go (Some whole) =
+          ap (λ l. l ++ []) (sym (exclusive_whole (since_reset (reverse (lane_bytes group (styled_over paired compact_style past)))) whole))
   looks_back statuses kept past (packet.Utility s v) group a h = refl
   looks_back statuses kept past (packet.Data8 g wd) group a h = refl
   looks_back statuses kept past (packet.Flex g wd) group a h = refl

@@ -5,9 +5,10 @@ use Rattle.std.specs.List.{AllByRecursion}
 use Rattle.std.proofs.lemmas.List.{reverse-append}
 use mathlib.Core.List.{reverse-cons}
 use Rattle.ump_grammar.specs.declared.packet.Packet.{Packet}
-use Rattle.voice_state.specs.Packets.{IsInRange}
+use Rattle.midi_meaning.specs.Packets.{IsInRange}
 
-range-push : (packets : List Packet) (packet : Packet) → AllByRecursion IsInRange packets → IsInRange packet → AllByRecursion IsInRange (packets ++ packet ∷ [])
+range-push : (packets : List Packet) (packet : Packet) → AllByRecursion IsInRange packets → IsInRange packet
+    → AllByRecursion IsInRange (packets ++ packet ∷ [])
 range-push [] packet range one = (one, tt)
 range-push (p ∷ packets) packet range one = (range.0, range-push packets packet range.1 one)
 

@@ -1,7 +1,7 @@
 -- Sixteen registers of which none is set.
 use Rattle.std.proofs.Common.{ℕ, ◌≡◌, ◌<◌, refl, arith, List, [], ◌∷◌, length, zero, suc, None, get_or, replicate}
-use Rattle.voice_state.specs.LaneState.{LaneState, new_lane, registers_at}
-use Rattle.voice_state.specs.Registers.{Registers, unset_registers}
+use Rattle.midi_meaning.specs.LaneState.{LaneState, new_lane, registers_at}
+use Rattle.midi_meaning.specs.Registers.{Registers, unset_registers}
 
 same_each : (n : ℕ) (channels : List Registers) → length channels ≡ n →
     ((channel : ℕ) → channel < n → get_or channels channel unset_registers ≡ unset_registers) → channels ≡ replicate n unset_registers
@@ -10,7 +10,8 @@ same_each zero (r ∷ channels) e h = absurd (let no : suc (length channels) ≡
 same_each (suc n) [] e h = absurd (let no : 0 ≡ suc n = e in cc)
 same_each (suc n) (r ∷ channels) e h =
     let first : r ≡ unset_registers = h 0 (omega arith) in
-    let others : channels ≡ replicate n unset_registers = same_each n channels (omega (arith, e)) (λ channel below. h (suc channel) (omega (arith, below))) in
+    let others : channels ≡ replicate n unset_registers =
+    same_each n channels (omega (arith, e)) (λ channel below. h (suc channel) (omega (arith, below))) in
     λ i. first i ∷ others i
 
 pub none_set : (lane : LaneState) → lane.running ≡ None → length lane.channels ≡ 16 →

@@ -5,17 +5,17 @@ use Rattle.ump_grammar.specs.declared.packet.Packet.{Packet}
 use Rattle.ump_grammar.specs.declared.packet.Packet.TheVariants as packet
 use Rattle.sysex_groups.specs.Exclusives.{Part, Answer, too_long, ended_by}
 use Rattle.sysex_groups.specs.Table.{Table, begun_in, answer_to, with_part, empty_table}
-use Rattle.voice_state.specs.declared.listed.BadStep.{BadStep}
-use Rattle.voice_state.specs.declared.listed.BadStep.TheVariants as bad
-use Rattle.voice_state.specs.Refusal.{bad_voice1, bad_voice2}
-use Rattle.voice_state.specs.Parts.{part_of}
-use Rattle.voice_state.specs.Styles.{Style}
-use Rattle.down_translator.specs.Lanes.{Lanes, lane_written, lanes_after, new_lanes}
+use Rattle.midi_meaning.specs.declared.listed.BadStep.{BadStep}
+use Rattle.midi_meaning.specs.declared.listed.BadStep.TheVariants as bad
+use Rattle.midi_meaning.specs.Refusal.{bad_voice1, bad_voice2}
+use Rattle.midi_meaning.specs.Parts.{part_of}
+use Rattle.midi_meaning.specs.Styles.{Style}
+use Rattle.down_translator.specs.KeptLanes.{KeptLanes, lane_written, lanes_after, new_lanes}
 
 -- the exclusives of all groups that are open, and the lanes
 pub record DownState : Type 0 where
   pub exclusives : Table
-  pub lanes : Lanes
+  pub lanes : KeptLanes
 
 -- a new translator in a style, with this limit for the bytes of an exclusive, with paired controllers or without: nothing is open, and
 -- nothing is written
@@ -68,8 +68,8 @@ unless_refused None lane = lane
 unless_refused (Some bad) lane = None
 
 -- the lanes after a packet
-abbrev pub lanes_behind : Packet → DownState → Lanes
-lanes_behind packet state =
+abbrev pub lanes_after_packet : Packet → DownState → KeptLanes
+lanes_after_packet packet state =
     let whole : Option (List ℕ) = whole_in state packet in
     lanes_after (unless_refused (refusal_in state packet) (lane_written whole packet)) whole packet state.lanes
 
@@ -78,5 +78,5 @@ lanes_behind packet state =
 abbrev pub down_after : ℕ → Packet → DownState → DownState
 down_after offset packet state = record {
   exclusives = with_part_of (part_of offset packet) state.exclusives;
-  lanes = lanes_behind packet state;
+  lanes = lanes_after_packet packet state;
 }

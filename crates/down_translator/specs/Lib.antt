@@ -1,6 +1,6 @@
 pub mod Carried
 pub mod Held
-pub mod Lanes
+pub mod KeptLanes
 pub mod Laws
 pub mod Lend
 pub mod Lowered

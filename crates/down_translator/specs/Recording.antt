@@ -3,16 +3,16 @@ use Rattle.std.specs.Prelude.{◌≡◌, ℕ, ◌==◌, if◌then◌else◌, Lis
 use Rattle.std.specs.List.{AllByRecursion}
 use Rattle.std.specs.Option.{option_to_list}
 use Rattle.ump_grammar.specs.declared.packet.Packet.{Packet}
-use Rattle.sysex_groups.specs.Table.{table_after}
-use Rattle.voice_state.specs.declared.listed.Listed.{Listed}
-use Rattle.voice_state.specs.Parts.{Placed, parts_of}
-use Rattle.voice_state.specs.Packets.{IsInRange}
-use Rattle.voice_state.specs.Refusal.{bad_step}
-use Rattle.voice_state.specs.Styles.{Style}
+use Rattle.sysex_groups.specs.Table.{table_over}
+use Rattle.midi_meaning.specs.declared.listed.Listed.{Listed}
+use Rattle.midi_meaning.specs.Parts.{Placed, parts_of}
+use Rattle.midi_meaning.specs.Packets.{IsInRange}
+use Rattle.midi_meaning.specs.Refusal.{bad_step}
+use Rattle.midi_meaning.specs.Styles.{Style}
 use Rattle.down_translator.specs.declared.carried.Carried.{Carried}
 use Rattle.down_translator.specs.Carried.{lane_in, line_in}
-use Rattle.down_translator.specs.Held.{DownState, lanes_behind}
-use Rattle.down_translator.specs.Lanes.{Lanes, new_lanes}
+use Rattle.down_translator.specs.Held.{DownState, lanes_after_packet}
+use Rattle.down_translator.specs.KeptLanes.{KeptLanes, new_lanes}
 use Rattle.down_translator.specs.Step.{IsStep}
 
 abbrev pub packets_of : List Placed → List Packet
@@ -43,13 +43,13 @@ lines_put (carried ∷ before) = lines_put before ++ option_to_list (line_in car
 
 module _ (paired : Bool) where
   -- what is kept of the lanes after these packets, and what is held after them
-  abbrev pub lanes_of : Style → ℕ → List Placed → Lanes
+  abbrev pub lanes_of : Style → ℕ → List Placed → KeptLanes
   lanes_of style room [] = new_lanes paired style
   lanes_of style room (placed ∷ past) =
-      lanes_behind placed.packet (record { exclusives = table_after room (parts_of past); lanes = lanes_of style room past })
+      lanes_after_packet placed.packet (record { exclusives = table_over room (parts_of past); lanes = lanes_of style room past })
 
   abbrev pub state_of : Style → ℕ → List Placed → DownState
-  state_of style room past = record { exclusives = table_after room (parts_of past); lanes = lanes_of style room past }
+  state_of style room past = record { exclusives = table_over room (parts_of past); lanes = lanes_of style room past }
 
   -- each answer is that of its packet after those before it
   abbrev pub AreSteps : Style → ℕ → List Placed → List Carried → Type 0

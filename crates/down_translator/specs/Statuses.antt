@@ -20,6 +20,6 @@ abbrev pub written_all : Statuses → List Message → List ℕ
 written_all statuses [] = []
 written_all statuses (message ∷ messages) = written_in statuses message ++ written_all (statuses_after message statuses) messages
 
-abbrev pub statuses_after_all : List Message → Statuses → Statuses
-statuses_after_all [] statuses = statuses
-statuses_after_all (message ∷ messages) statuses = statuses_after_all messages (statuses_after message statuses)
+abbrev pub statuses_over : List Message → Statuses → Statuses
+statuses_over [] statuses = statuses
+statuses_over (message ∷ messages) statuses = statuses_over messages (statuses_after message statuses)

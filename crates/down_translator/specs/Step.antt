@@ -1,14 +1,14 @@
 -- What the translator answers to a packet, by what it holds.
 use Rattle.std.specs.Prelude.{◌≡◌, ℕ, Bool, true, List, Option, Some, None, Result, Ok, Err}
 use Rattle.ump_grammar.specs.declared.packet.Packet.{Packet}
-use Rattle.voice_state.specs.declared.listed.BadStep.{BadStep}
-use Rattle.voice_state.specs.Parts.{group_of}
-use Rattle.voice_state.specs.Listing.{is_carried, listed}
-use Rattle.voice_state.specs.LaneState.{LaneState, new_lane}
+use Rattle.midi_meaning.specs.declared.listed.BadStep.{BadStep}
+use Rattle.midi_meaning.specs.Parts.{group_of}
+use Rattle.midi_meaning.specs.Listing.{is_carried, listed}
+use Rattle.midi_meaning.specs.LaneState.{LaneState, new_lane}
 use Rattle.down_translator.specs.declared.carried.Carried.{Carried}
 use Rattle.down_translator.specs.Carried.{lane_in, line_in}
 use Rattle.down_translator.specs.Held.{DownState, paired_of, style_of, whole_in, begun_at_in, refusal_in}
-use Rattle.down_translator.specs.Lanes.{lane_at, piece_by}
+use Rattle.down_translator.specs.KeptLanes.{lane_at, piece_by}
 
 -- the lane of a packet is its group where it is carried, and otherwise 0
 abbrev pub lane_of : Option ℕ → Bool → ℕ

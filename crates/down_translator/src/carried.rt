@@ -3,21 +3,22 @@ ghost use Rattle.std.specs.Prelude.{◌==◌, if◌then◌else◌, length};
 
 use crate::pieces::Piece;
 use midi_edge::{LentU4, U4};
-use voice_state::{Kind, Listed};
+use midi_meaning::{Kind, Listed};
 
-// A line of the listing. What is lent holds no type that contracts see as another value, as `Listed` holds one.
+// A line of the listing. What is lent holds no type that contracts
+// see as another value, as `Listed` holds one.
 #[derive(Clone, Copy, Debug)]
-struct Line {
+struct LentLine {
     offset: u64,
     group: Option<LentU4>,
     kind: Kind,
 }
 
-impl Line {
+impl LentLine {
     ghost use Rattle.std.specs.Prelude.{◌≡◌};
     ghost use Rattle.down_translator.specs.Carried.{listed_by};
 
-    fn of(listed: Listed) -> Line
+    fn of(listed: Listed) -> LentLine
         ensures { listed_by result ≡ listed }
     {
         let Listed {
@@ -29,7 +30,7 @@ impl Line {
             None => None,
             Some(group) => Some(LentU4::of(group)),
         };
-        Line {
+        LentLine {
             offset,
             group,
             kind,
@@ -57,7 +58,7 @@ pub struct Carried<'a> {
     /// The MIDI 1.0 bytes of the packet, empty exactly when it isn't carried.
     pub piece: &'a [u8],
     lane: LentU4,
-    line: Option<Line>,
+    line: Option<LentLine>,
 }
 
 impl<'a> Carried<'a> {
@@ -72,7 +73,7 @@ impl<'a> Carried<'a> {
     {
         let line = match listed {
             None => None,
-            Some(listed) => Some(Line::of(listed)),
+            Some(listed) => Some(LentLine::of(listed)),
         };
         Carried {
             piece,

@@ -2,36 +2,36 @@
 ghost use Rattle.std.specs.Prelude.{◌≡◌, ◌≤◌, ◌<◌, ◌&&◌, not, IfOk, MatchOption, true, false, Some, None, length, take};
 ghost use Rattle.sysex_groups.specs.Exclusives.{IsData};
 ghost use Rattle.ump_grammar.specs.Ranges.{IsPacket};
-ghost use Rattle.encoded_packets.specs.ValueMessages.{IsValueMessage, message_of};
-ghost use Rattle.down_translator.specs.Lanes.{is_plain};
-ghost use Rattle.down_translator.specs.Lowered.{IsWholeStep, is_lone_message, is_whole};
+ghost use Rattle.direct_packets.specs.DirectMessages.{IsDirectMessage, direct_voice};
+ghost use Rattle.down_translator.specs.KeptLanes.{is_plain};
+ghost use Rattle.down_translator.specs.Lowered.{IsDirectStep, message_goes_direct, goes_direct};
 ghost use Rattle.ump_grammar.specs.declared.packet.Packet.TheVariants as packet;
 ghost use Rattle.voice_messages.specs.declared.voice2.Voice2.TheVariants as voice2;
 
 use crate::carried::Carried;
-use crate::lanes::Lanes;
+use crate::kept_lanes::KeptLanes;
 use crate::listing::{line, paired_kind, voice_kind};
 use crate::lowered::{LoweredMessage, lowered};
 use crate::pieces::{Piece, write_paired, write_system, write_voice1, write_voice2};
 use crate::refusals::{bad_voice1, bad_voice2};
 use crate::shortened::{Bytes, attribute_line, control_index, write_shortened};
 use crate::style::Style;
-use encoded_packets::{EncodedPacket, ExclusivePart, ValueMessage};
+use direct_packets::{DirectMessage, EncodedPacket, ExclusivePart};
 use midi_edge::{NoMemory, U4};
+use midi_meaning::laws::carried_packets_have_a_piece;
+use midi_meaning::{BadStep, Kind, Listed};
 use std::alloc::Global;
 use std::marker::Model;
 use sysex_groups::{Fed, Groups};
 use ump_grammar::Packet;
 use voice_messages::{Form, System, U7, Voice1, Voice2};
-use voice_state::laws::carried_packets_have_a_piece;
-use voice_state::{BadStep, Kind, Listed};
 
-/// Translates packets to the MIDI 1.0 bytes of sixteen lanes, a lane for each group. A contract sees what it holds: the
-/// exclusives that the groups have open, and in compact style what is kept of each lane.
+/// Translates packets to the MIDI 1.0 bytes of sixteen lanes, a lane for each group. A contract sees what it
+/// holds: the exclusives that the groups have open, and in compact style what is kept of each lane.
 #[derive(Drop)]
 pub struct Down {
     groups: Groups,
-    lanes: Lanes,
+    lanes: KeptLanes,
     piece: Piece,
     // Lent in place of the piece where a message is written from the words of its packet.
     message: Bytes,
@@ -50,20 +50,21 @@ impl Down {
     ghost use Rattle.std.specs.Option.{option_map};
     ghost use Rattle.sysex_groups.specs.Table.{begun_in};
     ghost use Rattle.down_translator.specs.Held.{down_after, new_down};
-    ghost use Rattle.down_translator.specs.Lanes.{IsAlone, style_in};
+    ghost use Rattle.down_translator.specs.KeptLanes.{IsUnpaired, style_in};
     ghost use Rattle.down_translator.specs.Lend.{KeepsDown};
     ghost use Rattle.down_translator.specs.Step.{Translates};
 
-    /// A translator that writes in this style, in which nothing is open, with paired controllers or without (own rule). Reserves
-    /// memory for what is kept of the lanes, and for exclusives of `room` bytes between F0 and F7 in each group, 6 to 1,048,576 (own
-    /// rule); no other call takes any. `NoMemory` when there isn't that much.
+    /// A translator that writes in this style, in which nothing is open, with paired controllers or without
+    /// (own rule). Reserves memory for what is kept of the lanes, and for exclusives of `room` bytes between
+    /// F0 and F7 in each group, 6 to 1,048,576 (own rule); no other call takes any. `NoMemory` when there
+    /// isn't that much.
     pub fn new(alloc: Global, room: u32, style: Style, paired: bool) -> Result<Down, NoMemory>
         requires least { 6 ≤ room }
         requires most { room ≤ 1048576 }
         ensures { IfOk result (λ down. down ≡ new_down paired (style_in style) room) }
     {
         let groups = Groups::new(alloc, room)?;
-        let lanes = Lanes::new(alloc, style, paired)?;
+        let lanes = KeptLanes::new(alloc, style, paired)?;
         Ok(Down {
             groups,
             lanes,
@@ -140,10 +141,10 @@ impl Down {
     }
 
     /// Takes a voice message of MIDI 2.0, except for a control change where controllers are paired.
-    #[tactic(auto, using(crate::proofs::StyledLaws::lent2, crate::proofs::PieceLaws::alone_kind))]
+    #[tactic(auto, using(crate::proofs::StyledLaws::lent2, crate::proofs::PieceLaws::unpaired_kind))]
     #[inline(always)]
     fn unpaired(&mut self, group: U4, message: &Voice2, offset: u64) -> Result<Carried<'_>, BadStep>
-        requires { IsAlone self.old.lanes.paired message.now }
+        requires { IsUnpaired self.old.lanes.paired message.now }
         ensures answer { Translates self.old offset (packet.Voice2 group message.now) result }
         ensures* after { sem 𝓛 (KeepsDown self.entry
             (down_after offset (packet.Voice2 group message.now) self.old)) }
@@ -209,13 +210,14 @@ impl Down {
         }
     }
 
-    /// The MIDI 1.0 bytes of one more packet, its lane, and its line of the listing (M2-104-UM, default translation; what that
-    /// leaves out is listed by own rule). The packet is one that some words decode to, and the offset the number of input bytes
-    /// before it.
+    /// The MIDI 1.0 bytes of one more packet, its lane, and its line of the listing (M2-104-UM, default
+    /// translation; what that leaves out is listed by own rule). The packet is one that some words decode to,
+    /// and the offset the number of input bytes before it.
     ///
-    /// `DataIncrement` and `DataDecrement` are returned exactly for a control change 96 and 97, respectively, of either protocol,
-    /// and leave the translator as it was. `ExclusiveTooLong` is returned exactly when the packet adds to an exclusive that then
-    /// has more bytes than the limit; that group has nothing open afterwards, and all else stays as it is (own rules).
+    /// `DataIncrement` and `DataDecrement` are returned exactly for a control change 96 and 97, respectively,
+    /// of either protocol, and leave the translator as it was. `ExclusiveTooLong` is returned exactly when
+    /// the packet adds to an exclusive that then has more bytes than the limit; that group has nothing open
+    /// afterwards, and all else stays as it is (own rules).
     #[inline(always)]
     pub fn packet(&mut self, packet: &Packet, offset: u64) -> Result<Carried<'_>, BadStep>
         requires { IsPacket packet.now }
@@ -263,22 +265,23 @@ impl Down {
         self.exclusive(group, form, &bytes[..count], offset)
     }
 
-    // Whether a message that has a value is carried by one MIDI 1.0 message with all its bytes.
-    #[tactic(auto, using(crate::proofs::LoneLaws::lone_index))]
+    // Whether a direct message is carried by one MIDI 1.0 message with all its bytes.
+    #[tactic(auto, using(crate::proofs::DirectLaws::direct_index))]
     #[inline(always)]
-    fn is_lowered(&self, message: &ValueMessage) -> bool
+    fn is_lowered(&self, message: &DirectMessage) -> bool
         ensures { result ≡ (is_plain self.now.lanes.style
-            && is_lone_message self.now.lanes.paired message.now) }
+            && message_goes_direct self.now.lanes.paired message.now) }
     {
-        self.lanes.is_alone(control_index(message))
+        self.lanes.goes_direct(control_index(message))
     }
 
-    // Whether it is carried by one MIDI 1.0 message, perhaps without its status byte, and leaves the registers as they are.
-    #[tactic(auto, using(crate::proofs::LoneLaws::lone_index))]
+    // Whether it is carried by one MIDI 1.0 message, perhaps without its
+    // status byte, and leaves the registers as they are.
+    #[tactic(auto, using(crate::proofs::DirectLaws::direct_index))]
     #[inline(always)]
-    fn is_shortened(&self, message: &ValueMessage) -> bool
+    fn is_shortened(&self, message: &DirectMessage) -> bool
         ensures { result ≡ (not (is_plain self.now.lanes.style)
-            && is_lone_message self.now.lanes.paired message.now) }
+            && message_goes_direct self.now.lanes.paired message.now) }
     {
         self.lanes.is_shortened(control_index(message))
     }
@@ -286,14 +289,14 @@ impl Down {
     // Takes such a message in compact style, with no packet taken apart.
     #[tactic(auto, using(crate::proofs::ShortenedLaws::shortened_step, crate::proofs::ShortenedLaws::kept_shortened))]
     #[inline(always)]
-    fn shortened(&mut self, message: &ValueMessage, offset: u64) -> Result<Carried<'_>, BadStep>
-        requires value { IsValueMessage message.now }
+    fn shortened(&mut self, message: &DirectMessage, offset: u64) -> Result<Carried<'_>, BadStep>
+        requires value { IsDirectMessage message.now }
         requires compact { is_plain self.old.lanes.style ≡ false }
-        requires lone { is_lone_message self.old.lanes.paired message.now ≡ true }
+        requires direct { message_goes_direct self.old.lanes.paired message.now ≡ true }
         ensures answer { Translates self.old offset
-            (packet.Voice2 message.now.group (message_of message.now)) result }
+            (packet.Voice2 message.now.group (direct_voice message.now)) result }
         ensures* after { sem 𝓛 (KeepsDown self.entry (down_after offset
-            (packet.Voice2 message.now.group (message_of message.now)) self.old)) }
+            (packet.Voice2 message.now.group (direct_voice message.now)) self.old)) }
     {
         let message = lowered(message);
         let count = write_shortened(&mut self.message, &mut self.lanes, &message);
@@ -301,15 +304,16 @@ impl Down {
         Ok(Carried::new(message.lane, &self.message[..count], listed))
     }
 
-    /// Answers a packet that is held as its words as `packet` does. It is taken apart, unless it is a part of an exclusive whose bytes
-    /// are read from the words, or in compact style a message that is written from the words.
+    /// Answers a packet that is held as its words as `packet` does. It is taken apart, unless it is a part of
+    /// an exclusive whose bytes are read from the words, or in compact style a message that is written from
+    /// the words.
     #[inline(always)]
     pub fn encoded(&mut self, packet: &EncodedPacket, offset: u64) -> Result<Carried<'_>, BadStep>
         ensures answer { Translates self.old offset packet.now result }
         ensures* after { sem 𝓛 (KeepsDown self.entry (down_after offset packet.now self.old)) }
     {
         // Most packets are such messages.
-        match packet.value_message() {
+        match packet.direct_message() {
             Some(message) if self.is_shortened(&message) => self.shortened(&message, offset),
             _ => match packet.exclusive() {
                 Some(part) => self.part(part, offset),
@@ -318,30 +322,31 @@ impl Down {
         }
     }
 
-    /// The message that carries the packet, where in plain style one MIDI 1.0 message with the packet's status byte does
-    /// (M2-104-UM, default translation): a note off or on, the pressure of a note or of a channel, a bend, and a control change of
-    /// a controller that has a value and isn't one of a pair, or a channel mode message other than the reset of all controllers. It
-    /// is the answer of `packet`, and the translator stays as it is. `None` exactly for other packets and in compact style: `packet`
-    /// has their answer.
+    /// The message that carries the packet, where in plain style one MIDI 1.0 message with the packet's
+    /// status byte does (M2-104-UM, default translation): a note off or on, the pressure of a note or of a
+    /// channel, a bend, and a control change of a controller that has a value and isn't one of a pair, or a
+    /// channel mode message other than the reset of all controllers. It is the answer of `packet`, and the
+    /// translator stays as it is. `None` exactly for other packets and in compact style: `packet` has their
+    /// answer.
     #[inline(always)]
     pub fn lowered(&self, packet: &EncodedPacket) -> Option<LoweredMessage>
-        ensures { MatchOption result (is_whole self.now packet.now ≡ false)
-            (λ message. IsWholeStep self.now packet.now message) }
+        ensures { MatchOption result (goes_direct self.now packet.now ≡ false)
+            (λ message. IsDirectStep self.now packet.now message) }
     {
-        match packet.value_message() {
+        match packet.direct_message() {
             Some(message) if self.is_lowered(&message) => Some(lowered(&message)),
             _ => None,
         }
     }
 
-    /// The same for a message that has a value, in its group.
+    /// The same for a direct message, in its group.
     #[inline(always)]
-    pub fn lowered_message(&self, message: &ValueMessage) -> Option<LoweredMessage>
-        requires { IsValueMessage message.now }
+    pub fn lowered_message(&self, message: &DirectMessage) -> Option<LoweredMessage>
+        requires { IsDirectMessage message.now }
         ensures { MatchOption result
-            (is_whole self.now (packet.Voice2 message.now.group (message_of message.now)) ≡ false)
-            (λ lowered. IsWholeStep self.now
-            (packet.Voice2 message.now.group (message_of message.now)) lowered) }
+            (goes_direct self.now (packet.Voice2 message.now.group (direct_voice message.now)) ≡ false)
+            (λ lowered. IsDirectStep self.now
+            (packet.Voice2 message.now.group (direct_voice message.now)) lowered) }
     {
         if self.is_lowered(message) {
             Some(lowered(message))

@@ -2,28 +2,28 @@
 ghost use Rattle.std.specs.Prelude.{◌≡◌, ◌<◌, ◌≤◌, ◌++◌, ℕ, IfOk, None, Some, length};
 ghost use Rattle.midi1_bytes.specs.Messages.{spelled_voice, voice};
 ghost use Rattle.midi1_bytes.specs.RunningStatus.{is_running, running_after, without_status};
-ghost use Rattle.voice_state.specs.Compact.{has_bank, is_half, is_param, is_selected};
-ghost use Rattle.voice_state.specs.Controllers.{role_of};
-ghost use Rattle.voice_state.specs.Registers.{unset_registers, with_bank, with_selected};
-ghost use Rattle.voice_state.specs.Roles.{registers_behind};
-ghost use Rattle.voice_state.specs.LaneState.{
+ghost use Rattle.midi_meaning.specs.Compact.{has_bank, is_half, is_param, is_selected};
+ghost use Rattle.midi_meaning.specs.Controllers.{role_of};
+ghost use Rattle.midi_meaning.specs.Registers.{unset_registers, with_bank, with_selected};
+ghost use Rattle.midi_meaning.specs.Roles.{registers_after};
+ghost use Rattle.midi_meaning.specs.LaneState.{
   at_registers_of,
   channels_after1,
   new_lane,
   registers_at,
 };
-ghost use Rattle.down_translator.specs.Lanes.{after_system};
+ghost use Rattle.down_translator.specs.KeptLanes.{after_system};
 
 use crate::pieces::Piece;
 use crate::statuses::add_unless_running;
 use midi_edge::{NoMemory, U4};
+use midi_meaning::Registers;
 use std::alloc::Global;
 use std::marker::Model;
 use voice_messages::{Bank, Param, System, U7, Voice1};
-use voice_state::Registers;
 
-/// What the receiver of a lane has since the lane's last System Reset: the running status, and the registers of sixteen channels.
-/// A contract sees it as the definition's state of a lane.
+/// What the receiver of a lane has since the lane's last System Reset: the running status, and the registers
+/// of sixteen channels. A contract sees it as the definition's state of a lane.
 #[derive(Drop)]
 pub struct Lane {
     running: Option<u8>,
@@ -32,7 +32,7 @@ pub struct Lane {
 
 impl Model for Lane {
     ghost use Rattle.std.specs.Prelude.{◌≡◌, length};
-    ghost use Rattle.voice_state.specs.LaneState.{LaneState};
+    ghost use Rattle.midi_meaning.specs.LaneState.{LaneState};
 
     ghost Value = { LaneState };
 
@@ -88,16 +88,16 @@ impl Lane {
         is_half(registers.bank_msb(), bank.msb) && is_half(registers.bank_lsb(), bank.lsb)
     }
 
-    /// Whether this is the channel's selected parameter (MIDI 1.0 Detailed Specification, registered and non-registered parameter
-    /// numbers).
+    /// Whether this is the channel's selected parameter (MIDI 1.0 Detailed Specification, registered and
+    /// non-registered parameter numbers).
     pub fn has_selected(&self, channel: U4, param: &Param) -> bool
         ensures { result ≡ is_selected (registers_at self.now.channels channel) param.now }
     {
         is_param(self.channels[channel.get() as usize].selected(), param)
     }
 
-    /// Adds the bytes of a voice message of MIDI 1.0 to a piece, without its status byte where that is the running status, and
-    /// keeps what the message leaves (MIDI 1.0 Detailed Specification, running status).
+    /// Adds the bytes of a voice message of MIDI 1.0 to a piece, without its status byte where that is the
+    /// running status, and keeps what the message leaves (MIDI 1.0 Detailed Specification, running status).
     #[inline(always)]
     pub fn write(&mut self, piece: &mut Piece, message: &Voice1, bytes: &[u8])
         requires spelled { bytes.now ≡ spelled_voice message.now }
@@ -113,8 +113,9 @@ impl Lane {
         self.keep_registers(message);
     }
 
-    /// Whether a status byte is the running status; from now on it is (MIDI 1.0 Detailed Specification, running status).
-    #[tactic(auto, using(crate::proofs::LoneLaws::running_is))]
+    /// Whether a status byte is the running status; from now on it is
+    /// (MIDI 1.0 Detailed Specification, running status).
+    #[tactic(auto, using(crate::proofs::DirectLaws::running_is))]
     #[inline(always)]
     pub fn take_status(&mut self, status: u8) -> bool
         ensures running { result ≡ is_running self.old.running status }
@@ -150,7 +151,7 @@ impl Lane {
     fn keep_control(&mut self, channel: U4, index: U7, value: U7)
         ensures { self.new ≡ record {
           running = self.old.running;
-          channels = at_registers_of channel (registers_behind (role_of index) value) self.old.channels;
+          channels = at_registers_of channel (registers_after (role_of index) value) self.old.channels;
         } }
     {
         self.channels[channel.get() as usize].control(index, value);
@@ -185,8 +186,8 @@ impl Lane {
         self.channels[channel.get() as usize].take_bank(bank);
     }
 
-    /// Keeps what a system message leaves: a common one ends the running status, Real Time leaves it (MIDI 1.0 Detailed
-    /// Specification, running status), and after System Reset nothing is kept (own rule).
+    /// Keeps what a system message leaves: a common one ends the running status, Real Time leaves it (MIDI
+    /// 1.0 Detailed Specification, running status), and after System Reset nothing is kept (own rule).
     pub fn keep_system(&mut self, message: &System)
         ensures { self.new ≡ after_system message.now self.old }
     {

@@ -1,10 +1,11 @@
-// What holds of all recordings, with paired controllers or without. Packets and answers are listed newest first.
+// What holds of all recordings, with paired controllers or without.
+// Packets and answers are listed newest first.
 ghost use Rattle.std.specs.Prelude.{◌≡◌, ◌↔◌, ◌<◌, ◌≤◌, ℕ, Bool, List, [], length, reverse, Some, IsTrue};
 ghost use Rattle.ump_grammar.specs.declared.packet.Packet.{Packet};
-ghost use Rattle.voice_state.specs.Parts.{Placed};
-ghost use Rattle.voice_state.specs.Listing.{is_carried, lines_behind};
-ghost use Rattle.voice_state.specs.Styles.{Style, styled_behind, styled_pairs};
-ghost use Rattle.voice_state.specs.Translation.{IsTranslation};
+ghost use Rattle.midi_meaning.specs.Parts.{Placed};
+ghost use Rattle.midi_meaning.specs.Listing.{is_carried, lines_over};
+ghost use Rattle.midi_meaning.specs.Styles.{Style, styled_over, styled_pairs};
+ghost use Rattle.midi_meaning.specs.Translation.{IsTranslation};
 ghost use Rattle.down_translator.specs.declared.carried.Carried.{Carried};
 ghost use Rattle.down_translator.specs.Carried.{lane_in};
 ghost use Rattle.down_translator.specs.Held.{DownState, paired_of, whole_in};
@@ -24,33 +25,35 @@ ghost use Rattle.down_translator.specs.Recording.{
   lines_put,
 };
 
-use midi1_bytes::laws::statuses_that_run_can_be_left_out;
-use sysex_groups::laws::fed_parts_are_the_definition;
-use voice_state::laws::{
+use midi_meaning::laws::{
     carried_packets_have_a_piece, joined_bytes_know_no_offsets,
     rooms_that_are_not_passed_do_not_matter,
 };
-use voice_state::style_laws::{
+use midi_meaning::style_laws::{
     kept_lanes_are_those_of_the_recording, styled_lanes_leave_the_registers,
     styled_pairs_are_a_translation,
 };
+use midi1_bytes::laws::statuses_that_run_can_be_left_out;
+use sysex_groups::laws::fed_parts_are_the_definition;
 
 /// A packet that some words spell has its fields in range.
 pub fn spelled_packets_are_in_range()
     ensures { SpelledPacketsAreInRange }
 {}
 
-/// What the translator holds after any packets tells of one more packet what the definitions tell, which look back over the
-/// packets: the exclusive that it ends, where the exclusive that its group has open started, and why it is refused. What is held
-/// after it is what is held after all of them. A data increment or decrement, which is refused, leaves the translator as it was.
+/// What the translator holds after any packets tells of one more packet what the definitions tell, which look
+/// back over the packets: the exclusive that it ends, where the exclusive that its group has open started,
+/// and why it is refused. What is held after it is what is held after all of them. A data increment or
+/// decrement, which is refused, leaves the translator as it was.
 pub fn what_is_held_is_the_definition()
     ensures { (paired : Bool) → WhatIsHeldIsTheDefinition paired }
 {
     fed_parts_are_the_definition();
 }
 
-/// In compact style, after packets of which none was refused, the translator keeps, of the lane of each group, the running status and
-/// the registers that the lane's bytes after the last System Reset leave; each of these that is set is what all the lane's bytes leave.
+/// In compact style, after packets of which none was refused, the translator keeps, of the lane of each
+/// group, the running status and the registers that the lane's bytes after the last System Reset leave; each
+/// of these that is set is what all the lane's bytes leave.
 pub fn what_is_kept_is_the_meaning()
     ensures { (paired : Bool) → WhatIsKeptIsTheMeaning paired }
 {
@@ -73,8 +76,9 @@ pub fn empty_pieces_are_not_carried()
     carried_packets_have_a_piece();
 }
 
-/// One more packet that the translator accepts, after packets that it accepted: what is put for the answer is the pair of the
-/// packet in the translator's style, and what is listed is its line, which a limit that isn't exceeded doesn't change.
+/// One more packet that the translator accepts, after packets that it accepted: what is put for the answer is
+/// the pair of the packet in the translator's style, and what is listed is its line, which a limit that isn't
+/// exceeded doesn't change.
 pub fn one_more_accepted_packet_adds_its_pair_and_line()
     ensures { (paired : Bool) → OneMoreAcceptedPacketAddsItsPairAndLine paired }
 {
@@ -86,8 +90,8 @@ pub fn one_more_accepted_packet_adds_its_pair_and_line()
     statuses_that_run_can_be_left_out();
 }
 
-/// The answers to the packets of a recording, one after the other: no packet is refused, what is put is the pairs of the packets
-/// in the translator's style, and what is listed is their lines.
+/// The answers to the packets of a recording, one after the other: no packet is refused, what is put is the
+/// pairs of the packets in the translator's style, and what is listed is their lines.
 pub fn answers_are_the_translation()
     ensures accepted { (paired : Bool) (style : Style) (room : ℕ)
         (past : List Placed) (answers : List Carried) →
@@ -96,18 +100,18 @@ pub fn answers_are_the_translation()
     ensures pairs { (paired : Bool) (style : Style) (room : ℕ)
         (past : List Placed) (answers : List Carried) →
         6 ≤ room → AreInRange past → AreSteps paired style room past answers →
-        pairs_put answers ≡ styled_behind paired style (packets_of past) }
+        pairs_put answers ≡ styled_over paired style (packets_of past) }
     ensures lines { (paired : Bool) (style : Style) (room : ℕ) (past : List Placed) (answers : List Carried) →
         6 ≤ room → AreInRange past → AreSteps paired style room past answers →
-        lines_put answers ≡ lines_behind paired (Some room) past }
+        lines_put answers ≡ lines_over paired (Some room) past }
 {
     fed_parts_are_the_definition();
     one_more_accepted_packet_adds_its_pair_and_line();
 }
 
-/// For a recording in the order in which its packets come, what is put for the answers is its pairs in the translator's style.
-/// They are its translation: one pair for each packet that is carried, in its group's lane, and after each packet the bytes so far
-/// of each lane mean what the packets so far of its group mean.
+/// For a recording in the order in which its packets come, what is put for the answers is its pairs in the
+/// translator's style. They are its translation: one pair for each packet that is carried, in its group's
+/// lane, and after each packet the bytes so far of each lane mean what the packets so far of its group mean.
 pub fn answers_mean_the_packets()
     ensures pairs { (paired : Bool) (style : Style) (room : ℕ)
         (packets : List Placed) (answers : List Carried) →

@@ -1,10 +1,11 @@
-//! Turns packets of the Universal MIDI Packet format into the bytes of MIDI 1.0 streams, a lane for each group.
+//! Turns packets of the Universal MIDI Packet format into the bytes
+//! of MIDI 1.0 streams, a lane for each group.
 #![tactic(auto)]
 
 pub mod carried;
 pub mod down;
+mod kept_lanes;
 mod lane;
-mod lanes;
 pub mod laws;
 mod listing;
 pub mod lowered;
@@ -19,4 +20,4 @@ pub use crate::carried::Carried;
 pub use crate::down::Down;
 pub use crate::lowered::LoweredMessage;
 pub use crate::style::Style;
-pub use voice_state::{BadStep, Kind, Listed};
+pub use midi_meaning::{BadStep, Kind, Listed};

@@ -1,14 +1,14 @@
 // The kinds of the lines of MIDI 2.0 voice messages.
 ghost use Rattle.std.specs.Prelude.{◌≡◌, if◌then◌else◌, true, false, Some, None};
 ghost use Rattle.std.specs.Option.{option_map};
-ghost use Rattle.voice_state.specs.declared.listed.Kind.TheVariants as kinds;
-ghost use Rattle.voice_state.specs.Registers.{is_null};
-ghost use Rattle.voice_state.specs.Controllers.{pairing, role_of};
-ghost use Rattle.voice_state.specs.Listing.{attribute_kind, control_kind, voice_kind};
+ghost use Rattle.midi_meaning.specs.declared.listed.Kind.TheVariants as kinds;
+ghost use Rattle.midi_meaning.specs.Registers.{is_null};
+ghost use Rattle.midi_meaning.specs.Controllers.{pairing, role_of};
+ghost use Rattle.midi_meaning.specs.Listing.{attribute_kind, control_kind, voice_kind};
 
 use midi_edge::U4;
+use midi_meaning::{ControlRole, Kind, Listed, is_null_param};
 use voice_messages::{Param, U7, Voice2};
-use voice_state::{ControlRole, Kind, Listed, is_null_param};
 
 fn attribute_kind(attribute_type: u8) -> Option<Kind>
     ensures { result ≡ attribute_kind attribute_type }
@@ -20,7 +20,8 @@ fn attribute_kind(attribute_type: u8) -> Option<Kind>
     }
 }
 
-/// The kind of a control change whose index has packets of its own in MIDI 2.0, apart from the refused ones, without pairs.
+/// The kind of a control change whose index has packets of its own in
+/// MIDI 2.0, apart from the refused ones, without pairs.
 #[inline(always)]
 fn control_kind(index: U7) -> Option<Kind>
     ensures { result ≡ control_kind (pairing false (role_of index)) }
@@ -66,8 +67,8 @@ fn shift_kind(param: &Param) -> Kind
     }
 }
 
-/// The kind that a MIDI 2.0 voice message is listed as, if it is listed, without paired controllers (own rules). Inlined,
-/// since a packet that a call sees a part of would not stay in registers.
+/// The kind that a MIDI 2.0 voice message is listed as, if it is listed, without paired controllers (own
+/// rules). Inlined, since a packet that a call sees a part of would not stay in registers.
 #[inline(always)]
 pub fn voice_kind(message: &Voice2) -> Option<Kind>
     ensures { result ≡ voice_kind false message.now }

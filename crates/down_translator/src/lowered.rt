@@ -1,15 +1,16 @@
 // Messages that one MIDI 1.0 message with their status byte carries.
 ghost use Rattle.std.specs.Prelude.{◌≡◌, ◌/◌, ◌==◌, not, ◌&&◌};
-ghost use Rattle.encoded_packets.specs.ValueMessages.{IsValueMessage};
+ghost use Rattle.direct_packets.specs.DirectMessages.{IsDirectMessage};
 ghost use Rattle.midi1_bytes.specs.Messages.{spelled_voice};
-ghost use Rattle.down_translator.specs.Lowered.{bytes_of, first_by, has_attribute, second_by, voice_of};
+ghost use Rattle.down_translator.specs.Lowered.{lowered_bytes, first_by, has_attribute, second_by, voice_of};
 
 use bit_scaling::{down7, down14, velocity_down};
-use encoded_packets::ValueMessage;
+use direct_packets::DirectMessage;
 use midi_edge::U4;
 use voice_messages::U7;
 
-/// A MIDI 1.0 channel voice message, which alone carries a message of the MIDI 2.0 protocol and has its status byte.
+/// A MIDI 1.0 channel voice message, which alone carries a message of
+/// the MIDI 2.0 protocol and has its status byte.
 #[derive(Clone, Copy, Debug)]
 pub struct LoweredMessage {
     /// The lane, which is the packet's group.
@@ -24,9 +25,10 @@ pub struct LoweredMessage {
     pub has_attribute: bool,
 }
 
-// The first data byte: the value of a channel pressure, the low seven bits of a bend's, or else the note or the index.
+// The first data byte: the value of a channel pressure, the low seven
+// bits of a bend's, or else the note or the index.
 #[inline(always)]
-fn first_byte(opcode: u8, message: &ValueMessage) -> U7
+fn first_byte(opcode: u8, message: &DirectMessage) -> U7
     ensures { result ≡ first_by opcode message.now }
 {
     let upper = down7(message.value);
@@ -37,7 +39,7 @@ fn first_byte(opcode: u8, message: &ValueMessage) -> U7
 
 // The second data byte: the value, of a bend its high seven bits.
 #[inline(always)]
-fn second_byte(opcode: u8, message: &ValueMessage) -> Option<U7>
+fn second_byte(opcode: u8, message: &DirectMessage) -> Option<U7>
     ensures { result ≡ second_by opcode message.now }
 {
     let upper = down7(message.value);
@@ -46,13 +48,13 @@ fn second_byte(opcode: u8, message: &ValueMessage) -> Option<U7>
     if opcode == 0xD { None } else { Some(second) }
 }
 
-/// The message that carries a message that has a value (M2-104-UM, default translation; M2-115-U).
+/// The message that carries a direct message (M2-104-UM, default translation; M2-115-U).
 #[tactic(auto, using(crate::proofs::LoweredLaws::spelled_lowered))]
 #[inline(always)]
-pub fn lowered(message: &ValueMessage) -> LoweredMessage
-    requires { IsValueMessage message.now }
+pub fn lowered(message: &DirectMessage) -> LoweredMessage
+    requires { IsDirectMessage message.now }
     ensures lane { result.lane ≡ message.now.group }
-    ensures bytes { bytes_of result ≡ spelled_voice (voice_of message.now) }
+    ensures bytes { lowered_bytes result ≡ spelled_voice (voice_of message.now) }
     ensures attribute { result.has_attribute ≡ has_attribute message.now }
 {
     let opcode = message.status / 16;

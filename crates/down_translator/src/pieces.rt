@@ -1,17 +1,17 @@
 // The pieces of voice and system messages.
 ghost use Rattle.std.specs.Prelude.{◌≡◌, ◌≢◌, ◌<◌, ◌≤◌, ◌+◌, ◌++◌, [], ◌∷◌, length, true, false, None, Some, IfSome, MatchOption};
 ghost use Rattle.std.specs.List.{flat_map};
-ghost use Rattle.midi1_bytes.specs.Messages.{message_of, spelled, voice};
+ghost use Rattle.midi1_bytes.specs.Messages.{system_message, spelled, voice};
 ghost use Rattle.voice_messages.specs.declared.voice1.Voice1.TheVariants as voice1;
 ghost use Rattle.voice_messages.specs.declared.voice2.Voice2.TheVariants as voice2;
-ghost use Rattle.voice_state.specs.Controllers.{pairing, role_of};
-ghost use Rattle.voice_state.specs.Plain.{pair_messages, program_messages, set_messages, voice_messages};
+ghost use Rattle.midi_meaning.specs.Controllers.{pairing, role_of};
+ghost use Rattle.midi_meaning.specs.Plain.{pair_messages, program_messages, set_messages, voice_messages};
 ghost use Rattle.ump_grammar.specs.declared.packet.Packet.TheVariants as packet;
-ghost use Rattle.voice_state.specs.Refusal.{bad_control};
-ghost use Rattle.down_translator.specs.Lanes.{IsAlone, is_pair, is_single, lane_at, lanes_after, piece_by, unless_there};
-ghost use Rattle.down_translator.specs.Statuses.{statuses_after_all, written_all};
+ghost use Rattle.midi_meaning.specs.Refusal.{bad_control};
+ghost use Rattle.down_translator.specs.KeptLanes.{IsUnpaired, is_pair, is_single, lane_at, lanes_after, piece_by, unless_there};
+ghost use Rattle.down_translator.specs.Statuses.{statuses_over, written_all};
 
-use crate::lanes::Lanes;
+use crate::kept_lanes::KeptLanes;
 use crate::refusals::bad_control;
 use crate::statuses::Statuses;
 use crate::voice::{
@@ -19,9 +19,9 @@ use crate::voice::{
 };
 use bit_scaling::down14;
 use midi_edge::{ShortList, U4};
+use midi_meaning::{BadStep, ControlRole, is_null_param};
 use midi1_bytes::write_system as spell_system;
 use voice_messages::{Bank, Param, ParamKind, System, U7, U14, Voice1, Voice2};
-use voice_state::{BadStep, ControlRole, is_null_param};
 
 /// The bytes of at most four messages.
 pub type Piece = ShortList<u8, 12>;
@@ -41,14 +41,15 @@ fn control(channel: U4, index: u32, value: U7) -> Voice1
 /// Fills the piece with the bytes of a system message.
 #[tactic(auto, using(crate::proofs::Spelling::spelled_message_of))]
 fn fill_system(piece: &mut Piece, message: &System)
-    ensures { piece.new ≡ flat_map spelled (message_of message.now ∷ []) }
+    ensures { piece.new ≡ flat_map spelled (system_message message.now ∷ []) }
 {
     *piece = Piece::new();
     let bytes = spell_system(message);
     piece.extend(bytes.as_slice());
 }
 
-/// Whether a control change of MIDI 2.0 is carried by one of MIDI 1.0, where controllers are paired or aren't.
+/// Whether a control change of MIDI 2.0 is carried by one of MIDI
+/// 1.0, where controllers are paired or aren't.
 #[inline(always)]
 pub fn is_single_index(index: U7, paired: bool) -> bool
     ensures { result ≡ is_single (pairing paired (role_of index)) }
@@ -59,12 +60,13 @@ pub fn is_single_index(index: U7, paired: bool) -> bool
     }
 }
 
-/// Adds both halves of a pair: the MSB of its value of 14 bits, and the LSB, whose index is higher by 32 (own rule).
+/// Adds both halves of a pair: the MSB of its value of 14 bits, and
+/// the LSB, whose index is higher by 32 (own rule).
 fn add_pair(piece: &mut Piece, statuses: &mut Statuses, channel: U4, index: U7, value: U14)
     requires empty { piece.old ≡ [] }
     requires within { index + 32 < 128 }
     ensures bytes { piece.new ≡ written_all statuses.old (pair_messages channel index value) }
-    ensures after { statuses.new ≡ statuses_after_all (pair_messages channel index value) statuses.old }
+    ensures after { statuses.new ≡ statuses_over (pair_messages channel index value) statuses.old }
 {
     let index = index.get() as u32;
     let value = value.get() as u32;
@@ -72,8 +74,9 @@ fn add_pair(piece: &mut Piece, statuses: &mut Statuses, channel: U4, index: U7, 
     statuses.add(piece, &control(channel, index + 32, U7::low_bits(value)));
 }
 
-/// Adds the control changes that set a parameter: its number, 101 and 100 or 99 and 98, unless that is selected, and its value of
-/// 14 bits, 6 and 38 (MIDI 1.0 Detailed Specification, registered and non-registered parameter numbers).
+/// Adds the control changes that set a parameter: its number, 101 and 100 or 99 and 98, unless that is
+/// selected, and its value of 14 bits, 6 and 38 (MIDI 1.0 Detailed Specification, registered and
+/// non-registered parameter numbers).
 fn add_set(
     piece: &mut Piece,
     statuses: &mut Statuses,
@@ -86,7 +89,7 @@ fn add_set(
     ensures bytes { piece.new ≡
         written_all statuses.old (unless_there is_selected (set_messages channel param.now value)) }
     ensures after { statuses.new ≡
-        statuses_after_all (unless_there is_selected (set_messages channel param.now value)) statuses.old }
+        statuses_over (unless_there is_selected (set_messages channel param.now value)) statuses.old }
 {
     let (number_msb, number_lsb) = match param.kind {
         ParamKind::Registered => (101, 100),
@@ -101,7 +104,8 @@ fn add_set(
     statuses.add(piece, &control(channel, 38, U7::low_bits(value)));
 }
 
-/// Adds a program change, after its bank, 0 and 32, unless that is set (MIDI 1.0 Detailed Specification, bank select).
+/// Adds a program change, after its bank, 0 and 32, unless that is
+/// set (MIDI 1.0 Detailed Specification, bank select).
 fn add_program(
     piece: &mut Piece,
     statuses: &mut Statuses,
@@ -114,7 +118,7 @@ fn add_program(
     ensures bytes { piece.new ≡
         written_all statuses.old (unless_there is_set (program_messages channel program (Some bank))) }
     ensures after { statuses.new ≡
-        statuses_after_all (unless_there is_set (program_messages channel program (Some bank))) statuses.old }
+        statuses_over (unless_there is_set (program_messages channel program (Some bank))) statuses.old }
 {
     if !is_set {
         statuses.add(piece, &control(channel, 0, bank.msb));
@@ -123,8 +127,8 @@ fn add_program(
     statuses.add(piece, &Voice1::Program { channel, program });
 }
 
-/// The one message that is the plain piece of a MIDI 2.0 voice message without pairs; `None` exactly when the piece has none or
-/// several.
+/// The one message that is the plain piece of a MIDI 2.0 voice message without pairs; `None` exactly when the
+/// piece has none or several.
 #[tactic(auto, using(crate::proofs::PieceLaws::single_control, crate::proofs::PieceLaws::no_single_control))]
 #[inline(always)]
 fn single_message(message: &Voice2) -> Option<Voice1>
@@ -165,10 +169,11 @@ fn single_message(message: &Voice2) -> Option<Voice1>
     })
 }
 
-/// Writes a voice message of MIDI 1.0 into the lane of a group (MIDI 1.0 Detailed Specification, channel voice messages).
+/// Writes a voice message of MIDI 1.0 into the lane of a group (MIDI
+/// 1.0 Detailed Specification, channel voice messages).
 #[tactic(auto, using(crate::proofs::PieceLaws::piece1, crate::proofs::PieceLaws::kept1))]
 #[inline(always)]
-pub fn write_voice1(piece: &mut Piece, lanes: &mut Lanes, group: U4, message: &Voice1)
+pub fn write_voice1(piece: &mut Piece, lanes: &mut KeptLanes, group: U4, message: &Voice1)
     ensures bytes { piece.new
         ≡ piece_by lanes.old.paired lanes.old.style (lane_at lanes.old.states group) None
         (packet.Voice1 group message.now) }
@@ -178,13 +183,13 @@ pub fn write_voice1(piece: &mut Piece, lanes: &mut Lanes, group: U4, message: &V
     lanes.write(piece, group, message);
 }
 
-/// Writes the control changes that set a parameter, none where that is the null parameter (M2-104-UM, default translation of
-/// registered and assignable controllers).
+/// Writes the control changes that set a parameter, none where that is the null parameter (M2-104-UM, default
+/// translation of registered and assignable controllers).
 #[tactic(auto, using(crate::proofs::PieceLaws::piece_set, crate::proofs::PieceLaws::kept_set, crate::proofs::PieceLaws::null_piece, crate::proofs::PieceLaws::null_kept))]
 #[inline(never)]
 fn write_set(
     piece: &mut Piece,
-    lanes: &mut Lanes,
+    lanes: &mut KeptLanes,
     group: U4,
     channel: U4,
     param: &Param,
@@ -211,7 +216,7 @@ fn write_set(
 #[inline(never)]
 fn write_program(
     piece: &mut Piece,
-    lanes: &mut Lanes,
+    lanes: &mut KeptLanes,
     group: U4,
     channel: U4,
     program: U7,
@@ -232,7 +237,14 @@ fn write_program(
 
 /// Writes both halves of a pair (own rule).
 #[tactic(auto, using(crate::proofs::PieceLaws::piece_pair, crate::proofs::PieceLaws::kept_pair))]
-fn write_pair(piece: &mut Piece, lanes: &mut Lanes, group: U4, channel: U4, index: U7, value: u32)
+fn write_pair(
+    piece: &mut Piece,
+    lanes: &mut KeptLanes,
+    group: U4,
+    channel: U4,
+    index: U7,
+    value: u32,
+)
     requires pair { is_pair (pairing lanes.old.paired (role_of index)) ≡ true }
     requires below { index < 32 }
     ensures bytes { piece.new
@@ -247,14 +259,14 @@ fn write_pair(piece: &mut Piece, lanes: &mut Lanes, group: U4, channel: U4, inde
     lanes.keep_statuses(group, statuses);
 }
 
-/// Writes a control change of MIDI 2.0 where controllers are paired: both halves of a pair, nothing of what isn't carried (own
-/// rule). Why it is refused, if it is refused; then nothing is written. Out of line, so that without pairs the packets of all
-/// kinds are translated in few instructions.
+/// Writes a control change of MIDI 2.0 where controllers are paired: both halves of a pair, nothing of what
+/// isn't carried (own rule). Why it is refused, if it is refused; then nothing is written. Out of line, so
+/// that without pairs the packets of all kinds are translated in few instructions.
 #[tactic(auto, using(crate::proofs::PieceLaws::single_piece, crate::proofs::PieceLaws::kept_single, crate::proofs::PieceLaws::single_control, crate::proofs::PieceLaws::control_piece, crate::proofs::PieceLaws::kept_control))]
 #[inline(never)]
 pub fn write_paired(
     piece: &mut Piece,
-    lanes: &mut Lanes,
+    lanes: &mut KeptLanes,
     group: U4,
     channel: U4,
     index: U7,
@@ -282,12 +294,12 @@ pub fn write_paired(
     None
 }
 
-/// Writes a message that is carried by several messages or by none. What is written of several is out of line, and of the message
-/// these calls see only fields, so that a packet stays in registers.
+/// Writes a message that is carried by several messages or by none. What is written of several is out of
+/// line, and of the message these calls see only fields, so that a packet stays in registers.
 #[tactic(auto, using(crate::proofs::PieceLaws::no_piece, crate::proofs::PieceLaws::kept_none))]
 #[inline(always)]
-fn write_others(piece: &mut Piece, lanes: &mut Lanes, group: U4, message: &Voice2)
-    requires alone { IsAlone lanes.old.paired message.now }
+fn write_others(piece: &mut Piece, lanes: &mut KeptLanes, group: U4, message: &Voice2)
+    requires alone { IsUnpaired lanes.old.paired message.now }
     requires some { length (voice_messages lanes.old.paired message.now) ≢ 1 }
     ensures bytes { piece.new
         ≡ piece_by lanes.old.paired lanes.old.style (lane_at lanes.old.states group) None
@@ -309,13 +321,13 @@ fn write_others(piece: &mut Piece, lanes: &mut Lanes, group: U4, message: &Voice
     }
 }
 
-/// Writes a voice message of MIDI 2.0, except for a control change where controllers are paired, into the lane of a group, nothing
-/// where it isn't carried (M2-104-UM, default translation). One that is carried by a single message is written as that one, so that
-/// most packets of both protocols are written in one place.
-#[tactic(auto, using(crate::proofs::PieceLaws::alone, crate::proofs::PieceLaws::alone_piece, crate::proofs::PieceLaws::kept_alone))]
+/// Writes a voice message of MIDI 2.0, except for a control change where controllers are paired, into the
+/// lane of a group, nothing where it isn't carried (M2-104-UM, default translation). One that is carried by a
+/// single message is written as that one, so that most packets of both protocols are written in one place.
+#[tactic(auto, using(crate::proofs::PieceLaws::alone, crate::proofs::PieceLaws::unpaired_piece, crate::proofs::PieceLaws::kept_unpaired))]
 #[inline(always)]
-pub fn write_voice2(piece: &mut Piece, lanes: &mut Lanes, group: U4, message: &Voice2)
-    requires { IsAlone lanes.old.paired message.now }
+pub fn write_voice2(piece: &mut Piece, lanes: &mut KeptLanes, group: U4, message: &Voice2)
+    requires { IsUnpaired lanes.old.paired message.now }
     ensures bytes { piece.new
         ≡ piece_by lanes.old.paired lanes.old.style (lane_at lanes.old.states group) None
         (packet.Voice2 group message.now) }
@@ -327,9 +339,10 @@ pub fn write_voice2(piece: &mut Piece, lanes: &mut Lanes, group: U4, message: &V
     }
 }
 
-/// Writes a system message into the lane of a group (MIDI 1.0 Detailed Specification, system common and system Real Time messages).
+/// Writes a system message into the lane of a group (MIDI 1.0 Detailed Specification, system common and
+/// system Real Time messages).
 #[tactic(auto, using(crate::proofs::PieceLaws::piece_system, crate::proofs::PieceLaws::kept_system))]
-pub fn write_system(piece: &mut Piece, lanes: &mut Lanes, group: U4, message: &System)
+pub fn write_system(piece: &mut Piece, lanes: &mut KeptLanes, group: U4, message: &System)
     ensures bytes { piece.new
         ≡ piece_by lanes.old.paired lanes.old.style (lane_at lanes.old.states group) None
         (packet.System group message.now) }

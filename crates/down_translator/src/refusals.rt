@@ -1,9 +1,9 @@
 // Which voice messages are refused.
 ghost use Rattle.std.specs.Prelude.{◌≡◌};
-ghost use Rattle.voice_state.specs.Refusal.{bad_control, bad_voice1, bad_voice2};
+ghost use Rattle.midi_meaning.specs.Refusal.{bad_control, bad_voice1, bad_voice2};
 
+use midi_meaning::{BadStep, ControlRole};
 use voice_messages::{U7, Voice1, Voice2};
-use voice_state::{BadStep, ControlRole};
 
 /// Why a control change is refused, if it is refused (own rule).
 pub fn bad_control(index: U7) -> Option<BadStep>

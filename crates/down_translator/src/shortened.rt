@@ -2,22 +2,23 @@
 ghost use Rattle.std.specs.Prelude.{◌≡◌, ◌≤◌, ◌/◌, ◌==◌, ◌∷◌, if◌then◌else◌, false, take};
 ghost use Rattle.std.specs.Option.{option_to_list};
 ghost use Rattle.midi1_bytes.specs.RunningStatus.{without_status};
-ghost use Rattle.down_translator.specs.Lanes.{is_plain, kept_by, lane_at};
-ghost use Rattle.down_translator.specs.Lowered.{attribute_line, bytes_of};
+ghost use Rattle.down_translator.specs.KeptLanes.{is_plain, kept_by, lane_at};
+ghost use Rattle.down_translator.specs.Lowered.{attribute_line, lowered_bytes};
 ghost use Rattle.down_translator.specs.declared.statuses.Statuses.TheVariants.{Changes};
 
-use crate::lanes::Lanes;
+use crate::kept_lanes::KeptLanes;
 use crate::lowered::LoweredMessage;
-use encoded_packets::ValueMessage;
+use direct_packets::DirectMessage;
+use midi_meaning::{Kind, Listed};
 use voice_messages::U7;
-use voice_state::{Kind, Listed};
 
 /// Places for the bytes of one message.
 pub type Bytes = [u8; 3];
 
-/// The index of a control change. Another message has that of a control change that is lone, so that nothing need be guessed.
+/// The index of a control change. Another message has that of a control change that is direct, so that
+/// nothing need be guessed.
 #[inline(always)]
-pub fn control_index(message: &ValueMessage) -> U7
+pub fn control_index(message: &DirectMessage) -> U7
     ensures { result ≡ (if message.now.status / 16 == 0xB then message.now.index else 64) }
 {
     if message.status / 16 == 0xB {
@@ -49,7 +50,7 @@ fn write_data(bytes: &mut Bytes, message: &LoweredMessage) -> usize
 #[inline(always)]
 fn write_whole(bytes: &mut Bytes, message: &LoweredMessage) -> usize
     ensures count { result ≤ 3 }
-    ensures bytes { take result bytes.new ≡ bytes_of message.now }
+    ensures bytes { take result bytes.new ≡ lowered_bytes message.now }
 {
     bytes[0] = message.status;
     bytes[1] = message.first.get();
@@ -62,15 +63,15 @@ fn write_whole(bytes: &mut Bytes, message: &LoweredMessage) -> usize
     }
 }
 
-/// Writes a message that leaves the registers as they are, in compact style: without its status byte where that is the running
-/// status of its lane, as it is from now on (MIDI 1.0 Detailed Specification, running status). Tells how many bytes are written, 1
-/// to 3.
+/// Writes a message that leaves the registers as they are, in compact style: without its status byte where
+/// that is the running status of its lane, as it is from now on (MIDI 1.0 Detailed Specification, running
+/// status). Tells how many bytes are written, 1 to 3.
 #[inline(always)]
-pub fn write_shortened(bytes: &mut Bytes, lanes: &mut Lanes, message: &LoweredMessage) -> usize
+pub fn write_shortened(bytes: &mut Bytes, lanes: &mut KeptLanes, message: &LoweredMessage) -> usize
     requires { is_plain lanes.old.style ≡ false }
     ensures count { result ≤ 3 }
     ensures bytes { take result bytes.new
-        ≡ without_status (lane_at lanes.old.states message.now.lane).running (bytes_of message.now) }
+        ≡ without_status (lane_at lanes.old.states message.now.lane).running (lowered_bytes message.now) }
     ensures after { lanes.new
         ≡ kept_by message.now.lane (Changes (Some message.now.status)) (λ channels. channels) lanes.old }
 {

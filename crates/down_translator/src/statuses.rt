@@ -13,11 +13,13 @@ use voice_messages::Voice1;
 pub enum Statuses {
     /// All.
     All,
-    /// Those that aren't the running status, which is this one (MIDI 1.0 Detailed Specification, running status).
+    /// Those that aren't the running status, which is this one (MIDI
+    /// 1.0 Detailed Specification, running status).
     Changes(Option<u8>),
 }
 
-/// Adds a status byte to a piece, unless it is the running status (MIDI 1.0 Detailed Specification, running status).
+/// Adds a status byte to a piece, unless it is the running status
+/// (MIDI 1.0 Detailed Specification, running status).
 #[inline(always)]
 fn add_status(piece: &mut Piece, running: Option<u8>, status: u8)
     requires { length piece.old < 12 }
@@ -28,8 +30,9 @@ fn add_status(piece: &mut Piece, running: Option<u8>, status: u8)
     }
 }
 
-/// Adds the bytes of a message to a piece, without its status byte where that is the running status (MIDI 1.0 Detailed
-/// Specification, running status). All other bytes are added in one place, so that the message stays in registers.
+/// Adds the bytes of a message to a piece, without its status byte where that is the running status (MIDI 1.0
+/// Detailed Specification, running status). All other bytes are added in one place, so that the message stays
+/// in registers.
 #[tactic(auto, using(crate::proofs::PieceLaws::without_status_is))]
 #[inline(always)]
 pub fn add_unless_running(piece: &mut Piece, running: Option<u8>, bytes: &[u8])

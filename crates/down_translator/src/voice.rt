@@ -1,4 +1,5 @@
-// Voice messages of MIDI 2.0 that are carried by one of MIDI 1.0, one by one (M2-104-UM, default translation; M2-115-U).
+// Voice messages of MIDI 2.0 that are carried by one of MIDI 1.0, one
+// by one (M2-104-UM, default translation; M2-115-U).
 ghost use Rattle.std.specs.Prelude.{◌≡◌};
 ghost use Rattle.bit_scaling.specs.Scaling.{down7, down14, release_down, velocity_down};
 ghost use Rattle.voice_messages.specs.declared.voice1.Voice1.TheVariants as voice1;

@@ -1,5 +1,5 @@
-// Worked rows: the packets of recordings, and what comes of each. A row has the offset of a packet, its words, and behind an arrow the
-// lane, the piece and the line of the listing, or why the packet is refused.
+// Worked rows: the packets of recordings, and what comes of each. A row has the offset of a packet, its
+// words, and behind an arrow the lane, the piece and the line of the listing, or why the packet is refused.
 ghost use Rattle.std.specs.Prelude.{IfSome};
 ghost use Rattle.ump_grammar.specs.Ranges.{IsPacket};
 

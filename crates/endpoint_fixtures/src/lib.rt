@@ -1,5 +1,5 @@
-//! What the tests of an endpoint share: the text of its setup, and the MIDI-CI messages that a peer sends it, byte by byte from the
-//! tables of M2-101-UM. Only tests crates use it.
+//! What the tests of an endpoint share: the text of its setup, and the MIDI-CI messages that a peer sends it,
+//! byte by byte from the tables of M2-101-UM. Only tests crates use it.
 #![tactic(auto)]
 
 mod messages;

@@ -21,14 +21,15 @@ pub const FIRST_MUID: Muid = [0x67, 0x0A, 0x0D, 0x09];
 /// 300, its second one.
 pub const SECOND_MUID: Muid = [0x2C, 0x02, 0x00, 0x00];
 
-/// The body of a reply to Discovery. Without its last byte, the function block, it is that of a Discovery; without its last two the
-/// body of either in version 01.
+/// The body of a reply to Discovery. Without its last byte, the function block, it is that of a Discovery;
+/// without its last two the body of either in version 01.
 pub const DISCOVERY_REPLY: [u8; 18] = [
     0x7D, 0x00, 0x00, 0x01, 0x00, 0x02, 0x00, 0x01, 0x00, 0x00, 0x00, 0x04, 0x00, 0x02, 0x00, 0x00,
     0x00, 0x00,
 ];
 
-/// The body of a switch or a report of the profile of `DEMO_SETUP`, for one channel. Its id alone is the body in version 01.
+/// The body of a switch or a report of the profile of `DEMO_SETUP`, for
+/// one channel. Its id alone is the body in version 01.
 pub const PROFILE: [u8; 7] = [0x7E, 0x00, 0x01, 0x01, 0x00, 0x01, 0x00];
 
 /// The same of a profile that the setup does not have.
@@ -49,7 +50,8 @@ pub fn profile_id() -> ProfileId
     }
 }
 
-/// The exclusive with these bytes between F0 and F7; `None` where one of them is no data byte, or they are more than 510.
+/// The exclusive with these bytes between F0 and F7; `None` where one
+/// of them is no data byte, or they are more than 510.
 pub fn framed(payload: &[u8]) -> Option<ShortList<u8, 512>>
     ensures { IfSome result IsExclusive }
 {
@@ -92,7 +94,8 @@ impl CiMessage<'_> {
         Some(payload)
     }
 
-    /// The exclusive of the message; `None` where one of its bytes is no data byte, or the body has more than 497.
+    /// The exclusive of the message; `None` where one of its bytes is
+    /// no data byte, or the body has more than 497.
     pub fn exclusive(&self) -> Option<ShortList<u8, 512>>
         ensures { IfSome result IsExclusive }
     {

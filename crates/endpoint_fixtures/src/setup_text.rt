@@ -1,5 +1,6 @@
-/// A setup that keeps all rules, of 29 lines: an endpoint, a function block with MIDI-CI on group 0 that has two MUIDs, and a profile
-/// of channel 2 of that group, which is off. It is `examples/endpoint.toml` without its comments and empty lines.
+/// A setup that keeps all rules, of 29 lines: an endpoint, a function block with MIDI-CI on group 0 that has
+/// two MUIDs, and a profile of channel 2 of that group, which is off. It is `examples/endpoint.toml` without
+/// its comments and empty lines.
 pub const DEMO_SETUP: &str = "\
 [endpoint]
 name = \"Demo Endpoint X\"

@@ -8,10 +8,11 @@ use Rattle.system_stream.specs.declared.message.StreamMessage.TheVariants as str
 use Rattle.function_blocks.specs.Endpoints.{is_supported}
 use Rattle.function_blocks.specs.InForce.{message_read, protocol_at, protocol_requested, replies_at}
 use Rattle.function_blocks.specs.Replies.{protocol_after, stream_replies}
-use Rattle.function_blocks.specs.Setups.{Facts}
+use Rattle.function_blocks.specs.Setups.{SetupData}
 
 -- one message
-after-requested : (setup : Facts) (protocol : ℕ) (m : StreamMessage) → protocol_after setup protocol m ≡ unwrap_or (protocol_requested setup m) protocol
+after-requested : (setup : SetupData) (protocol : ℕ) (m : StreamMessage)
+    → protocol_after setup protocol m ≡ unwrap_or (protocol_requested setup m) protocol
 after-requested setup protocol (stream.ConfigRequest wanted jr) = go (is_supported setup.endpoint.midi1 setup.endpoint.midi2 wanted)
   where
     go : (t : Bool) → cond t wanted protocol ≡ unwrap_or (cond t (Some wanted) None) protocol
@@ -30,15 +31,16 @@ after-requested setup protocol stream.StartClip = refl
 after-requested setup protocol stream.EndClip = refl
 after-requested setup protocol stream.Other = refl
 
-pub protocol-follows : (setup : Facts) (past : List Packet) (packet : Packet) (m : StreamMessage) → message_read packet ≡ Some m →
+pub protocol-follows : (setup : SetupData) (past : List Packet) (packet : Packet) (m : StreamMessage) → message_read packet ≡ Some m →
     protocol_after setup (protocol_at setup past) m ≡ protocol_at setup (packet ∷ past)
 protocol-follows setup past packet m is =
     after-requested setup (protocol_at setup past) m
     ∙ ap (λ o. unwrap_or (option_and_then (protocol_requested setup) o) (protocol_at setup past)) (sym is)
 
-pub replies-follow : (setup : Facts) (past : List Packet) (packet : Packet) (m : StreamMessage) → message_read packet ≡ Some m →
+pub replies-follow : (setup : SetupData) (past : List Packet) (packet : Packet) (m : StreamMessage) → message_read packet ≡ Some m →
     stream_replies setup (protocol_at setup past) m ≡ replies_at setup past packet
 replies-follow setup past packet m is = ap (λ o. option_map_or (stream_replies setup (protocol_at setup past)) o []) (sym is)
 
-pub protocol-stays : (setup : Facts) (past : List Packet) (packet : Packet) → message_read packet ≡ None → protocol_at setup (packet ∷ past) ≡ protocol_at setup past
+pub protocol-stays : (setup : SetupData) (past : List Packet) (packet : Packet) → message_read packet ≡ None
+    → protocol_at setup (packet ∷ past) ≡ protocol_at setup past
 protocol-stays setup past packet none = ap (λ o. unwrap_or (option_and_then (protocol_requested setup) o) (protocol_at setup past)) none

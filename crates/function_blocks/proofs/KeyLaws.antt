@@ -1,5 +1,6 @@
 -- Lists of values, read from the front.
-use Rattle.std.proofs.Common.{◌≡◌, ◌<◌, ℕ, ◌+◌, drop, get_or, Bool, ◌&&◌, List, [], ◌∷◌, ◌++◌, Option, Some, None, option_map, refl, ap, sym, ◌∙◌, append_assoc, length, map, arith, is_some}
+use Rattle.std.proofs.Common.{◌≡◌, ◌<◌, ℕ, ◌+◌, drop, get_or, Bool, ◌&&◌, List, [], ◌∷◌, ◌++◌, Option, Some}
+use Rattle.std.proofs.Common.{None, option_map, refl, ap, sym, ◌∙◌, append_assoc, length, map, arith, is_some}
 use Rattle.std.specs.List.{list_all}
 use Rattle.std.proofs.lemmas.List.{drop_more}
 use Rattle.std.specs.Prelude.{Ok, Err}
@@ -7,7 +8,7 @@ use Rattle.toml.specs.Data.{Data, Items, item, Members, as_table}
 use Rattle.toml.specs.View.{view, items_view}
 use Rattle.toml.specs.declared.value.Value.{Value}
 use Rattle.function_blocks.specs.declared.rules.Rule.{Rule}
-use Rattle.function_blocks.specs.Rules.{Read, after, in_front, needs}
+use Rattle.function_blocks.specs.Rules.{Read, and_then, in_front, needs}
 use Rattle.function_blocks.specs.Keys.{number_in, numbers_in, count_items, list_of, is_table, each}
 
 -- what is read after xs
@@ -60,7 +61,8 @@ read_on_more xs x (Ok ys) = ap Ok (sym (append_assoc xs (x ∷ []) ys))
 read_on_more xs x (Err e) = refl
 
 -- one more entry is read
-pub each_more : {A : Type 0} (r : Rule) (read : Members → Read A) (xs ys : List A) (x : A) (vs : List Value) (i : ℕ) (v : Value) → i < length vs → v ≡ get_or vs i v
+pub each_more : {A : Type 0} (r : Rule) (read : Members → Read A) (xs ys : List A) (x : A) (vs : List Value) (i : ℕ) (v : Value)
+    → i < length vs → v ≡ get_or vs i v
     → Ok x ≡ needs r (as_table (view v)) read → ys ≡ xs ++ x ∷ []
     → read_on xs (each r read (map view (drop i vs))) ≡ each r read (map view vs)
     → read_on ys (each r read (map view (drop (i + 1) vs))) ≡ each r read (map view vs)
@@ -69,6 +71,6 @@ each_more r read xs ys x vs i v within is given more before =
     let opened : drop i vs ≡ v ∷ drop (i + 1) vs = drop_more vs i v within ∙ ap (λ w. w ∷ drop (i + 1) vs) (sym is) in
     ap (λ zs. read_on zs (each r read rest)) more
     ∙ sym (read_on_more xs x (each r read rest))
-    ∙ ap (λ o. read_on xs (after o (λ y. in_front y (each r read rest)))) given
+    ∙ ap (λ o. read_on xs (and_then o (λ y. in_front y (each r read rest)))) given
     ∙ ap (λ ws. read_on xs (each r read (map view ws))) (sym opened)
     ∙ before

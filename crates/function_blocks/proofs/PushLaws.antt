@@ -1,5 +1,6 @@
 -- Packets that are added to replies.
-use Rattle.std.proofs.Common.{Bool, ℕ, ◌≡◌, ◌<◌, ◌≤◌, ◌+◌, ◌∙◌, ap, sym, refl, List, [], ◌∷◌, ◌++◌, length, arith, length-append, zero, suc, subst, Some, take, get_or, append-nil, append_assoc, add-zero, length-take}
+use Rattle.std.proofs.Common.{Bool, ℕ, ◌≡◌, ◌<◌, ◌≤◌, ◌+◌, ◌∙◌, ap, sym, refl, List, [], ◌∷◌, ◌++◌, length, arith, length-append}
+use Rattle.std.proofs.Common.{zero, suc, subst, Some, take, get_or, append-nil, append_assoc, add-zero, length-take}
 use Rattle.ump_grammar.specs.declared.packet.Packet.{Packet}
 use Rattle.ump_grammar.specs.Replies.{AddsPacket, AddsPackets, word_count}
 use Rattle.voice_messages.specs.declared.voice2.Form.{Form}
@@ -41,7 +42,8 @@ part_four_words kind.BlockName f block text = refl
 pub pushes_none : (old : List ℕ) → Pushes [] old old
 pushes_none old = record { added = refl; count = omega arith }
 
-pub pushes_one : (m : StreamMessage) (old new : List ℕ) → FitsPlaces m → AddsPacket (packet_of m) old new → length new ≡ length old + word_count (packet_of m) → Pushes (packet_of m ∷ []) old new
+pub pushes_one : (m : StreamMessage) (old new : List ℕ) → FitsPlaces m → AddsPacket (packet_of m) old new
+    → length new ≡ length old + word_count (packet_of m) → Pushes (packet_of m ∷ []) old new
 pushes_one m old new fits adds count = record {
   added = (new, adds, refl);
   count = omega (arith, count, four_words m fits);
@@ -73,7 +75,8 @@ first-count k block text (suc n) =
     omega (arith, length-append (first_packets k block text n) (packet ∷ []), first-count k block text n)
 
 -- the packet that is cut
-pub packet-cut : (k : TextKind) (block : ℕ) (text : List ℕ) (n : ℕ) (p : Packet) → n < part_count k text → Some p ≡ packet_at k block text n →
+pub packet-cut : (k : TextKind) (block : ℕ) (text : List ℕ) (n : ℕ) (p : Packet) → n < part_count k text
+    → Some p ≡ packet_at k block text n →
     p ≡ packet_of (part_message k (form_at (part_count k text) n) block (part_bytes (part_size k) text n))
 packet-cut k block text n p within is =
     let packet : Packet = packet_of (part_message k (form_at (part_count k text) n) block (part_bytes (part_size k) text n)) in
@@ -81,24 +84,29 @@ packet-cut k block text n p within is =
     cc
 
 -- one more packet of a text
-pub text-more : (k : TextKind) (block : ℕ) (text : List ℕ) (n : ℕ) (p : Packet) (old now new : List ℕ) → n < part_count k text → Some p ≡ packet_at k block text n →
-    Pushes (first_packets k block text n) old now → AddsPacket p now new → length new ≡ length now + word_count p → Pushes (first_packets k block text (n + 1)) old new
+pub text-more : (k : TextKind) (block : ℕ) (text : List ℕ) (n : ℕ) (p : Packet) (old now new : List ℕ) → n < part_count k text
+    → Some p ≡ packet_at k block text n →
+    Pushes (first_packets k block text n) old now → AddsPacket p now new → length new ≡ length now + word_count p
+    → Pushes (first_packets k block text (n + 1)) old new
 text-more k block text n p old now new within is before adds count =
     let packet : Packet = packet_of (part_message k (form_at (part_count k text) n) block (part_bytes (part_size k) text n)) in
     let same : p ≡ packet = packet-cut k block text n p within is in
     let more : n + 1 ≡ suc n = omega arith in
     let P : Packet → Type 0 = λ q. AddsPacket q now new in
-    let four : word_count p ≡ 4 = ap word_count same ∙ part_four_words k (form_at (part_count k text) n) block (part_bytes (part_size k) text n) in
+    let four : word_count p ≡ 4 =
+    ap word_count same ∙ part_four_words k (form_at (part_count k text) n) block (part_bytes (part_size k) text n) in
     let one : Pushes (packet ∷ []) now new = record { added = (new, subst P same adds, refl); count = omega (arith, count, four) } in
     rw more (pushes_append (first_packets k block text n) (packet ∷ []) old now new before one)
 
 -- the replies of blocks, and of more blocks after them
-from-append : (filter number : ℕ) (bs cs : List Block) → replies_from filter number (bs ++ cs) ≡ replies_from filter number bs ++ replies_from filter (number + length bs) cs
+from-append : (filter number : ℕ) (bs cs : List Block)
+    → replies_from filter number (bs ++ cs) ≡ replies_from filter number bs ++ replies_from filter (number + length bs) cs
 from-append filter number [] cs = ap (λ n. replies_from filter n cs) (sym (add-zero number))
 from-append filter number (b ∷ bs) cs =
     let first : List Packet = block_replies filter number b in
     let counted : number + 1 + length bs ≡ number + length (b ∷ bs) = omega arith in
-    ap (λ ps. first ++ ps) (from-append filter (number + 1) bs cs ∙ ap (λ n. replies_from filter (number + 1) bs ++ replies_from filter n cs) counted)
+    ap (λ ps. first ++ ps)
+    (from-append filter (number + 1) bs cs ∙ ap (λ n. replies_from filter (number + 1) bs ++ replies_from filter n cs) counted)
     ∙ sym (append_assoc first (replies_from filter (number + 1) bs) (replies_from filter (number + length (b ∷ bs)) cs))
 
 pub from-more : (filter : ℕ) (bs : List Block) (i : ℕ) (b : Block) → i < length bs → b ≡ get_or bs i b →
@@ -113,20 +121,24 @@ from-more filter bs i b within is =
     ∙ ap (λ ps. replies_from filter 0 front ++ ps) (append-nil (block_replies filter i b))
 
 -- the same replies, by what they are known to be
-pub asked_message : (b wanted : Bool) (m message : StreamMessage) (old new : List ℕ) → b ≡ wanted → m ≡ message → Pushes (asked b (packet_of m ∷ [])) old new → Pushes (asked wanted (packet_of message ∷ [])) old new
+pub asked_message : (b wanted : Bool) (m message : StreamMessage) (old new : List ℕ) → b ≡ wanted → m ≡ message
+    → Pushes (asked b (packet_of m ∷ [])) old new → Pushes (asked wanted (packet_of message ∷ [])) old new
 asked_message b wanted m message old new same is pushes =
     let P : List Packet → Type 0 = λ ps. Pushes ps old new in
     let replies : asked b (packet_of m ∷ []) ≡ asked wanted (packet_of message ∷ []) = λ i. asked (same i) (packet_of (is i) ∷ []) in
     subst P replies pushes
 
-pub asked_text : (b wanted : Bool) (k : TextKind) (block : ℕ) (t text : List ℕ) (old new : List ℕ) → b ≡ wanted → t ≡ text → Pushes (asked b (text_packets k block t)) old new → Pushes (asked wanted (text_packets k block text)) old new
+pub asked_text : (b wanted : Bool) (k : TextKind) (block : ℕ) (t text : List ℕ) (old new : List ℕ) → b ≡ wanted → t ≡ text
+    → Pushes (asked b (text_packets k block t)) old new → Pushes (asked wanted (text_packets k block text)) old new
 asked_text b wanted k block t text old new same is pushes =
     let P : List Packet → Type 0 = λ ps. Pushes ps old new in
-    let replies : asked b (text_packets k block t) ≡ asked wanted (text_packets k block text) = λ i. asked (same i) (text_packets k block (is i)) in
+    let replies : asked b (text_packets k block t) ≡ asked wanted (text_packets k block text) =
+    λ i. asked (same i) (text_packets k block (is i)) in
     subst P replies pushes
 
 -- five lists of packets, one after the other
-pub pushes_five : (a b c d e : List Packet) (r0 r1 r2 r3 r4 r5 : List ℕ) → Pushes a r0 r1 → Pushes b r1 r2 → Pushes c r2 r3 → Pushes d r3 r4 → Pushes e r4 r5 → Pushes (a ++ b ++ c ++ d ++ e) r0 r5
+pub pushes_five : (a b c d e : List Packet) (r0 r1 r2 r3 r4 r5 : List ℕ) → Pushes a r0 r1 → Pushes b r1 r2 → Pushes c r2 r3 → Pushes d r3 r4
+    → Pushes e r4 r5 → Pushes (a ++ b ++ c ++ d ++ e) r0 r5
 pushes_five a b c d e r0 r1 r2 r3 r4 r5 p q r s t =
     pushes_append (a ++ b ++ c ++ d) e r0 r4 r5
     (pushes_append (a ++ b ++ c) d r0 r3 r4

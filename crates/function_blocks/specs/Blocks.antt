@@ -1,11 +1,12 @@
 -- The function blocks of a setup.
-use Rattle.std.specs.Prelude.{ℕ, ◌≡◌, ◌⊎◌, ◌+◌, ◌<◌, ◌≤◌, Bool, true, ◌==◌, ◌&&◌, ◌||◌, not, nat_le, nat_lt, List, [], ◌∷◌, ◌++◌, length, codes, Result, Ok, Err, MatchResult, Vec}
+use Rattle.std.specs.Prelude.{ℕ, ◌≡◌, ◌⊎◌, ◌+◌, ◌<◌, ◌≤◌, Bool, true, ◌==◌, ◌&&◌, ◌||◌, not, nat_le, nat_lt}
+use Rattle.std.specs.Prelude.{List, [], ◌∷◌, ◌++◌, length, codes, Result, Ok, Err, MatchResult, Vec}
 use Rattle.std.specs.declared.alloc.Global.{Global}
 use Rattle.std.specs.List.{All, list_all, list_any, flat_map}
 use Rattle.std.specs.Str.{IsUtf8}
 use Rattle.toml.specs.Data.{Members}
 use Rattle.function_blocks.specs.Keys.{limited_text_at, short_numbers_at, number_at, flag_at, entries_at, each}
-use Rattle.function_blocks.specs.Rules.{Read, needs, holds, after}
+use Rattle.function_blocks.specs.Rules.{Read, needs, holds, and_then}
 use Rattle.function_blocks.specs.declared.rules.Rule.TheVariants as rule
 use Rattle.function_blocks.specs.declared.rules.SetupFault.{SetupFault}
 use Rattle.function_blocks.specs.declared.rules.SetupFault.TheVariants.{NoMemory}
@@ -15,8 +16,8 @@ use Rattle.function_blocks.specs.declared.setup.Block.{Block}
 abbrev pub has_muid : ℕ → List ℕ → Bool
 has_muid ci muids = ci == 0 || not (length muids == 0)
 
-abbrev pub block_of : Members → Read Block
-block_of table =
+abbrev pub block_in : Members → Read Block
+block_in table =
     needs rule.ActiveIsAFlag (flag_at (codes "active") table) (λ active.
     needs rule.BlockNameIsShort (limited_text_at 91 (codes "name") table) (λ name.
     needs rule.HintIsInRange (number_at 0 3 (codes "hint") table) (λ hint.
@@ -44,7 +45,7 @@ block_of table =
 
 -- the blocks, one after the other
 abbrev pub blocks_of : Members → Read (List Block)
-blocks_of setup = after (entries_at rule.BlocksAreTables 32 (codes "block") setup) (each rule.BlocksAreTables block_of)
+blocks_of setup = and_then (entries_at rule.BlocksAreTables 32 (codes "block") setup) (each rule.BlocksAreTables block_in)
 
 -- a block has MIDI-CI where it is active and names a version
 abbrev pub has_ci : Block → Bool
@@ -52,7 +53,8 @@ has_ci block = block.active && not (block.ci == 0)
 
 -- both have MIDI-CI, and some group is in both
 abbrev pub shares_group : Block → Block → Bool
-shares_group one other = (has_ci one && has_ci other) && (nat_lt one.first (other.first + other.count) && nat_lt other.first (one.first + one.count))
+shares_group one other =
+    (has_ci one && has_ci other) && (nat_lt one.first (other.first + other.count) && nat_lt other.first (one.first + one.count))
 
 -- no two active blocks with MIDI-CI share a group
 abbrev pub are_apart : List Block → Bool

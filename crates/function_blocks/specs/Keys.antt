@@ -1,9 +1,10 @@
 -- What the keys of a TOML table hold.
-use Rattle.std.specs.Prelude.{ℕ, ℤ, pos, negsuc, Bool, ◌==◌, ◌&&◌, ◌+◌, List, [], ◌∷◌, length, Option, Some, None, option_map, option_and_then, if◌then◌else◌, nat_le, is_some, Ok}
+use Rattle.std.specs.Prelude.{ℕ, ℤ, pos, negsuc, Bool, ◌==◌, ◌&&◌, ◌+◌, List, [], ◌∷◌, length, Option}
+use Rattle.std.specs.Prelude.{Some, None, option_map, option_and_then, if◌then◌else◌, nat_le, is_some, Ok}
 use Rattle.std.specs.List.{list_all}
 use Rattle.toml.specs.Data.{Data, Items, no_items, item, Members, get_member, as_str, as_integer, as_bool, as_array, as_table}
 use Rattle.function_blocks.specs.declared.rules.Rule.{Rule}
-use Rattle.function_blocks.specs.Rules.{Read, holds, needs, after, in_front}
+use Rattle.function_blocks.specs.Rules.{Read, holds, needs, and_then, in_front}
 
 abbrev pub table_at : List ℕ → Members → Option Members
 table_at key members = option_and_then as_table (get_member key members)
@@ -84,4 +85,4 @@ entries_at rule most key members = entries_of rule most (get_member key members)
 -- each entry is read in its turn, up to the first that breaks a rule
 abbrev pub each : {A : Type 0} → Rule → (Members → Read A) → List Data → Read (List A)
 each rule read [] = Ok []
-each rule read (value ∷ values) = after (needs rule (as_table value) read) (λ x. in_front x (each rule read values))
+each rule read (value ∷ values) = and_then (needs rule (as_table value) read) (λ x. in_front x (each rule read values))

@@ -1,10 +1,11 @@
 -- The profiles of a setup.
-use Rattle.std.specs.Prelude.{ℕ, ◌≡◌, ◌<◌, ◌+◌, ◌-◌, nat_le, nat_lt, length, Bool, true, false, ◌==◌, ◌&&◌, not, List, [], ◌∷◌, codes, Option, Some, None, is_some, option_and_then, if◌then◌else◌, slice_get, Ok}
+use Rattle.std.specs.Prelude.{ℕ, ◌≡◌, ◌<◌, ◌+◌, ◌-◌, nat_le, nat_lt, length, Bool, true, false, ◌==◌, ◌&&◌, not, List}
+use Rattle.std.specs.Prelude.{[], ◌∷◌, codes, Option, Some, None, is_some, option_and_then, if◌then◌else◌, slice_get, Ok}
 use Rattle.std.specs.List.{list_any}
 use Rattle.std.specs.Str.{bytes_eq}
 use Rattle.toml.specs.Data.{Members}
 use Rattle.function_blocks.specs.Keys.{text_at, numbers_at, number_at, flag_at, entries_at, each}
-use Rattle.function_blocks.specs.Rules.{Read, needs, after}
+use Rattle.function_blocks.specs.Rules.{Read, needs, and_then}
 use Rattle.function_blocks.specs.declared.rules.Rule.TheVariants as rule
 use Rattle.function_blocks.specs.declared.setup.Block.{Block}
 use Rattle.function_blocks.specs.declared.setup.Place.{Place}
@@ -46,14 +47,15 @@ profile_of blocks table =
     needs rule.ProfileBlockNamesCi (number_at 0 31 (codes "block") table) (λ number.
     needs rule.ProfileBlockNamesCi (block_naming_ci blocks number) (λ block.
     needs rule.PlaceIsKnown (option_and_then kind_of (text_at (codes "place") table)) (λ kind.
-    after (place_of block table kind) (λ place.
+    and_then (place_of block table kind) (λ place.
     needs rule.ProfileIdIsFiveNumbers (numbers_at 5 127 (codes "id") table) (λ id.
     needs rule.OnIsAFlag (flag_at (codes "on") table) (λ on.
     Ok (record { block = number; place = place; id = id; on = on })))))))
 
 -- the profiles, one after the other
 abbrev pub profiles_of : List Block → Members → Read (List Profile)
-profiles_of blocks setup = after (entries_at rule.ProfilesAreTables 64 (codes "profile") setup) (each rule.ProfilesAreTables (profile_of blocks))
+profiles_of blocks setup =
+    and_then (entries_at rule.ProfilesAreTables 64 (codes "profile") setup) (each rule.ProfilesAreTables (profile_of blocks))
 
 abbrev pub same_place : Place → Place → Bool
 same_place place.Function place.Function = true

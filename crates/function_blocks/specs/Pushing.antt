@@ -1,3 +1,4 @@
+-- For proofs alone: no contract of a public call rests on what stands here.
 -- Packets of four words that are added to replies.
 use Rattle.std.specs.Prelude.{ℕ, ◌≡◌, ◌+◌, ◌*◌, List, length}
 use Rattle.ump_grammar.specs.declared.packet.Packet.{Packet}

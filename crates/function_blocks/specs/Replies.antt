@@ -10,7 +10,7 @@ use Rattle.system_stream.specs.Cut.{message_at, part_count}
 use Rattle.system_stream.specs.Layout.{flag, packet_of}
 use Rattle.function_blocks.specs.declared.setup.Block.{Block}
 use Rattle.function_blocks.specs.Endpoints.{is_supported}
-use Rattle.function_blocks.specs.Setups.{Facts, in_two_bytes}
+use Rattle.function_blocks.specs.Setups.{SetupData, in_two_bytes}
 
 -- these replies, where they are asked for
 abbrev pub asked : Bool → List Packet → List Packet
@@ -27,18 +27,19 @@ abbrev pub text_packets : TextKind → ℕ → List ℕ → List Packet
 text_packets kind block text = first_packets kind block text (part_count kind text)
 
 -- version 1.1 of the format, and no jitter reduction
-abbrev pub info_of : Facts → StreamMessage
+abbrev pub info_of : SetupData → StreamMessage
 info_of setup = stream.Info 1 1 setup.endpoint.fixed (length setup.blocks) setup.endpoint.midi2 setup.endpoint.midi1 false false
 
-abbrev pub identity_message : Facts → StreamMessage
+abbrev pub identity_message : SetupData → StreamMessage
 identity_message setup =
-    stream.Identity setup.endpoint.manufacturer (in_two_bytes setup.endpoint.family) (in_two_bytes setup.endpoint.model) setup.endpoint.revision
+    stream.Identity setup.endpoint.manufacturer (in_two_bytes setup.endpoint.family) (in_two_bytes setup.endpoint.model)
+    setup.endpoint.revision
 
 abbrev pub notice_of : ℕ → StreamMessage
 notice_of protocol = stream.ConfigNotice protocol 0
 
 -- bit 0 of the filter asks for the info, bit 1 for the identity, bit 2 for the name, bit 3 for the product id, bit 4 for the notice
-abbrev pub discovery_replies : Facts → ℕ → ℕ → List Packet
+abbrev pub discovery_replies : SetupData → ℕ → ℕ → List Packet
 discovery_replies setup protocol filter =
     asked (flag filter 0) (packet_of (info_of setup) ∷ [])
     ++ asked (flag filter 1) (packet_of (identity_message setup) ∷ [])
@@ -66,21 +67,21 @@ replies_of_named filter number None = []
 replies_of_named filter number (Some block) = block_replies filter number block
 
 -- all blocks for the number 255, else the block of the number, if there is one
-abbrev pub blocks_replies : Facts → ℕ → ℕ → List Packet
+abbrev pub blocks_replies : SetupData → ℕ → ℕ → List Packet
 blocks_replies setup number filter =
     if number == 255 then replies_from filter 0 setup.blocks else replies_of_named filter number (slice_get setup.blocks number)
 
 -- a request for a protocol that is supported puts it in force
-abbrev pub requested : Facts → ℕ → ℕ → ℕ
+abbrev pub requested : SetupData → ℕ → ℕ → ℕ
 requested setup protocol wanted = if is_supported setup.endpoint.midi1 setup.endpoint.midi2 wanted then wanted else protocol
 
 -- the protocol in force after a message
-abbrev pub protocol_after : Facts → ℕ → StreamMessage → ℕ
+abbrev pub protocol_after : SetupData → ℕ → StreamMessage → ℕ
 protocol_after setup protocol (stream.ConfigRequest wanted jr) = requested setup protocol wanted
 protocol_after setup protocol _ = protocol
 
 -- the replies to a message, with the protocol in force before it
-abbrev pub stream_replies : Facts → ℕ → StreamMessage → List Packet
+abbrev pub stream_replies : SetupData → ℕ → StreamMessage → List Packet
 stream_replies setup protocol (stream.Discovery major minor filter) = discovery_replies setup protocol filter
 stream_replies setup protocol (stream.ConfigRequest wanted jr) = packet_of (notice_of (requested setup protocol wanted)) ∷ []
 stream_replies setup protocol (stream.BlockDiscovery number filter) = blocks_replies setup number filter

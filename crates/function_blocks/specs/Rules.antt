@@ -58,9 +58,9 @@ holds r false next = Err (broken r)
 holds r true next = next
 
 -- what is read after something else was read
-abbrev pub after : {A B : Type 0} → Read A → (A → Read B) → Read B
-after (Ok x) next = next x
-after (Err e) next = Err e
+abbrev pub and_then : {A B : Type 0} → Read A → (A → Read B) → Read B
+and_then (Ok x) next = next x
+and_then (Err e) next = Err e
 
 -- one more in front of what is read
 abbrev pub in_front : {A : Type 0} → A → Read (List A) → Read (List A)

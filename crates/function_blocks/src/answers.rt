@@ -66,6 +66,7 @@ fn push_text(replies: &mut Replies, kind: TextKind, block: u8, text: &[u8])
     for k in 0..packet_count(kind, text) {
         match cut_text(kind, block, text, k) {
             Some(packet) => replies.push(&packet),
+            // there is a packet for each number below the count
             None => unreachable!(),
         }
     }
@@ -152,15 +153,15 @@ impl Setup {
       stream_replies,
     };
 
-    /// Adds the replies to a stream message (M2-104-UM, UMP stream messages) to `replies`, which is empty, and returns whether
-    /// there are any. They take no memory, and are at most 1,024 words: for each of 32 blocks, one info and seven packets of a
-    /// name.
+    /// Adds the replies to a stream message (M2-104-UM, UMP stream messages) to `replies`, which is empty,
+    /// and returns whether there are any. They take no memory, and are at most 1,024 words: for each of 32
+    /// blocks, one info and seven packets of a name.
     ///
-    /// Discovery is answered with what its filter asks for: the info, the identity, the name, the product id, and a notice of the
-    /// protocol in force. A request for a protocol that the setup supports puts it in force; each request is answered with a
-    /// notice of the one in force then. A discovery of blocks is answered with what its filter asks for, the info and the name, of
-    /// the block with its number, or of all blocks for the number 255; with nothing for a number that no block has. Nothing else is
-    /// answered.
+    /// Discovery is answered with what its filter asks for: the info, the identity, the name, the product id,
+    /// and a notice of the protocol in force. A request for a protocol that the setup supports puts it in
+    /// force; each request is answered with a notice of the one in force then. A discovery of blocks is
+    /// answered with what its filter asks for, the info and the name, of the block with its number, or of all
+    /// blocks for the number 255; with nothing for a number that no block has. Nothing else is answered.
     pub fn answer(
         &self,
         message: &StreamMessage,

@@ -8,7 +8,7 @@ ghost use Rattle.function_blocks.specs.Blocks.{
   IsBlock,
   are_apart as are_all_apart,
   are_distinct as are_all_distinct,
-  block_of,
+  block_in,
   blocks_of,
   muids_of,
   shares_group as has_group_of,
@@ -26,7 +26,7 @@ use toml::{Table, Value};
 
 /// Reads a block by the rules of its keys, in their order.
 fn read_block(table: &Table) -> Result<Block, SetupFault>
-    ensures value { result ≡ block_of (table_view table.now) }
+    ensures value { result ≡ block_in (table_view table.now) }
     ensures fits { IfOk result IsBlock }
 {
     let active = flag_at(table, "active").ok_or(broken(Rule::ActiveIsAFlag))?;
@@ -60,7 +60,7 @@ fn read_block(table: &Table) -> Result<Block, SetupFault>
 }
 
 fn read_entry(value: &Value) -> Result<Block, SetupFault>
-    ensures value { result ≡ needs rule.BlocksAreTables (as_table (view value.now)) block_of }
+    ensures value { result ≡ needs rule.BlocksAreTables (as_table (view value.now)) block_in }
     ensures fits { IfOk result IsBlock }
 {
     match value.as_table() {
@@ -70,7 +70,7 @@ fn read_entry(value: &Value) -> Result<Block, SetupFault>
 }
 
 fn read_each_block(alloc: Global, values: &[Value]) -> Result<Vec<Block>, SetupFault>
-    ensures value { Gives (each rule.BlocksAreTables block_of (map view values.now)) result }
+    ensures value { Gives (each rule.BlocksAreTables block_in (map view values.now)) result }
     ensures count { IfOk result (λ blocks. length blocks.items ≡ length values.now) }
     ensures fits { IfOk result (λ blocks. All IsBlock blocks.items) }
 {

@@ -217,7 +217,8 @@ fn are_tables(values: &[Value], most: usize) -> bool
     values.len() <= most && are_each_tables(values)
 }
 
-/// The entries of a list of at most `most` tables, which is what the rule asks for; none where the key is absent.
+/// The entries of a list of at most `most` tables, which is what the
+/// rule asks for; none where the key is absent.
 pub(crate) fn entries_at<'a>(
     table: &'a Table,
     key: &str,

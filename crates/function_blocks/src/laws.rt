@@ -6,30 +6,31 @@ ghost use Rattle.ump_grammar.specs.declared.packet.Packet.{Packet};
 ghost use Rattle.system_stream.specs.declared.message.StreamMessage.{StreamMessage};
 ghost use Rattle.function_blocks.specs.InForce.{message_read, protocol_at, replies_at};
 ghost use Rattle.function_blocks.specs.Replies.{protocol_after, stream_replies};
-ghost use Rattle.function_blocks.specs.Setups.{Facts, IsSetup};
+ghost use Rattle.function_blocks.specs.Setups.{SetupData, IsSetup};
 
-/// No setup has more than 1,024 words of replies to one message, four for each packet: for each of 32 blocks, one info and seven
-/// packets of a name.
+/// No setup has more than 1,024 words of replies to one message, four for each packet: for each of 32 blocks,
+/// one info and seven packets of a name.
 pub fn replies_are_few()
-    ensures { (setup : Facts) (protocol : ℕ) (message : StreamMessage) → IsSetup setup →
+    ensures { (setup : SetupData) (protocol : ℕ) (message : StreamMessage) → IsSetup setup →
         4 * length (stream_replies setup protocol message) ≤ 1024 }
 {}
 
 /// Each reply is a packet of four words.
 pub fn replies_have_four_words()
-    ensures { (setup : Facts) (protocol : ℕ) (message : StreamMessage) →
+    ensures { (setup : SetupData) (protocol : ℕ) (message : StreamMessage) →
         All (λ packet. word_count packet ≡ 4) (stream_replies setup protocol message) }
 {}
 
-/// Answering the messages of any packets, one after the other, keeps the protocol that the definition finds by looking back over
-/// them, and gives its replies. A packet without a message, such as one of a bad format, changes nothing and has no reply.
+/// Answering the messages of any packets, one after the other, keeps the protocol that the definition finds
+/// by looking back over them, and gives its replies. A packet without a message, such as one of a bad format,
+/// changes nothing and has no reply.
 pub fn protocol_follows_the_requests()
-    ensures protocol { (setup : Facts) (past : List Packet) (packet : Packet) (message : StreamMessage) →
+    ensures protocol { (setup : SetupData) (past : List Packet) (packet : Packet) (message : StreamMessage) →
         message_read packet ≡ Some message →
         protocol_after setup (protocol_at setup past) message ≡ protocol_at setup (packet ∷ past) }
-    ensures replies { (setup : Facts) (past : List Packet) (packet : Packet) (message : StreamMessage) →
+    ensures replies { (setup : SetupData) (past : List Packet) (packet : Packet) (message : StreamMessage) →
         message_read packet ≡ Some message →
         stream_replies setup (protocol_at setup past) message ≡ replies_at setup past packet }
-    ensures unread { (setup : Facts) (past : List Packet) (packet : Packet) → message_read packet ≡ None →
+    ensures unread { (setup : SetupData) (past : List Packet) (packet : Packet) → message_read packet ≡ None →
         protocol_at setup (packet ∷ past) ≡ protocol_at setup past }
 {}

@@ -154,6 +154,7 @@ fn id_of(numbers: &ShortList<u8, 5>) -> [U7; 5]
             seven_bits(*fourth),
             seven_bits(*fifth),
         ],
+        // there are five
         _ => unreachable!(),
     }
 }

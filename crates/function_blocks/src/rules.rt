@@ -4,8 +4,9 @@ ghost use Rattle.function_blocks.specs.Rules.{broken as broken_rule, number_of};
 
 use thiserror::Error;
 
-/// A rule of the setup (own rules), named for what it asks for. The rules are tested in this order, those of blocks for one block
-/// after the other, and those of profiles likewise. A missing key breaks its rule, except for `block` and `profile`.
+/// A rule of the setup (own rules), named for what it asks for. The rules are tested in this order, those of
+/// blocks for one block after the other, and those of profiles likewise. A missing key breaks its rule,
+/// except for `block` and `profile`.
 #[derive(Clone, Copy, Debug, PartialEq, Eq)]
 pub enum Rule {
     /// The text has at most 65,536 bytes.

@@ -38,7 +38,8 @@ pub struct Block {
     pub name: ShortList<u8, 91>,
     /// What it mainly does, as a hint to users, 0 to 3: 0 undeclared, 1 receives, 2 sends, 3 both.
     pub hint: u8,
-    /// Whether a MIDI 1.0 port is behind it, 0 to 2: 0 none, 1 one without a limit of speed, 2 one at 31.25 kbit/s.
+    /// Whether a MIDI 1.0 port is behind it, 0 to 2: 0 none, 1 one
+    /// without a limit of speed, 2 one at 31.25 kbit/s.
     pub midi1: u8,
     /// Which way its messages go, 1 to 3: 1 it only receives, 2 it only sends, 3 both.
     pub direction: u8,
@@ -50,7 +51,8 @@ pub struct Block {
     pub ci: u8,
     /// How many System Exclusive 8 streams it takes at a time, 0 to 255; 0 is none.
     pub sysex8: u8,
-    /// The MUIDs that the block takes one after the other, each at most 268,435,199; at least one where `ci` isn't 0.
+    /// The MUIDs that the block takes one after the other, each at
+    /// most 268,435,199; at least one where `ci` isn't 0.
     pub muids: ShortList<u32, 16>,
 }
 
@@ -89,8 +91,8 @@ pub struct Profile {
     pub on: bool,
 }
 
-/// The identity of the device, as it stands in Device Identity (M2-104-UM): family and model have seven bits in each byte, the
-/// lowest first.
+/// The identity of the device, as it stands in Device Identity (M2-104-UM): family and model have seven bits
+/// in each byte, the lowest first.
 #[derive(Clone, Copy, Debug, PartialEq, Eq)]
 pub struct Identity {
     /// Each 0 to 127.

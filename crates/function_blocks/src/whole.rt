@@ -7,8 +7,8 @@ ghost use Rattle.function_blocks.specs.Setups.{in_two_bytes as two_bytes_of};
 use crate::setup::{Block, Config, Endpoint, Identity, Profile};
 use std::marker::Model;
 
-/// The setup of an endpoint, which keeps the rules that `IsSetup` names. A contract sees it as the record of the endpoint's own keys,
-/// the blocks and the profiles, each in the order of the text.
+/// The setup of an endpoint, which keeps the rules that `IsSetup` names. A contract sees it as the record of
+/// the endpoint's own keys, the blocks and the profiles, each in the order of the text.
 #[derive(Drop)]
 pub struct Setup {
     pub(crate) endpoint: Endpoint,
@@ -17,9 +17,9 @@ pub struct Setup {
 }
 
 impl Model for Setup {
-    ghost use Rattle.function_blocks.specs.Setups.{Facts, IsSetup};
+    ghost use Rattle.function_blocks.specs.Setups.{SetupData, IsSetup};
 
-    ghost Value = { Facts };
+    ghost Value = { SetupData };
 
     ghost view = { λ s. record {
       endpoint = s.endpoint;
@@ -47,7 +47,20 @@ impl Setup {
     ghost use Rattle.function_blocks.specs.Profiles.{IsProfile, profiles_are_distinct};
     ghost use Rattle.function_blocks.specs.Setups.{identity_of};
 
-    /// The number of function blocks, at most 32. No two active ones with MIDI-CI share a group, and no MUID appears twice.
+    /// The function blocks by number, at most 32. No two active ones with
+    /// MIDI-CI share a group, and no MUID appears twice.
+    pub fn blocks(&self) -> &[Block]
+        ensures value { result.now ≡ self.now.blocks }
+        ensures few { length result.now ≤ 32 }
+        ensures fits { All IsBlock result.now }
+        ensures apart { are_apart result.now ≡ true }
+        ensures distinct { are_distinct (muids_of result.now) ≡ true }
+    {
+        self.blocks.as_slice()
+    }
+
+    /// The number of function blocks, at most 32. No two active ones with
+    /// MIDI-CI share a group, and no MUID appears twice.
     pub fn block_count(&self) -> u8
         ensures value { result ≡ length self.now.blocks }
         ensures few { length self.now.blocks ≤ 32 }
@@ -68,6 +81,18 @@ impl Setup {
         self.blocks.get(n as usize)
     }
 
+    /// The profiles in the order of the setup, at most 64. No two have the same block, place and id. The
+    /// block of each is one of the setup's blocks whose `ci` isn't 0, and where its place names a group, that
+    /// is one of the block's.
+    pub fn profiles(&self) -> &[Profile]
+        ensures value { result.now ≡ self.now.profiles }
+        ensures few { length result.now ≤ 64 }
+        ensures fits { All (IsProfile self.now.blocks) result.now }
+        ensures distinct { profiles_are_distinct result.now ≡ true }
+    {
+        self.profiles.as_slice()
+    }
+
     /// The number of profiles, at most 64. No two have the same block, place and id.
     pub fn profile_count(&self) -> usize
         ensures value { result ≡ length self.now.profiles }
@@ -77,8 +102,9 @@ impl Setup {
         self.profiles.len()
     }
 
-    /// Profile `k` in the order of the setup, counted from 0; `None` exactly when `k` is past the last one. Its block is one of
-    /// the setup's blocks whose `ci` isn't 0, and where its place names a group, that is one of the block's.
+    /// Profile `k` in the order of the setup, counted from 0; `None` exactly when `k` is past the last one.
+    /// Its block is one of the setup's blocks whose `ci` isn't 0, and where its place names a group, that is
+    /// one of the block's.
     pub fn profile(&self, k: usize) -> Option<&Profile>
         ensures value { option_map (λ p. p.now) result ≡ slice_get self.now.profiles k }
         ensures block { IfSome result (λ p. p.now.block < length self.now.blocks) }
@@ -87,8 +113,8 @@ impl Setup {
         self.profiles.get(k)
     }
 
-    /// The identity as it stands in Device Identity (M2-104-UM), `family` and `model` with seven bits in each byte, the lowest
-    /// first. Each byte is below 128.
+    /// The identity as it stands in Device Identity (M2-104-UM), `family` and `model` with seven bits in each
+    /// byte, the lowest first. Each byte is below 128.
     pub fn identity(&self) -> Identity
         ensures value { result ≡ identity_of self.now }
         ensures manufacturer { (length result.manufacturer ≡ 3)
@@ -114,6 +140,7 @@ impl Setup {
     {
         match str::from_utf8(self.endpoint.id.as_slice()) {
             Ok(id) => id,
+            // characters of ASCII are UTF-8
             Err(_) => unreachable!(),
         }
     }

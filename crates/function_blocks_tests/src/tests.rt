@@ -1,4 +1,5 @@
-// Each rule by the smallest front of a setup that breaks it, values past each border, and worked rows of replies.
+// Each rule by the smallest front of a setup that breaks it, values
+// past each border, and worked rows of replies.
 use endpoint_fixtures::DEMO_SETUP;
 use function_blocks::*;
 use midi_edge::U4;
@@ -88,8 +89,8 @@ fn the_first_missing_key_is_told(rt: HostRuntime) {
     assert_eq!(rt; front(rt.alloc(), 29), Ok(()));
 }
 
-// Each row of a table has the index of a line of `DEMO_SETUP`, the number of the rule that is broken where the line is replaced, or
-// `kept`, and the lines in its place, which a slash parts.
+// Each row of a table has the index of a line of `DEMO_SETUP`, the number of the rule that is broken where
+// the line is replaced, or `kept`, and the lines in its place, which a slash parts.
 fn lines_break(rt: &impl Abort, alloc: Global, table: &str) -> Result<(), Fail> {
     for row in table.lines() {
         let mut cells = row.splitn(3, ' ');
@@ -270,7 +271,8 @@ fn blocks_and_profiles_together(rt: HostRuntime) {
     assert_eq!(rt; with_more(alloc, &two), Err(SetupFault::Field(31)));
 }
 
-// The endpoint of the setup and this many blocks without MIDI-CI, each with a name of 91 bytes, and profiles that aren't read.
+// The endpoint of the setup and this many blocks without MIDI-CI, each
+// with a name of 91 bytes, and profiles that aren't read.
 fn many_blocks(alloc: Global, blocks: usize) -> Result<String, AllocError> {
     let mut text = text_of(alloc, 11, LINES, "", &[])?;
     for _ in 0..blocks {

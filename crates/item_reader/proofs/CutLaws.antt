@@ -1,7 +1,9 @@
 -- Each stream has one cutting, however it is cut.
-use Rattle.std.proofs.Common.{◌≡◌, ◌+◌, ◌-◌, ◌<◌, ◌≤◌, ℕ, zero, suc, List, [], ◌∷◌, ◌++◌, length, take, drop, refl, ap, sym, ◌∙◌, arith, subst, inl, inr}
+use Rattle.std.proofs.Common.{◌≡◌, ◌+◌, ◌-◌, ◌<◌, ◌≤◌, ℕ, zero, suc, List, [], ◌∷◌, ◌++◌}
+use Rattle.std.proofs.Common.{length, take, drop, refl, ap, sym, ◌∙◌, arith, subst, inl, inr}
 use Rattle.std.specs.List.{concat, AllByRecursion}
-use Rattle.std.proofs.lemmas.List.{append_assoc, take_at, drop_at, take-append-drop, length-append, length-take-le, length-drop, nil_from_length}
+use Rattle.std.proofs.lemmas.List.{append_assoc, take_at, drop_at, take-append-drop}
+use Rattle.std.proofs.lemmas.List.{length-append, length-take-le, length-drop, nil_from_length}
 use Rattle.std.proofs.lemmas.Bool.{cases_lt, cases_eq}
 use Rattle.std.proofs.Math.Seq.{take-append-add}
 use Rattle.item_reader.specs.Cut.{CutsFrom, IsItem, IsLength, IsRest, Ends}
@@ -14,7 +16,8 @@ take-append-past xs ys n fits =
     let e : n ≡ length xs + (n - length xs) = omega arith in
     ap (λ k. take k (xs ++ ys)) e ∙ take-append-add xs ys (n - length xs)
 
-concat-length : (chunk : List ℕ) (chunks : List (List ℕ)) (at : ℕ) → at + length (concat (chunk ∷ chunks)) ≡ at + length chunk + length (concat chunks)
+concat-length : (chunk : List ℕ) (chunks : List (List ℕ)) (at : ℕ)
+    → at + length (concat (chunk ∷ chunks)) ≡ at + length chunk + length (concat chunks)
 concat-length chunk chunks at = omega (arith, length-append chunk (concat chunks))
 
 module _ (asked : List ℕ → ℕ) (lengths : IsLength asked) where
@@ -33,13 +36,15 @@ module _ (asked : List ℕ → ℕ) (lengths : IsLength asked) where
   -- two items at one front are one
   one_front : (c d x y : List ℕ) → IsItem asked c → IsItem asked d → c ++ x ≡ d ++ y → (c ≡ d) × (x ≡ y)
   one_front c d x y is_c is_d same =
-      let len : length c ≡ length d = is_c ∙ sym (lengths.told c x (item_size c is_c)) ∙ ap asked same ∙ lengths.told d y (item_size d is_d) ∙ sym is_d in (
+      let len : length c ≡ length d =
+      is_c ∙ sym (lengths.told c x (item_size c is_c)) ∙ ap asked same ∙ lengths.told d y (item_size d is_d) ∙ sym is_d in (
         sym (take_at c x (length c) refl) ∙ ap (take (length c)) same ∙ take_at d y (length c) (sym len),
         sym (drop_at c x (length c) refl) ∙ ap (drop (length c)) same ∙ drop_at d y (length c) (sym len),
       )
 
   -- after a tail's offset there is no item within the limit
-  item_or_ends : (limit at : ℕ) (chunk more : List ℕ) (tail : Tail) → IsItem asked chunk → at + length chunk ≤ limit → Ends asked limit at (chunk ++ more) tail → ⊥
+  item_or_ends : (limit at : ℕ) (chunk more : List ℕ) (tail : Tail) → IsItem asked chunk → at + length chunk ≤ limit
+      → Ends asked limit at (chunk ++ more) tail → ⊥
   item_or_ends limit at chunk more End item within ends =
       omega (arith, item_some chunk item, length-append chunk more, ap length ends.0)
   item_or_ends limit at chunk more (Truncated o) item within ends = item_or_rest chunk more item ends.2
@@ -91,7 +96,12 @@ module _ (asked : List ℕ → ℕ) (lengths : IsLength asked) where
       let len : length c ≡ length d = ap length front.0 in
       let rest = one_cutting_from limit (at + length c) (concat cs ++ p.rest) cs ds t u
       (record { rest = p.rest; whole = refl; each = p.each.1; ends = subst E (concat-length c cs at) p.ends })
-      (record { rest = q.rest; whole = front.1; each = q.each.1; ends = subst F (concat-length d ds at ∙ ap (λ n. at + n + length (concat ds)) (sym len)) q.ends }) in
+      (record {
+        rest = q.rest;
+        whole = front.1;
+        each = q.each.1;
+        ends = subst F (concat-length d ds at ∙ ap (λ n. at + n + length (concat ds)) (sym len)) q.ends;
+      }) in
       (cc, rest.1)
 
   -- what is at the front of a stream is cut as the stream begins
@@ -100,25 +110,43 @@ module _ (asked : List ℕ → ℕ) (lengths : IsLength asked) where
   front_cutting limit at front more cs [] t p q = (cs, refl)
   front_cutting limit at front more [] (d ∷ ds) t p q =
       let same : p.rest ≡ d ++ (concat ds ++ (q.rest ++ more)) =
-      sym p.whole ∙ ap (λ xs. xs ++ more) q.whole ∙ append_assoc (d ++ concat ds) q.rest more ∙ append_assoc d (concat ds) (q.rest ++ more) in
+      sym p.whole
+      ∙ ap (λ xs. xs ++ more) q.whole
+      ∙ append_assoc (d ++ concat ds) q.rest more
+      ∙ append_assoc d (concat ds) (q.rest ++ more) in
       let P : List ℕ → Type 0 = λ xs. Ends asked limit (at + 0) xs t in
       absurd (item_or_ends limit (at + 0) d (concat ds ++ (q.rest ++ more)) t q.each.0
       (omega (arith, within-ends limit _ q.rest End q.ends, length-append d (concat ds))) (subst P same p.ends))
   front_cutting limit at front more (c ∷ cs) (d ∷ ds) t p q =
       let parts : c ++ (concat cs ++ p.rest) ≡ d ++ (concat ds ++ (q.rest ++ more)) =
-      sym (append_assoc c (concat cs) p.rest) ∙ sym p.whole ∙ ap (λ xs. xs ++ more) q.whole ∙ append_assoc (d ++ concat ds) q.rest more ∙ append_assoc d (concat ds) (q.rest ++ more) in
+      sym (append_assoc c (concat cs) p.rest)
+      ∙ sym p.whole
+      ∙ ap (λ xs. xs ++ more) q.whole
+      ∙ append_assoc (d ++ concat ds) q.rest more
+      ∙ append_assoc d (concat ds) (q.rest ++ more) in
       let first = one_front c d (concat cs ++ p.rest) (concat ds ++ (q.rest ++ more)) p.each.0 q.each.0 parts in
       let E : ℕ → Type 0 = λ n. Ends asked limit n p.rest t in
       let F : ℕ → Type 0 = λ n. Ends asked limit n q.rest End in
       let len : length c ≡ length d = ap length first.0 in
       let rest = front_cutting limit (at + length c) (concat ds ++ q.rest) more cs ds t
-      (record { rest = p.rest; whole = append_assoc (concat ds) q.rest more ∙ sym first.1; each = p.each.1; ends = subst E (concat-length c cs at) p.ends })
-      (record { rest = q.rest; whole = refl; each = q.each.1; ends = subst F (concat-length d ds at ∙ ap (λ n. at + n + length (concat ds)) (sym len)) q.ends }) in
+      (record {
+        rest = p.rest;
+        whole = append_assoc (concat ds) q.rest more ∙ sym first.1;
+        each = p.each.1;
+        ends = subst E (concat-length c cs at) p.ends;
+      })
+      (record {
+        rest = q.rest;
+        whole = refl;
+        each = q.each.1;
+        ends = subst F (concat-length d ds at ∙ ap (λ n. at + n + length (concat ds)) (sym len)) q.ends;
+      }) in
       (rest.0, ap (λ x. x ∷ cs) first.0 ∙ ap (λ xs. d ∷ xs) rest.1)
 
   -- what follows items is cut in turn
   pub cuts_behind : (limit at : ℕ) (bytes : List ℕ) (cs ds : List (List ℕ)) (more : List ℕ) (tail : Tail)
-      → bytes ≡ concat cs ++ more → AllByRecursion (IsItem asked) cs → CutsFrom asked limit (at + length (concat cs)) more ds tail → CutsFrom asked limit at bytes (cs ++ ds) tail
+      → bytes ≡ concat cs ++ more → AllByRecursion (IsItem asked) cs → CutsFrom asked limit (at + length (concat cs)) more ds tail
+      → CutsFrom asked limit at bytes (cs ++ ds) tail
   cuts_behind limit at bytes [] ds more tail same each cut =
       let P : List ℕ → Type 0 = λ xs. CutsFrom asked limit at xs ds tail in
       let Q : ℕ → Type 0 = λ n. CutsFrom asked limit n more ds tail in
@@ -143,7 +171,8 @@ module _ (asked : List ℕ → ℕ) (lengths : IsLength asked) where
         | inl small ↦ omega (arith, len, lengths.least (take n bytes))
         | inr many ↦
             let enough : lengths.head ≤ length (take n bytes) = omega arith in
-            let same : asked bytes ≡ asked (take n bytes) = ap asked (sym (take-append-drop n bytes)) ∙ lengths.told (take n bytes) (drop n bytes) enough in
+            let same : asked bytes ≡ asked (take n bytes) =
+            ap asked (sym (take-append-drop n bytes)) ∙ lengths.told (take n bytes) (drop n bytes) enough in
             omega (arith, len, same)
       ]
 
@@ -176,7 +205,8 @@ module _ (asked : List ℕ → ℕ) (lengths : IsLength asked) where
       let here : at ≡ at + 0 = omega arith in
       ([], tail.0, record { rest = bytes; whole = refl; each = tt; ends = subst E here tail.1 })
 
-  cut_by_item : (limit at : ℕ) (chunk more : List ℕ) → IsItem asked chunk → IsCut limit (at + length chunk) more → IsCut limit at (chunk ++ more)
+  cut_by_item : (limit at : ℕ) (chunk more : List ℕ) → IsItem asked chunk → IsCut limit (at + length chunk) more
+      → IsCut limit at (chunk ++ more)
   cut_by_item limit at chunk more item cut =
       let E : ℕ → Type 0 = λ n. Ends asked limit n cut.2.rest cut.1 in (
         chunk ∷ cut.0,

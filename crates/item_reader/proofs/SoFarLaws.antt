@@ -13,7 +13,8 @@ use Rattle.item_reader.specs.declared.cutting.Tail.{Tail}
 use Rattle.item_reader.specs.declared.cutting.Tail.TheVariants.{End}
 use Rattle.item_reader.proofs.CutLaws.{some_cutting, cuts_behind}
 
-AllByRecursion-append : {X : Type 0} (P : X → Type 0) (xs ys : List X) → AllByRecursion P xs → AllByRecursion P ys → AllByRecursion P (xs ++ ys)
+AllByRecursion-append : {X : Type 0} (P : X → Type 0) (xs ys : List X) → AllByRecursion P xs → AllByRecursion P ys
+    → AllByRecursion P (xs ++ ys)
 AllByRecursion-append P [] ys p q = q
 AllByRecursion-append P (x ∷ xs) ys p q = (p.0, AllByRecursion-append P xs ys p.1 q)
 
@@ -21,13 +22,16 @@ concat-push : (cs : List (List ℕ)) (c : List ℕ) → concat (cs ++ c ∷ []) 
 concat-push [] c = append-nil c
 concat-push (b ∷ cs) c = ap (λ xs. b ++ xs) (concat-push cs c) ∙ sym (append_assoc b (concat cs) c)
 
-items_from-append : {Item : Type 0} (item_of : ℕ → List ℕ → Item) (at : ℕ) (cs ds : List (List ℕ)) → items_from item_of at (cs ++ ds) ≡ items_from item_of at cs ++ items_from item_of (at + length (concat cs)) ds
+items_from-append : {Item : Type 0} (item_of : ℕ → List ℕ → Item) (at : ℕ) (cs ds : List (List ℕ))
+    → items_from item_of at (cs ++ ds) ≡ items_from item_of at cs ++ items_from item_of (at + length (concat cs)) ds
 items_from-append item_of at [] ds = ap (λ n. items_from item_of n ds) (omega arith)
 items_from-append item_of at (c ∷ cs) ds =
     ap (λ xs. item_of at c ∷ xs)
-    (items_from-append item_of (at + length c) cs ds ∙ ap (λ n. items_from item_of (at + length c) cs ++ items_from item_of n ds) (omega (arith, length-append c (concat cs))))
+    (items_from-append item_of (at + length c) cs ds
+    ∙ ap (λ n. items_from item_of (at + length c) cs ++ items_from item_of n ds) (omega (arith, length-append c (concat cs))))
 
-module _ {How Item : Type 0} (asked : List ℕ → ℕ) (lengths : IsLength asked) (item_of : ℕ → List ℕ → Item) (how : How) (limit : ℕ) (reader : Reading How) (before now : Option (List ℕ)) (read : List Item)
+module _ {How Item : Type 0} (asked : List ℕ → ℕ) (lengths : IsLength asked) (item_of : ℕ → List ℕ → Item) (how : How) (limit : ℕ)
+    (reader : Reading How) (before now : Option (List ℕ)) (read : List Item)
     (so_far : ReadSoFar asked item_of how limit reader (given before now read)) where
   -- the reader stands after its items
   offset-is : reader.offset ≡ length (concat so_far.chunks)
@@ -50,16 +54,20 @@ module _ {How Item : Type 0} (asked : List ℕ → ℕ) (lengths : IsLength aske
       ∙ sym (items_from-append item_of 0 so_far.chunks (gives.chunk ∷ []))
 
   -- one more item
-  step : (reader' : Reading How) (now' : Option (List ℕ)) (item : Item) → GivesOut reader' now' item → ReadSoFar asked item_of how limit reader' (given before now' (read ++ item ∷ []))
+  step : (reader' : Reading How) (now' : Option (List ℕ)) (item : Item) → GivesOut reader' now' item
+      → ReadSoFar asked item_of how limit reader' (given before now' (read ++ item ∷ []))
   step reader' now' item gives =
       let p = so_far in
       let chunk : List ℕ = gives.chunk in
       let whole : concat (p.chunks ++ chunk ∷ []) ≡ concat p.chunks ++ chunk = concat-push p.chunks chunk in
-      let len : length (concat (p.chunks ++ chunk ∷ [])) ≡ length (concat p.chunks) + length chunk = ap length whole ∙ length-append (concat p.chunks) chunk in
+      let len : length (concat (p.chunks ++ chunk ∷ [])) ≡ length (concat p.chunks) + length chunk =
+      ap length whole ∙ length-append (concat p.chunks) chunk in
       let L : List ℕ → Type 0 = λ xs. Loses before (ahead reader'.pending now') xs in
       let at : ℕ = length (concat p.chunks) in
       let goes_on : reader' ≡ record { how = how; pending = reader'.pending; offset = at + length chunk; limit = limit; end = None } =
-      gives.goes_on ∙ ap (λ r. record { how = r.how; pending = reader'.pending; offset = r.offset + length chunk; limit = r.limit; end = r.end }) p.place in
+      gives.goes_on
+      ∙ ap (λ r. record { how = r.how; pending = reader'.pending; offset = r.offset + length chunk; limit = r.limit; end = r.end })
+      p.place in
       let fits : at + length chunk ≤ limit = omega (arith, gives.within, offset-is, limit-is) in
       record {
         chunks = p.chunks ++ chunk ∷ [];
@@ -67,17 +75,22 @@ module _ {How Item : Type 0} (asked : List ℕ → ℕ) (lengths : IsLength aske
         place = goes_on ∙ ap (λ n. record { how = how; pending = reader'.pending; offset = n; limit = limit; end = None }) (sym len);
         within = omega (arith, len, fits);
         each = AllByRecursion-append (IsItem asked) p.chunks (chunk ∷ []) p.each (gives.is_item, tt);
-        lost = subst L (sym whole) (runs_are_lost.both before (ahead reader.pending now) (ahead reader'.pending now') (concat p.chunks) chunk p.lost gives.lost);
+        lost =
+            subst L (sym whole) (runs_are_lost.both before (ahead reader.pending now) (ahead reader'.pending now') (concat p.chunks) chunk
+            p.lost gives.lost);
       }
 
   -- the same items, after a failed read
-  waits : (reader' : Reading How) (now' : Option (List ℕ)) → Waits asked (cursor reader now) (cursor reader' now') → ReadSoFar asked item_of how limit reader' (given before now' read)
+  waits : (reader' : Reading How) (now' : Option (List ℕ)) → Waits asked (cursor reader now) (cursor reader' now')
+      → ReadSoFar asked item_of how limit reader' (given before now' read)
   waits reader' now' kept =
       let L : Option (List ℕ) → Type 0 = λ rest. Loses before rest (concat so_far.chunks) in
       record {
         chunks = so_far.chunks;
         same = so_far.same;
-        place = kept.goes_on ∙ ap (λ r. record { how = r.how; pending = reader'.pending; offset = r.offset; limit = r.limit; end = r.end }) so_far.place;
+        place =
+            kept.goes_on
+            ∙ ap (λ r. record { how = r.how; pending = reader'.pending; offset = r.offset; limit = r.limit; end = r.end }) so_far.place;
         within = so_far.within;
         each = so_far.each;
         lost = subst L (sym kept.same) so_far.lost;
@@ -104,24 +117,32 @@ module _ {How Item : Type 0} (asked : List ℕ → ℕ) (lengths : IsLength aske
   EndsHere reader' now' tail = Finishes asked (cursor reader now) (cursor reader' now') tail
 
   -- the whole stream, where it ends here
-  cut_here : (bytes rest : List ℕ) (tail : Tail) → bytes ≡ concat so_far.chunks ++ rest → Ends asked reader.limit reader.offset rest tail → IsCutInto asked item_of limit bytes read tail
+  cut_here : (bytes rest : List ℕ) (tail : Tail) → bytes ≡ concat so_far.chunks ++ rest → Ends asked reader.limit reader.offset rest tail
+      → IsCutInto asked item_of limit bytes read tail
   cut_here bytes rest tail whole ends =
       let P : Reading How → Type 0 = λ r. Ends asked r.limit r.offset rest tail in
       let E : ℕ → Type 0 = λ n. Ends asked limit n rest tail in
       record {
         chunks = so_far.chunks;
-        cuts = record { rest = rest; whole = whole; each = so_far.each; ends = subst E (sym (zero-add (length (concat so_far.chunks)))) (subst P so_far.place ends) };
+        cuts = record {
+          rest = rest;
+          whole = whole;
+          each = so_far.each;
+          ends = subst E (sym (zero-add (length (concat so_far.chunks)))) (subst P so_far.place ends);
+        };
         same = so_far.same;
       }
 
-  finished : (reader' : Reading How) (now' : Option (List ℕ)) (tail : Tail) (bytes : List ℕ) → before ≡ Some bytes → EndsHere reader' now' tail → IsCutInto asked item_of limit bytes read tail
+  finished : (reader' : Reading How) (now' : Option (List ℕ)) (tail : Tail) (bytes : List ℕ) → before ≡ Some bytes
+      → EndsHere reader' now' tail → IsCutInto asked item_of limit bytes read tail
   finished reader' now' tail bytes e finishes =
       let t = told bytes e in
       let P : Option (List ℕ) → Type 0 = λ n. IfSome (ahead reader.pending n) (λ xs. Ends asked reader.limit reader.offset xs tail) in
       cut_here bytes (reader.pending ++ t.0) tail t.2 (subst P t.1 finishes.ends)
 
   -- the items are all of the stream
-  finishes : (reader' : Reading How) (now' : Option (List ℕ)) (tail : Tail) → EndsHere reader' now' tail → IfSome before (λ bytes. IsCutInto asked item_of limit bytes read tail)
+  finishes : (reader' : Reading How) (now' : Option (List ℕ)) (tail : Tail) → EndsHere reader' now' tail
+      → IfSome before (λ bytes. IsCutInto asked item_of limit bytes read tail)
   finishes reader' now' tail ends = by_told before refl
     where
       by_told : (b : Option (List ℕ)) → before ≡ b → IfSome b (λ bytes. IsCutInto asked item_of limit bytes read tail)
@@ -129,7 +150,8 @@ module _ {How Item : Type 0} (asked : List ℕ → ℕ) (lengths : IsLength aske
       by_told (Some bytes) e = finished reader' now' tail bytes e ends
 
   -- nothing is left at the end
-  left_at_end : (reader' : Reading How) (now' : Option (List ℕ)) (bytes : List ℕ) → before ≡ Some bytes → EndsHere reader' now' End → now' ≡ Some []
+  left_at_end : (reader' : Reading How) (now' : Option (List ℕ)) (bytes : List ℕ) → before ≡ Some bytes → EndsHere reader' now' End
+      → now' ≡ Some []
   left_at_end reader' now' bytes e ends = by_left now' refl
     where
       by_left : (n : Option (List ℕ)) → now' ≡ n → now' ≡ Some []
@@ -141,7 +163,8 @@ module _ {How Item : Type 0} (asked : List ℕ → ℕ) (lengths : IsLength aske
           let t = told bytes e in
           let P : Option (List ℕ) → Type 0 = λ n. IfSome (ahead reader.pending n) (λ xs. Ends asked reader.limit reader.offset xs End) in
           let none : reader.pending ++ t.0 ≡ [] = (subst P t.1 ends.ends).0 in
-          let same : Some (reader'.pending ++ left) ≡ Some (reader.pending ++ t.0) = sym (ap (ahead reader'.pending) f) ∙ ends.same ∙ ap (ahead reader.pending) t.1 in
+          let same : Some (reader'.pending ++ left) ≡ Some (reader.pending ++ t.0) =
+          sym (ap (ahead reader'.pending) f) ∙ ends.same ∙ ap (ahead reader.pending) t.1 in
           let parts : reader'.pending ++ left ≡ reader.pending ++ t.0 = cc in
           let empty : left ≡ [] = nil_from_length left (omega (arith, length-append reader'.pending left, ap length (parts ∙ none))) in
           f ∙ ap Some empty
@@ -154,7 +177,8 @@ module _ {How Item : Type 0} (asked : List ℕ → ℕ) (lengths : IsLength aske
       by_told (Some bytes) e = left_at_end reader' now' bytes e ends
 
   -- what follows an item that is given out
-  behind : (reader' : Reading How) (now' : Option (List ℕ)) (item : Item) (left : List ℕ) → now ≡ Some left → (gives : GivesOut reader' now' item) → (more : List ℕ) × (reader.pending ++ left ≡ gives.chunk ++ more)
+  behind : (reader' : Reading How) (now' : Option (List ℕ)) (item : Item) (left : List ℕ) → now ≡ Some left
+      → (gives : GivesOut reader' now' item) → (more : List ℕ) × (reader.pending ++ left ≡ gives.chunk ++ more)
   behind reader' now' item left e gives = by_left (ahead reader'.pending now') refl
     where
       by_left : (n : Option (List ℕ)) → ahead reader'.pending now' ≡ n → (more : List ℕ) × (reader.pending ++ left ≡ gives.chunk ++ more)
@@ -167,7 +191,8 @@ module _ {How Item : Type 0} (asked : List ℕ → ℕ) (lengths : IsLength aske
           let Q : Option (List ℕ) → Type 0 = λ n. Loses (ahead reader.pending n) (Some more) gives.chunk in
           (more, subst Q e (subst P f gives.lost))
 
-  stands_here : (reader' : Reading How) (now' : Option (List ℕ)) (item : Item) (bytes : List ℕ) → before ≡ Some bytes → GivesOut reader' now' item → StandsBehind asked item_of limit bytes read item
+  stands_here : (reader' : Reading How) (now' : Option (List ℕ)) (item : Item) (bytes : List ℕ) → before ≡ Some bytes
+      → GivesOut reader' now' item → StandsBehind asked item_of limit bytes read item
   unfolding step
   stands_here reader' now' item bytes e gives =
       let t = told bytes e in
@@ -175,7 +200,10 @@ module _ {How Item : Type 0} (asked : List ℕ → ℕ) (lengths : IsLength aske
       let s = step reader' now' item gives in
       let cut = some_cutting asked lengths limit (length b.0) (0 + length (concat s.chunks)) b.0 (omega arith) (omega (arith, s.within)) in
       let parts : bytes ≡ concat s.chunks ++ b.0 =
-      t.2 ∙ ap (λ xs. concat so_far.chunks ++ xs) b.1 ∙ sym (append_assoc (concat so_far.chunks) gives.chunk b.0) ∙ ap (λ xs. xs ++ b.0) (sym (concat-push so_far.chunks gives.chunk)) in
+      t.2
+      ∙ ap (λ xs. concat so_far.chunks ++ xs) b.1
+      ∙ sym (append_assoc (concat so_far.chunks) gives.chunk b.0)
+      ∙ ap (λ xs. xs ++ b.0) (sym (concat-push so_far.chunks gives.chunk)) in
       let after : List Item = items_from item_of (0 + length (concat s.chunks)) cut.0 in
       record {
         after = after;
@@ -183,12 +211,14 @@ module _ {How Item : Type 0} (asked : List ℕ → ℕ) (lengths : IsLength aske
         cut = record {
           chunks = s.chunks ++ cut.0;
           cuts = cuts_behind asked lengths limit 0 bytes s.chunks cut.0 b.0 cut.1 parts s.each cut.2;
-          same = sym (append_assoc read (item ∷ []) after) ∙ ap (λ xs. xs ++ after) s.same ∙ sym (items_from-append item_of 0 s.chunks cut.0);
+          same =
+              sym (append_assoc read (item ∷ []) after) ∙ ap (λ xs. xs ++ after) s.same ∙ sym (items_from-append item_of 0 s.chunks cut.0);
         };
       }
 
   -- after the items so far comes the one that is given out
-  stands_behind : (reader' : Reading How) (now' : Option (List ℕ)) (item : Item) → GivesOut reader' now' item → IfSome before (λ bytes. StandsBehind asked item_of limit bytes read item)
+  stands_behind : (reader' : Reading How) (now' : Option (List ℕ)) (item : Item) → GivesOut reader' now' item
+      → IfSome before (λ bytes. StandsBehind asked item_of limit bytes read item)
   stands_behind reader' now' item gives = by_told before refl
     where
       by_told : (b : Option (List ℕ)) → before ≡ b → IfSome b (λ bytes. StandsBehind asked item_of limit bytes read item)
@@ -196,26 +226,33 @@ module _ {How Item : Type 0} (asked : List ℕ → ℕ) (lengths : IsLength aske
       by_told (Some bytes) e = stands_here reader' now' item bytes e gives
 
 -- however a reader cuts, it goes on as it began
-module _ {How Item : Type 0} (asked : How → List ℕ → ℕ) (lengths : (how : How) → IsLength (asked how)) (item_of : How → ℕ → List ℕ → Item) where
-  how-is : (how : How) (limit : ℕ) (reader : Reading How) (before now : Option (List ℕ)) (read : List Item) → ReadSoFar (asked how) (item_of how) how limit reader (given before now read) → reader.how ≡ how
-  how-is how limit reader before now read so_far = ap (λ r. r.how) so_far.place
+module _ {How Item : Type 0} (asked : How → List ℕ → ℕ) (lengths : (how : How) → IsLength (asked how)) (item_of : How → ℕ → List ℕ → Item)
+  where
+    how-is : (how : How) (limit : ℕ) (reader : Reading How) (before now : Option (List ℕ)) (read : List Item)
+        → ReadSoFar (asked how) (item_of how) how limit reader (given before now read) → reader.how ≡ how
+    how-is how limit reader before now read so_far = ap (λ r. r.how) so_far.place
 
-  pub in_order : ItemsAreReadInOrder asked item_of
-  in_order =
-      record {
-        step = λ how limit reader before now read so_far reader' now' item gives.
-            let G : How → Type 0 = λ h. Gives (asked h) (cursor reader now) (cursor reader' now') (item_of h) item in
-            step (asked how) (lengths how) (item_of how) how limit reader before now read so_far reader' now' item (subst G (how-is how limit reader before now read so_far) gives);
-        waits = λ how limit reader before now read so_far reader' now' kept.
-            let W : How → Type 0 = λ h. Waits (asked h) (cursor reader now) (cursor reader' now') in
-            waits (asked how) (lengths how) (item_of how) how limit reader before now read so_far reader' now' (subst W (how-is how limit reader before now read so_far) kept);
-        stands_behind = λ how limit reader before now read so_far reader' now' item gives.
-            let G : How → Type 0 = λ h. Gives (asked h) (cursor reader now) (cursor reader' now') (item_of h) item in
-            stands_behind (asked how) (lengths how) (item_of how) how limit reader before now read so_far reader' now' item (subst G (how-is how limit reader before now read so_far) gives);
-        finishes = λ how limit reader before now read so_far reader' now' tail ends.
-            let F : How → Type 0 = λ h. Finishes (asked h) (cursor reader now) (cursor reader' now') tail in
-            finishes (asked how) (lengths how) (item_of how) how limit reader before now read so_far reader' now' tail (subst F (how-is how limit reader before now read so_far) ends);
-        nothing_left = λ how limit reader before now read so_far reader' now' ends.
-            let F : How → Type 0 = λ h. Finishes (asked h) (cursor reader now) (cursor reader' now') End in
-            nothing_left (asked how) (lengths how) (item_of how) how limit reader before now read so_far reader' now' (subst F (how-is how limit reader before now read so_far) ends);
-      }
+    pub in_order : ItemsAreReadInOrder asked item_of
+    in_order =
+        record {
+          step = λ how limit reader before now read so_far reader' now' item gives.
+              let G : How → Type 0 = λ h. Gives (asked h) (cursor reader now) (cursor reader' now') (item_of h) item in
+              step (asked how) (lengths how) (item_of how) how limit reader before now read so_far reader' now' item
+              (subst G (how-is how limit reader before now read so_far) gives);
+          waits = λ how limit reader before now read so_far reader' now' kept.
+              let W : How → Type 0 = λ h. Waits (asked h) (cursor reader now) (cursor reader' now') in
+              waits (asked how) (lengths how) (item_of how) how limit reader before now read so_far reader' now'
+              (subst W (how-is how limit reader before now read so_far) kept);
+          stands_behind = λ how limit reader before now read so_far reader' now' item gives.
+              let G : How → Type 0 = λ h. Gives (asked h) (cursor reader now) (cursor reader' now') (item_of h) item in
+              stands_behind (asked how) (lengths how) (item_of how) how limit reader before now read so_far reader' now' item
+              (subst G (how-is how limit reader before now read so_far) gives);
+          finishes = λ how limit reader before now read so_far reader' now' tail ends.
+              let F : How → Type 0 = λ h. Finishes (asked h) (cursor reader now) (cursor reader' now') tail in
+              finishes (asked how) (lengths how) (item_of how) how limit reader before now read so_far reader' now' tail
+              (subst F (how-is how limit reader before now read so_far) ends);
+          nothing_left = λ how limit reader before now read so_far reader' now' ends.
+              let F : How → Type 0 = λ h. Finishes (asked h) (cursor reader now) (cursor reader' now') End in
+              nothing_left (asked how) (lengths how) (item_of how) how limit reader before now read so_far reader' now'
+              (subst F (how-is how limit reader before now read so_far) ends);
+        }

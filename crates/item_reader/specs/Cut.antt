@@ -44,7 +44,8 @@ module _ (asked : List ℕ → ℕ) where
   Cuts limit bytes chunks tail = CutsFrom limit 0 bytes chunks tail
 
   -- these bytes are cut into these items, and then what makes the tail
-  pub record IsCutInto {Item : Type 0} (item_of : ℕ → List ℕ → Item) (limit : ℕ) (bytes : List ℕ) (items : List Item) (tail : Tail) : Type 0 where
-    pub chunks : List (List ℕ)
-    pub cuts : Cuts limit bytes chunks tail
-    pub same : items ≡ items_from item_of 0 chunks
+  pub record IsCutInto {Item : Type 0} (item_of : ℕ → List ℕ → Item) (limit : ℕ) (bytes : List ℕ) (items : List Item) (tail : Tail) : Type 0
+    where
+      pub chunks : List (List ℕ)
+      pub cuts : Cuts limit bytes chunks tail
+      pub same : items ≡ items_from item_of 0 chunks

@@ -21,7 +21,7 @@ module _ (asked : List ℕ → ℕ) where
   abbrev pub EveryStreamIsCut : Type 0
   EveryStreamIsCut = (limit : ℕ) (bytes : List ℕ) → (chunks : List (List ℕ)) × (tail : Tail) × Cuts asked limit bytes chunks tail
 
--- A stream is cut in one way, a front of it as it begins, and each is cut.
+-- A stream is cut in one way, a front of it begins, and each is cut.
 pub record CutsStreams (asked : List ℕ → ℕ) : Type 0 where
   pub one : StreamsAreCutInOneWay asked
   pub front : FrontsAreCutAsTheStream asked

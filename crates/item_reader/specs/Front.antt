@@ -1,3 +1,4 @@
+-- For proofs alone: no contract of a public call rests on what stands here.
 -- What is at the front of some bytes.
 use Rattle.std.specs.Prelude.{◌≡◌, ℕ, ◌≤◌, ◌<◌, List, length, take}
 use Rattle.item_reader.specs.Cut.{IsRest}

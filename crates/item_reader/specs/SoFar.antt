@@ -36,7 +36,8 @@ module _ {How Item : Type 0} (asked : List ℕ → ℕ) (item_of : ℕ → List 
   start left = record { chunks = []; same = refl; place = refl; within = none_within limit; each = tt; lost = runs_are_lost.none left }
 
 -- after these items of a stream comes this one, and perhaps more
-pub record StandsBehind {Item : Type 0} (asked : List ℕ → ℕ) (item_of : ℕ → List ℕ → Item) (limit : ℕ) (bytes : List ℕ) (before : List Item) (item : Item) : Type 0 where
+pub record StandsBehind {Item : Type 0} (asked : List ℕ → ℕ) (item_of : ℕ → List ℕ → Item) (limit : ℕ) (bytes : List ℕ) (before : List Item)
+    (item : Item) : Type 0 where
   pub after : List Item
   pub tail : Tail
   pub cut : IsCutInto asked item_of limit bytes (before ++ item ∷ after) tail

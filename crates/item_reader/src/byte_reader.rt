@@ -62,10 +62,10 @@ impl ByteReader {
         }
     }
 
-    /// The next byte and its offset, counted in bytes from 0, or `None` at the end. After an `Err(Read(..))`, which
-    /// changes nothing here, a later call goes on from there. `Err(TooLong)` says that the limit's bytes were given and
-    /// that there are more. `None` and `TooLong` are given again from then on, and the source is not asked again.
-    /// `Truncated` is never answered.
+    /// The next byte and its offset, counted in bytes from 0, or `None` at the end. After an `Err(Read(..))`,
+    /// which changes nothing here, a later call goes on from there. `Err(TooLong)` says that the limit's
+    /// bytes were given and that there are more. `None` and `TooLong` are given again from then on, and the
+    /// source is not asked again. `Truncated` is never answered.
     #[inline(always)]
     pub fn next<S: Source>(&mut self, src: &mut S) -> Result<Option<(u8, u64)>, ReadStop>
         ensures answer { self.old.end ≡ None → Answers one_byte byte_at

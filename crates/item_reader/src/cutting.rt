@@ -18,13 +18,15 @@ pub trait Cut {
     /// What is read of the bytes of an item.
     type Item;
 
-    /// How many bytes the item at the front of these bytes has. Where these are too few to tell, it is more than they are.
+    /// How many bytes the item at the front of these bytes has. Where
+    /// these are too few to tell, it is more than they are.
     ghost asked: { Self → List ℕ → ℕ };
 
     /// The item of an offset and the bytes from there.
     ghost item_of: { Self → ℕ → List ℕ → Self.Item };
 
-    /// How many bytes the item at the front of these bytes has, 1 to 16. Where these are too few to tell, it is more than they are.
+    /// How many bytes the item at the front of these bytes has, 1 to 16.
+    /// Where these are too few to tell, it is more than they are.
     fn asked(&self, bytes: &[u8]) -> usize
         ensures count { result ≡ asked self.now bytes.now }
         ensures size { (0 < result) × (result ≤ 16) };

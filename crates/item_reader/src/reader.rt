@@ -17,7 +17,8 @@ pub struct ItemReader<H> {
     window: Window,
     offset: u64,
     limit: u64,
-    // Up to where items are given out: the limit, and once the items have ended the offset, so that none is left.
+    // Up to where items are given out: the limit, and once the items
+    // have ended the offset, so that none is left.
     stop: u64,
     end: Option<Tail>,
 }
@@ -41,8 +42,8 @@ impl<H> Model for ItemReader<H> {
 }
 
 impl<H: Cut> ItemReader<H> {
-    /// A reader that has given out nothing yet. It gives out at most `limit` bytes, which is at most 2^62 (own rule); offsets
-    /// count bytes from 0.
+    /// A reader that has given out nothing yet. It gives out at most `limit` bytes, which is at most 2^62
+    /// (own rule); offsets count bytes from 0.
     pub fn new(how: H, limit: u64) -> Self
         requires { limit ≤ 2 ^ 62 }
         ensures { result ≡ new_reading how limit }
@@ -59,11 +60,12 @@ impl<H: Cut> ItemReader<H> {
 
     /// The next item; `None` when the source ends with the last item.
     ///
-    /// `Truncated` is returned when the source ends within the limit and within an item, of which there are some bytes. It carries
-    /// the offset of that item. `TooLong` is returned when the source gave more bytes than the limit, and what is left within the
-    /// limit is no whole item (own rule). `Read` is returned only when the source's count of faults rose; no byte is lost, and a
-    /// later call goes on from there. Any other answer without an item is returned again by every later call. The source is asked
-    /// only where no whole item is held.
+    /// `Truncated` is returned when the source ends within the limit and within an item, of which there are
+    /// some bytes. It carries the offset of that item. `TooLong` is returned when the source gave more bytes
+    /// than the limit, and what is left within the limit is no whole item (own rule). `Read` is returned only
+    /// when the source's count of faults rose; no byte is lost, and a later call goes on from there. Any
+    /// other answer without an item is returned again by every later call. The source is asked only where no
+    /// whole item is held.
     #[inline(always)]
     pub fn next<S: Source>(&mut self, src: &mut S) -> Result<Option<H::Item>, ReadStop>
         ensures answer { self.old.end ≡ None →

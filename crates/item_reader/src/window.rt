@@ -56,7 +56,8 @@ impl Window {
         self.start += count;
     }
 
-    /// Takes more bytes by one `take`. The answer is false at the end of the source. After an `Err` all is as it was.
+    /// Takes more bytes by one `take`. The answer is false at the end
+    /// of the source. After an `Err` all is as it was.
     #[inline(never)]
     pub fn fill<S: Source>(&mut self, source: &mut S) -> Result<bool, Failed>
         requires { length self.old < 4096 }

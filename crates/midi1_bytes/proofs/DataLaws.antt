@@ -9,7 +9,8 @@ then-one [] byte all below = (below, tt)
 then-one (first ∷ rest) byte all below = (all.0, then-one rest byte all.1 below)
 
 -- with one more of them
-pub more_data : (bytes : List ℕ) (byte : ℕ) → take 1 bytes ≡ 240 ∷ [] → AreData (drop 1 bytes) → byte < 128 → AreData (drop 1 (bytes ++ byte ∷ []))
+pub more_data : (bytes : List ℕ) (byte : ℕ) → take 1 bytes ≡ 240 ∷ [] → AreData (drop 1 bytes) → byte < 128
+    → AreData (drop 1 (bytes ++ byte ∷ []))
 more_data [] byte framed all below = absurd cc
 more_data (first ∷ rest) byte framed all below = then-one rest byte all below
 

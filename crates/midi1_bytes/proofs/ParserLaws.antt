@@ -1,5 +1,6 @@
 -- What a parser holds after a list of bytes says what each byte does.
-use Rattle.std.proofs.Common.{ℕ, ◌%◌, ◌-◌, ◌≡◌, ◌∙◌, ap, sym, refl, List, [], ◌∷◌, ◌++◌, length, reverse, suc, Option, Some, None, Bool, true, false, cond, arith}
+use Rattle.std.proofs.Common.{ℕ, ◌%◌, ◌-◌, ◌≡◌, ◌∙◌, ap, sym, refl, List, [], ◌∷◌, ◌++◌, length}
+use Rattle.std.proofs.Common.{reverse, suc, Option, Some, None, Bool, true, false, cond, arith}
 use Rattle.std.proofs.lemmas.Bool.{leb-false, lt-leb, lt-ltb, le-ltb, le-leb, eq-eqb, ne_eqb, eqb-true, eqb-false}
 use Rattle.std.proofs.lemmas.List.{reverse-append, length-reverse}
 use Rattle.std.specs.Option.{option_map, option_and_then}
@@ -10,10 +11,13 @@ use Rattle.midi1_bytes.specs.declared.step.AfterCut.{AfterCut}
 use Rattle.midi1_bytes.specs.declared.step.AfterCut.TheVariants as after
 use Rattle.voice_messages.specs.declared.voice1.System.TheVariants as system
 use Rattle.midi1_bytes.specs.Messages.{common}
-use Rattle.midi1_bytes.specs.Sorts.{Count, one, two, Sort, data_byte, voice_status, exclusive_start, common_status, tune_request, undefined_status, exclusive_end, real_time_status, undefined_real_time, sort_of, is_real_time}
-use Rattle.midi1_bytes.specs.Stream.{Open, fits, without_real_time, last_status, last_data, open_in, open_by, open_under, open_at_end, offset_before, size_behind_start, start_by, start_in, running_by, running_under}
+use Rattle.midi1_bytes.specs.Sorts.{Count, one, two, Sort, data_byte, voice_status, exclusive_start, common_status, tune_request}
+use Rattle.midi1_bytes.specs.Sorts.{undefined_status, exclusive_end, real_time_status, undefined_real_time, sort_of, is_real_time}
+use Rattle.midi1_bytes.specs.Stream.{Open, fits, without_real_time, last_status, last_data, open_in, open_by, open_under}
+use Rattle.midi1_bytes.specs.Stream.{open_at_end, offset_before, size_behind_start, start_by, start_in, running_by, running_under}
 use Rattle.midi1_bytes.specs.Steps.{Step, held, completes, undefined, cut_or, end_by, data_by, data_under, step_under, step_of}
-use Rattle.midi1_bytes.specs.Parsing.{Begun, begun_exclusive, open_begun, open_of, cut_by, ended_by, begun_by, parse_data, parse_under, parse, held_behind}
+use Rattle.midi1_bytes.specs.Parsing.{Begun, begun_exclusive, open_begun, open_of, cut_by, ended_by}
+use Rattle.midi1_bytes.specs.Parsing.{begun_by, parse_data, parse_under, parse, held_over}
 
 -- ---- what is open is what the parser holds
 
@@ -28,31 +32,37 @@ begun_of start ds s what = option_and_then (λ k. Some (begun_by k start ds s)) 
 abbrev begun_on : ℕ → Option ℕ → ℕ → List ℕ → Option Begun
 begun_on room status start ds = option_and_then (λ k. option_map (begun_by k start ds) status) (open_by (Some room) status (length ds))
 
-open-begun : (start : ℕ) (ds : List ℕ) (s : ℕ) (what : Option CutKind) → option_map open_begun (begun_of start ds s what) ≡ opened start what
+open-begun : (start : ℕ) (ds : List ℕ) (s : ℕ) (what : Option CutKind)
+    → option_map open_begun (begun_of start ds s what) ≡ opened start what
 open-begun start ds s None = refl
 open-begun start ds s (Some kind.Message) = refl
 open-begun start ds s (Some kind.Exclusive) = refl
 
-open-on : (room : ℕ) (status : Option ℕ) (start : ℕ) (ds : List ℕ) → option_map open_begun (begun_on room status start ds) ≡ opened start (open_by (Some room) status (length ds))
+open-on : (room : ℕ) (status : Option ℕ) (start : ℕ) (ds : List ℕ)
+    → option_map open_begun (begun_on room status start ds) ≡ opened start (open_by (Some room) status (length ds))
 open-on room None start ds = refl
 open-on room (Some s) start ds = open-begun start ds s (open_under (Some room) (sort_of s) (length ds))
 
-pub open-held : (room : ℕ) (past : List ℕ) → open_of (held_behind room past) ≡ open_at_end (Some room) past
+pub open-held : (room : ℕ) (past : List ℕ) → open_of (held_over room past) ≡ open_at_end (Some room) past
 open-held room past = open-on room (last_status (without_real_time past)) (start_in past) (last_data (without_real_time past))
 
-cut-opened : (start : ℕ) (what : Option CutKind) (besides : AfterCut) (step : Step) → cut_by (opened start what) besides step ≡ cut_or what start besides step
+cut-opened : (start : ℕ) (what : Option CutKind) (besides : AfterCut) (step : Step)
+    → cut_by (opened start what) besides step ≡ cut_or what start besides step
 cut-opened start None besides step = refl
 cut-opened start (Some what) besides step = refl
 
-cut-held : (room : ℕ) (past : List ℕ) (besides : AfterCut) (step : Step) → cut_by (open_of (held_behind room past)) besides step ≡ cut_or (open_in (Some room) past) (start_in past) besides step
-cut-held room past besides step = ap (λ o. cut_by o besides step) (open-held room past) ∙ cut-opened (start_in past) (open_in (Some room) past) besides step
+cut-held : (room : ℕ) (past : List ℕ) (besides : AfterCut) (step : Step)
+    → cut_by (open_of (held_over room past)) besides step ≡ cut_or (open_in (Some room) past) (start_in past) besides step
+cut-held room past besides step =
+    ap (λ o. cut_by o besides step) (open-held room past) ∙ cut-opened (start_in past) (open_in (Some room) past) besides step
 
 ended-begun : (start : ℕ) (ds : List ℕ) (s : ℕ) (what : Option CutKind) → ended_by (begun_of start ds s what) ≡ end_by what start ds
 ended-begun start ds s None = refl
 ended-begun start ds s (Some kind.Message) = refl
 ended-begun start ds s (Some kind.Exclusive) = refl
 
-ended-on : (room : ℕ) (status : Option ℕ) (start : ℕ) (ds : List ℕ) → ended_by (begun_on room status start ds) ≡ end_by (open_by (Some room) status (length ds)) start ds
+ended-on : (room : ℕ) (status : Option ℕ) (start : ℕ) (ds : List ℕ)
+    → ended_by (begun_on room status start ds) ≡ end_by (open_by (Some room) status (length ds)) start ds
 ended-on room None start ds = refl
 ended-on room (Some s) start ds = ended-begun start ds s (open_under (Some room) (sort_of s) (length ds))
 
@@ -64,10 +74,17 @@ before_more offset before size = cond (eqb size 0) offset (before (size - 1))
 
 abbrev DataLaw : ℕ → ℕ → ℕ → ℕ → (ℕ → ℕ) → Sort → List ℕ → Type 0
 DataLaw room s b offset before t ds =
-    parse_data room (running_under t s) (begun_of (before (size_behind_start t (length ds))) ds s (open_under (Some room) t (length ds))) offset b
+    parse_data room (running_under t s) (begun_of (before (size_behind_start t (length ds))) ds s (open_under (Some room) t (length ds)))
+    offset b
     ≡ record {
       step = data_under (Some room) t s ds b;
-      after = record { room = room; running = running_under t s; begun = begun_of (before_more offset before (size_behind_start t (suc (length ds)))) (b ∷ ds) s (open_under (Some room) t (suc (length ds))) };
+      after = record {
+        room = room;
+        running = running_under t s;
+        begun =
+            begun_of (before_more offset before (size_behind_start t (suc (length ds)))) (b ∷ ds) s
+            (open_under (Some room) t (suc (length ds)));
+      };
     }
 
 reverse-more : (b : ℕ) (ds : List ℕ) → reverse ds ++ b ∷ [] ≡ reverse (b ∷ ds)
@@ -123,13 +140,20 @@ module _ (room s b offset : ℕ) (before : ℕ → ℕ) where
   exclusive_case : (ds : List ℕ) → sort_of s ≡ exclusive_start → DataLaw room s b offset before exclusive_start ds
   exclusive_case ds e = which (fits (Some room) (length ds)) (fits (Some room) (suc (length ds))) refl refl
     where
-      which : (t u : Bool) → fits (Some room) (length ds) ≡ t → fits (Some room) (suc (length ds)) ≡ u → DataLaw room s b offset before exclusive_start ds
+      which : (t u : Bool) → fits (Some room) (length ds) ≡ t → fits (Some room) (suc (length ds)) ≡ u
+          → DataLaw room s b offset before exclusive_start ds
       which true true q k =
-          let later : before_more offset before (suc (length ds)) ≡ before (length ds) = go (ne_eqb (suc (length ds)) 0 (λ z. omega arith)) (omega arith) in
-          simp (q, k, length-reverse ds) (ap (λ bytes. record { step = held; after = record { room = room; running = None; begun = Some (begun_exclusive (before (length ds)) bytes) } }) (reverse-more b ds)
-          ∙ ap (λ start. record { step = held; after = record { room = room; running = None; begun = Some (begun_exclusive start (reverse (b ∷ ds))) } }) (sym later))
+          let later : before_more offset before (suc (length ds)) ≡ before (length ds) =
+          go (ne_eqb (suc (length ds)) 0 (λ z. omega arith)) (omega arith) in
+          simp (q, k, length-reverse ds) (ap (λ bytes.
+          record { step = held; after = record { room = room; running = None; begun = Some (begun_exclusive (before (length ds)) bytes) } })
+          (reverse-more b ds)
+          ∙ ap (λ start.
+          record { step = held; after = record { room = room; running = None; begun = Some (begun_exclusive start (reverse (b ∷ ds))) } })
+          (sym later))
         where
-          go : eqb (suc (length ds)) 0 ≡ false → suc (length ds) - 1 ≡ length ds → before_more offset before (suc (length ds)) ≡ before (length ds)
+          go : eqb (suc (length ds)) 0 ≡ false → suc (length ds) - 1 ≡ length ds
+              → before_more offset before (suc (length ds)) ≡ before (length ds)
           go f g = rw (f, g)
       which true false q k = simp (q, k, length-reverse ds)
       which false u q k = simp (q, fits_less room (length ds) q)
@@ -150,7 +174,8 @@ abbrev data_of : List ℕ → List ℕ
 data_of past = last_data (without_real_time past)
 
 abbrev Means : ℕ → List ℕ → ℕ → Type 0
-Means room past b = parse (held_behind room past) (length past) b ≡ record { step = step_of (Some room) past b; after = held_behind room (b ∷ past) }
+Means room past b =
+    parse (held_over room past) (length past) b ≡ record { step = step_of (Some room) past b; after = held_over room (b ∷ past) }
 
 data-held : (room : ℕ) (past : List ℕ) (b : ℕ) → sort_of b ≡ data_byte → Means room past b
 data-held room past b e = simp e (go (status_of past) (data_of past))
@@ -159,28 +184,35 @@ data-held room past b e = simp e (go (status_of past) (data_of past))
         parse_data room (running_by status) (begun_on room status (start_by status (length ds) past) ds) (length past) b
         ≡ record {
           step = data_by (Some room) status ds b;
-          after = record { room = room; running = running_by status; begun = begun_on room status (start_by status (suc (length ds)) (b ∷ past)) (b ∷ ds) };
+          after = record {
+            room = room;
+            running = running_by status;
+            begun = begun_on room status (start_by status (suc (length ds)) (b ∷ past)) (b ∷ ds);
+          };
         }
     go None ds = refl
     go (Some s) ds = simp e (data-under room s b (length past) (λ size. offset_before size past) (sort_of s) refl ds)
 
-real-start : (status : Option ℕ) (size : ℕ) (past : List ℕ) (b : ℕ) → is_real_time (sort_of b) ≡ true → start_by status size (b ∷ past) ≡ start_by status size past
+real-start : (status : Option ℕ) (size : ℕ) (past : List ℕ) (b : ℕ) → is_real_time (sort_of b) ≡ true
+    → start_by status size (b ∷ past) ≡ start_by status size past
 real-start None size past b e = refl
 real-start (Some s) size past b e = rw e
 
-real-held : (room : ℕ) (past : List ℕ) (b : ℕ) → is_real_time (sort_of b) ≡ true → held_behind room past ≡ held_behind room (b ∷ past)
+real-held : (room : ℕ) (past : List ℕ) (b : ℕ) → is_real_time (sort_of b) ≡ true → held_over room past ≡ held_over room (b ∷ past)
 real-held room past b e =
-    let start : start_in past ≡ start_by (status_of past) (length (data_of past)) (b ∷ past) = sym (real-start (status_of past) (length (data_of past)) past b e) in
-    rw e (ap (λ at. record { room = room; running = running_by (status_of past); begun = begun_on room (status_of past) at (data_of past) }) start)
+    let start : start_in past ≡ start_by (status_of past) (length (data_of past)) (b ∷ past) =
+    sym (real-start (status_of past) (length (data_of past)) past b e) in
+    rw e (ap (λ at. record { room = room; running = running_by (status_of past); begun = begun_on room (status_of past) at (data_of past) })
+    start)
 
 -- a Real Time byte leaves what is held
 real-time-parsed : (room : ℕ) (past : List ℕ) (b : ℕ) (t : Sort) → sort_of b ≡ t → is_real_time t ≡ true →
-    parse_under t (held_behind room past) (length past) b ≡ record { step = step_under (Some room) t past b; after = held_behind room past } →
+    parse_under t (held_over room past) (length past) b ≡ record { step = step_under (Some room) t past b; after = held_over room past } →
     Means room past b
 real-time-parsed room past b t e real row =
-    ap (λ sort. parse_under sort (held_behind room past) (length past) b) e
+    ap (λ sort. parse_under sort (held_over room past) (length past) b) e
     ∙ row
-    ∙ ap (λ sort. record { step = step_under (Some room) sort past b; after = held_behind room past }) (sym e)
+    ∙ ap (λ sort. record { step = step_under (Some room) sort past b; after = held_over room past }) (sym e)
     ∙ ap (λ held_after. record { step = step_of (Some room) past b; after = held_after }) (real-held room past b (ap is_real_time e ∙ real))
 
 pub parse-held : (room : ℕ) (past : List ℕ) (b : ℕ) → Means room past b
@@ -193,7 +225,9 @@ parse-held room past b = go (sort_of b) refl
     go (voice_status two) e = simp (e, cut-held room past after.Begins held)
     go (common_status one) e = simp (e, cut-held room past after.Begins held)
     go (common_status two) e = simp (e, cut-held room past after.Begins held)
-    go exclusive_start e = let least : fits (Some room) 0 ≡ true = le-leb 0 room (omega arith) in simp (e, least, cut-held room past after.Begins held)
+    go exclusive_start e =
+        let least : fits (Some room) 0 ≡ true = le-leb 0 room (omega arith) in
+        simp (e, least, cut-held room past after.Begins held)
     go tune_request e = simp (e, cut-held room past after.Tune (completes (common system.Tune)))
     go undefined_status e = simp (e, cut-held room past after.Undefined undefined)
     go exclusive_end e = simp (e, ended-on room (status_of past) (start_in past) (data_of past))

@@ -1,5 +1,6 @@
 -- Messages written under running status are read again.
-use Rattle.std.proofs.Common.{ℕ, ◌+◌, ◌/◌, ◌%◌, ◌≡◌, ◌<◌, ◌≤◌, ◌∙◌, ap, sym, refl, subst, List, [], ◌∷◌, ◌++◌, reverse, length, suc, Option, Some, None, Bool, true, false, cond, arith, append_assoc}
+use Rattle.std.proofs.Common.{ℕ, ◌+◌, ◌/◌, ◌%◌, ◌≡◌, ◌<◌, ◌≤◌, ◌∙◌, ap, sym, refl, subst, List, [], ◌∷◌, ◌++◌}
+use Rattle.std.proofs.Common.{reverse, length, suc, Option, Some, None, Bool, true, false, cond, arith, append_assoc}
 use Rattle.std.proofs.lemmas.List.{append-nil, reverse-append}
 use Rattle.std.proofs.lemmas.Bool.{cond_both, eqb-true, eq-eqb, ne_eqb}
 use Rattle.std.proofs.lemmas.Bool.Decides.{nat_tests}
@@ -14,10 +15,13 @@ use Rattle.voice_messages.specs.declared.voice1.System.TheVariants as system
 use Rattle.voice_messages.specs.Ranges.{IsVoice1}
 use Rattle.midi1_bytes.specs.declared.step.CutKind.TheVariants as kind
 use Rattle.midi1_bytes.specs.Sorts.{Count, one, two, Sort, data_byte, voice_status, real_time_status, undefined_real_time, sort_of}
-use Rattle.midi1_bytes.specs.Messages.{Message, voice, common, exclusive, real_time, voice_of, spelled, spelled_voice, spelled_system, IsCommon, IsRealTime, IsMessage}
-use Rattle.midi1_bytes.specs.Stream.{without_real_time, last_status, last_data, open_in, open_by, open_under, running, running_by, running_under}
+use Rattle.midi1_bytes.specs.Messages.{Message, voice, common, exclusive, real_time, voice_of, spelled}
+use Rattle.midi1_bytes.specs.Messages.{spelled_voice, spelled_system, IsCommon, IsRealTime, IsMessage}
+use Rattle.midi1_bytes.specs.Stream.{without_real_time, last_status, last_data, open_in}
+use Rattle.midi1_bytes.specs.Stream.{open_by, open_under, running, running_by, running_under}
 use Rattle.midi1_bytes.specs.Steps.{ReadsAs}
-use Rattle.midi1_bytes.specs.RunningStatus.{IsKnownIn, is_running, without_status, written_after, status_of, running_after, running_after_all, written_under}
+use Rattle.midi1_bytes.specs.RunningStatus.{IsKnownIn, is_running, without_status, written_behind}
+use Rattle.midi1_bytes.specs.RunningStatus.{status_of, running_after, running_over, written_under}
 use Rattle.midi1_bytes.proofs.SortLaws.{data_is, low_two, one_status, bend_status}
 use Rattle.midi1_bytes.proofs.Written.{bend_whole, exclusive_turned, reads_both, reads_message, shaped_one, shaped_two}
 
@@ -32,7 +36,9 @@ whole_messages l n h = go (eqb n 0) (eqb (n % l) 0) refl h
     go false true e k = eqb-true _ _ e
     go false false e k = cc
 
-reads_two_more : (past : List ℕ) (s x y : ℕ) → sort_of s ≡ voice_status two → last_status (without_real_time past) ≡ Some s → sort_of x ≡ data_byte → sort_of y ≡ data_byte → open_in None past ≡ None → ReadsAs past (x ∷ y ∷ []) (voice (voice_of two s y (x ∷ [])) ∷ [])
+reads_two_more : (past : List ℕ) (s x y : ℕ) → sort_of s ≡ voice_status two → last_status (without_real_time past) ≡ Some s
+    → sort_of x ≡ data_byte → sort_of y ≡ data_byte → open_in None past ≡ None
+    → ReadsAs past (x ∷ y ∷ []) (voice (voice_of two s y (x ∷ [])) ∷ [])
 reads_two_more past s x y hs hp hx hy hn =
     let n = length (last_data (without_real_time past)) in
     let k : open_by None (Some s) n ≡ None = rw hp at hn in
@@ -43,7 +49,8 @@ reads_two_more past s x y hs hp hx hy hn =
     let more : eqb (suc (suc n)) 0 ≡ false = ne_eqb _ _ (λ z. omega arith) in
     record { completes = simp (hx, hy, hp, hs, odd, next, append-nil); closed = simp (hx, hy, hp, hs, next, more) }
 
-reads_one_more : (past : List ℕ) (s x : ℕ) → sort_of s ≡ voice_status one → last_status (without_real_time past) ≡ Some s → sort_of x ≡ data_byte → open_in None past ≡ None → ReadsAs past (x ∷ []) (voice (voice_of one s x []) ∷ [])
+reads_one_more : (past : List ℕ) (s x : ℕ) → sort_of s ≡ voice_status one → last_status (without_real_time past) ≡ Some s
+    → sort_of x ≡ data_byte → open_in None past ≡ None → ReadsAs past (x ∷ []) (voice (voice_of one s x []) ∷ [])
 reads_one_more past s x hs hp hx hn =
     let n = length (last_data (without_real_time past)) in
     let next : eqb (suc n % 1) 0 ≡ true = eq-eqb _ _ (omega arith) in
@@ -65,16 +72,34 @@ abbrev pub tail_of : List ℕ → List ℕ
 tail_of [] = []
 tail_of (s ∷ bytes) = bytes
 
-reads_voice_tail : (m : Voice1) (past : List ℕ) → IsVoice1 m → open_in None past ≡ None → last_status (without_real_time past) ≡ Some (status_of m) → ReadsAs past (tail_of (spelled_voice m)) (voice m ∷ [])
-reads_voice_tail (voice1.NoteOff ch n v) past b h p = subst (ReadsAs past (n ∷ v ∷ [])) (shaped_two (0x80 + ch) 8 ch n v (omega arith) (omega arith)) (reads_two_more past (0x80 + ch) n v (low_two _ (omega arith) (omega arith)) p (data_is n b.1) (data_is v b.2) h)
-reads_voice_tail (voice1.NoteOn ch n v) past b h p = subst (ReadsAs past (n ∷ v ∷ [])) (shaped_two (0x90 + ch) 9 ch n v (omega arith) (omega arith)) (reads_two_more past (0x90 + ch) n v (low_two _ (omega arith) (omega arith)) p (data_is n b.1) (data_is v b.2) h)
-reads_voice_tail (voice1.PolyPressure ch n v) past b h p = subst (ReadsAs past (n ∷ v ∷ [])) (shaped_two (0xa0 + ch) 10 ch n v (omega arith) (omega arith)) (reads_two_more past (0xa0 + ch) n v (low_two _ (omega arith) (omega arith)) p (data_is n b.1) (data_is v b.2) h)
-reads_voice_tail (voice1.Control ch n v) past b h p = subst (ReadsAs past (n ∷ v ∷ [])) (shaped_two (0xb0 + ch) 11 ch n v (omega arith) (omega arith)) (reads_two_more past (0xb0 + ch) n v (low_two _ (omega arith) (omega arith)) p (data_is n b.1) (data_is v b.2) h)
-reads_voice_tail (voice1.Program ch v) past b h p = subst (ReadsAs past (v ∷ [])) (shaped_one (0xc0 + ch) 12 ch v (omega arith) (omega arith)) (reads_one_more past (0xc0 + ch) v (one_status _ (omega arith) (omega arith)) p (data_is v b.1) h)
-reads_voice_tail (voice1.Pressure ch v) past b h p = subst (ReadsAs past (v ∷ [])) (shaped_one (0xd0 + ch) 13 ch v (omega arith) (omega arith)) (reads_one_more past (0xd0 + ch) v (one_status _ (omega arith) (omega arith)) p (data_is v b.1) h)
-reads_voice_tail (voice1.Bend ch v) past b h p = subst (ReadsAs past ((v % 128) ∷ (v / 128) ∷ [])) (shaped_two (0xe0 + ch) 14 ch (v % 128) (v / 128) (omega arith) (omega arith) ∙ ap (λ n. voice (voice1.Bend ch n) ∷ []) (bend_whole v)) (reads_two_more past (0xe0 + ch) (v % 128) (v / 128) (bend_status _ (omega arith) (omega arith)) p (data_is (v % 128) (omega arith)) (data_is (v / 128) (omega arith)) h)
+reads_voice_tail : (m : Voice1) (past : List ℕ) → IsVoice1 m → open_in None past ≡ None
+    → last_status (without_real_time past) ≡ Some (status_of m) → ReadsAs past (tail_of (spelled_voice m)) (voice m ∷ [])
+reads_voice_tail (voice1.NoteOff ch n v) past b h p =
+    subst (ReadsAs past (n ∷ v ∷ [])) (shaped_two (0x80 + ch) 8 ch n v (omega arith) (omega arith))
+    (reads_two_more past (0x80 + ch) n v (low_two _ (omega arith) (omega arith)) p (data_is n b.1) (data_is v b.2) h)
+reads_voice_tail (voice1.NoteOn ch n v) past b h p =
+    subst (ReadsAs past (n ∷ v ∷ [])) (shaped_two (0x90 + ch) 9 ch n v (omega arith) (omega arith))
+    (reads_two_more past (0x90 + ch) n v (low_two _ (omega arith) (omega arith)) p (data_is n b.1) (data_is v b.2) h)
+reads_voice_tail (voice1.PolyPressure ch n v) past b h p =
+    subst (ReadsAs past (n ∷ v ∷ [])) (shaped_two (0xa0 + ch) 10 ch n v (omega arith) (omega arith))
+    (reads_two_more past (0xa0 + ch) n v (low_two _ (omega arith) (omega arith)) p (data_is n b.1) (data_is v b.2) h)
+reads_voice_tail (voice1.Control ch n v) past b h p =
+    subst (ReadsAs past (n ∷ v ∷ [])) (shaped_two (0xb0 + ch) 11 ch n v (omega arith) (omega arith))
+    (reads_two_more past (0xb0 + ch) n v (low_two _ (omega arith) (omega arith)) p (data_is n b.1) (data_is v b.2) h)
+reads_voice_tail (voice1.Program ch v) past b h p =
+    subst (ReadsAs past (v ∷ [])) (shaped_one (0xc0 + ch) 12 ch v (omega arith) (omega arith))
+    (reads_one_more past (0xc0 + ch) v (one_status _ (omega arith) (omega arith)) p (data_is v b.1) h)
+reads_voice_tail (voice1.Pressure ch v) past b h p =
+    subst (ReadsAs past (v ∷ [])) (shaped_one (0xd0 + ch) 13 ch v (omega arith) (omega arith))
+    (reads_one_more past (0xd0 + ch) v (one_status _ (omega arith) (omega arith)) p (data_is v b.1) h)
+reads_voice_tail (voice1.Bend ch v) past b h p =
+    subst (ReadsAs past ((v % 128) ∷ (v / 128) ∷ []))
+    (shaped_two (0xe0 + ch) 14 ch (v % 128) (v / 128) (omega arith) (omega arith) ∙ ap (λ n. voice (voice1.Bend ch n) ∷ []) (bend_whole v))
+    (reads_two_more past (0xe0 + ch) (v % 128) (v / 128) (bend_status _ (omega arith) (omega arith)) p (data_is (v % 128) (omega arith))
+    (data_is (v / 128) (omega arith)) h)
 
-known : (r : Option ℕ) (s : ℕ) (past : List ℕ) → is_running r s ≡ true → IsKnownIn r past → (last_status (without_real_time past) ≡ Some s) × ((l : Count) × (sort_of s ≡ voice_status l))
+known : (r : Option ℕ) (s : ℕ) (past : List ℕ) → is_running r s ≡ true → IsKnownIn r past
+    → (last_status (without_real_time past) ≡ Some s) × ((l : Count) × (sort_of s ≡ voice_status l))
 known None s past e k = cc
 known (Some t) s past e k = status_from_running (last_status (without_real_time past)) s (k s (ap Some (eqb-true t s e)))
 
@@ -88,8 +113,11 @@ spelled_voice-status (voice1.Pressure ch v) = refl
 spelled_voice-status (voice1.Bend ch v) = refl
 
 -- a first byte that is no status of a voice message is never left out
-kept : (r : Option ℕ) (s : ℕ) (bytes past : List ℕ) → ((l : Count) → sort_of s ≡ voice_status l → ⊥) → IsKnownIn r past → without_status r (s ∷ bytes) ≡ s ∷ bytes
-kept r s bytes past n k = cond_both (is_running r s) bytes (s ∷ bytes) (λ l. l ≡ s ∷ bytes) (λ e. let q = known r s past e k in absurd (n q.1.0 q.1.1)) (λ e. refl)
+kept : (r : Option ℕ) (s : ℕ) (bytes past : List ℕ) → ((l : Count) → sort_of s ≡ voice_status l → ⊥) → IsKnownIn r past
+    → without_status r (s ∷ bytes) ≡ s ∷ bytes
+kept r s bytes past n k =
+    cond_both (is_running r s) bytes (s ∷ bytes) (λ l. l ≡ s ∷ bytes) (λ e. let q = known r s past e k in absurd (n q.1.0 q.1.1))
+    (λ e. refl)
 
 abbrev HasPlainHead : Message → Type 0
 HasPlainHead m = (s : ℕ) × (bytes : List ℕ) × (spelled m ≡ s ∷ bytes) × ((l : Count) → sort_of s ≡ voice_status l → ⊥)
@@ -116,17 +144,22 @@ whole_kept m r past q k = ap (without_status r) q.2 ∙ kept r q.0 q.1 past q.3 
 
 -- a system message is written whole
 pub system_whole : (m : System) (past : List ℕ) → without_status (running past) (spelled_system m) ≡ spelled_system m
-system_whole m past = let q = system_head m in ap (without_status (running past)) q.2 ∙ kept (running past) q.0 q.1 past q.3 (λ s e. e) ∙ sym q.2
+system_whole m past =
+    let q = system_head m in
+    ap (without_status (running past)) q.2 ∙ kept (running past) q.0 q.1 past q.3 (λ s e. e) ∙ sym q.2
 
 pub exclusive_whole : (bytes past : List ℕ) → without_status (running past) (spelled (exclusive bytes)) ≡ spelled (exclusive bytes)
 exclusive_whole bytes past = whole_kept (exclusive bytes) (running past) past (exclusive_head bytes) (λ s e. e)
 
-reads_kept : (m : Message) (r : Option ℕ) (past : List ℕ) → HasPlainHead m → IsMessage m → open_in None past ≡ None → IsKnownIn r past → ReadsAs past (without_status r (spelled m)) (m ∷ [])
+reads_kept : (m : Message) (r : Option ℕ) (past : List ℕ) → HasPlainHead m → IsMessage m → open_in None past ≡ None → IsKnownIn r past
+    → ReadsAs past (without_status r (spelled m)) (m ∷ [])
 reads_kept m r past q b h k = subst (λ l. ReadsAs past l (m ∷ [])) (sym (whole_kept m r past q k)) (reads_message m past b h)
 
-reads_less : (m : Message) (r : Option ℕ) (past : List ℕ) → IsMessage m → open_in None past ≡ None → IsKnownIn r past → ReadsAs past (without_status r (spelled m)) (m ∷ [])
+reads_less : (m : Message) (r : Option ℕ) (past : List ℕ) → IsMessage m → open_in None past ≡ None → IsKnownIn r past
+    → ReadsAs past (without_status r (spelled m)) (m ∷ [])
 reads_less (voice m) r past b h k = subst (λ l. ReadsAs past l (voice m ∷ [])) (sym (ap (without_status r) (spelled_voice-status m)))
-    (cond_both (is_running r (status_of m)) (tail_of (spelled_voice m)) (status_of m ∷ tail_of (spelled_voice m)) (λ l. ReadsAs past l (voice m ∷ []))
+    (cond_both (is_running r (status_of m)) (tail_of (spelled_voice m)) (status_of m ∷ tail_of (spelled_voice m))
+    (λ l. ReadsAs past l (voice m ∷ []))
     (λ e. reads_voice_tail m past b h (known r (status_of m) past e k).0)
     (λ e. subst (λ l. ReadsAs past l (voice m ∷ [])) (spelled_voice-status m) (reads_message (voice m) past b h)))
 reads_less (common m) r past b h k = reads_kept (common m) r past (system_head m) b h k
@@ -157,19 +190,23 @@ tail_data (voice1.Program ch p) b = b.1
 tail_data (voice1.Pressure ch v) b = b.1
 tail_data (voice1.Bend ch v) b = omega arith
 
-never_runs : (m : Message) (past : List ℕ) → HasPlainHead m → is_running (running past) (slice_index (without_status (running past) (spelled m)) 0) ≡ false
+never_runs : (m : Message) (past : List ℕ) → HasPlainHead m
+    → is_running (running past) (slice_index (without_status (running past) (spelled m)) 0) ≡ false
 never_runs m past q =
-    subst (λ l. is_running (running past) (slice_index l 0) ≡ false) (sym (ap (without_status (running past)) q.2 ∙ kept (running past) q.0 q.1 past q.3 (λ s e. e)))
+    subst (λ l. is_running (running past) (slice_index l 0) ≡ false)
+    (sym (ap (without_status (running past)) q.2 ∙ kept (running past) q.0 q.1 past q.3 (λ s e. e)))
     (go (is_running (running past) q.0) refl)
   where
     go : (t : Bool) → is_running (running past) q.0 ≡ t → is_running (running past) q.0 ≡ false
     go true e = let k = known (running past) q.0 past e (λ s e. e) in absurd (q.3 k.1.0 k.1.1)
     go false e = e
 
-pub written_status : (m : Message) (past : List ℕ) → IsMessage m → is_running (running past) (slice_index (without_status (running past) (spelled m)) 0) ≡ false
+pub written_status : (m : Message) (past : List ℕ) → IsMessage m
+    → is_running (running past) (slice_index (without_status (running past) (spelled m)) 0) ≡ false
 written_status (voice m) past b =
     subst (λ l. is_running (running past) (slice_index (without_status (running past) l) 0) ≡ false) (sym (spelled_voice-status m))
-    (cond_both (is_running (running past) (status_of m)) (tail_of (spelled_voice m)) (status_of m ∷ tail_of (spelled_voice m)) (λ l. is_running (running past) (slice_index l 0) ≡ false)
+    (cond_both (is_running (running past) (status_of m)) (tail_of (spelled_voice m)) (status_of m ∷ tail_of (spelled_voice m))
+    (λ l. is_running (running past) (slice_index l 0) ≡ false)
     (λ e. data_never_runs past _ (tail_data m b))
     (λ e. e))
 written_status (common m) past b = never_runs (common m) past (system_head m)
@@ -194,31 +231,44 @@ knows_all (b ∷ bytes) before past k = knows_more (bytes ++ before) (bytes ++ p
 
 -- ---- what is written of some messages
 
-pub reads_written : (ms : List Message) (before past : List ℕ) → AllByRecursion IsMessage ms → open_in None past ≡ None → IsKnownIn (running before) past → ReadsAs past (written_after before ms) ms
+pub reads_written : (ms : List Message) (before past : List ℕ) → AllByRecursion IsMessage ms → open_in None past ≡ None
+    → IsKnownIn (running before) past → ReadsAs past (written_behind before ms) ms
 reads_written [] before past a h k = record { completes = sym (append-nil _); closed = h }
 reads_written (m ∷ ms) before past a h k =
     let piece = without_status (running before) (spelled m) in
     let r = reads_less m (running before) past a.0 h k in
     let rest = reads_written ms (reverse piece ++ before) (reverse piece ++ past) a.1 r.closed (knows_all (reverse piece) before past k) in
-    reads_both past piece (written_after (reverse piece ++ before) ms) m ms r rest
+    reads_both past piece (written_behind (reverse piece ++ before) ms) m ms r rest
 
 -- ---- the running status that it leaves
 
 -- two data bytes, or one, leave it; and after a status byte it is that one
-running_of_two : (past : List ℕ) (s x y : ℕ) (c : Count) → sort_of s ≡ voice_status c → sort_of x ≡ data_byte → sort_of y ≡ data_byte → (running (y ∷ x ∷ s ∷ past) ≡ Some s) × (running (y ∷ x ∷ past) ≡ running past)
+running_of_two : (past : List ℕ) (s x y : ℕ) (c : Count) → sort_of s ≡ voice_status c → sort_of x ≡ data_byte → sort_of y ≡ data_byte
+    → (running (y ∷ x ∷ s ∷ past) ≡ Some s) × (running (y ∷ x ∷ past) ≡ running past)
 running_of_two past s x y c hs hx hy = (simp (hs, hx, hy), simp (hx, hy))
 
-running_of_one : (past : List ℕ) (s x : ℕ) (c : Count) → sort_of s ≡ voice_status c → sort_of x ≡ data_byte → (running (x ∷ s ∷ past) ≡ Some s) × (running (x ∷ past) ≡ running past)
+running_of_one : (past : List ℕ) (s x : ℕ) (c : Count) → sort_of s ≡ voice_status c → sort_of x ≡ data_byte
+    → (running (x ∷ s ∷ past) ≡ Some s) × (running (x ∷ past) ≡ running past)
 running_of_one past s x c hs hx = (simp (hs, hx), simp hx)
 
-running_of_voice : (m : Voice1) (past : List ℕ) → IsVoice1 m → (running (reverse (status_of m ∷ tail_of (spelled_voice m)) ++ past) ≡ Some (status_of m)) × (running (reverse (tail_of (spelled_voice m)) ++ past) ≡ running past)
-running_of_voice (voice1.NoteOff ch n v) past b = running_of_two past (0x80 + ch) n v two (low_two _ (omega arith) (omega arith)) (data_is n b.1) (data_is v b.2)
-running_of_voice (voice1.NoteOn ch n v) past b = running_of_two past (0x90 + ch) n v two (low_two _ (omega arith) (omega arith)) (data_is n b.1) (data_is v b.2)
-running_of_voice (voice1.PolyPressure ch n v) past b = running_of_two past (0xa0 + ch) n v two (low_two _ (omega arith) (omega arith)) (data_is n b.1) (data_is v b.2)
-running_of_voice (voice1.Control ch n v) past b = running_of_two past (0xb0 + ch) n v two (low_two _ (omega arith) (omega arith)) (data_is n b.1) (data_is v b.2)
-running_of_voice (voice1.Program ch v) past b = running_of_one past (0xc0 + ch) v one (one_status _ (omega arith) (omega arith)) (data_is v b.1)
-running_of_voice (voice1.Pressure ch v) past b = running_of_one past (0xd0 + ch) v one (one_status _ (omega arith) (omega arith)) (data_is v b.1)
-running_of_voice (voice1.Bend ch v) past b = running_of_two past (0xe0 + ch) (v % 128) (v / 128) two (bend_status _ (omega arith) (omega arith)) (data_is (v % 128) (omega arith)) (data_is (v / 128) (omega arith))
+running_of_voice : (m : Voice1) (past : List ℕ) → IsVoice1 m
+    → (running (reverse (status_of m ∷ tail_of (spelled_voice m)) ++ past) ≡ Some (status_of m))
+    × (running (reverse (tail_of (spelled_voice m)) ++ past) ≡ running past)
+running_of_voice (voice1.NoteOff ch n v) past b =
+    running_of_two past (0x80 + ch) n v two (low_two _ (omega arith) (omega arith)) (data_is n b.1) (data_is v b.2)
+running_of_voice (voice1.NoteOn ch n v) past b =
+    running_of_two past (0x90 + ch) n v two (low_two _ (omega arith) (omega arith)) (data_is n b.1) (data_is v b.2)
+running_of_voice (voice1.PolyPressure ch n v) past b =
+    running_of_two past (0xa0 + ch) n v two (low_two _ (omega arith) (omega arith)) (data_is n b.1) (data_is v b.2)
+running_of_voice (voice1.Control ch n v) past b =
+    running_of_two past (0xb0 + ch) n v two (low_two _ (omega arith) (omega arith)) (data_is n b.1) (data_is v b.2)
+running_of_voice (voice1.Program ch v) past b =
+    running_of_one past (0xc0 + ch) v one (one_status _ (omega arith) (omega arith)) (data_is v b.1)
+running_of_voice (voice1.Pressure ch v) past b =
+    running_of_one past (0xd0 + ch) v one (one_status _ (omega arith) (omega arith)) (data_is v b.1)
+running_of_voice (voice1.Bend ch v) past b =
+    running_of_two past (0xe0 + ch) (v % 128) (v / 128) two (bend_status _ (omega arith) (omega arith)) (data_is (v % 128) (omega arith))
+    (data_is (v / 128) (omega arith))
 
 is_running-true : (r : Option ℕ) (s : ℕ) → is_running r s ≡ true → r ≡ Some s
 is_running-true None s e = cc
@@ -248,30 +298,40 @@ unfolding sort_of
 running_of_exclusive bytes past = ap running (exclusive_turned bytes past)
 
 -- one message
-running_of_message : (m : Message) (past : List ℕ) → IsMessage m → running (reverse (without_status (running past) (spelled m)) ++ past) ≡ running_after m (running past)
+running_of_message : (m : Message) (past : List ℕ) → IsMessage m
+    → running (reverse (without_status (running past) (spelled m)) ++ past) ≡ running_after m (running past)
 running_of_message (voice m) past b =
     let both = running_of_voice m past b in
     subst (λ l. running (reverse (without_status (running past) l) ++ past) ≡ Some (status_of m)) (sym (spelled_voice-status m))
-    (cond_both (is_running (running past) (status_of m)) (tail_of (spelled_voice m)) (status_of m ∷ tail_of (spelled_voice m)) (λ l. running (reverse l ++ past) ≡ Some (status_of m))
+    (cond_both (is_running (running past) (status_of m)) (tail_of (spelled_voice m)) (status_of m ∷ tail_of (spelled_voice m))
+    (λ l. running (reverse l ++ past) ≡ Some (status_of m))
     (λ e. both.1 ∙ is_running-true (running past) (status_of m) e)
     (λ e. both.0))
-running_of_message (common m) past b = ap (λ l. running (reverse l ++ past)) (whole_kept (common m) (running past) past (system_head m) (λ s e. e)) ∙ running_of_common m past b
-running_of_message (real_time m) past b = ap (λ l. running (reverse l ++ past)) (whole_kept (real_time m) (running past) past (system_head m) (λ s e. e)) ∙ running_of_real_time m past b
-running_of_message (exclusive bytes) past b = ap (λ l. running (reverse l ++ past)) (whole_kept (exclusive bytes) (running past) past (exclusive_head bytes) (λ s e. e)) ∙ running_of_exclusive bytes past
+running_of_message (common m) past b =
+    ap (λ l. running (reverse l ++ past)) (whole_kept (common m) (running past) past (system_head m) (λ s e. e))
+    ∙ running_of_common m past b
+running_of_message (real_time m) past b =
+    ap (λ l. running (reverse l ++ past)) (whole_kept (real_time m) (running past) past (system_head m) (λ s e. e))
+    ∙ running_of_real_time m past b
+running_of_message (exclusive bytes) past b =
+    ap (λ l. running (reverse l ++ past)) (whole_kept (exclusive bytes) (running past) past (exclusive_head bytes) (λ s e. e))
+    ∙ running_of_exclusive bytes past
 
 -- what is written of some messages, one by one
 turned : (first rest past : List ℕ) → reverse (first ++ rest) ++ past ≡ reverse rest ++ (reverse first ++ past)
 turned first rest past = simp (reverse-append, append_assoc)
 
-pub running_of_written : (ms : List Message) (past : List ℕ) → AllByRecursion IsMessage ms → running (reverse (written_after past ms) ++ past) ≡ running_after_all ms (running past)
+pub running_of_written : (ms : List Message) (past : List ℕ) → AllByRecursion IsMessage ms
+    → running (reverse (written_behind past ms) ++ past) ≡ running_over ms (running past)
 running_of_written [] past a = refl
 running_of_written (m ∷ ms) past a =
     let piece = without_status (running past) (spelled m) in
-    ap running (turned piece (written_after (reverse piece ++ past) ms) past)
+    ap running (turned piece (written_behind (reverse piece ++ past) ms) past)
     ∙ running_of_written ms (reverse piece ++ past) a.1
-    ∙ ap (running_after_all ms) (running_of_message m past a.0)
+    ∙ ap (running_over ms) (running_of_message m past a.0)
 
-pub written_by_running : (ms : List Message) (past : List ℕ) → AllByRecursion IsMessage ms → written_after past ms ≡ written_under (running past) ms
+pub written_by_running : (ms : List Message) (past : List ℕ) → AllByRecursion IsMessage ms
+    → written_behind past ms ≡ written_under (running past) ms
 written_by_running [] past a = refl
 written_by_running (m ∷ ms) past a =
     let piece = without_status (running past) (spelled m) in
@@ -304,10 +364,16 @@ plain_head_cons : (m : Message) (past : List ℕ) → HasPlainHead m → IsCons 
 plain_head_cons m past q = subst IsCons (sym (ap (without_status (running past)) q.2 ∙ kept (running past) q.0 q.1 past q.3 (λ s e. e))) tt
 
 less_cons : (m : Message) (past : List ℕ) → IsCons (without_status (running past) (spelled m))
-less_cons (voice m) past = subst (λ l. IsCons (without_status (running past) l)) (sym (spelled_voice-status m)) (cond_both (is_running (running past) (status_of m)) (tail_of (spelled_voice m)) (status_of m ∷ tail_of (spelled_voice m)) IsCons (λ e. tail_cons m) (λ e. tt))
+less_cons (voice m) past =
+    subst (λ l. IsCons (without_status (running past) l)) (sym (spelled_voice-status m))
+    (cond_both (is_running (running past) (status_of m)) (tail_of (spelled_voice m)) (status_of m ∷ tail_of (spelled_voice m)) IsCons
+    (λ e. tail_cons m) (λ e. tt))
 less_cons (common m) past = plain_head_cons (common m) past (system_head m)
 less_cons (real_time m) past = plain_head_cons (real_time m) past (system_head m)
 less_cons (exclusive bytes) past = plain_head_cons (exclusive bytes) past (exclusive_head bytes)
 
-pub written_something : (m : Message) (ms : List Message) (past : List ℕ) → 0 < length (written_after past (m ∷ ms))
-written_something m ms past = cons_length (written_after past (m ∷ ms)) (cons_front (without_status (running past) (spelled m)) (written_after (reverse (without_status (running past) (spelled m)) ++ past) ms) (less_cons m past))
+pub written_something : (m : Message) (ms : List Message) (past : List ℕ) → 0 < length (written_behind past (m ∷ ms))
+written_something m ms past =
+    cons_length (written_behind past (m ∷ ms))
+    (cons_front (without_status (running past) (spelled m))
+    (written_behind (reverse (without_status (running past) (spelled m)) ++ past) ms) (less_cons m past))

@@ -3,8 +3,8 @@ use Rattle.std.specs.Prelude.{◌≡◌, ◌<◌, ℕ, List, [], ◌∷◌, ◌+
 use Rattle.std.specs.List.{AllByRecursion, flat_map}
 use Rattle.voice_messages.specs.declared.voice1.System.{System}
 use Rattle.midi1_bytes.specs.Messages.{Message, exclusive, IsMessage, spelled, spelled_system}
-use Rattle.midi1_bytes.specs.Parsing.{held_behind, idle, open_of, parse}
-use Rattle.midi1_bytes.specs.RunningStatus.{IsKnownIn, is_running, running_after_all, without_status, written_after, written_under}
+use Rattle.midi1_bytes.specs.Parsing.{held_over, idle, open_of, parse}
+use Rattle.midi1_bytes.specs.RunningStatus.{IsKnownIn, is_running, running_over, without_status, written_behind, written_under}
 use Rattle.midi1_bytes.specs.Steps.{ReadsAs, completed_by, step_of}
 use Rattle.midi1_bytes.specs.Stream.{Room, open_at_end, open_in, running}
 
@@ -17,7 +17,7 @@ WrittenMessagesAreReadAgain =
 pub record StatusesThatRunCanBeLeftOut : Type 0 where
   pub reads : (messages : List Message) (before past : List ℕ) → AllByRecursion IsMessage messages →
       open_in None past ≡ None → IsKnownIn (running before) past →
-      ReadsAs past (written_after before messages) messages
+      ReadsAs past (written_behind before messages) messages
   pub known : (bytes before past : List ℕ) → IsKnownIn (running before) past →
       IsKnownIn (running (bytes ++ before)) (bytes ++ past)
   pub system : (message : System) (past : List ℕ) →
@@ -27,22 +27,22 @@ pub record StatusesThatRunCanBeLeftOut : Type 0 where
   pub status : (message : Message) (past : List ℕ) → IsMessage message →
       is_running (running past) (slice_index (without_status (running past) (spelled message)) 0) ≡ false
   pub something : (message : Message) (messages : List Message) (past : List ℕ) →
-      0 < length (written_after past (message ∷ messages))
+      0 < length (written_behind past (message ∷ messages))
 
 pub record RunningStatusIsThatOfTheMessages : Type 0 where
   pub after : (messages : List Message) (past : List ℕ) → AllByRecursion IsMessage messages →
-      running (reverse (written_after past messages) ++ past) ≡ running_after_all messages (running past)
+      running (reverse (written_behind past messages) ++ past) ≡ running_over messages (running past)
   pub written : (messages : List Message) (past : List ℕ) → AllByRecursion IsMessage messages →
-      written_after past messages ≡ written_under (running past) messages
+      written_behind past messages ≡ written_under (running past) messages
 
 abbrev pub CompletedMessagesAreInRange : Type 0
 CompletedMessagesAreInRange =
     (room : Room) (past : List ℕ) (byte : ℕ) → IfSome (completed_by (step_of room past byte)) IsMessage
 
 pub record ParsedBytesAreTheDefinition : Type 0 where
-  pub new : (room : ℕ) → held_behind room [] ≡ idle room
+  pub new : (room : ℕ) → held_over room [] ≡ idle room
   pub step : (room : ℕ) (past : List ℕ) (byte : ℕ) →
-      (parse (held_behind room past) (length past) byte).step ≡ step_of (Some room) past byte
+      (parse (held_over room past) (length past) byte).step ≡ step_of (Some room) past byte
   pub after : (room : ℕ) (past : List ℕ) (byte : ℕ) →
-      (parse (held_behind room past) (length past) byte).after ≡ held_behind room (byte ∷ past)
-  pub end : (room : ℕ) (past : List ℕ) → open_of (held_behind room past) ≡ open_at_end (Some room) past
+      (parse (held_over room past) (length past) byte).after ≡ held_over room (byte ∷ past)
+  pub end : (room : ℕ) (past : List ℕ) → open_of (held_over room past) ≡ open_at_end (Some room) past

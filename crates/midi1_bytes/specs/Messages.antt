@@ -82,17 +82,17 @@ spelled (exclusive bytes) = 0xf0 ∷ bytes ++ 0xf7 ∷ []
 -- ---- which messages there are
 
 -- a system message is a common one or a Real Time one
-abbrev pub message_of : System → Message
-message_of (system.Quarter value) = common (system.Quarter value)
-message_of (system.Position value) = common (system.Position value)
-message_of (system.Song value) = common (system.Song value)
-message_of system.Tune = common system.Tune
-message_of system.Clock = real_time system.Clock
-message_of system.Start = real_time system.Start
-message_of system.Continue = real_time system.Continue
-message_of system.Stop = real_time system.Stop
-message_of system.Sensing = real_time system.Sensing
-message_of system.Reset = real_time system.Reset
+abbrev pub system_message : System → Message
+system_message (system.Quarter value) = common (system.Quarter value)
+system_message (system.Position value) = common (system.Position value)
+system_message (system.Song value) = common (system.Song value)
+system_message system.Tune = common system.Tune
+system_message system.Clock = real_time system.Clock
+system_message system.Start = real_time system.Start
+system_message system.Continue = real_time system.Continue
+system_message system.Stop = real_time system.Stop
+system_message system.Sensing = real_time system.Sensing
+system_message system.Reset = real_time system.Reset
 
 abbrev pub IsCommon : System → Type 0
 IsCommon (system.Quarter value) = value < 128

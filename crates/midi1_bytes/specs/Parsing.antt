@@ -7,7 +7,8 @@ use Rattle.midi1_bytes.specs.declared.step.CutKind.{CutKind}
 use Rattle.midi1_bytes.specs.declared.step.CutKind.TheVariants as kind
 use Rattle.midi1_bytes.specs.declared.step.AfterCut.{AfterCut}
 use Rattle.midi1_bytes.specs.declared.step.AfterCut.TheVariants as after
-use Rattle.midi1_bytes.specs.Sorts.{one, two, Sort, data_byte, voice_status, exclusive_start, common_status, tune_request, undefined_status, exclusive_end, real_time_status, undefined_real_time, sort_of}
+use Rattle.midi1_bytes.specs.Sorts.{one, two, Sort, data_byte, voice_status, exclusive_start, common_status, tune_request}
+use Rattle.midi1_bytes.specs.Sorts.{undefined_status, exclusive_end, real_time_status, undefined_real_time, sort_of}
 use Rattle.midi1_bytes.specs.Messages.{voice, common, exclusive, real_time, voice_of, common_of, real_time_of}
 use Rattle.midi1_bytes.specs.Stream.{Open, fits, without_real_time, last_status, last_data, open_in, start_in, running}
 use Rattle.midi1_bytes.specs.Steps.{Step, held, completes, stray, undefined, cut, too_long}
@@ -99,11 +100,18 @@ parse_data room None None offset byte = record { step = stray; after = idle room
 
 abbrev pub parse_under : Sort → Parsing → ℕ → ℕ → Parsed
 parse_under data_byte parsing offset byte = parse_data parsing.room parsing.running parsing.begun offset byte
-parse_under (voice_status count) parsing offset byte = record { step = cut_by (open_of parsing) after.Begins held; after = beginning parsing.room (Some byte) (begun_message offset byte None) }
-parse_under exclusive_start parsing offset byte = record { step = cut_by (open_of parsing) after.Begins held; after = beginning parsing.room None (begun_exclusive offset []) }
-parse_under (common_status count) parsing offset byte = record { step = cut_by (open_of parsing) after.Begins held; after = beginning parsing.room None (begun_message offset byte None) }
-parse_under tune_request parsing offset byte = record { step = cut_by (open_of parsing) after.Tune (completes (common system.Tune)); after = idle parsing.room }
-parse_under undefined_status parsing offset byte = record { step = cut_by (open_of parsing) after.Undefined undefined; after = idle parsing.room }
+parse_under (voice_status count) parsing offset byte = record {
+  step = cut_by (open_of parsing) after.Begins held;
+  after = beginning parsing.room (Some byte) (begun_message offset byte None);
+}
+parse_under exclusive_start parsing offset byte =
+    record { step = cut_by (open_of parsing) after.Begins held; after = beginning parsing.room None (begun_exclusive offset []) }
+parse_under (common_status count) parsing offset byte =
+    record { step = cut_by (open_of parsing) after.Begins held; after = beginning parsing.room None (begun_message offset byte None) }
+parse_under tune_request parsing offset byte =
+    record { step = cut_by (open_of parsing) after.Tune (completes (common system.Tune)); after = idle parsing.room }
+parse_under undefined_status parsing offset byte =
+    record { step = cut_by (open_of parsing) after.Undefined undefined; after = idle parsing.room }
 parse_under exclusive_end parsing offset byte = record { step = ended_by parsing.begun; after = idle parsing.room }
 parse_under real_time_status parsing offset byte = record { step = completes (real_time (real_time_of byte)); after = parsing }
 parse_under undefined_real_time parsing offset byte = record { step = undefined; after = parsing }
@@ -123,10 +131,10 @@ abbrev pub begun_by : CutKind → ℕ → List ℕ → ℕ → Begun
 begun_by kind.Message start before status = begun_message start status (first_of before)
 begun_by kind.Exclusive start before status = begun_exclusive start (reverse before)
 
-abbrev pub begun_behind : ℕ → List ℕ → Option Begun
-begun_behind room past =
+abbrev pub begun_over : ℕ → List ℕ → Option Begun
+begun_over room past =
     let bytes = without_real_time past in
     option_and_then (λ what. option_map (begun_by what (start_in past) (last_data bytes)) (last_status bytes)) (open_in (Some room) past)
 
-abbrev pub held_behind : ℕ → List ℕ → Parsing
-held_behind room past = record { room = room; running = running past; begun = begun_behind room past }
+abbrev pub held_over : ℕ → List ℕ → Parsing
+held_over room past = record { room = room; running = running past; begun = begun_over room past }

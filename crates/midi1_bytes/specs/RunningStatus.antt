@@ -17,11 +17,11 @@ without_status in_force (status ∷ bytes) = if is_running in_force status then 
 
 -- Messages written after these bytes, which are newest first. A status byte is left out that equals the running status of those
 -- bytes followed by what is written of the messages before it.
-abbrev pub written_after : List ℕ → List Message → List ℕ
-written_after past [] = []
-written_after past (message ∷ messages) =
+abbrev pub written_behind : List ℕ → List Message → List ℕ
+written_behind past [] = []
+written_behind past (message ∷ messages) =
     without_status (running past) (spelled message)
-    ++ written_after (reverse (without_status (running past) (spelled message)) ++ past) messages
+    ++ written_behind (reverse (without_status (running past) (spelled message)) ++ past) messages
 
 -- ---- by the running status alone
 
@@ -37,9 +37,9 @@ running_after (exclusive bytes) in_force = None
 running_after (real_time message) in_force = in_force
 
 -- after some messages, the first of which comes first
-abbrev pub running_after_all : List Message → Option ℕ → Option ℕ
-running_after_all [] in_force = in_force
-running_after_all (message ∷ messages) in_force = running_after_all messages (running_after message in_force)
+abbrev pub running_over : List Message → Option ℕ → Option ℕ
+running_over [] in_force = in_force
+running_over (message ∷ messages) in_force = running_over messages (running_after message in_force)
 
 abbrev pub written_under : Option ℕ → List Message → List ℕ
 written_under in_force [] = []

@@ -7,7 +7,8 @@ use Rattle.midi1_bytes.specs.declared.step.CutKind.{CutKind}
 use Rattle.midi1_bytes.specs.declared.step.CutKind.TheVariants as kind
 use Rattle.midi1_bytes.specs.declared.step.AfterCut.{AfterCut}
 use Rattle.midi1_bytes.specs.declared.step.AfterCut.TheVariants as after
-use Rattle.midi1_bytes.specs.Sorts.{data_count, Sort, data_byte, voice_status, exclusive_start, common_status, tune_request, undefined_status, exclusive_end, real_time_status, undefined_real_time, sort_of}
+use Rattle.midi1_bytes.specs.Sorts.{data_count, Sort, data_byte, voice_status, exclusive_start, common_status, tune_request}
+use Rattle.midi1_bytes.specs.Sorts.{undefined_status, exclusive_end, real_time_status, undefined_real_time, sort_of}
 use Rattle.midi1_bytes.specs.Messages.{Message, voice, common, exclusive, real_time, voice_of, common_of, real_time_of}
 use Rattle.midi1_bytes.specs.Stream.{Room, fits, without_real_time, last_status, last_data, open_in, start_in}
 

@@ -17,16 +17,18 @@ pub fn written_messages_are_read_again()
     ensures { WrittenMessagesAreReadAgain }
 {}
 
-/// Messages written without each status byte that equals the running status are read back as those messages, and leave nothing
-/// open. The running status may be that of some last bytes of the stream alone, as long as it is that of all its bytes where it
-/// is set, and then this stays so. A system message or an exclusive is written whole, something is written of each message, and
-/// a status byte that is written doesn't equal the running status.
+/// Messages written without each status byte that equals the running status are read back as those messages,
+/// and leave nothing open. The running status may be that of some last bytes of the stream alone, as long as
+/// it is that of all its bytes where it is set, and then this stays so. A system message or an exclusive is
+/// written whole, something is written of each message, and a status byte that is written doesn't equal the
+/// running status.
 pub fn statuses_that_run_can_be_left_out()
     ensures { StatusesThatRunCanBeLeftOut }
 {}
 
-/// What is written of messages depends on the running status alone, not on the bytes before. After a voice message the running
-/// status is its status byte; a system common message or an exclusive ends it, and Real Time leaves it as it was.
+/// What is written of messages depends on the running status alone, not on the bytes before. After a voice
+/// message the running status is its status byte; a system common message or an exclusive ends it, and Real
+/// Time leaves it was.
 pub fn running_status_is_that_of_the_messages()
     ensures { RunningStatusIsThatOfTheMessages }
 {}
@@ -36,14 +38,16 @@ pub fn completed_messages_are_in_range()
     ensures { CompletedMessagesAreInRange }
 {}
 
-/// A parser that takes the bytes of a stream, each with its offset, answers each byte as the definition does, which looks back
-/// over all the bytes before it, whatever the limit. It begins with what is held after no bytes, and one more byte turns what is
-/// held after some bytes into what is held after them all. At the end it tells what is open there.
+/// A parser that takes the bytes of a stream, each with its offset, answers each byte as the definition does,
+/// which looks back over all the bytes before it, whatever the limit. It begins with what is held after no
+/// bytes, and one more byte turns what is held after some bytes into what is held after them all. At the end
+/// it tells what is open there.
 pub fn parsed_bytes_are_the_definition()
     ensures { ParsedBytesAreTheDefinition }
 {}
 
-/// A clock between the data bytes of a note under running status: the bytes complete a note, the clock, and a note.
+/// A clock between the data bytes of a note under running status: the
+/// bytes complete a note, the clock, and a note.
 pub fn a_clock_stands_between_data_bytes()
     ensures { completed (reverse (0x90 ∷ 0x3c ∷ 0x64 ∷ 0x3e ∷ 0xf8 ∷ 0x64 ∷ [])) ≡
         voice (voice1.NoteOn 0 0x3c 0x64)

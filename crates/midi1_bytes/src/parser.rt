@@ -20,11 +20,13 @@ fn append(bytes: &mut Vec<u8>, byte: u8)
 {
     match bytes.push(byte) {
         Ok(()) => {}
+        // Memory is reserved for the byte, so the push takes none.
         Err(_) => unreachable!(),
     }
 }
 
-// What a status byte does: where something is open it cuts that off and does `besides`, and else it does `alone`.
+// What a status byte does: where something is open it cuts that off
+// and does `besides`, and else it does `alone`.
 #[inline(always)]
 fn cut_off<'a>(begun: Option<(u64, CutKind)>, besides: AfterCut, alone: Step<'a>) -> Step<'a>
     requires framed { LendsFramed alone }
@@ -43,9 +45,10 @@ fn cut_off<'a>(begun: Option<(u64, CutKind)>, besides: AfterCut, alone: Step<'a>
     }
 }
 
-/// A parser of the bytes of a MIDI 1.0 stream (MIDI 1.0 Detailed Specification: running status, system exclusive messages). A
-/// contract sees the running status, 80 to EF where there is one, what is open with its start and its bytes, and the limit,
-/// `room`: how many bytes an exclusive may have between F0 and F7, 6 to 1,048,576 (own rule).
+/// A parser of the bytes of a MIDI 1.0 stream (MIDI 1.0 Detailed Specification: running status, system
+/// exclusive messages). A contract sees the running status, 80 to EF where there is one, what is open with
+/// its start and its bytes, and the limit, `room`: how many bytes an exclusive may have between F0 and F7, 6
+/// to 1,048,576 (own rule).
 #[derive(Drop)]
 pub struct Parser {
     running: Running,
@@ -92,8 +95,9 @@ impl Parser {
       parse_under,
     };
 
-    /// A parser with nothing open and no running status. Reserves memory for exclusives of `room` bytes between F0 and F7, 6 to
-    /// 1,048,576 (own rule); no other call takes any. `NoMemory` when there isn't that much.
+    /// A parser with nothing open and no running status. Reserves memory for exclusives of `room` bytes
+    /// between F0 and F7, 6 to 1,048,576 (own rule); no other call takes any. `NoMemory` when there isn't
+    /// that much.
     pub fn new(alloc: Global, room: u32) -> Result<Parser, NoMemory>
         requires least { 6 ≤ room }
         requires most { room ≤ 1048576 }
@@ -111,8 +115,9 @@ impl Parser {
         })
     }
 
-    /// What is open, a message or an exclusive, and the offset at which it starts, as it was given to `byte`: that of its status
-    /// byte, or under running status that of its first data byte. `None` exactly when nothing is open (own rule).
+    /// What is open, a message or an exclusive, and the offset at which it starts, as it was given to `byte`:
+    /// that of its status byte, or under running status that of its first data byte. `None` exactly when
+    /// nothing is open (own rule).
     #[inline(always)]
     pub fn end(&self) -> Option<(u64, CutKind)>
         ensures { result ≡ option_map (λ begun. (begun.start, begun.kind)) (open_of self.now) }
@@ -367,13 +372,15 @@ impl Parser {
         }
     }
 
-    /// Takes one more byte of the stream, 0 to FF (MIDI 1.0 Detailed Specification: summary of status bytes, running status,
-    /// system messages). The offset, in bytes from the start of the stream, is only kept, and given back as the start of what the
-    /// byte begins; any number will do. The call takes no memory, and no byte is an error.
+    /// Takes one more byte of the stream, 0 to FF (MIDI 1.0 Detailed Specification: summary of status bytes,
+    /// running status, system messages). The offset, in bytes from the start of the stream, is only kept, and
+    /// given back as the start of what the byte begins; any number will do. The call takes no memory, and no
+    /// byte is an error.
     ///
-    /// `Exclusive` lends the exclusive from F0 to F7. `TooLong` is returned exactly at the data byte that would make the bytes
-    /// between F0 and F7 more than the limit; the exclusive is then dropped, and there is no running status. What a status byte
-    /// cuts off is dropped and reported, and a byte that belongs to nothing is `Stray` (own rules).
+    /// `Exclusive` lends the exclusive from F0 to F7. `TooLong` is returned exactly at the data byte that
+    /// would make the bytes between F0 and F7 more than the limit; the exclusive is then dropped, and there
+    /// is no running status. What a status byte cuts off is dropped and reported, and a byte that belongs to
+    /// nothing is `Stray` (own rules).
     #[tactic(auto, unfolding(crate::specs::Sorts::sort_of))]
     #[inline(always)]
     pub fn byte(&mut self, byte: u8, offset: u64) -> Step<'_>

@@ -1,4 +1,5 @@
-// A plain, slow program that at each byte looks back over all the bytes before it, to be compared with others.
+// A plain, slow program that at each byte looks back over all the
+// bytes before it, to be compared with others.
 ghost use Rattle.std.specs.Prelude.{◌≡◌, ◌<◌, ◌≤◌, ◌↔◌, ◌+◌, ◌*◌, length, slice_index, [], ◌∷◌, Some, IsTrue};
 ghost use Rattle.midi1_bytes.specs.Slow.{told};
 ghost use Rattle.midi1_bytes.specs.Sorts.{data_byte, exclusive_end, sort_of, is_data, is_real_time};
@@ -197,7 +198,8 @@ fn end_step(past: &[u8], room: usize) -> SlowStep
     }
 }
 
-/// What a byte does after the bytes before it, which are given newest first, where exclusives have at most `room` bytes.
+/// What a byte does after the bytes before it, which are given newest
+/// first, where exclusives have at most `room` bytes.
 #[tactic(auto, unfolding(crate::specs::Sorts::sort_of))]
 pub fn slow_step(past: &[u8], byte: u8, room: usize) -> SlowStep
     ensures { result ≡ told (step_of (Some room) past.now byte) }

@@ -1,12 +1,12 @@
-// The messages that a parser completes, by their bytes. What is lent holds no type that contracts see as another value, so these
-// stand in for the messages, which they give.
+// The messages that a parser completes, by their bytes. What is lent holds no type that contracts see as
+// another value, so these stand in for the messages, which they give.
 ghost use Rattle.std.specs.Prelude.{◌<◌, ◌≤◌};
 
 use crate::messages::{fourteen_bits, real_time, seven_bits, voice_of_one, voice_of_two};
 use voice_messages::{System, Voice1};
 
-/// The bytes of a channel voice message: a status byte 80 to EF and one or two data bytes, 0 to 7F (MIDI 1.0 Detailed
-/// Specification, channel voice messages).
+/// The bytes of a channel voice message: a status byte 80 to EF and one or two data bytes, 0 to 7F (MIDI 1.0
+/// Detailed Specification, channel voice messages).
 #[derive(Clone, Copy, Debug)]
 pub struct VoiceBytes {
     /// The status byte, 80 to EF.
@@ -21,8 +21,8 @@ pub struct VoiceBytes {
     ghost second_below: { second < 128 },
 }
 
-/// The bytes of a system common message: a status byte F1, F2 or F3 and one or two data bytes, 0 to 7F; any other status byte stands
-/// for F6, a tune request (MIDI 1.0 Detailed Specification, system common messages).
+/// The bytes of a system common message: a status byte F1, F2 or F3 and one or two data bytes, 0 to 7F; any
+/// other status byte stands for F6, a tune request (MIDI 1.0 Detailed Specification, system common messages).
 #[derive(Clone, Copy, Debug)]
 pub struct CommonBytes {
     status: u8,
@@ -32,8 +32,8 @@ pub struct CommonBytes {
     ghost second_below: { second < 128 },
 }
 
-/// The status byte of a system Real Time message: F8, FA, FB, FC or FE; any other byte stands for FF, System Reset (MIDI 1.0
-/// Detailed Specification, system Real Time messages).
+/// The status byte of a system Real Time message: F8, FA, FB, FC or FE; any other byte stands for FF, System
+/// Reset (MIDI 1.0 Detailed Specification, system Real Time messages).
 #[derive(Clone, Copy, Debug)]
 pub struct RealTimeByte {
     status: u8,
@@ -76,8 +76,8 @@ impl VoiceBytes {
         }
     }
 
-    /// The message, with its channel 0 to 15 and its values 0 to 127, or for a bend 0 to 16,383 with the low seven bits first
-    /// (MIDI 1.0 Detailed Specification, channel voice messages).
+    /// The message, with its channel 0 to 15 and its values 0 to 127, or for a bend 0 to 16,383 with the low
+    /// seven bits first (MIDI 1.0 Detailed Specification, channel voice messages).
     #[tactic(auto, unfolding(crate::specs::Sorts::sort_of))]
     #[inline(always)]
     pub fn message(&self) -> Voice1
@@ -136,8 +136,8 @@ impl CommonBytes {
         }
     }
 
-    /// The message, with its value, where it has one, 0 to 127, or for a song position 0 to 16,383 with the low seven bits first
-    /// (MIDI 1.0 Detailed Specification, system common messages).
+    /// The message, with its value, where it has one, 0 to 127, or for a song position 0 to 16,383 with the
+    /// low seven bits first (MIDI 1.0 Detailed Specification, system common messages).
     #[tactic(auto, unfolding(crate::specs::Sorts::sort_of))]
     #[inline(always)]
     pub fn message(&self) -> System

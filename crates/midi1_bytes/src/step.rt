@@ -10,8 +10,8 @@ pub enum CutKind {
     Exclusive,
 }
 
-/// What else is done by the byte that cuts something off, a status byte 80 to F7 (MIDI 1.0 Detailed Specification, summary of
-/// status bytes).
+/// What else is done by the byte that cuts something off, a status byte 80 to F7 (MIDI 1.0 Detailed
+/// Specification, summary of status bytes).
 #[derive(Clone, Copy, Debug, PartialEq, Eq)]
 pub enum AfterCut {
     /// It begins a message, as 80 to EF and F1 to F3 do, or an exclusive, as F0 does.
@@ -24,8 +24,8 @@ pub enum AfterCut {
     Stray,
 }
 
-/// What a byte does (MIDI 1.0 Detailed Specification: summary of status bytes, running status). Offsets are those that the parser
-/// was given with the bytes.
+/// What a byte does (MIDI 1.0 Detailed Specification: summary of status bytes, running status). Offsets are
+/// those that the parser was given with the bytes.
 #[derive(Clone, Copy, Debug)]
 pub enum Step<'a> {
     /// It belongs to what is open, or opens it.
@@ -38,7 +38,8 @@ pub enum Step<'a> {
     RealTime(RealTimeByte),
     /// It is F7 and ends this exclusive, of at least two bytes: F0, the data bytes, and F7.
     Exclusive(&'a [u8]),
-    /// It belongs to nothing: a data byte with no status to belong to, or F7 where nothing is open (own rule).
+    /// It belongs to nothing: a data byte with no status to belong
+    /// to, or F7 where nothing is open (own rule).
     Stray,
     /// It is a status that no message has: F4 or F5 where nothing is open, F9 or FD anywhere.
     Undefined,

@@ -51,8 +51,9 @@ fn voice_status(first: u8, channel: U4) -> u8
     first + channel.get()
 }
 
-/// The bytes of a channel voice message: its status byte, 80 to EF with the channel in the low four bits, and its one or two data
-/// bytes, 0 to 7F; a bend has its low seven bits first (MIDI 1.0 Detailed Specification, channel voice messages).
+/// The bytes of a channel voice message: its status byte, 80 to EF with the channel in the low four bits, and
+/// its one or two data bytes, 0 to 7F; a bend has its low seven bits first (MIDI 1.0 Detailed Specification,
+/// channel voice messages).
 #[inline(always)]
 pub fn write_voice(message: &Voice1) -> ShortList<u8, 3>
     ensures { result ≡ spelled_voice message.now }
@@ -84,9 +85,9 @@ pub fn write_voice(message: &Voice1) -> ShortList<u8, 3>
     }
 }
 
-/// The bytes of a system message: its status byte, F1 to F3, F6 or that of a Real Time message, and its data bytes, 0 to 7F, of
-/// which F1 and F3 have one and F2 two, the low seven bits first (MIDI 1.0 Detailed Specification, system common and system Real
-/// Time messages).
+/// The bytes of a system message: its status byte, F1 to F3, F6 or that of a Real Time message, and its data
+/// bytes, 0 to 7F, of which F1 and F3 have one and F2 two, the low seven bits first (MIDI 1.0 Detailed
+/// Specification, system common and system Real Time messages).
 #[inline(always)]
 pub fn write_system(message: &System) -> ShortList<u8, 3>
     ensures { result ≡ spelled_system message.now }

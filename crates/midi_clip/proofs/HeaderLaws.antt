@@ -1,5 +1,6 @@
 -- Bytes that are taken into an array, run after run.
-use Rattle.std.proofs.Common.{◌≡◌, ◌+◌, ◌-◌, ◌≤◌, ◌<◌, ◌++◌, ℕ, List, [], length, take, drop, Option, None, Some, false, arith, ap, subst, sym, ◌∙◌}
+use Rattle.std.proofs.Common.{◌≡◌, ◌+◌, ◌-◌, ◌≤◌, ◌<◌, ◌++◌, ℕ, List, [], length, take}
+use Rattle.std.proofs.Common.{drop, Option, None, Some, false, arith, ap, subst, sym, ◌∙◌}
 use Rattle.std.proofs.lemmas.List.{append-nil, length-drop, length-take-le, take-append-le}
 use Rattle.std.proofs.Math.Seq.{take-append-add}
 use borrow.Rule.Slice.PartMut.{put_mid, post_of, same_len_mid}
@@ -8,14 +9,16 @@ use Rattle.midi_edge.specs.Runs.{runs_are_lost}
 use Rattle.midi_clip.specs.Header.{HasTaken}
 
 -- the bytes before a place, and then what was taken there
-taken-behind : (m n k : ℕ) (front buf : List ℕ) → m ≤ length front → n ≤ length buf → take (m + n) (put_mid m k front buf) ≡ take m front ++ take n buf
+taken-behind : (m n k : ℕ) (front buf : List ℕ) → m ≤ length front → n ≤ length buf
+    → take (m + n) (put_mid m k front buf) ≡ take m front ++ take n buf
 taken-behind m n k front buf fits enough =
     let len : length (take m front) ≡ m = length-take-le m front fits in
     let e : m + n ≡ length (take m front) + n = omega arith in
     rw (e, take-append-add) (ap (λ xs. take m front ++ xs) (take-append-le n buf (post_of m k front) enough))
 
 -- one more run is lost
-pub lost-more : (old mid new : Option (List ℕ)) (m n k : ℕ) (bytes buf : List ℕ) → m ≤ length bytes → n ≤ length buf → Loses old mid (take m bytes) → Loses mid new (take n buf)
+pub lost-more : (old mid new : Option (List ℕ)) (m n k : ℕ) (bytes buf : List ℕ) → m ≤ length bytes → n ≤ length buf
+    → Loses old mid (take m bytes) → Loses mid new (take n buf)
     → Loses old new (take (m + n) (put_mid m k bytes buf))
 lost-more old mid new m n k bytes buf fits enough first second =
     let L : List ℕ → Type 0 = λ xs. Loses old new xs in
@@ -33,7 +36,8 @@ used-up None (Some n) lost none = absurd lost
 used-up (Some m) None lost none = absurd lost
 
 -- the source ended before eight bytes came
-pub ends-early : (old mid new : Option (List ℕ)) (m n : ℕ) (bytes buf : List ℕ) → length bytes ≡ 8 → m < 8 → n ≡ 0 → Loses old mid (take m bytes) → Loses mid new (take n buf) → (n ≡ 0 → IsUsedUp mid)
+pub ends-early : (old mid new : Option (List ℕ)) (m n : ℕ) (bytes buf : List ℕ) → length bytes ≡ 8 → m < 8 → n ≡ 0
+    → Loses old mid (take m bytes) → Loses mid new (take n buf) → (n ≡ 0 → IsUsedUp mid)
     → HasTaken old new false
 ends-early old mid new m n bytes buf size few none first second end =
     let L : ℕ → Type 0 = λ k. Loses mid new (take k buf) in

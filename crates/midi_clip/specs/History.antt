@@ -1,6 +1,7 @@
 -- A clip, looking back over the packets that came (own rule: it starts with the first Start of Clip before which a packet gives the
 -- ticks for a quarter note, and ends with the first End of Clip after that). Lists of packets are newest first.
-use Rattle.std.specs.Prelude.{◌≡◌, ℕ, ◌==◌, Bool, true, false, ◌&&◌, if◌then◌else◌, List, [], ◌∷◌, ◌++◌, find, sum_by, Option, Some, None, is_some, Result, Ok, Err}
+use Rattle.std.specs.Prelude.{◌≡◌, ℕ, ◌==◌, Bool, true, false, ◌&&◌, if◌then◌else◌, List, [], ◌∷◌}
+use Rattle.std.specs.Prelude.{◌++◌, find, sum_by, Option, Some, None, is_some, Result, Ok, Err}
 use Rattle.std.specs.List.{AllByRecursion}
 use Rattle.std.specs.Option.{option_and_then}
 use Rattle.ump_grammar.specs.declared.packet.Packet.{Packet}

@@ -44,7 +44,8 @@ pub record WorkedRows : Type 0 where
   pub one_end : end_at one_event ≡ Ok 96
   pub more : steps many ≡
       Err NoResolution ∷ Ok Before ∷ Ok Before ∷ Ok Before ∷ Err NoResolution ∷ Ok Before ∷ Ok Before ∷ Ok (Began 96) ∷ Ok Delta
-      ∷ Ok (Event 2) ∷ Ok (Event 2) ∷ Ok Delta ∷ Ok (Event 1048577) ∷ Ok (Event 1048577) ∷ Ok (Ended 1048577) ∷ Err AfterEnd ∷ Err AfterEnd ∷ []
+      ∷ Ok (Event 2) ∷ Ok (Event 2) ∷ Ok Delta ∷ Ok (Event 1048577) ∷ Ok (Event 1048577) ∷ Ok (Ended 1048577) ∷ Err AfterEnd ∷ Err AfterEnd
+      ∷ []
   pub more_end : end_at many ≡ Ok 1048577
   pub none : end_at [] ≡ Err NoEnd
   pub not_ended : end_at (noop ∷ stamp 48 ∷ start ∷ resolution 96 ∷ []) ≡ Err NoEnd

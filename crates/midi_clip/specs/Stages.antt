@@ -50,9 +50,9 @@ stage_after (Started ticks) role = after_started ticks role
 stage_after (Ended ticks) role = Ended ticks
 
 -- how far it is after these packets, newest first
-abbrev pub stage_behind : List Packet → Stage
-stage_behind [] = new_stage
-stage_behind (packet ∷ past) = stage_after (stage_behind past) (role_of packet)
+abbrev pub stage_over : List Packet → Stage
+stage_over [] = new_stage
+stage_over (packet ∷ past) = stage_after (stage_over past) (role_of packet)
 
 -- the same by the definition that looks back over them
 abbrev pub stage_within : Option (List Packet) → List Packet → Stage

@@ -35,10 +35,12 @@ impl Clip {
         }
     }
 
-    /// Takes one more packet, where at most 2^63 ticks have passed: what it is to the clip (own rule). It takes no memory.
+    /// Takes one more packet, where at most 2^63 ticks have passed: what
+    /// it is to the clip (own rule). It takes no memory.
     ///
-    /// `NoResolution` comes for a Start of Clip where the clip has not started and no packet gave the ticks for a quarter note, or
-    /// the last one gave 0. `AfterEnd` comes for each packet after the end of the clip. A fault leaves the clip as it was.
+    /// `NoResolution` comes for a Start of Clip where the clip has not started and no packet gave the ticks
+    /// for a quarter note, or the last one gave 0. `AfterEnd` comes for each packet after the end of the
+    /// clip. A fault leaves the clip as it was.
     pub fn packet(&mut self, packet: &Packet) -> Result<ClipStep, ClipFault>
         requires { ticks_of self.old ≤ 2 ^ 63 }
         ensures step { result ≡ step_of self.old (role_in packet.now) }

@@ -7,8 +7,8 @@ use midi_edge::{Failed, Source};
 /// How many bytes the header of a clip file has (own rule).
 pub const HEADER_SIZE: u64 = 8;
 
-/// Takes the first eight bytes that a source has left, or all of them where there are fewer, and no more: whether they are those of
-/// `SMF2CLIP`, with which a clip file begins (own rule).
+/// Takes the first eight bytes that a source has left, or all of them where there are fewer, and no more:
+/// whether they are those of `SMF2CLIP`, with which a clip file begins (own rule).
 ///
 /// `Failed` comes only where the source's count rose. Then at most seven bytes were taken.
 pub fn header<S: Source>(source: &mut S) -> Result<bool, Failed>

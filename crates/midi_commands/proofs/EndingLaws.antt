@@ -6,11 +6,12 @@ use Rattle.std.proofs.KnownBytes.{Appends-kept, Keeps-refl, Keeps-trans}
 use Rattle.midi_edge.specs.Adapters.{Accepts}
 use Rattle.midi_edge.specs.Outside.{HasCause, Rose}
 use Rattle.midi_edge.specs.declared.outside.Failed.{Failed}
-use Rattle.midi_pass.specs.Places.{Counts}
+use Rattle.pass_loop.specs.Places.{Counts}
 use Rattle.midi_commands.specs.Ending.{AcceptsLast, EndsAs, PutsLast, WritesBoth}
 use Rattle.midi_commands.specs.LastLine.{last_line_text}
 use Rattle.midi_commands.specs.declared.status.Status.{Status}
-use Rattle.midi_commands.specs.declared.status.Status.TheVariants.{Done, Refused, ReadFault, LaneFault, OutputFault, NoteFault, ShelfFault, Usage, SetupSyntax, SetupField, NoMemory}
+use Rattle.midi_commands.specs.declared.status.Status.TheVariants.{Done, Refused, ReadFault, LaneFault, OutputFault, NoteFault}
+use Rattle.midi_commands.specs.declared.status.Status.TheVariants.{ShelfFault, Usage, SetupSyntax, SetupField, NoMemory}
 
 -- a status with this last line, which is put as this piece
 pub accepts_line : (status : Status) (old new : Option (List ℕ)) (answer : Result (Unit {0}) Failed) (line piece : List ℕ)
@@ -34,19 +35,23 @@ pub not_put : (count : ℕ) → HasCause count count well
 not_put count = record { later = omega (arith); kept = refl; rose = tt }
 
 -- what was accepted stays
-still_accepts : (old told new : Option (List ℕ)) (answer : Result (Unit {0}) Failed) (line : List ℕ) → Accepts old told answer line → Keeps told new → Accepts old new answer line
+still_accepts : (old told new : Option (List ℕ)) (answer : Result (Unit {0}) Failed) (line : List ℕ) → Accepts old told answer line
+    → Keeps told new → Accepts old new answer line
 still_accepts old told new (Ok done) line accepts keeps = Appends-kept old told new line accepts keeps
 still_accepts old told new (Err fault) line accepts keeps = (accepts.0, accepts.1, Appends-kept old told new _ accepts.2 keeps)
 
-still_accepts_last : (status : Status) (old told new : Option (List ℕ)) (answer : Result (Unit {0}) Failed) → AcceptsLast status old told answer → Keeps told new → AcceptsLast status old new answer
+still_accepts_last : (status : Status) (old told new : Option (List ℕ)) (answer : Result (Unit {0}) Failed)
+    → AcceptsLast status old told answer → Keeps told new → AcceptsLast status old new answer
 still_accepts_last status old told new answer accepts keeps = by_line (last_line_text status) accepts
   where
-    by_line : (text : Option (List ℕ)) → MatchOption text (IsOk answer × Keeps old told) (λ line. Accepts old told answer line) → MatchOption text (IsOk answer × Keeps old new) (λ line. Accepts old new answer line)
+    by_line : (text : Option (List ℕ)) → MatchOption text (IsOk answer × Keeps old told) (λ line. Accepts old told answer line)
+        → MatchOption text (IsOk answer × Keeps old new) (λ line. Accepts old new answer line)
     by_line None accepts = (accepts.0, Keeps-trans old told new accepts.1 keeps)
     by_line (Some line) accepts = still_accepts old told new answer line accepts keeps
 
 -- a count that rose is risen later too
-rose_still : (before mid now : ℕ) (answer : Result (Unit {0}) Failed) → OnErr answer (Rose before mid) → mid ≤ now → OnErr answer (Rose before now)
+rose_still : (before mid now : ℕ) (answer : Result (Unit {0}) Failed) → OnErr answer (Rose before mid) → mid ≤ now
+    → OnErr answer (Rose before now)
 rose_still before mid now (Ok done) rose later = tt
 rose_still before mid now (Err fault) rose later = omega (arith, rose, later)
 
@@ -57,19 +62,28 @@ no_line before mid (Err fault) cause ok = cc
 
 counts_are : (before now : Counts) → now.lanes ≡ before.lanes → now.output ≡ before.output → now.notes ≡ before.notes → now ≡ before
 counts_are before now lanes output notes =
-    ap (λ x. made x now.output now.notes) lanes ∙ ap (λ x. made before.lanes x now.notes) output ∙ ap (made before.lanes before.output) notes
+    ap (λ x. made x now.output now.notes) lanes
+    ∙ ap (λ x. made before.lanes x now.notes) output
+    ∙ ap (made before.lanes before.output) notes
   where
     made : ℕ → ℕ → ℕ → Counts
     made lanes output notes = record { lanes = lanes; output = output; notes = notes }
 
 -- the status once the lanes and the output are written out, and its line is put, and then the one once the notes are
 pub ends_as : (written status : Status) (flush : Result (Unit {0}) Failed) (before now : Counts) (mid : ℕ) (old told new : Option (List ℕ))
-    → WritesBoth written before.lanes now.lanes before.output now.output → PutsLast written old told before.notes mid → HasCause mid now.notes flush → Keeps told new
-    → OnOk flush (status ≡ written) → (written ≡ Done → OnErr flush (status ≡ NoteFault)) → (written ≢ Done → status ≡ written) → EndsAs status before now old new
+    → WritesBoth written before.lanes now.lanes before.output now.output → PutsLast written old told before.notes mid
+    → HasCause mid now.notes flush → Keeps told new
+    → OnOk flush (status ≡ written) → (written ≡ Done → OnErr flush (status ≡ NoteFault)) → (written ≢ Done → status ≡ written)
+    → EndsAs status before now old new
 ends_as Done status (Ok done) before now mid old told new both put cause keeps same fault stays =
     let kept : now.notes ≡ before.notes = cause.kept ∙ no_line before.notes mid put.0 put.1 put.2.0 in
     subst (λ s. EndsAs s before now old new) (sym same)
-    (record { first = counts_are before now both.0 both.1 kept; answer = Ok tt; failed = tt; line = (refl, Keeps-trans old told new put.2.1 keeps) })
+    (record {
+      first = counts_are before now both.0 both.1 kept;
+      answer = Ok tt;
+      failed = tt;
+      line = (refl, Keeps-trans old told new put.2.1 keeps);
+    })
 ends_as Done status (Err failed) before now mid old told new both put cause keeps same fault stays =
     let kept : mid ≡ before.notes = no_line before.notes mid put.0 put.1 put.2.0 in
     let rose : Rose before.notes now.notes = subst (λ n. Rose n now.notes) kept cause.rose in

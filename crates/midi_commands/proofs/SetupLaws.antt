@@ -1,12 +1,13 @@
 -- The setup of a text of which the first bytes were read, and what a shelf tells behind a fetch.
-use Rattle.std.proofs.Common.{◌≡◌, ◌<◌, ℕ, Bool, true, false, nat_le, List, [], length, take, Option, None, Some, refl, ap, sym, ◌∙◌, subst, inl, inr, arith, leb-true, leb-false}
+use Rattle.std.proofs.Common.{◌≡◌, ◌<◌, ℕ, Bool, true, false, nat_le, List, [], length, take, Option}
+use Rattle.std.proofs.Common.{None, Some, refl, ap, sym, ◌∙◌, subst, inl, inr, arith, leb-true, leb-false}
 use Rattle.std.specs.Prelude.{Result, Err, ◌⊎◌}
 use Rattle.std.proofs.lemmas.Bool.{lt-leb}
 use Rattle.std.proofs.lemmas.List.{take_all, length-take}
 use Rattle.midi_edge.specs.Outside.{Fetches, kept_bytes}
 use Rattle.function_blocks.specs.Rules.{broken, holds}
 use Rattle.function_blocks.specs.Setups.{setup_at, setup_of, tree_of}
-use Rattle.function_blocks.specs.Setups.{Facts}
+use Rattle.function_blocks.specs.Setups.{SetupData}
 use Rattle.function_blocks.specs.declared.rules.Rule.TheVariants as rule
 use Rattle.function_blocks.specs.declared.rules.SetupFault.{SetupFault}
 use Rattle.function_blocks.specs.declared.rules.SetupFault.TheVariants.{NoMemory}
@@ -23,22 +24,26 @@ same_setup text = by_length (nat_le (length text) 65536) refl
     by_length true e = ap setup_of (take_all 65537 text (omega (arith, leb-true (length text) 65536 e)))
     by_length false e =
         let long : 65536 < length text = leb-false (length text) 65536 e in
-        let first : nat_le (length (take 65537 text)) 65536 ≡ false = lt-leb (length (take 65537 text)) 65536 (omega (arith, length-take 65537 text, long)) in
+        let first : nat_le (length (take 65537 text)) 65536 ≡ false =
+        lt-leb (length (take 65537 text)) 65536 (omega (arith, length-take 65537 text, long)) in
         too_long (take 65537 text) first ∙ sym (too_long text e)
 
 -- where the shelf tells its texts, this is the text of the name, and its setup is that of the bytes that were read
-pub read_setup : (old : ShelfSeen) (name empty into text : List ℕ) → empty ≡ [] → text ≡ into → Fetches old.texts name 65537 empty into → (all : List ℕ) × IsNamed old name all × (setup_of all ≡ setup_of text)
+pub read_setup : (old : ShelfSeen) (name empty into text : List ℕ) → empty ≡ [] → text ≡ into → Fetches old.texts name 65537 empty into
+    → (all : List ℕ) × IsNamed old name all × (setup_of all ≡ setup_of text)
 read_setup old name empty into text none is fetched =
     let E : List ℕ → Type 0 = λ before. Fetches old.texts name 65537 before into in
     let T : List ℕ → Type 0 = λ after. Fetches old.texts name 65537 [] after in
     by_told old.texts (subst T (sym is) (subst E none fetched))
   where
-    by_told : (texts : Option (List ℕ → Option (List ℕ))) → Fetches texts name 65537 [] text → (all : List ℕ) × IsNamed (record old { texts = texts }) name all × (setup_of all ≡ setup_of text)
+    by_told : (texts : Option (List ℕ → Option (List ℕ))) → Fetches texts name 65537 [] text
+        → (all : List ℕ) × IsNamed (record old { texts = texts }) name all × (setup_of all ≡ setup_of text)
     by_told None fetched = (text, tt, refl)
     by_told (Some texts) fetched = (fetched.0, fetched.1, sym (ap setup_of fetched.2 ∙ same_setup fetched.0))
 
 -- a shelf that was asked for a name
-pub shelf_is : (old : ShelfSeen) (name : List ℕ) (asked : Option (List ℕ)) (texts : Option (List ℕ → Option (List ℕ))) (faults : ℕ) → asked ≡ Some (kept_bytes name) → texts ≡ old.texts → faults ≡ old.faults
+pub shelf_is : (old : ShelfSeen) (name : List ℕ) (asked : Option (List ℕ)) (texts : Option (List ℕ → Option (List ℕ))) (faults : ℕ)
+    → asked ≡ Some (kept_bytes name) → texts ≡ old.texts → faults ≡ old.faults
     → record { asked = asked; texts = texts; faults = faults } ≡ asked_for name old
 shelf_is old name asked texts faults a t f =
     ap (λ x. made x texts faults) a ∙ ap (λ x. made (Some (kept_bytes name)) x faults) t ∙ ap (made (Some (kept_bytes name)) old.texts) f
@@ -47,7 +52,8 @@ shelf_is old name asked texts faults a t f =
     made asked texts faults = record { asked = asked; texts = texts; faults = faults }
 
 -- the fault of a text that was read, unless memory ran out
-pub fault_is : (read : Result Facts SetupFault) (e f : SetupFault) → e ≡ f → (f ≡ NoMemory → ⊥) → (e ≡ NoMemory) ⊎ (read ≡ Err e) → read ≡ Err f
+pub fault_is : (read : Result SetupData SetupFault) (e f : SetupFault) → e ≡ f → (f ≡ NoMemory → ⊥) → (e ≡ NoMemory) ⊎ (read ≡ Err e)
+    → read ≡ Err f
 fault_is read e f same some meets =
     elim meets [
       | inl none ↦ absurd (some (sym same ∙ none))

@@ -6,7 +6,7 @@ use Rattle.midi_edge.specs.Outside.{HasCause, Rose}
 use Rattle.midi_edge.specs.declared.outside.Failed.{Failed}
 use Rattle.midi_edge.specs.declared.outside.Lanes as lanes
 use Rattle.midi_edge.specs.declared.outside.Sink as sink
-use Rattle.midi_pass.specs.Places.{Counts, places}
+use Rattle.pass_loop.specs.Places.{Counts, places}
 use Rattle.midi_commands.specs.LastLine.{last_line_text}
 use Rattle.midi_commands.specs.declared.status.Status.{Status}
 use Rattle.midi_commands.specs.declared.status.Status.TheVariants.{Done, LaneFault, OutputFault, NoteFault}

@@ -1,7 +1,8 @@
 -- The exit code for each status.
 use Rattle.std.specs.Prelude.{ℕ}
 use Rattle.midi_commands.specs.declared.status.Status.{Status}
-use Rattle.midi_commands.specs.declared.status.Status.TheVariants.{Done, Refused, ReadFault, LaneFault, OutputFault, NoteFault, ShelfFault, Usage, SetupSyntax, SetupField, NoMemory}
+use Rattle.midi_commands.specs.declared.status.Status.TheVariants.{Done, Refused, ReadFault, LaneFault, OutputFault, NoteFault}
+use Rattle.midi_commands.specs.declared.status.Status.TheVariants.{ShelfFault, Usage, SetupSyntax, SetupField, NoMemory}
 
 abbrev pub exit_code_of : Status → ℕ
 exit_code_of Done = 0

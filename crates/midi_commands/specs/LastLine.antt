@@ -1,11 +1,14 @@
 -- The last line of a run: how it ended, unless it is done.
 use Rattle.std.specs.Prelude.{ℕ, List, ◌++◌, Option, None, Some, codes, decimal}
 use Rattle.std.specs.Option.{option_map, option_to_list}
-use Rattle.midi_pass.specs.Put.{Put, in_notes}
-use Rattle.midi_pass.specs.declared.ends.Reason.{Reason}
-use Rattle.midi_pass.specs.declared.ends.Reason.TheVariants.{Truncated, InputTooLong, BadCount, HighBit, DataIncrement, DataDecrement, ExclusiveTooLong, BadEvent, TooManyMessages, NotClip, NoResolution, AfterEnd, NoEnd}
+use Rattle.pass_loop.specs.Put.{Put, in_notes}
+use Rattle.pass_loop.specs.declared.ends.Reason.{Reason}
+use Rattle.pass_loop.specs.declared.ends.Reason.TheVariants.{Truncated, InputTooLong, BadCount, HighBit}
+use Rattle.pass_loop.specs.declared.ends.Reason.TheVariants.{DataIncrement, DataDecrement, ExclusiveTooLong, BadEvent}
+use Rattle.pass_loop.specs.declared.ends.Reason.TheVariants.{TooManyMessages, NotClip, NoResolution, AfterEnd, NoEnd}
 use Rattle.midi_commands.specs.declared.status.Status.{Status}
-use Rattle.midi_commands.specs.declared.status.Status.TheVariants.{Done, Refused, ReadFault, LaneFault, OutputFault, NoteFault, ShelfFault, Usage, SetupSyntax, SetupField, NoMemory}
+use Rattle.midi_commands.specs.declared.status.Status.TheVariants.{Done, Refused, ReadFault, LaneFault, OutputFault, NoteFault}
+use Rattle.midi_commands.specs.declared.status.Status.TheVariants.{ShelfFault, Usage, SetupSyntax, SetupField, NoMemory}
 
 abbrev pub reason_text : Reason → List ℕ
 reason_text Truncated = codes "Truncated"

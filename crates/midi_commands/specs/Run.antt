@@ -6,18 +6,19 @@ use Rattle.midi_edge.specs.declared.outside.Shelf as shelf
 use Rattle.midi_edge.specs.declared.outside.Sink as sink
 use Rattle.midi_edge.specs.declared.outside.Source as source
 use Rattle.command_line.specs.Asked.{Asked}
-use Rattle.function_blocks.specs.Setups.{Facts, setup_of}
+use Rattle.function_blocks.specs.Setups.{SetupData, setup_of}
 use Rattle.function_blocks.specs.declared.rules.SetupFault.TheVariants as fault
-use Rattle.midi_pass.specs.Pass.{Pass, Ends, HasNoRefusal, NothingFails, Seen, seen}
-use Rattle.midi_pass.specs.Places.{Fails, Places, Puts}
-use Rattle.midi_pass.specs.Put.{in_output}
-use Rattle.midi_pass.specs.declared.ends.RunEnd.{RunEnd}
-use Rattle.midi_pass.specs.declared.ends.RunEnd.TheVariants as end
-use Rattle.midi_commands.specs.Command.{Plan, by_pass, into_folder, with_setup, over_clip, by_line, clip_pass, plan_of}
-use Rattle.clip_engine.specs.Ends.{ClipEnds}
+use Rattle.pass_loop.specs.Pass.{Pass, Ends, HasNoRefusal, NothingFails, Seen, seen}
+use Rattle.pass_loop.specs.Places.{Fails, Places, Puts}
+use Rattle.pass_loop.specs.Put.{in_output}
+use Rattle.pass_loop.specs.declared.ends.RunEnd.{RunEnd}
+use Rattle.pass_loop.specs.declared.ends.RunEnd.TheVariants as end
+use Rattle.midi_commands.specs.Command.{Plan, by_pass, into_folder, with_setup, over_clip, by_line, clip_file_pass, plan_of}
+use Rattle.clip_pass.specs.Ends.{ClipEnds}
 use Rattle.midi_commands.specs.LastLine.{last_puts}
 use Rattle.midi_commands.specs.declared.status.Status.{Status}
-use Rattle.midi_commands.specs.declared.status.Status.TheVariants.{Done, Refused, ReadFault, LaneFault, OutputFault, NoteFault, ShelfFault, Usage, SetupSyntax, SetupField, NoMemory}
+use Rattle.midi_commands.specs.declared.status.Status.TheVariants.{Done, Refused, ReadFault, LaneFault, OutputFault, NoteFault}
+use Rattle.midi_commands.specs.declared.status.Status.TheVariants.{ShelfFault, Usage, SetupSyntax, SetupField, NoMemory}
 
 -- ---- the objects of a run
 
@@ -96,7 +97,7 @@ IsNamed old name text = IfSome old.texts (λ texts. texts name ≡ Some text)
 
 -- The shelf was asked for a name: its text is a setup; or it could not be read, and the count of the shelf's faults rose; or it is
 -- no TOML, or breaks this rule first; or there was no memory for it.
-abbrev pub FindsSetup : List ℕ → ShelfSeen → ShelfSeen → Result Facts Status → Type 0
+abbrev pub FindsSetup : List ℕ → ShelfSeen → ShelfSeen → Result SetupData Status → Type 0
 FindsSetup name old new (Ok setup) =
     (text : List ℕ) × IsNamed old name text × (setup_of text ≡ Ok setup) × (new ≡ asked_for name old)
 FindsSetup name old new (Err ShelfFault) =
@@ -110,9 +111,9 @@ FindsSetup name old new (Err NoMemory) = new ≡ asked_for name old
 FindsSetup name old new (Err _) = ⊥
 
 -- the setup was found and then its pass ran, or it wasn't found, or there was no memory before that
-abbrev pub RunsWith : List ℕ → (Facts → Pass) → Objects → Objects → Status → Type 0
+abbrev pub RunsWith : List ℕ → (SetupData → Pass) → Objects → Objects → Status → Type 0
 RunsWith name pass old new status =
-    ((setup : Facts) × FindsSetup name old.shelf new.shelf (Ok setup)
+    ((setup : SetupData) × FindsSetup name old.shelf new.shelf (Ok setup)
     × Runs (pass setup) old.seen new.seen status)
     ⊎ (FindsSetup name old.shelf new.shelf (Err status) × (new.seen ≡ old.seen))
     ⊎ ((status ≡ NoMemory) × (new ≡ old))
@@ -173,10 +174,10 @@ IsDonePass pass old new status =
     ⊎ (status ≡ NoMemory))
 
 -- the same, for the setup of the text that the shelf has by a name
-abbrev pub IsDoneWith : List ℕ → (Facts → Pass) → Objects → Objects → Status → Type 0
+abbrev pub IsDoneWith : List ℕ → (SetupData → Pass) → Objects → Objects → Status → Type 0
 IsDoneWith name pass old new status =
     IfSome old.shelf.texts
-    (λ texts. (text : List ℕ) (setup : Facts) → texts name ≡ Some text → setup_of text ≡ Ok setup
+    (λ texts. (text : List ℕ) (setup : SetupData) → texts name ≡ Some text → setup_of text ≡ Ok setup
     → (Rose old.shelf.faults new.shelf.faults → ⊥) → IsDonePass (pass setup) old.seen new.seen status)
 
 -- where the output doesn't fail a line is put, or there was no memory
@@ -188,7 +189,7 @@ abbrev pub IsDonePlan : Plan → Objects → Objects → Status → Type 0
 IsDonePlan (by_pass pass) old new status = IsDonePass pass old.seen new.seen status
 IsDonePlan (into_folder folder pass) old new status = IsDonePass pass old.seen new.seen status
 IsDonePlan (with_setup name pass) old new status = IsDoneWith name pass old new status
-IsDonePlan over_clip old new status = IsDonePass clip_pass old.seen new.seen status
+IsDonePlan over_clip old new status = IsDonePass clip_file_pass old.seen new.seen status
 IsDonePlan (by_line text) old new status = IsDoneLine old.seen.places new.seen.places status
 
 abbrev pub IsDoneOrNoMemory : Option Asked → Objects → Objects → Status → Type 0

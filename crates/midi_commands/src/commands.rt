@@ -1,28 +1,29 @@
 // The program over the objects that it is handed.
-ghost use Rattle.std.specs.Prelude.{◌≡◌, ◌≤◌, ◌<◌, None, Some, map, string_bytes};
-ghost use Rattle.command_line.specs.Asked.{IsInRange, IsRoom, IsRoom8, IsStreamCount, asked_of};
-ghost use Rattle.command_line.specs.Rules.{command_of};
-ghost use Rattle.down_translator.specs.Lanes.{style_in};
-ghost use Rattle.midi_engines.specs.Back.{returning};
-ghost use Rattle.midi_engines.specs.Down.{carrying};
-ghost use Rattle.endpoint_engine.specs.Answering.{answering};
-ghost use Rattle.midi_engines.specs.ShowBytes.{showing_bytes};
-ghost use Rattle.midi_engines.specs.ShowPackets.{showing};
-ghost use Rattle.midi_engines.specs.Up.{raising};
-ghost use Rattle.sysex8_engine.specs.Joining.{joining};
-ghost use Rattle.usb_engines.specs.Pack.{packing};
-ghost use Rattle.usb_engines.specs.Split.{splitting};
-ghost use Rattle.midi_pass.specs.Pass.{seen};
-ghost use Rattle.midi_pass.specs.Places.{places};
+ghost use Rattle.std.specs.Prelude.{◌≡◌, None, map, string_bytes};
+ghost use Rattle.command_line.specs.Asked.{asked_of};
+ghost use Rattle.command_line.specs.Endpoint.{IsEndpoint};
+ghost use Rattle.command_line.specs.Rules.{IsInRange, command_of};
+ghost use Rattle.command_line.specs.Show.{IsShow, IsShowBytes};
+ghost use Rattle.command_line.specs.Sysex8.{IsSysex8};
+ghost use Rattle.command_line.specs.Translate.{IsBack, IsDown, IsUp};
+ghost use Rattle.command_line.specs.Usb.{IsPack};
+ghost use Rattle.usb_passes.specs.Split.{splitting};
+ghost use Rattle.pass_loop.specs.Pass.{seen};
+ghost use Rattle.pass_loop.specs.Places.{places};
 ghost use Rattle.midi_commands.specs.Command.{
-  byte_pass,
-  clip_pass,
+  back_pass,
+  clip_file_pass,
+  down_pass,
+  endpoint_pass,
   event_pass,
-  order_of as order_in,
-  packet_pass,
+  pack_pass,
   plan_of,
-  rehearsal_pass,
-  style_of as style_asked,
+  called_event_pass,
+  show_bytes_pass,
+  show_pass,
+  style_of as style_in,
+  sysex8_pass,
+  up_pass,
 };
 ghost use Rattle.midi_commands.specs.SelfTest.{self_test_text};
 ghost use Rattle.midi_commands.specs.Run.{
@@ -47,54 +48,64 @@ ghost use Rattle.midi_commands.specs.Run.{
 use crate::last_line::put_last;
 use crate::self_test_line::self_test_line;
 use crate::status::Status;
-use clip_engine::run_clip;
-use command_line::{Command, WordsFault, command_line};
+use clip_pass::run_clip;
+use command_line::{
+    BackOptions, ByteLineOptions, Command, DownOptions, EndpointOptions, LaneStyle, PackOptions,
+    PacketLineOptions, SelfTestOptions, Sysex8Options, UpOptions, WordsFault, command_line,
+};
 use down_translator::Style;
-use endpoint_engine::{EndpointRun, run_endpoint};
+use endpoint_pass::{EndpointRun, run_endpoint};
 use function_blocks::{MOST_BYTES, Setup, SetupFault};
-use midi_edge::{Lanes, OpenFault, Shelf, Sink, Source, U4};
-use midi_engines::{BackRun, DownRun, ShowRun, UpRun, run_back, run_down, run_show, run_up};
-use midi_pass::RunEnd;
-use midi_pass::places::put_output;
-use rehearsal_engine::{RehearseRun, run_rehearse};
+use midi_edge::{Lanes, OpenFault, Shelf, Sink, Source};
+use pass_loop::RunEnd;
+use pass_loop::places::put_output;
+use rehearsal_pass::{RehearseRun, run_rehearse};
 use self_test::count;
 use std::alloc::Global;
-use sysex8_engine::{Sysex8Run, run_sysex8};
+use sysex8_pass::{Sysex8Run, run_sysex8};
+use translation_passes::{BackRun, DownRun, ShowRun, UpRun, run_back, run_down, run_show, run_up};
 use ump_words::Order;
-use usb_engines::{PackRun, run_pack, run_split};
+use usb_passes::{PackRun, run_pack, run_split};
 
-/// Does what the words of a command line, without the program's name, ask for (own rules). The lanes have no folder yet,
-/// and the shelf has been asked for no name.
+/// Does what the words of a command line, without the program's name, ask for (own rules). The lanes have no
+/// folder yet, and the shelf has been asked for no name.
 ///
-/// `translate down --folder F` turns the recording of Universal MIDI Packets in `input` into a MIDI 1.0 stream for each group, in
-/// `lanes`, and lists in `notes` what has no counterpart; with `--compact` what the receiver of a lane already has since the lane's
-/// last System Reset isn't sent again: the running status, a selected parameter, a bank of which both halves are set.
-/// `translate up` turns the MIDI 1.0 stream in `input` into the words of packets of one group, in `output`, and `translate back`
-/// into the stream that these packets give on the way down; both list in `notes` what gave no packet. With `--paired` each
-/// translation sees controllers 1 to 31 but 6 at fourteen bits, each with the controller whose index is greater by 32. `show` puts
-/// a line for each packet of a recording in `output`, `show --bytes` the lines of a stream; with `--state` those of what the input
-/// leaves in a receiver follow. `endpoint SETUP` reads the setup of that name from the shelf and answers the packets of a peer in
-/// `input`: the words of the replies come in `output`, and a line for each message in `notes`. `usb split --folder F` turns the
-/// USB-MIDI 1.0 events in `input` into a MIDI 1.0 stream for each cable, in `lanes`, and lists in `notes` those whose code is
-/// reserved; `usb pack` turns the MIDI 1.0 stream in `input` into the events of one cable, in `output`, and lists in `notes` what
-/// gave no event. `sysex8 --folder F` joins the 8-bit exclusives of the recording in `input`, of at most `--streams` streams at once (1
-/// to 64, at first 16), and puts their bytes in `lanes`, and in `notes` a line for each and for what gives none; its `--room` is 13 to
-/// 1,048,576. `rehearse SETUP` reads the setup of that name as `endpoint` does, plays the events in `input` between a MIDI-CI initiator
-/// and the responder of the setup, and puts a line for each in `output`, at the end what the initiator holds of each profile that it
-/// watches, and the profiles of the responder. `clip` puts a line in `output` for each event of the clip file in `input`, with the
-/// ticks at which it stands, and lines for its start and its end. `selftest SEED` takes packets that a generator draws, `--packets` of
-/// them (1 to 1,000,000, at first 10,000), down, up and down again, and puts one line of counts in `output`; the input is left unread.
-/// `--group` and `--cable` are 0 to 15, at first 0; `--room`, the most bytes of an exclusive between F0 and F7, is 6 to 1,048,576, at
-/// first 1,048,576; with `--little` each word has its least significant byte first.
+/// `translate down --folder F` turns the recording of Universal MIDI Packets in `input` into a MIDI 1.0
+/// stream for each group, in `lanes`, and lists in `notes` what has no counterpart; with `--compact` what the
+/// receiver of a lane already has since the lane's last System Reset isn't sent again: the running status, a
+/// selected parameter, a bank of which both halves are set. `translate up` turns the MIDI 1.0 stream in
+/// `input` into the words of packets of one group, in `output`, and `translate back` into the stream that
+/// these packets give on the way down; both list in `notes` what gave no packet. With `--paired` each
+/// translation sees controllers 1 to 31 but 6 at fourteen bits, each with the controller whose index is
+/// greater by 32. `show` puts a line for each packet of a recording in `output`, `show --bytes` the lines of
+/// a stream; with `--state` those of what the input leaves in a receiver follow. `endpoint SETUP` reads the
+/// setup of that name from the shelf and answers the packets of a peer in `input`: the words of the replies
+/// come in `output`, and a line for each message in `notes`. `usb split --folder F` turns the USB-MIDI 1.0
+/// events in `input` into a MIDI 1.0 stream for each cable, in `lanes`, and lists in `notes` those whose code
+/// is reserved; `usb pack` turns the MIDI 1.0 stream in `input` into the events of one cable, in `output`,
+/// and lists in `notes` what gave no event. `sysex8 --folder F` joins the 8-bit exclusives of the recording
+/// in `input`, of at most `--streams` streams at once (1 to 64, at first 16), and puts their bytes in
+/// `lanes`, and in `notes` a line for each and for what gives none; its `--room` is 13 to 1,048,576.
+/// `rehearse SETUP` reads the setup of that name as `endpoint` does, plays the events in `input` between a
+/// MIDI-CI initiator and the responder of the setup, and puts a line for each in `output`, at the end what
+/// the initiator holds of each profile that it watches, and the profiles of the responder. `clip` puts a line
+/// in `output` for each event of the clip file in `input`, with the ticks at which it stands, and lines for
+/// its start and its end. `selftest SEED` takes packets that a generator draws, `--packets` of them (1 to
+/// 1,000,000, at first 10,000), down, up and down again, and puts one line of counts in `output`; the input
+/// is left unread. `--group` and `--cable` are 0 to 15, at first 0; `--room`, the most bytes of an exclusive
+/// between F0 and F7, is 6 to 1,048,576, at first 1,048,576; with `--little` each word has its least
+/// significant byte first.
 ///
-/// `Done` says that the input was read to its end, or that the line of a self test was put. `Refused` comes at the first packet, byte
-/// or event that is refused, with its reason and its offset, the number of input bytes before it; a clip file without its header is
-/// refused at 0, and a clip that doesn't end at the end of the input. `ReadFault`, `LaneFault`, `OutputFault`, `NoteFault` and
-/// `ShelfFault` come only for an object that the command names and whose count of faults rose in this call. `Usage` comes where the
-/// words are no command, `SetupSyntax` where the text of the setup isn't UTF-8 or no TOML, `SetupField` with the number of the first
-/// rule that it breaks (`function_blocks::Rule`). `NoMemory` is free in its cause, and comes before the first read, but for
-/// `--state`. What stands in the lanes, the output and the notes after each of these is told by the clauses; docs/passes.md has it as
-/// a table. Whatever the status but `Done` and `NoteFault`, a last line in the notes tells it.
+/// `Done` says that the input was read to its end, or that the line of a self test was put. `Refused` comes
+/// at the first packet, byte or event that is refused, with its reason and its offset, the number of input
+/// bytes before it; a clip file without its header is refused at 0, and a clip that doesn't end at the end of
+/// the input. `ReadFault`, `LaneFault`, `OutputFault`, `NoteFault` and `ShelfFault` come only for an object
+/// that the command names and whose count of faults rose in this call. `Usage` comes where the words are no
+/// command, `SetupSyntax` where the text of the setup isn't UTF-8 or no TOML, `SetupField` with the number of
+/// the first rule that it breaks (`function_blocks::Rule`). `NoMemory` is free in its cause, and comes before
+/// the first read, but for `--state`. What stands in the lanes, the output and the notes after each of these
+/// is told by the clauses; docs/passes.md has it as a table. Whatever the status but `Done` and `NoteFault`,
+/// a last line in the notes tells it.
 pub fn run<S: Source, L: Lanes, W: Sink, N: Sink, K: Shelf>(
     alloc: Global,
     words: &[String],
@@ -107,13 +118,14 @@ pub fn run<S: Source, L: Lanes, W: Sink, N: Sink, K: Shelf>(
     requires folder { L.folder lanes.old ≡ None }
     requires asked { K.asked shelf.old ≡ None }
 
-    // What the words ask for is done, as far as the status says; then comes the last line. `Done`: the input was read to its end,
-    // none of its items is refused, exactly their puts stand, and these mean what the items mean. `Refused`: the first refusal, and
-    // exactly the puts of the items before it. A read failed: exactly the puts of the items that lie wholly in what the source
-    // gave. A place failed: the puts before the one that failed, and of that one a front that isn't all of it. There is no memory:
-    // nothing is read or put; where a state is kept (`grows`), exactly the puts of the items before the one that wanted it. The setup
-    // can't be had, or is none: nothing is read or put. An object that the command doesn't name stays as it is. `plan_of` tells how
-    // each command cuts its input, and what it refuses, puts and means.
+    // What the words ask for is done, as far as the status says; then comes the last line. `Done`: the input
+    // was read to its end, none of its items is refused, exactly their puts stand, and these mean what the
+    // items mean. `Refused`: the first refusal, and exactly the puts of the items before it. A read failed:
+    // exactly the puts of the items that lie wholly in what the source gave. A place failed: the puts before
+    // the one that failed, and of that one a front that isn't all of it. There is no memory: nothing is read
+    // or put; where a state is kept (`grows`), exactly the puts of the items before the one that wanted it.
+    // The setup can't be had, or is none: nothing is read or put. An object that the command doesn't name
+    // stays as it is. `plan_of` tells how each command cuts its input, and what it refuses, puts and means.
     ensures says { (before_last_line : Objects)
         × RunSays (command_of (map string_bytes words.now))
         (objects S.Source L.Lanes W.Sink N.Sink K.Shelf input.old lanes.old output.old notes.old shelf.old)
@@ -184,82 +196,38 @@ fn perform<S: Source, L: Lanes, W: Sink, N: Sink, K: Shelf>(
         result }
 {
     match command {
-        Command::Down {
-            folder,
-            compact,
-            paired,
-            little,
-            room,
-        } => translate_down(
-            alloc, folder, *compact, *paired, *little, *room, input, lanes, output, notes,
-        ),
-        Command::Show {
-            state,
-            little,
-            room,
-        } => put_packet_lines(alloc, *state, *little, *room, input, lanes, output, notes),
-        Command::ShowBytes { state, room } => {
-            put_byte_lines(alloc, *state, *room, input, lanes, output, notes)
+        Command::Down { folder, options } => {
+            translate_down(alloc, folder, *options, input, lanes, output, notes)
         }
-        Command::Up {
-            group,
-            paired,
-            little,
-            room,
-        } => raise(
-            alloc, *group, *paired, *little, *room, input, lanes, output, notes,
-        ),
-        Command::Back {
-            group,
-            paired,
-            room,
-        } => bring_back(alloc, *group, *paired, *room, input, lanes, output, notes),
-        Command::Endpoint {
-            setup,
-            little,
-            room,
-        } => match setup_named(alloc, setup, shelf) {
-            Ok(setup) => answer_peer(alloc, setup, *little, *room, input, lanes, output, notes),
+        Command::Up(options) => raise(alloc, *options, input, lanes, output, notes),
+        Command::Back(options) => bring_back(alloc, *options, input, lanes, output, notes),
+        Command::Show(options) => put_packet_lines(alloc, *options, input, lanes, output, notes),
+        Command::ShowBytes(options) => put_byte_lines(alloc, *options, input, lanes, output, notes),
+        Command::Endpoint { setup, options } => match setup_named(alloc, setup, shelf) {
+            Ok(setup) => answer_peer(alloc, setup, *options, input, lanes, output, notes),
             Err(status) => status,
         },
         Command::UsbSplit { folder } => split_events(folder, input, lanes, output, notes),
-        Command::UsbPack { cable, room } => {
-            pack_bytes(alloc, *cable, *room, input, lanes, output, notes)
+        Command::UsbPack(options) => pack_bytes(alloc, *options, input, lanes, output, notes),
+        Command::Sysex8 { folder, options } => {
+            join_exclusives(alloc, folder, *options, input, lanes, output, notes)
         }
-        Command::Sysex8 {
-            folder,
-            streams,
-            little,
-            room,
-        } => join_exclusives(
-            alloc, folder, *streams, *little, *room, input, lanes, output, notes,
-        ),
         Command::Rehearse { setup } => match setup_named(alloc, setup, shelf) {
             Ok(setup) => rehearse(alloc, setup, input, lanes, output, notes),
             Err(status) => status,
         },
         Command::Clip => show_clip(input, lanes, output, notes),
-        Command::SelfTest { seed, packets } => {
-            test_self(alloc, *seed, *packets, lanes, output, notes)
-        }
+        Command::SelfTest(options) => test_self(alloc, *options, lanes, output, notes),
     }
 }
 
-// The order of the bytes of a word.
-fn order_of(little: bool) -> Order
-    ensures { result ≡ order_in little }
-{
-    if little { Order::Little } else { Order::Big }
-}
-
 // The style of the lanes.
-fn style_of(compact: bool) -> Style
-    ensures { result ≡ style_asked compact }
+fn style_of(style: LaneStyle) -> Style
+    ensures { result ≡ style_in style }
 {
-    if compact {
-        Style::Compact
-    } else {
-        Style::Plain
+    match style {
+        LaneStyle::Plain => Style::Plain,
+        LaneStyle::Compact => Style::Compact,
     }
 }
 
@@ -293,37 +261,28 @@ fn status_of_opening(fault: OpenFault) -> Status
 fn translate_down<S: Source, L: Lanes, W: Sink, N: Sink>(
     alloc: Global,
     folder: &str,
-    compact: bool,
-    paired: bool,
-    little: bool,
-    room: u32,
+    options: DownOptions,
     input: &mut S,
     lanes: &mut L,
     output: &mut W,
     notes: &mut N,
 ) -> Status
-    requires room { IsRoom room }
+    requires range { IsDown options }
     requires folder { L.folder lanes.old ≡ None }
-    ensures says { RunsInto folder.now
-        (packet_pass (order_in little) (carrying (record {
-          paired = paired;
-          style = style_in (style_asked compact);
-          order = order_in little;
-          room = room;
-        })))
+    ensures says { RunsInto folder.now (down_pass options)
         (seen S.Source L.Lanes W.Sink N.Sink input.old lanes.old output.old notes.old)
         (seen S.Source L.Lanes W.Sink N.Sink input.new lanes.new output.new notes.new) result }
-    ensures complete { IsDonePass
-        (packet_pass (order_in little) (carrying (record {
-          paired = paired;
-          style = style_in (style_asked compact);
-          order = order_in little;
-          room = room;
-        })))
+    ensures complete { IsDonePass (down_pass options)
         (seen S.Source L.Lanes W.Sink N.Sink input.old lanes.old output.old notes.old)
         (seen S.Source L.Lanes W.Sink N.Sink input.new lanes.new output.new notes.new) result }
 {
-    let Ok(engine) = DownRun::new(alloc, style_of(compact), order_of(little), room, paired) else {
+    let DownOptions {
+        style,
+        paired,
+        order,
+        room,
+    } = options;
+    let Ok(engine) = DownRun::new(alloc, style_of(style), order, room, paired) else {
         return Status::NoMemory;
     };
     match lanes.begin(folder) {
@@ -335,36 +294,27 @@ fn translate_down<S: Source, L: Lanes, W: Sink, N: Sink>(
 // Translates a stream up into a group.
 fn raise<S: Source, L: Lanes, W: Sink, N: Sink>(
     alloc: Global,
-    group: U4,
-    paired: bool,
-    little: bool,
-    room: u32,
+    options: UpOptions,
     input: &mut S,
     lanes: &mut L,
     output: &mut W,
     notes: &mut N,
 ) -> Status
-    requires room { IsRoom room }
-    ensures says { Runs
-        (byte_pass (raising (record {
-          paired = paired;
-          group = group;
-          order = order_in little;
-          room = room;
-        })))
+    requires range { IsUp options }
+    ensures says { Runs (up_pass options)
         (seen S.Source L.Lanes W.Sink N.Sink input.old lanes.old output.old notes.old)
         (seen S.Source L.Lanes W.Sink N.Sink input.new lanes.new output.new notes.new) result }
-    ensures complete { IsDonePass
-        (byte_pass (raising (record {
-          paired = paired;
-          group = group;
-          order = order_in little;
-          room = room;
-        })))
+    ensures complete { IsDonePass (up_pass options)
         (seen S.Source L.Lanes W.Sink N.Sink input.old lanes.old output.old notes.old)
         (seen S.Source L.Lanes W.Sink N.Sink input.new lanes.new output.new notes.new) result }
 {
-    match UpRun::new(alloc, group, order_of(little), room, paired) {
+    let UpOptions {
+        group,
+        paired,
+        order,
+        room,
+    } = options;
+    match UpRun::new(alloc, group, order, room, paired) {
         Ok(engine) => status_of(run_up(engine, input, lanes, output, notes)),
         Err(_) => Status::NoMemory,
     }
@@ -373,24 +323,25 @@ fn raise<S: Source, L: Lanes, W: Sink, N: Sink>(
 // Translates a stream up into a group, and down again.
 fn bring_back<S: Source, L: Lanes, W: Sink, N: Sink>(
     alloc: Global,
-    group: U4,
-    paired: bool,
-    room: u32,
+    options: BackOptions,
     input: &mut S,
     lanes: &mut L,
     output: &mut W,
     notes: &mut N,
 ) -> Status
-    requires room { IsRoom room }
-    ensures says { Runs
-        (byte_pass (returning (record { paired = paired; group = group; room = room })))
+    requires range { IsBack options }
+    ensures says { Runs (back_pass options)
         (seen S.Source L.Lanes W.Sink N.Sink input.old lanes.old output.old notes.old)
         (seen S.Source L.Lanes W.Sink N.Sink input.new lanes.new output.new notes.new) result }
-    ensures complete { IsDonePass
-        (byte_pass (returning (record { paired = paired; group = group; room = room })))
+    ensures complete { IsDonePass (back_pass options)
         (seen S.Source L.Lanes W.Sink N.Sink input.old lanes.old output.old notes.old)
         (seen S.Source L.Lanes W.Sink N.Sink input.new lanes.new output.new notes.new) result }
 {
+    let BackOptions {
+        group,
+        paired,
+        room,
+    } = options;
     match BackRun::new(alloc, group, room, paired) {
         Ok(engine) => status_of(run_back(engine, input, lanes, output, notes)),
         Err(_) => Status::NoMemory,
@@ -400,27 +351,22 @@ fn bring_back<S: Source, L: Lanes, W: Sink, N: Sink>(
 // Shows the packets of a recording, and where it is asked for, the state that they leave.
 fn put_packet_lines<S: Source, L: Lanes, W: Sink, N: Sink>(
     alloc: Global,
-    state: bool,
-    little: bool,
-    room: u32,
+    options: PacketLineOptions,
     input: &mut S,
     lanes: &mut L,
     output: &mut W,
     notes: &mut N,
 ) -> Status
-    requires room { IsRoom room }
-    ensures says { Runs
-        (packet_pass (order_in little)
-        (showing (record { state = state; order = order_in little; room = room })))
+    requires range { IsShow options }
+    ensures says { Runs (show_pass options)
         (seen S.Source L.Lanes W.Sink N.Sink input.old lanes.old output.old notes.old)
         (seen S.Source L.Lanes W.Sink N.Sink input.new lanes.new output.new notes.new) result }
-    ensures complete { IsDonePass
-        (packet_pass (order_in little)
-        (showing (record { state = state; order = order_in little; room = room })))
+    ensures complete { IsDonePass (show_pass options)
         (seen S.Source L.Lanes W.Sink N.Sink input.old lanes.old output.old notes.old)
         (seen S.Source L.Lanes W.Sink N.Sink input.new lanes.new output.new notes.new) result }
 {
-    match ShowRun::new(alloc, false, state, order_of(little), room) {
+    let PacketLineOptions { state, order, room } = options;
+    match ShowRun::new(alloc, false, state, order, room) {
         Ok(engine) => match run_show(alloc, engine, input, lanes, output, notes) {
             Ok(end) => status_of(end),
             Err(_) => Status::NoMemory,
@@ -432,23 +378,21 @@ fn put_packet_lines<S: Source, L: Lanes, W: Sink, N: Sink>(
 // Shows the messages of a stream, and where it is asked for, the state that they leave.
 fn put_byte_lines<S: Source, L: Lanes, W: Sink, N: Sink>(
     alloc: Global,
-    state: bool,
-    room: u32,
+    options: ByteLineOptions,
     input: &mut S,
     lanes: &mut L,
     output: &mut W,
     notes: &mut N,
 ) -> Status
-    requires room { IsRoom room }
-    ensures says { Runs
-        (byte_pass (showing_bytes (record { state = state; room = room })))
+    requires range { IsShowBytes options }
+    ensures says { Runs (show_bytes_pass options)
         (seen S.Source L.Lanes W.Sink N.Sink input.old lanes.old output.old notes.old)
         (seen S.Source L.Lanes W.Sink N.Sink input.new lanes.new output.new notes.new) result }
-    ensures complete { IsDonePass
-        (byte_pass (showing_bytes (record { state = state; room = room })))
+    ensures complete { IsDonePass (show_bytes_pass options)
         (seen S.Source L.Lanes W.Sink N.Sink input.old lanes.old output.old notes.old)
         (seen S.Source L.Lanes W.Sink N.Sink input.new lanes.new output.new notes.new) result }
 {
+    let ByteLineOptions { state, room } = options;
     match ShowRun::new(alloc, true, state, Order::Big, room) {
         Ok(engine) => match run_show(alloc, engine, input, lanes, output, notes) {
             Ok(end) => status_of(end),
@@ -458,7 +402,8 @@ fn put_byte_lines<S: Source, L: Lanes, W: Sink, N: Sink>(
     }
 }
 
-// The most bytes that are read of a setup: one more than a setup may have, so that a longer one is seen to be so.
+// The most bytes that are read of a setup: one more than a setup may
+// have, so that a longer one is seen to be so.
 const SETUP_LIMIT: usize = MOST_BYTES + 1;
 
 // The setup of the text that the shelf has by a name.
@@ -483,26 +428,22 @@ fn setup_named<K: Shelf>(alloc: Global, name: &str, shelf: &mut K) -> Result<Set
 fn answer_peer<S: Source, L: Lanes, W: Sink, N: Sink>(
     alloc: Global,
     setup: Setup,
-    little: bool,
-    room: u32,
+    options: EndpointOptions,
     input: &mut S,
     lanes: &mut L,
     output: &mut W,
     notes: &mut N,
 ) -> Status
-    requires room { IsRoom room }
-    ensures says { Runs
-        (packet_pass (order_in little)
-        (answering (record { setup = setup; order = order_in little; room = room })))
+    requires range { IsEndpoint options }
+    ensures says { Runs (endpoint_pass options setup)
         (seen S.Source L.Lanes W.Sink N.Sink input.old lanes.old output.old notes.old)
         (seen S.Source L.Lanes W.Sink N.Sink input.new lanes.new output.new notes.new) result }
-    ensures complete { IsDonePass
-        (packet_pass (order_in little)
-        (answering (record { setup = setup; order = order_in little; room = room })))
+    ensures complete { IsDonePass (endpoint_pass options setup)
         (seen S.Source L.Lanes W.Sink N.Sink input.old lanes.old output.old notes.old)
         (seen S.Source L.Lanes W.Sink N.Sink input.new lanes.new output.new notes.new) result }
 {
-    match EndpointRun::new(alloc, setup, order_of(little), room) {
+    let EndpointOptions { order, room } = options;
+    match EndpointRun::new(alloc, setup, order, room) {
         Ok(engine) => status_of(run_endpoint(engine, input, lanes, output, notes)),
         Err(_) => Status::NoMemory,
     }
@@ -534,29 +475,27 @@ fn split_events<S: Source, L: Lanes, W: Sink, N: Sink>(
 fn join_exclusives<S: Source, L: Lanes, W: Sink, N: Sink>(
     alloc: Global,
     folder: &str,
-    streams: u8,
-    little: bool,
-    room: u32,
+    options: Sysex8Options,
     input: &mut S,
     lanes: &mut L,
     output: &mut W,
     notes: &mut N,
 ) -> Status
-    requires streams { IsStreamCount streams }
-    requires room { IsRoom8 room }
+    requires range { IsSysex8 options }
     requires folder { L.folder lanes.old ≡ None }
-    ensures says { RunsInto folder.now
-        (packet_pass (order_in little)
-        (joining (record { slots = streams; order = order_in little; room = room })))
+    ensures says { RunsInto folder.now (sysex8_pass options)
         (seen S.Source L.Lanes W.Sink N.Sink input.old lanes.old output.old notes.old)
         (seen S.Source L.Lanes W.Sink N.Sink input.new lanes.new output.new notes.new) result }
-    ensures complete { IsDonePass
-        (packet_pass (order_in little)
-        (joining (record { slots = streams; order = order_in little; room = room })))
+    ensures complete { IsDonePass (sysex8_pass options)
         (seen S.Source L.Lanes W.Sink N.Sink input.old lanes.old output.old notes.old)
         (seen S.Source L.Lanes W.Sink N.Sink input.new lanes.new output.new notes.new) result }
 {
-    let Ok(engine) = Sysex8Run::new(alloc, streams, order_of(little), room) else {
+    let Sysex8Options {
+        streams,
+        order,
+        room,
+    } = options;
+    let Ok(engine) = Sysex8Run::new(alloc, streams, order, room) else {
         return Status::NoMemory;
     };
     if let Err(fault) = lanes.begin(folder) {
@@ -568,21 +507,21 @@ fn join_exclusives<S: Source, L: Lanes, W: Sink, N: Sink>(
 // Packs a stream of bytes into the events of a cable.
 fn pack_bytes<S: Source, L: Lanes, W: Sink, N: Sink>(
     alloc: Global,
-    cable: U4,
-    room: u32,
+    options: PackOptions,
     input: &mut S,
     lanes: &mut L,
     output: &mut W,
     notes: &mut N,
 ) -> Status
-    requires room { IsRoom room }
-    ensures says { Runs (byte_pass (packing (record { cable = cable; room = room })))
+    requires range { IsPack options }
+    ensures says { Runs (pack_pass options)
         (seen S.Source L.Lanes W.Sink N.Sink input.old lanes.old output.old notes.old)
         (seen S.Source L.Lanes W.Sink N.Sink input.new lanes.new output.new notes.new) result }
-    ensures complete { IsDonePass (byte_pass (packing (record { cable = cable; room = room })))
+    ensures complete { IsDonePass (pack_pass options)
         (seen S.Source L.Lanes W.Sink N.Sink input.old lanes.old output.old notes.old)
         (seen S.Source L.Lanes W.Sink N.Sink input.new lanes.new output.new notes.new) result }
 {
+    let PackOptions { cable, room } = options;
     match PackRun::new(alloc, cable, room) {
         Ok(engine) => status_of(run_pack(engine, input, lanes, output, notes)),
         Err(_) => Status::NoMemory,
@@ -598,10 +537,10 @@ fn rehearse<S: Source, L: Lanes, W: Sink, N: Sink>(
     output: &mut W,
     notes: &mut N,
 ) -> Status
-    ensures says { Runs (rehearsal_pass setup)
+    ensures says { Runs (called_event_pass setup)
         (seen S.Source L.Lanes W.Sink N.Sink input.old lanes.old output.old notes.old)
         (seen S.Source L.Lanes W.Sink N.Sink input.new lanes.new output.new notes.new) result }
-    ensures complete { IsDonePass (rehearsal_pass setup)
+    ensures complete { IsDonePass (called_event_pass setup)
         (seen S.Source L.Lanes W.Sink N.Sink input.old lanes.old output.old notes.old)
         (seen S.Source L.Lanes W.Sink N.Sink input.new lanes.new output.new notes.new) result }
 {
@@ -621,7 +560,7 @@ fn show_clip<S: Source, L: Lanes, W: Sink, N: Sink>(
     ensures says { ShowsClip
         (seen S.Source L.Lanes W.Sink N.Sink input.old lanes.old output.old notes.old)
         (seen S.Source L.Lanes W.Sink N.Sink input.new lanes.new output.new notes.new) result }
-    ensures complete { IsDonePass clip_pass
+    ensures complete { IsDonePass clip_file_pass
         (seen S.Source L.Lanes W.Sink N.Sink input.old lanes.old output.old notes.old)
         (seen S.Source L.Lanes W.Sink N.Sink input.new lanes.new output.new notes.new) result }
 {
@@ -632,19 +571,19 @@ fn show_clip<S: Source, L: Lanes, W: Sink, N: Sink>(
 #[tactic(auto, using(crate::proofs::LineLaws::output_failed))]
 fn test_self<L: Lanes, W: Sink, N: Sink>(
     alloc: Global,
-    seed: u32,
-    packets: u32,
+    options: SelfTestOptions,
     lanes: &mut L,
     output: &mut W,
     notes: &mut N,
 ) -> Status
-    ensures says { PutsLine (self_test_text seed packets)
+    ensures says { PutsLine (self_test_text options.seed options.packets)
         (places L.Lanes W.Sink N.Sink lanes.old output.old notes.old)
         (places L.Lanes W.Sink N.Sink lanes.new output.new notes.new) result }
     ensures complete { IsDoneLine
         (places L.Lanes W.Sink N.Sink lanes.old output.old notes.old)
         (places L.Lanes W.Sink N.Sink lanes.new output.new notes.new) result }
 {
+    let SelfTestOptions { seed, packets } = options;
     match count(alloc, seed, packets) {
         Ok(counts) => {
             let line = self_test_line(seed, packets, &counts);

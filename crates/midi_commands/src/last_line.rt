@@ -2,15 +2,15 @@
 ghost use Rattle.std.specs.Prelude.{◌≡◌, ◌≤◌, ◌++◌, ◌<◌, length, codes, decimal, IfSome, Result};
 ghost use Rattle.std.specs.Option.{option_map, option_to_list};
 ghost use Rattle.midi_commands.specs.LastLine.{reason_text as text_for, last_line_text, last_puts};
-ghost use Rattle.midi_pass.specs.Places.{Puts, places};
-ghost use Rattle.midi_pass.specs.Put.{in_notes};
-ghost use Rattle.midi_pass.specs.declared.ends.RunEnd.{RunEnd};
+ghost use Rattle.pass_loop.specs.Places.{Puts, places};
+ghost use Rattle.pass_loop.specs.Put.{in_notes};
+ghost use Rattle.pass_loop.specs.declared.ends.RunEnd.{RunEnd};
 
 use crate::status::Status;
 use midi_edge::{Lanes, Sink};
 use midi_lines::{Line, put_decimal, put_text};
-use midi_pass::places::put_notes;
-use midi_pass::{Reason, RunEnd};
+use pass_loop::places::put_notes;
+use pass_loop::{Reason, RunEnd};
 
 // The name of a reason.
 fn reason_text(reason: Reason) -> &'static str
@@ -107,8 +107,8 @@ fn put_line<L: Lanes, W: Sink, N: Sink>(
     }
 }
 
-/// Puts the last line for a status in the notes, if it has one. Where that fails, a front of the line may stand, and the count
-/// of faults tells it.
+/// Puts the last line for a status in the notes, if it has one. Where that fails, a front of the line may
+/// stand, and the count of faults tells it.
 pub fn put_last<L: Lanes, W: Sink, N: Sink>(
     status: Status,
     lanes: &mut L,

@@ -1,5 +1,5 @@
-//! The commands of the program, over the objects of the outside: `run` does what the words of a command line ask for, and `finish`
-//! writes out what was gathered and gives the exit code.
+//! The commands of the program, over the objects of the outside: `run` does what the words of a command line
+//! ask for, and `finish` writes out what was gathered and gives the exit code.
 #![tactic(auto)]
 
 mod commands;

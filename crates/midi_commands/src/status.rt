@@ -2,15 +2,16 @@
 ghost use Rattle.std.specs.Prelude.{◌≡◌, ◌≢◌, OnOk, OnErr};
 
 use midi_edge::Failed;
-use midi_pass::Reason;
+use pass_loop::Reason;
 
 /// How a run ends.
 #[derive(Clone, Copy, Debug, PartialEq, Eq)]
 pub enum Status {
     /// The input was read to its end; a self test, which reads none, has put its line.
     Done,
-    /// What stands at this offset is refused: a packet, a byte, an event, the input where it ends within one or passes its limit, or
-    /// a clip that doesn't begin or end as it should. The offset is the number of input bytes before it.
+    /// What stands at this offset is refused: a packet, a byte, an event, the input where it ends within one
+    /// or passes its limit, or a clip that doesn't begin or end as it should. The offset is the number of
+    /// input bytes before it.
     Refused { reason: Reason, offset: u64 },
     /// A read failed.
     ReadFault,
@@ -35,8 +36,9 @@ pub enum Status {
 impl Status {
     ghost use Rattle.midi_commands.specs.ExitCode.{exit_code_of};
 
-    /// The exit code: 0 for `Done`, 1 for `Refused`, 2 to 6 for faults of reading, of the lanes, of the output, of the notes
-    /// and of the shelf, 7 for `Usage`, 8 for `SetupSyntax`, 9 for `SetupField`, 10 for `NoMemory` (own rule).
+    /// The exit code: 0 for `Done`, 1 for `Refused`, 2 to 6 for faults of reading, of the lanes, of the
+    /// output, of the notes and of the shelf, 7 for `Usage`, 8 for `SetupSyntax`, 9 for `SetupField`, 10 for
+    /// `NoMemory` (own rule).
     pub fn exit_code(self) -> u8
         ensures { result ≡ exit_code_of self }
     {
@@ -55,8 +57,8 @@ impl Status {
         }
     }
 
-    /// The status once an object has written out what it gathered: `Done` becomes this fault where that failed. Every other
-    /// status has its cause already, and stays.
+    /// The status once an object has written out what it gathered: `Done` becomes this fault where that
+    /// failed. Every other status has its cause already, and stays.
     pub fn after_writing(self, answer: Result<(), Failed>, fault: Status) -> Status
         ensures written { OnOk answer (result ≡ self) }
         ensures fault { self ≡ Status.Done → OnErr answer (result ≡ fault) }

@@ -1,5 +1,6 @@
-// The worked rows. A table is a text of rows, with an empty line between two. The lines of a row say what a run is given, behind a
-// name of the row, and from `leaves` on what it leaves: its status, the pieces of the lanes, the output and the notes.
+// The worked rows. A table is a text of rows, with an empty line between two. The lines of a row say what a
+// run is given, behind a name of the row, and from `leaves` on what it leaves: its status, the pieces of the
+// lanes, the output and the notes.
 ghost use Rattle.std.specs.Prelude.{◌<◌};
 
 mod back_rows;

@@ -1,5 +1,6 @@
 -- Sinks of which the first ones have been flushed, and the others stand as they were.
-use Rattle.std.proofs.Common.{◌≡◌, ℕ, zero, suc, ◌+◌, ◌≤◌, List, [], ◌∷◌, length, refl, subst, arith, add-one, inl, inr, slice_index_or, slice_set}
+use Rattle.std.proofs.Common.{◌≡◌, ℕ, zero, suc, ◌+◌, ◌≤◌, List, [], ◌∷◌, length, refl}
+use Rattle.std.proofs.Common.{subst, arith, add-one, inl, inr, slice_index_or, slice_set}
 use Rattle.std.specs.Prelude.{◌⊎◌, Result, Ok, Err, OnOk, OnErr}
 use Rattle.midi_edge.specs.Outside.{Rose}
 use Rattle.midi_edge.specs.Adapters.{TriesEach, unwritten}
@@ -35,7 +36,8 @@ next (old ∷ olds) (now ∷ nows) zero default after first tried = (subst (λ b
 next (old ∷ olds) (now ∷ nows) (suc i) default after first tried = (first.0, next olds nows i default after first.1 tried)
 
 -- one more sink, which gives this answer
-pub TriesFirst-more : {T E W : Type 0} (old now : List (WriteSink W)) (i : ℕ) (default after : WriteSink W) (answer : Result T E) → TriesFirst i old now
+pub TriesFirst-more : {T E W : Type 0} (old now : List (WriteSink W)) (i : ℕ) (default after : WriteSink W) (answer : Result T E)
+    → TriesFirst i old now
     → OnOk answer (unwritten after ≡ []) → OnErr answer (Rose (slice_index_or now i default).faults after.faults)
     → TriesFirst (i + 1) old (slice_set now i after)
 TriesFirst-more old now i default after answer first written rose =

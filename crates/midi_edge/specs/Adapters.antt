@@ -1,15 +1,30 @@
 -- What a clause reads of the adapters.
-use Rattle.std.specs.Prelude.{◌≡◌, ◌⊎◌, ◌<◌, ℕ, List, [], All, length, take, Option, Result, MatchResult, Some, slice_get, slice_set}
+use Rattle.std.specs.Prelude.{◌≡◌, ◌⊎◌, ◌<◌, ◌&&◌, ◌==◌, Bool, not, ℕ, List, [], All, length}
+use Rattle.std.specs.Prelude.{take, Option, Result, MatchResult, Some, slice_get, slice_set}
 use Rattle.std.specs.List.{AllZip}
+use Rattle.std.specs.Io.Buffered.{reader_buffer, reader_remaining}
 use Rattle.std.specs.Io.KnownBytes.{Appends, Keeps, append_known}
 use Rattle.midi_edge.specs.Outside.{Rose}
 use Rattle.midi_edge.specs.declared.adapters.write_sink.WriteSink.{WriteSink}
 use Rattle.midi_edge.specs.declared.adapters.folder_lanes.FolderLanes.{FolderLanes}
+use Rattle.midi_edge.specs.declared.adapters.buffered_source.BufferedSource.{BufferedSource}
 use Rattle.midi_edge.specs.declared.adapters.read_source.ReadSource.{ReadSource}
 
 -- the bytes that the reader of a source will give, where it tells them
 abbrev pub to_come : {R : Type 0} → (R → Option (List ℕ)) → ReadSource R → Option (List ℕ)
 to_come remaining s = remaining s.reader
+
+-- the bytes that are held and then those that the reader will give, where it tells them
+abbrev pub to_be_given : {R : Type 0} → (R → Option (List ℕ)) → BufferedSource R → Option (List ℕ)
+to_be_given remaining s = reader_remaining remaining s.reader
+
+-- the source is a file's
+abbrev pub never_waits : {R : Type 0} → BufferedSource R → Bool
+never_waits s = s.is_file
+
+-- the source isn't a file's, and holds no byte
+abbrev pub is_waiting : {R : Type 0} → BufferedSource R → Bool
+is_waiting s = not (never_waits s) && length (reader_buffer s.reader) == 0
 
 -- the bytes that a sink has accepted and not yet written out
 abbrev pub unwritten : {W : Type 0} → WriteSink W → List ℕ
@@ -45,7 +60,8 @@ abbrev pub IsWrittenOut : {R F A : Type 0} → FolderLanes R F A → Type 0
 IsWrittenOut l = All (λ s. unwritten s ≡ []) l.lanes.items
 
 -- one lane accepts the piece, or at `Err` a front of it that isn't all of it, and the others stay as they are
-abbrev pub AcceptsInLane : {R F A T E : Type 0} → (F → Option (List ℕ)) → FolderLanes R F A → FolderLanes R F A → ℕ × List ℕ → Result T E → Type 0
+abbrev pub AcceptsInLane : {R F A T E : Type 0} → (F → Option (List ℕ)) → FolderLanes R F A → FolderLanes R F A → ℕ × List ℕ → Result T E
+    → Type 0
 AcceptsInLane {F = F} contents old new (lane, piece) result =
     (before after : WriteSink F) × (slice_get old.lanes.items lane ≡ Some before) × (new.lanes.items ≡ slice_set old.lanes.items lane after)
     × Accepts (accepted contents before) (accepted contents after) result piece

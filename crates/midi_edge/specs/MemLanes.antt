@@ -1,9 +1,11 @@
 -- Lanes in memory that fail as they are told to.
-use Rattle.std.specs.Prelude.{ℕ, ◌+◌, ◌-◌, min, nat_le, nat_lt, ◌&&◌, Bool, true, false, if◌then◌else◌, List, [], ◌∷◌, ◌++◌, length, take, Option, None, Some}
+use Rattle.std.specs.Prelude.{ℕ, ◌+◌, ◌-◌, min, nat_le, nat_lt, ◌&&◌, Bool, true, false}
+use Rattle.std.specs.Prelude.{if◌then◌else◌, List, [], ◌∷◌, ◌++◌, length, take, Option, None, Some}
 use Rattle.midi_edge.specs.Outside.{kept_bytes}
 use Rattle.midi_edge.specs.Script.{one_more, kept_at}
 
--- what was put, how many bytes that is, for how many bytes and pieces there is room, which puts fail and how many bytes they keep, and the counts
+-- what was put, how many bytes that is, for how many bytes and pieces there is
+-- room, which puts fail and how many bytes they keep, and the counts
 pub record LanesState : Type 0 where
   pub begun : Bool
   pub folder : Option (List ℕ)
@@ -23,7 +25,8 @@ abbrev pub with_fault : LanesState → LanesState
 with_fault s = record s { calls = one_more s.calls; faults = one_more s.faults }
 
 abbrev pub with_part : LanesState → ℕ → List ℕ → LanesState
-with_part s lane part = record s { pieces = s.pieces ++ (lane, part) ∷ []; size = s.size + length part; calls = one_more s.calls; faults = one_more s.faults }
+with_part s lane part =
+    record s { pieces = s.pieces ++ (lane, part) ∷ []; size = s.size + length part; calls = one_more s.calls; faults = one_more s.faults }
 
 abbrev pub has_entry : LanesState → Bool
 has_entry s = nat_lt (length s.pieces) s.most

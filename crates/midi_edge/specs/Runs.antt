@@ -20,7 +20,8 @@ Loses-none : (left : Option (List ℕ)) → Loses left (ahead [] left) []
 Loses-none None = tt
 Loses-none (Some left) = refl
 
-Loses-both : (first second third : Option (List ℕ)) (xs ys : List ℕ) → Loses first second xs → Loses second third ys → Loses first third (xs ++ ys)
+Loses-both : (first second third : Option (List ℕ)) (xs ys : List ℕ) → Loses first second xs → Loses second third ys
+    → Loses first third (xs ++ ys)
 Loses-both None None None xs ys p q = tt
 Loses-both (Some a) (Some b) (Some c) xs ys p q = p ∙ ap (λ zs. xs ++ zs) q ∙ sym (append_assoc xs ys c)
 Loses-both None None (Some c) xs ys p q = absurd q
@@ -32,7 +33,8 @@ Gains-none : {A : Type 0} (held : Option (List A)) → Gains held held []
 Gains-none None = tt
 Gains-none (Some items) = sym (append-nil items)
 
-Gains-both : {A : Type 0} (first second third : Option (List A)) (xs ys : List A) → Gains first second xs → Gains second third ys → Gains first third (xs ++ ys)
+Gains-both : {A : Type 0} (first second third : Option (List A)) (xs ys : List A) → Gains first second xs → Gains second third ys
+    → Gains first third (xs ++ ys)
 Gains-both None None None xs ys p q = tt
 Gains-both (Some a) (Some b) (Some c) xs ys p q = q ∙ ap (λ zs. zs ++ ys) p ∙ append_assoc a xs ys
 Gains-both None None (Some c) xs ys p q = absurd q

@@ -3,11 +3,13 @@ ghost use Rattle.std.specs.Prelude.{◌≡◌, ◌≢◌, ◌≤◌, Ok, IsErr, 
 ghost use Rattle.std.specs.IoError.{error_kind};
 ghost use Rattle.midi_edge.specs.Outside.{HasCause, HasOpenCause, Rose};
 
+mod buffered_source;
 mod file_shelf;
 mod folder_lanes;
 mod read_source;
 mod write_sink;
 
+pub use crate::adapters::buffered_source::BufferedSource;
 pub use crate::adapters::file_shelf::FileShelf;
 pub use crate::adapters::folder_lanes::FolderLanes;
 pub use crate::adapters::read_source::ReadSource;

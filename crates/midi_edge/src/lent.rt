@@ -3,7 +3,8 @@ ghost use Rattle.std.specs.Prelude.{◌≡◌, ◌<◌};
 
 use crate::few_bits::U4;
 
-/// A number below 16 in what is lent, which can't hold a type that contracts see as another value, as `U4` is.
+/// A number below 16 in what is lent, which can't hold a type that
+/// contracts see as another value, as `U4` is.
 #[derive(Clone, Copy, Debug)]
 pub struct LentU4 {
     /// The number, 0 to 15.

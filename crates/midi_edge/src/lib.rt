@@ -1,5 +1,5 @@
-//! The objects of the outside: their traits, forms of them in memory, adapters over the real things, and the small types
-//! that every crate stands on.
+//! The objects of the outside: their traits, forms of them in memory, adapters over the real things, and the
+//! small types that every crate stands on.
 #![tactic(auto)]
 
 pub mod adapters;
@@ -15,7 +15,7 @@ pub mod outside;
 mod script;
 pub mod short_list;
 
-pub use crate::adapters::{FileShelf, FolderLanes, ReadSource, WriteSink};
+pub use crate::adapters::{BufferedSource, FileShelf, FolderLanes, ReadSource, WriteSink};
 pub use crate::few_bits::U4;
 pub use crate::lent::LentU4;
 pub use crate::mem_lanes::MemLanes;

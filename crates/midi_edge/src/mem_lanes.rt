@@ -18,8 +18,8 @@ struct Entry {
     end: usize,
 }
 
-/// Lanes with room for so many bytes and pieces, which fail at these puts and keep so many bytes then. To a contract
-/// they are their `LanesState`.
+/// Lanes with room for so many bytes and pieces, which fail at these puts and keep so many bytes then. To a
+/// contract they are their `LanesState`.
 #[derive(Drop)]
 pub struct MemLanes {
     bytes: Vec<u8>,
@@ -58,10 +58,10 @@ impl Model for MemLanes {
 }
 
 impl MemLanes {
-    /// Lanes that hold nothing, with room for `room` bytes in at most `entries` pieces. `begin` never fails. Put number k,
-    /// counted from 0, fails exactly where k stands in `fails`, and keeps so many bytes of the piece, at most its length
-    /// less one and at most what fits, or where a room would be passed, and keeps none. The numbers stop at the last
-    /// `u64`. `NoMemory` where the room cannot be had.
+    /// Lanes that hold nothing, with room for `room` bytes in at most `entries` pieces. `begin` never fails.
+    /// Put number k, counted from 0, fails exactly where k stands in `fails`, and keeps so many bytes of the
+    /// piece, at most its length less one and at most what fits, or where a room would be passed, and keeps
+    /// none. The numbers stop at the last `u64`. `NoMemory` where the room cannot be had.
     pub fn new(
         alloc: Global,
         room: usize,

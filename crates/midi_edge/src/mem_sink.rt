@@ -1,6 +1,6 @@
 // A sink in memory.
 ghost use Rattle.std.specs.Prelude.{◌≡◌, ◌<◌, [], length, is_ok, IfOk};
-ghost use Rattle.midi_edge.specs.Outside.{Puts, HasCause};
+ghost use Rattle.midi_edge.specs.Outside.{PutsPiece, HasCause};
 ghost use Rattle.midi_edge.specs.MemSink.{after_put};
 
 use crate::outside::{Failed, NoMemory, Sink};
@@ -8,8 +8,8 @@ use crate::script::kept_at;
 use std::alloc::Global;
 use std::marker::Model;
 
-/// A sink with room for so many bytes, which fails at these calls and keeps so many bytes then. To a contract it is its
-/// `SinkState`.
+/// A sink with room for so many bytes, which fails at these calls and keeps so many bytes then. To a contract
+/// it is its `SinkState`.
 #[derive(Drop)]
 pub struct MemSink {
     bytes: Vec<u8>,
@@ -37,10 +37,10 @@ impl Model for MemSink {
 }
 
 impl MemSink {
-    /// A sink that holds nothing and has room for `room` bytes. Call number k, counted from 0, fails exactly where k
-    /// stands in `fails`, and keeps so many bytes of the piece, at most its length less one and at most what fits, or
-    /// where the bytes would pass the room, and keeps none. The numbers stop at the last `u64`. `NoMemory` where the room
-    /// cannot be had.
+    /// A sink that holds nothing and has room for `room` bytes. Call number k, counted from 0, fails exactly
+    /// where k stands in `fails`, and keeps so many bytes of the piece, at most its length less one and at
+    /// most what fits, or where the bytes would pass the room, and keeps none. The numbers stop at the last
+    /// `u64`. `NoMemory` where the room cannot be had.
     pub fn new(alloc: Global, room: usize, fails: Vec<(u64, usize)>) -> Result<MemSink, NoMemory>
         ensures { IfOk result
             (λ sink. sink ≡ record { held = []; room = room; fails = fails.items; calls = 0; faults = 0 }) }
@@ -74,7 +74,7 @@ impl Sink for MemSink {
 
     fn put(&mut self, piece: &[u8]) -> Result<(), Failed>
         requires { 0 < length piece.now }
-        ensures bytes { Puts (Some self.old.held) (Some self.new.held) result piece.now }
+        ensures bytes { PutsPiece (Some self.old.held) (Some self.new.held) result piece.now }
         ensures cause { HasCause self.old.faults self.new.faults result }
         ensures exact { (self.new, is_ok result) ≡ after_put self.old piece.now }
     {

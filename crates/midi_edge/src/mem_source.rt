@@ -21,8 +21,8 @@ fn fill(buf: &mut [u8], left: &[u8], most: usize) -> usize
     count
 }
 
-/// A source that gives these bytes, in pieces of these sizes, and fails at these calls. To a contract it is its
-/// `SourceState`.
+/// A source that gives these bytes, in pieces of these sizes, and fails at these calls. To a contract it is
+/// its `SourceState`.
 #[derive(Drop)]
 pub struct MemSource {
     bytes: Vec<u8>,
@@ -53,9 +53,9 @@ impl Model for MemSource {
 }
 
 impl MemSource {
-    /// A source of these bytes. The successful call number j, counted from 0, gives at most `cuts[j]` bytes, where 0
-    /// counts as 1, and past the list without limit. Call number k fails exactly where k stands in `fails`; the numbers
-    /// stop at the last `u64`.
+    /// A source of these bytes. The successful call number j, counted from 0, gives at most `cuts[j]` bytes,
+    /// where 0 counts as 1, and past the list without limit. Call number k fails exactly where k stands in
+    /// `fails`; the numbers stop at the last `u64`.
     pub fn new(bytes: Vec<u8>, cuts: Vec<usize>, fails: Vec<u64>) -> MemSource
         ensures { result ≡ record {
           left = bytes.items;

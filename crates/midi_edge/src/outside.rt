@@ -1,6 +1,6 @@
 // The objects that a program reads from and writes to.
 ghost use Rattle.std.specs.Prelude.{◌≡◌, ℕ, ◌≤◌, ◌<◌, Bool, true, List, ◌++◌, length, OnOk, OnErr, IfOk, None, Some, Option};
-ghost use Rattle.midi_edge.specs.Outside.{HasCause, HasOpenCause, Takes, Puts, PutsPair, Fetches, kept_bytes};
+ghost use Rattle.midi_edge.specs.Outside.{HasCause, HasOpenCause, Takes, PutsPiece, PutsPair, Fetches, kept_bytes};
 
 use crate::few_bits::U4;
 use thiserror::Error;
@@ -48,16 +48,16 @@ pub trait Source {
     /// How often the object has failed.
     ghost faults: { Self → ℕ };
 
-    /// Fills a front of the buffer, which isn't empty, and says how many bytes. An answer of 0 is the end of input. After
-    /// an `Err`, which comes only where the count of faults rose, nothing was taken.
+    /// Fills a front of the buffer, which isn't empty, and says how many bytes. An answer of 0 is the end of
+    /// input. After an `Err`, which comes only where the count of faults rose, nothing was taken.
     fn take(&mut self, buf: &mut [u8]) -> Result<usize, Failed>
         requires { 0 < length buf.old }
         ensures bound { IfOk result (λ n. n ≤ length buf.new) }
         ensures bytes { Takes (left self.old) (left self.new) result buf.new }
         ensures cause { HasCause (faults self.old) (faults self.new) result };
 
-    /// Whether a `take` may wait for bytes that come later, as from a pipe, and not from a file. No clause says it: where it is
-    /// true though nothing waits, what is put is only written out more often.
+    /// Whether a `take` may wait for bytes that come later, as from a pipe, and not from a file. No clause
+    /// says it: where it is true though nothing waits, what is put is only written out more often.
     fn may_wait(&self) -> bool {
         true
     }
@@ -71,15 +71,15 @@ pub trait Sink {
     /// How often the object has failed.
     ghost faults: { Self → ℕ };
 
-    /// Adds the piece, which isn't empty, at the end. At an `Err`, which comes only where the count of faults rose, it adds
-    /// at most a front that isn't all of it.
+    /// Adds the piece, which isn't empty, at the end. At an `Err`, which comes only where the count of faults
+    /// rose, it adds at most a front that isn't all of it.
     fn put(&mut self, piece: &[u8]) -> Result<(), Failed>
         requires { 0 < length piece.now }
-        ensures bytes { Puts (held self.old) (held self.new) result piece.now }
+        ensures bytes { PutsPiece (held self.old) (held self.new) result piece.now }
         ensures cause { HasCause (faults self.old) (faults self.new) result };
 
-    /// Tries to write out what an object has gathered, before the input is waited for. It tells no fault: what it leaves stays
-    /// gathered, and the next call that has to write tries again.
+    /// Tries to write out what an object has gathered, before the input is waited for. It tells no fault:
+    /// what it leaves stays gathered, and the next call that has to write tries again.
     fn write_out(&mut self)
         ensures bytes { held self.new ≡ held self.old }
         ensures faults { faults self.new ≡ faults self.old }
@@ -109,8 +109,8 @@ pub trait Lanes {
         ensures err { OnErr result (begun self.new ≡ begun self.old) }
         ensures cause { HasOpenCause (faults self.old) (faults self.new) result };
 
-    /// Adds a piece, which isn't empty, to a lane, once `begin` has succeeded. At an `Err`, which comes only where the count
-    /// of faults rose, it adds nothing or a nonempty front that isn't all of the piece.
+    /// Adds a piece, which isn't empty, to a lane, once `begin` has succeeded. At an `Err`, which comes only
+    /// where the count of faults rose, it adds nothing or a nonempty front that isn't all of the piece.
     fn put(&mut self, lane: U4, piece: &[u8]) -> Result<(), Failed>
         requires begun { begun self.old ≡ true }
         requires piece { 0 < length piece.now }
@@ -119,8 +119,9 @@ pub trait Lanes {
         ensures pieces { PutsPair (pieces self.old) (pieces self.new) result lane piece.now }
         ensures cause { HasCause (faults self.old) (faults self.new) result };
 
-    /// Tries to write out what an object has gathered, of every lane, before the input is waited for. It tells no fault: what it
-    /// leaves stays gathered, and the next call that has to write to the lane tries again.
+    /// Tries to write out what an object has gathered, of every lane, before the input is waited for. It
+    /// tells no fault: what it leaves stays gathered, and the next call that has to write to the lane tries
+    /// again.
     fn write_out(&mut self)
         ensures begun { begun self.new ≡ begun self.old }
         ensures folder { folder self.new ≡ folder self.old }
@@ -140,8 +141,8 @@ pub trait Shelf {
     /// How often the object has failed.
     ghost faults: { Self → ℕ };
 
-    /// Adds the first `limit` bytes of the named text, or all of it where it is shorter. It is called once. A name that
-    /// isn't there is `Failed`. `NoMemory` is free in its cause.
+    /// Adds the first `limit` bytes of the named text, or all of it where it is shorter. It is called once. A
+    /// name that isn't there is `Failed`. `NoMemory` is free in its cause.
     fn fetch(&mut self, name: &str, limit: usize, into: &mut Vec<u8>) -> Result<(), OpenFault>
         requires { asked self.old ≡ None }
         ensures asked { asked self.new ≡ Some (kept_bytes name.now) }

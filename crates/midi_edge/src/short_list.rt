@@ -93,6 +93,7 @@ impl<T: Copy + Default, const N: usize> ShortList<T, N> {
     {
         match self.cells.try_extend_from_slice(items) {
             Ok(()) => {}
+            // There is room for the items, which is all that the copy asks.
             Err(_) => unreachable!(),
         }
     }
@@ -104,7 +105,8 @@ impl<T: Copy + Default, const N: usize> ShortList<T, N> {
         self.cells.clear();
     }
 
-    /// The same list again. Unlike `clone` it cannot fail. It reads item by item, so that a short list may stay in registers.
+    /// The same list again. Unlike `clone` it cannot fail. It reads item
+    /// by item, so that a short list may stay in registers.
     #[inline(always)]
     pub fn copied(&self) -> Self
         ensures { result ≡ self.now }

@@ -1,4 +1,5 @@
-//! The tests of `midi_edge` and of `item_reader`, in a crate of their own: the gate proves a crate with tests a second time.
+//! The tests of `midi_edge` and of `item_reader`, in a crate of their
+//! own: the gate proves a crate with tests a second time.
 #![tactic(auto)]
 
 #[cfg(test)]

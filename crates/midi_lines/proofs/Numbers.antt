@@ -1,5 +1,6 @@
 -- The table of the texts of small numbers.
-use Rattle.std.proofs.Common.{◌≡◌, ℕ, zero, suc, ◌+◌, ◌-◌, ◌*◌, ◌/◌, ◌%◌, ◌<◌, ◌≤◌, Bool, true, ◌&&◌, T, eqb, List, [], ◌∷◌, length, take, get_or, refl, subst, inl, inr, arith, eq-zero-or-pos, eqb→eq}
+use Rattle.std.proofs.Common.{◌≡◌, ℕ, zero, suc, ◌+◌, ◌-◌, ◌*◌, ◌/◌, ◌%◌, ◌<◌, ◌≤◌, Bool, true, ◌&&◌, T, eqb, List}
+use Rattle.std.proofs.Common.{[], ◌∷◌, length, take, get_or, refl, subst, inl, inr, arith, eq-zero-or-pos, eqb→eq}
 use lib.Ieee.Fits.{and_l, and_r}
 use Rattle.std.specs.Fmt.{decimal}
 use Rattle.midi_lines.proofs.Decimal.{decimal_one, decimal_two, decimal_three}
@@ -43,27 +44,30 @@ has_front_of_three n = eqb (get_or SMALL_NUMBERS (n * 4) 0) (48 + n / 100) && eq
 abbrev has_end_of_three : ℕ → Bool
 has_end_of_three n = eqb (byte_at n 2) (48 + n % 10)
 
-abbrev pub bytes_of : ℕ → List ℕ
-bytes_of n = get_or SMALL_NUMBERS (n * 4) 0 ∷ get_or SMALL_NUMBERS (n * 4 + 1) 0 ∷ get_or SMALL_NUMBERS (n * 4 + 2) 0 ∷ get_or SMALL_NUMBERS (n * 4 + 3) 0 ∷ []
+abbrev pub digit_bytes : ℕ → List ℕ
+digit_bytes n =
+    get_or SMALL_NUMBERS (n * 4) 0 ∷ get_or SMALL_NUMBERS (n * 4 + 1) 0 ∷ get_or SMALL_NUMBERS (n * 4 + 2) 0
+    ∷ get_or SMALL_NUMBERS (n * 4 + 3) 0 ∷ []
 
-one_digit : (n : ℕ) → n < 10 → take (length (decimal n)) (bytes_of n) ≡ decimal n
+one_digit : (n : ℕ) → n < 10 → take (length (decimal n)) (digit_bytes n) ≡ decimal n
 one_digit n h =
     let t = eqb→eq (get_or SMALL_NUMBERS (n * 4) 0) (48 + n) (each_below has_one_digit 10 n tt h) in
     rw (decimal_one n h, t) refl
 
-tens : (n : ℕ) → 10 ≤ n → n < 100 → take (length (decimal n)) (bytes_of n) ≡ decimal n
+tens : (n : ℕ) → 10 ≤ n → n < 100 → take (length (decimal n)) (digit_bytes n) ≡ decimal n
 tens n a b =
     let t = both (get_or SMALL_NUMBERS (n * 4) 0) (48 + n / 10) (byte_at n 1) (48 + n % 10) (each_from has_two_digits 10 90 n tt a b) in
     rw (decimal_two n a b, t.0, t.1) refl
 
-hundreds : (n : ℕ) → 100 ≤ n → n < 256 → take (length (decimal n)) (bytes_of n) ≡ decimal n
+hundreds : (n : ℕ) → 100 ≤ n → n < 256 → take (length (decimal n)) (digit_bytes n) ≡ decimal n
 hundreds n a b =
-    let t = both (get_or SMALL_NUMBERS (n * 4) 0) (48 + n / 100) (byte_at n 1) (48 + n / 10 % 10) (each_from has_front_of_three 100 156 n tt a b) in
+    let t =
+    both (get_or SMALL_NUMBERS (n * 4) 0) (48 + n / 100) (byte_at n 1) (48 + n / 10 % 10) (each_from has_front_of_three 100 156 n tt a b) in
     let s = eqb→eq (byte_at n 2) (48 + n % 10) (each_from has_end_of_three 100 156 n tt a b) in
     rw (decimal_three n a (omega arith), t.0, t.1, s) refl
 
 -- the text of a number below 256 stands at the front of its bytes
-pub small_number : (n : ℕ) → n < 256 → take (length (decimal n)) (bytes_of n) ≡ decimal n
+pub small_number : (n : ℕ) → n < 256 → take (length (decimal n)) (digit_bytes n) ≡ decimal n
 small_number n h =
     elim (eq-zero-or-pos (n - 9)) [
       | inl z ↦ one_digit n (omega arith)

@@ -1,14 +1,17 @@
 -- The table of the two digits of each byte.
-use Rattle.std.proofs.Common.{◌≡◌, ℕ, zero, suc, ◌+◌, ◌-◌, ◌*◌, ◌/◌, ◌%◌, ◌<◌, Bool, true, ◌&&◌, T, eqb, get_or, ap, ◌∙◌, inl, inr, arith, eq-zero-or-pos, eqb→eq}
+use Rattle.std.proofs.Common.{◌≡◌, ℕ, zero, suc, ◌+◌, ◌-◌, ◌*◌, ◌/◌, ◌%◌, ◌<◌, Bool, true, ◌&&◌}
+use Rattle.std.proofs.Common.{T, eqb, get_or, ap, ◌∙◌, inl, inr, arith, eq-zero-or-pos, eqb→eq}
 use lib.Ieee.Fits.{and_l, and_r}
 use Rattle.midi_lines.specs.Fields.{hex_digit}
 use Rattle.midi_lines.specs.declared.put.TheConstants.{PAIRS}
 
 abbrev are_pairs : ℕ → Bool
 are_pairs zero = true
-are_pairs (suc p) = (eqb (get_or PAIRS (p * 2) 0) (hex_digit (p / 16)) && eqb (get_or PAIRS (p * 2 + 1) 0) (hex_digit (p % 16))) && are_pairs p
+are_pairs (suc p) =
+    (eqb (get_or PAIRS (p * 2) 0) (hex_digit (p / 16)) && eqb (get_or PAIRS (p * 2 + 1) 0) (hex_digit (p % 16))) && are_pairs p
 
-below : (n p : ℕ) → T (are_pairs n) → p < n → (get_or PAIRS (p * 2) 0 ≡ hex_digit (p / 16)) × (get_or PAIRS (p * 2 + 1) 0 ≡ hex_digit (p % 16))
+below : (n p : ℕ) → T (are_pairs n) → p < n
+    → (get_or PAIRS (p * 2) 0 ≡ hex_digit (p / 16)) × (get_or PAIRS (p * 2 + 1) 0 ≡ hex_digit (p % 16))
 below zero p t h = absurd (omega arith)
 below (suc n) p t h =
     elim (eq-zero-or-pos (n - p)) [

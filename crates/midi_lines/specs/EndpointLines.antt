@@ -5,11 +5,11 @@ use Rattle.function_blocks.specs.declared.setup.Place.TheVariants as place
 use Rattle.function_blocks.specs.declared.setup.Profile.{Profile}
 use Rattle.midi_lines.specs.Fields.{hex_bytes}
 use Rattle.midi_lines.specs.ListingLines.{group_text}
-use Rattle.midi_lines.specs.declared.endpoint.Name.{Name}
-use Rattle.midi_lines.specs.declared.endpoint.Name.TheVariants as names
+use Rattle.midi_lines.specs.declared.endpoint.OutcomeName.{OutcomeName}
+use Rattle.midi_lines.specs.declared.endpoint.OutcomeName.TheVariants as names
 
 -- the word of a name
-abbrev pub name_word : Name → List ℕ
+abbrev pub name_word : OutcomeName → List ℕ
 name_word names.NotCi = codes "not-ci"
 name_word names.Short = codes "short"
 name_word names.BadAddress = codes "bad-address"
@@ -29,7 +29,7 @@ name_word names.NoAnswer = codes "no-answer"
 name_word names.BadFormat = codes "bad-format"
 
 -- the line of an exclusive or a stream packet; a hyphen stands where there is no group
-abbrev pub endpoint_text : ℕ → Option ℕ → Name → List ℕ
+abbrev pub endpoint_text : ℕ → Option ℕ → OutcomeName → List ℕ
 endpoint_text offset group name =
     decimal offset ++ codes " " ++ group_text group ++ codes " " ++ name_word name ++ codes "\n"
 

@@ -49,8 +49,10 @@ fact_words (fact.Control group channel index value) = of_channel group channel +
 fact_words (fact.Pressure group channel value) = of_channel group channel ++ codes " pressure" ++ spaced value
 fact_words (fact.Bend group channel value) = of_channel group channel ++ codes " bend" ++ spaced value
 fact_words (fact.Program group channel program bank) = of_channel group channel ++ codes " program" ++ spaced program ++ bank_words bank
-fact_words (fact.Registered group channel bank index value is_loose) = of_channel group channel ++ param_words (codes " registered") bank index value is_loose
-fact_words (fact.Assignable group channel bank index value is_loose) = of_channel group channel ++ param_words (codes " assignable") bank index value is_loose
+fact_words (fact.Registered group channel bank index value is_loose) =
+    of_channel group channel ++ param_words (codes " registered") bank index value is_loose
+fact_words (fact.Assignable group channel bank index value is_loose) =
+    of_channel group channel ++ param_words (codes " assignable") bank index value is_loose
 fact_words (fact.System group count) = of_group group ++ codes " system" ++ spaced count
 fact_words (fact.RealTime group count) = of_group group ++ codes " real-time" ++ spaced count
 

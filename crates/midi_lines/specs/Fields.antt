@@ -1,5 +1,6 @@
 -- The fields of lines.
-use Rattle.std.specs.Prelude.{ℕ, zero, suc, ◌+◌, ◌-◌, ◌/◌, ◌%◌, List, [], ◌∷◌, ◌++◌, codes, decimal, flat_map, if◌then◌else◌, nat_lt, Option, None, Some}
+use Rattle.std.specs.Prelude.{ℕ, zero, suc, ◌+◌, ◌-◌, ◌/◌, ◌%◌, List, [], ◌∷◌, ◌++◌, codes}
+use Rattle.std.specs.Prelude.{decimal, flat_map, if◌then◌else◌, nat_lt, Option, None, Some}
 
 -- an upper case hexadecimal digit: 0 to 9 from 48 on, A to F from 65 on
 abbrev pub hex_digit : ℕ → ℕ

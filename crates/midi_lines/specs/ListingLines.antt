@@ -1,8 +1,8 @@
 -- The lines of the listing: the offset, the group and the kind of what is listed.
 use Rattle.std.specs.Prelude.{ℕ, List, ◌++◌, codes, decimal, Option, Some, None}
-use Rattle.voice_state.specs.declared.listed.Kind.{Kind}
-use Rattle.voice_state.specs.declared.listed.Kind.TheVariants as kinds
-use Rattle.voice_state.specs.declared.listed.Listed.{Listed}
+use Rattle.midi_meaning.specs.declared.listed.Kind.{Kind}
+use Rattle.midi_meaning.specs.declared.listed.Kind.TheVariants as kinds
+use Rattle.midi_meaning.specs.declared.listed.Listed.{Listed}
 
 -- the word of a kind
 abbrev pub listed_word : Kind → List ℕ

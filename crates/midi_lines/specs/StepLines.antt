@@ -7,7 +7,7 @@ use Rattle.midi1_bytes.specs.declared.step.Step.{Step as CodeStep}
 use Rattle.midi1_bytes.specs.declared.step.Step.TheVariants as code
 use Rattle.midi1_bytes.specs.Messages.{Message, voice, common, exclusive, real_time}
 use Rattle.midi1_bytes.specs.Steps.{Step, completes, cut}
-use Rattle.voice_state.specs.declared.listed.Kind.{Kind}
+use Rattle.midi_meaning.specs.declared.listed.Kind.{Kind}
 use Rattle.midi_lines.specs.Fields.{field}
 use Rattle.midi_lines.specs.ListingLines.{listed_word}
 use Rattle.midi_lines.specs.Voice1Lines.{voice1_fields, system_fields}

@@ -21,7 +21,7 @@ use voice_messages::{U4, U7};
 
 /// What became of a whole exclusive or of a stream packet (own rule).
 #[derive(Clone, Copy, Debug, PartialEq, Eq)]
-pub enum Name {
+pub enum OutcomeName {
     /// `not-ci`: the exclusive isn't a message of MIDI-CI.
     NotCi,
     /// `short`: the message ends before its fields do.
@@ -42,7 +42,8 @@ pub enum Name {
     NotOurs,
     /// `moved`: the MUID of the block was invalidated, and the block takes its next one or falls silent.
     Moved,
-    /// `report`: the message is itself a reply, a report, an ACK or a NAK; those of Process Inquiry aren't among them.
+    /// `report`: the message is itself a reply, a report, an ACK or a
+    /// NAK; those of Process Inquiry aren't among them.
     Report,
     /// `broadcast`: the message is to all, and it isn't Discovery.
     Broadcast,
@@ -58,9 +59,9 @@ pub enum Name {
     BadFormat,
 }
 
-/// The line of a whole exclusive or of a stream packet: the offset, in decimal digits, of the packet that ended it, its group, or
-/// a hyphen where it has none, and what became of it (own rule).
-pub fn endpoint_line(offset: u64, group: Option<U4>, name: Name) -> Line
+/// The line of a whole exclusive or of a stream packet: the offset, in decimal digits, of the packet that
+/// ended it, its group, or a hyphen where it has none, and what became of it (own rule).
+pub fn endpoint_line(offset: u64, group: Option<U4>, name: OutcomeName) -> Line
     ensures text { result ≡ endpoint_text offset group name }
     ensures some { 0 < length result }
 {
@@ -69,8 +70,9 @@ pub fn endpoint_line(offset: u64, group: Option<U4>, name: Name) -> Line
     line
 }
 
-/// Makes the line that of an exclusive or a stream packet, as `endpoint_line` does, in the place of another one (own rule).
-pub fn fill_endpoint_line(line: &mut Line, offset: u64, group: Option<U4>, name: Name)
+/// Makes the line that of an exclusive or a stream packet, as
+/// `endpoint_line` does, in the place of another one (own rule).
+pub fn fill_endpoint_line(line: &mut Line, offset: u64, group: Option<U4>, name: OutcomeName)
     ensures text { line.new ≡ endpoint_text offset group name }
     ensures some { 0 < length line.new }
 {
@@ -95,7 +97,8 @@ pub fn protocol_line(protocol: u8) -> Line
     line
 }
 
-/// The line of a function block: its number, and its MUID in decimal digits, or `silent` where it has none (own rule).
+/// The line of a function block: its number, and its MUID in decimal
+/// digits, or `silent` where it has none (own rule).
 pub fn block_line(number: u8, muid: Option<u32>) -> Line
     ensures text { result ≡ block_text number muid }
     ensures some { 0 < length result }
@@ -109,8 +112,8 @@ pub fn block_line(number: u8, muid: Option<u32>) -> Line
     line
 }
 
-/// The line of a profile: the number of its function block, its place, its ID in ten hexadecimal digits, and whether it is on
-/// now (own rule). Whether it was on at first doesn't matter.
+/// The line of a profile: the number of its function block, its place, its ID in ten hexadecimal digits, and
+/// whether it is on now (own rule). Whether it was on at first doesn't matter.
 pub fn profile_line(profile: &Profile, on: bool) -> Line
     ensures text { result ≡ profile_text profile.now on }
     ensures some { 0 < length result }
@@ -184,27 +187,27 @@ fn state_name(on: bool) -> &'static str
 }
 
 /// The word of a name in a line (own rule).
-pub fn word_of(name: Name) -> &'static str
+pub fn word_of(name: OutcomeName) -> &'static str
     ensures word { result.now ≡ name_word name }
     ensures size { length result.now ≤ longest_name }
 {
     match name {
-        Name::NotCi => "not-ci",
-        Name::Short => "short",
-        Name::BadAddress => "bad-address",
-        Name::ReservedMuid => "reserved-muid",
-        Name::NoBlock => "no-block",
-        Name::Silent => "silent",
-        Name::Collision => "collision",
-        Name::OldVersion => "old-version",
-        Name::NotOurs => "not-ours",
-        Name::Moved => "moved",
-        Name::Report => "report",
-        Name::Broadcast => "broadcast",
-        Name::Answered => "answered",
-        Name::Passed => "passed",
-        Name::Nak => "nak",
-        Name::NoAnswer => "no-answer",
-        Name::BadFormat => "bad-format",
+        OutcomeName::NotCi => "not-ci",
+        OutcomeName::Short => "short",
+        OutcomeName::BadAddress => "bad-address",
+        OutcomeName::ReservedMuid => "reserved-muid",
+        OutcomeName::NoBlock => "no-block",
+        OutcomeName::Silent => "silent",
+        OutcomeName::Collision => "collision",
+        OutcomeName::OldVersion => "old-version",
+        OutcomeName::NotOurs => "not-ours",
+        OutcomeName::Moved => "moved",
+        OutcomeName::Report => "report",
+        OutcomeName::Broadcast => "broadcast",
+        OutcomeName::Answered => "answered",
+        OutcomeName::Passed => "passed",
+        OutcomeName::Nak => "nak",
+        OutcomeName::NoAnswer => "no-answer",
+        OutcomeName::BadFormat => "bad-format",
     }
 }

@@ -8,7 +8,8 @@ use crate::put::{put_decimal, put_text};
 use voice_messages::{Bank, U4, U7};
 use voice_state::Fact;
 
-/// The line of what is told of a state: `state`, the group, the channel, what it is, and its numbers in decimal digits (own rule).
+/// The line of what is told of a state: `state`, the group, the channel, what it is, and its numbers in
+/// decimal digits (own rule).
 pub fn fact_line(f: &Fact) -> Line
     ensures text { result ≡ fact_text f.now }
     ensures some { 0 < length result }
@@ -18,7 +19,8 @@ pub fn fact_line(f: &Fact) -> Line
     line
 }
 
-/// Makes the line that of what is told of a state, as `fact_line` does, in the place of another one (own rule).
+/// Makes the line that of what is told of a state, as `fact_line`
+/// does, in the place of another one (own rule).
 pub fn fill_fact_line(line: &mut Line, f: &Fact)
     ensures text { line.new ≡ fact_text f.now }
     ensures some { 0 < length line.new }

@@ -14,7 +14,8 @@ mod voice1;
 mod voice2;
 
 pub use crate::endpoint::{
-    Name, block_line, endpoint_line, fill_endpoint_line, profile_line, protocol_line, word_of,
+    OutcomeName, block_line, endpoint_line, fill_endpoint_line, profile_line, protocol_line,
+    word_of,
 };
 pub use crate::facts::{fact_line, fill_fact_line};
 pub use crate::line::Line;

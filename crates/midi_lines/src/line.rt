@@ -7,8 +7,8 @@ use std::marker::Model;
 /// How many bytes a line holds.
 pub const CAPACITY: usize = 256;
 
-/// A line of text, or what there is of it so far: at most 256 bytes, the last of a whole one a line feed. To a contract it is the list of
-/// its bytes.
+/// A line of text, or what there is of it so far: at most 256 bytes, the last of a whole one a line feed. To
+/// a contract it is the list of its bytes.
 #[derive(Drop)]
 pub struct Line {
     bytes: [u8; CAPACITY],
@@ -66,8 +66,8 @@ impl Line {
         self.size = size + bytes.len();
     }
 
-    /// Adds the first `count` of these bytes at the end. There is room for all of them, and all are written, so that they can be
-    /// copied without asking how many are wanted.
+    /// Adds the first `count` of these bytes at the end. There is room for all of them, and all are written,
+    /// so that they can be copied without asking how many are wanted.
     #[inline(always)]
     pub(crate) fn extend_by(&mut self, bytes: &[u8], count: usize)
         requires room { HasRoom (length bytes.now) self.old }
@@ -80,8 +80,8 @@ impl Line {
     }
 }
 
-// Writes bytes over those from a place on. Written one by one they need no test whether both places overlap, as a copy of all
-// makes, and the compiler joins them where it knows the text.
+// Writes bytes over those from a place on. Written one by one they need no test whether both places overlap,
+// as a copy of all makes, and the compiler joins them where it knows the text.
 #[inline(always)]
 fn write_at(cells: &mut [u8; CAPACITY], start: usize, bytes: &[u8])
     requires { start + length bytes.now ≤ CAPACITY }

@@ -6,10 +6,11 @@ ghost use Rattle.midi_lines.specs.Room.{AddsAtMost, before_kind, longest_number,
 
 use crate::line::Line;
 use crate::put::{put_decimal, put_text};
+use midi_meaning::{Kind, Listed};
 use voice_messages::U4;
-use voice_state::{Kind, Listed};
 
-/// The line of what is listed: its offset in decimal digits, its group, or a hyphen where it has none, and its kind (own rule).
+/// The line of what is listed: its offset in decimal digits, its group,
+/// or a hyphen where it has none, and its kind (own rule).
 pub fn listing_line(listed: &Listed) -> Line
     ensures text { result ≡ listing_text listed.now }
     ensures some { 0 < length result }
@@ -32,8 +33,8 @@ pub fn fill_listing_line(line: &mut Line, listed: &Listed)
     put_kind(line, listed.kind);
 }
 
-/// The line of what is listed of a stream of MIDI 1.0 bytes, which has no groups: the offset in decimal digits, and the kind (own
-/// rule).
+/// The line of what is listed of a stream of MIDI 1.0 bytes, which has no groups: the offset in decimal
+/// digits, and the kind (own rule).
 pub fn byte_listing(kind: Kind, offset: u64) -> Line
     ensures text { result ≡ byte_listing_text kind offset }
     ensures some { 0 < length result }
@@ -43,7 +44,8 @@ pub fn byte_listing(kind: Kind, offset: u64) -> Line
     line
 }
 
-/// Makes the line that of what is listed of a stream, as `byte_listing` does, in the place of another one (own rule).
+/// Makes the line that of what is listed of a stream, as
+/// `byte_listing` does, in the place of another one (own rule).
 pub fn fill_byte_listing(line: &mut Line, kind: Kind, offset: u64)
     ensures text { line.new ≡ byte_listing_text kind offset }
     ensures some { 0 < length line.new }

@@ -14,8 +14,8 @@ use midi_edge::ShortList;
 use ump_grammar::Packet;
 use voice_messages::{Form, U4};
 
-/// The line of a packet that stands at this offset, with its one to four words: the offset in decimal digits, each word in
-/// eight hexadecimal digits, the kind of the packet and its fields (own rule).
+/// The line of a packet that stands at this offset, with its one to four words: the offset in decimal digits,
+/// each word in eight hexadecimal digits, the kind of the packet and its fields (own rule).
 pub fn packet_line(packet: &Packet, words: &[u32], offset: u64) -> Line
     requires { length words.now ≤ most_words }
     ensures text { result ≡ packet_text packet.now words.now offset }

@@ -11,9 +11,10 @@ use crate::put::{put_decimal, put_text};
 use crate::voice1::{put_system, put_voice1};
 use midi1_bytes::{AfterCut, Step, System, Voice1};
 
-/// The line of what a byte at this offset does, in a stream of MIDI 1.0 bytes, where it completes a message: the offset in decimal
-/// digits, the kind of the message and its fields; of an exclusive its length between F0 and F7. `None` exactly where it completes
-/// none; a tune request is one also where it cuts something off (own rule).
+/// The line of what a byte at this offset does, in a stream of MIDI 1.0 bytes, where it completes a message:
+/// the offset in decimal digits, the kind of the message and its fields; of an exclusive its length between
+/// F0 and F7. `None` exactly where it completes none; a tune request is one also where it cuts something off
+/// (own rule).
 pub fn step_line(step: &Step<'_>, offset: u64) -> Option<Line>
     requires { HasBothEnds step.now }
     ensures text { result ≡ step_text (step_view step.now) offset }
@@ -27,8 +28,8 @@ pub fn step_line(step: &Step<'_>, offset: u64) -> Option<Line>
     }
 }
 
-/// Makes the line that of what a byte does, as `step_line` does, in the place of another one, and tells whether it completes a
-/// message (own rule). Where it completes none the line stays as it was.
+/// Makes the line that of what a byte does, as `step_line` does, in the place of another one, and tells
+/// whether it completes a message (own rule). Where it completes none the line stays as it was.
 pub fn fill_step_line(line: &mut Line, step: &Step<'_>, offset: u64) -> bool
     requires { HasBothEnds step.now }
     ensures text { step_text (step_view step.now) offset ≡ (if result then Some line.new else None) }

@@ -8,8 +8,9 @@ use crate::line::Line;
 use crate::put::{put_hex_bytes, put_text};
 use system_stream::{Joined, TextKind};
 
-/// The line of a text of this kind that has ended: `text`, the kind, and the bytes in two hexadecimal digits each, or `bad` (own
-/// rule). `None` exactly where the text is held. A whole text has at most as many bytes as its kind allows: 98, 42 or 91.
+/// The line of a text of this kind that has ended: `text`, the kind, and the bytes in two hexadecimal digits
+/// each, or `bad` (own rule). `None` exactly where the text is held. A whole text has at most as many bytes
+/// as its kind allows: 98, 42 or 91.
 pub fn text_line(kind: TextKind, joined: &Joined<'_>) -> Option<Line>
     requires { IsWithinLimit kind joined.now }
     ensures text { result ≡ joined_text kind (joined_view joined.now) }
@@ -23,8 +24,8 @@ pub fn text_line(kind: TextKind, joined: &Joined<'_>) -> Option<Line>
     }
 }
 
-/// Makes the line that of a text that has ended, as `text_line` does, in the place of another one, and tells whether it has ended
-/// (own rule). Where it is held the line stays as it was.
+/// Makes the line that of a text that has ended, as `text_line` does, in the place of another one, and tells
+/// whether it has ended (own rule). Where it is held the line stays as it was.
 pub fn fill_text_line(line: &mut Line, kind: TextKind, joined: &Joined<'_>) -> bool
     requires { IsWithinLimit kind joined.now }
     ensures text { joined_text kind (joined_view joined.now) ≡ (if result then Some line.new else None) }

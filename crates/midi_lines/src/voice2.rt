@@ -55,6 +55,7 @@ fn put_note_message(line: &mut Line, group: Option<U4>, message: &Voice2)
             put_voice(line, "note-on", group, *channel);
             put_note(line, *note, *velocity, *attribute_type, *attribute);
         }
+        // Only a note off or a note on is told here.
         _ => unreachable!(),
     }
 }
@@ -94,6 +95,7 @@ fn put_per_note_message(line: &mut Line, group: Option<U4>, message: &Voice2)
             note,
             flags,
         } => put_note_management(line, group, *channel, *note, *flags),
+        // Only a message of one note that is neither a note off nor a note on is told here.
         _ => unreachable!(),
     }
 }
@@ -129,6 +131,7 @@ fn put_channel_message(line: &mut Line, group: Option<U4>, message: &Voice2)
         } => put_program(line, group, *channel, *program, bank),
         Voice2::Pressure { channel, value } => put_value(line, "pressure", group, *channel, *value),
         Voice2::Bend { channel, value } => put_value(line, "bend", group, *channel, *value),
+        // Only a message of the whole channel is told here.
         _ => unreachable!(),
     }
 }

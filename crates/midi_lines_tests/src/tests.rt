@@ -1,9 +1,10 @@
 // A line of each kind.
 use function_blocks::{Place, Profile};
 use midi_lines::{
-    Name, block_line, byte_listing, endpoint_line, fact_line, fill_step_line, fill_text_line,
-    listing_line, packet_line, profile_line, protocol_line, step_line, text_line,
+    OutcomeName, block_line, byte_listing, endpoint_line, fact_line, fill_step_line,
+    fill_text_line, listing_line, packet_line, profile_line, protocol_line, step_line, text_line,
 };
+use midi_meaning::{Kind, Listed};
 use midi1_bytes::Parser;
 use std::alloc::{AllocError, Global};
 use std::process::Abort;
@@ -13,7 +14,7 @@ use ump_grammar::decode;
 use ump_words::words::words_in_packet;
 use ump_words::{Framed, Words};
 use voice_messages::{Bank, U4, U7};
-use voice_state::{Fact, Kind, Listed};
+use voice_state::Fact;
 
 // Whether the words are one packet, and its line at the offset is the text.
 fn is_shown(offset: u64, words: &[u32], text: &str) -> bool {
@@ -247,7 +248,8 @@ fn listing_lines(rt: HostRuntime) {
     }
 }
 
-// Gives the bytes to a parser with a room of six bytes, and compares the lines of what they do, one behind the other.
+// Gives the bytes to a parser with a room of six bytes, and compares
+// the lines of what they do, one behind the other.
 fn check_steps(rt: &impl Abort, alloc: Global, bytes: &[u8], text: &str) -> Result<(), AllocError> {
     let mut parser = Parser::new(alloc, 6).expect(rt, "memory is ample");
     let mut told = Vec::new(alloc);
@@ -414,7 +416,7 @@ fn a_line_stays_where_none_is_made(rt: HostRuntime) {
 }
 
 // Whether the line of what became of an exclusive or a stream packet is the text.
-fn is_told(offset: u64, group: Option<u32>, name: Name, text: &str) -> bool {
+fn is_told(offset: u64, group: Option<u32>, name: OutcomeName, text: &str) -> bool {
     let group = group.map(U4::low_bits);
     endpoint_line(offset, group, name).as_slice() == text.as_bytes()
 }
@@ -422,29 +424,34 @@ fn is_told(offset: u64, group: Option<u32>, name: Name, text: &str) -> bool {
 #[test]
 fn endpoint_lines(rt: HostRuntime) {
     for (offset, group, name, text) in [
-        (0, None, Name::Answered, "0 - answered\n"),
-        (0, Some(0), Name::NotCi, "0 0 not-ci\n"),
-        (8, Some(1), Name::Short, "8 1 short\n"),
-        (16, Some(2), Name::BadAddress, "16 2 bad-address\n"),
-        (24, Some(3), Name::ReservedMuid, "24 3 reserved-muid\n"),
-        (32, Some(4), Name::NoBlock, "32 4 no-block\n"),
-        (40, Some(5), Name::Silent, "40 5 silent\n"),
-        (48, Some(6), Name::Collision, "48 6 collision\n"),
-        (56, Some(7), Name::OldVersion, "56 7 old-version\n"),
-        (64, Some(8), Name::NotOurs, "64 8 not-ours\n"),
-        (72, Some(9), Name::Moved, "72 9 moved\n"),
-        (80, Some(10), Name::Report, "80 10 report\n"),
-        (88, Some(11), Name::Broadcast, "88 11 broadcast\n"),
-        (96, Some(12), Name::Answered, "96 12 answered\n"),
-        (104, Some(13), Name::Passed, "104 13 passed\n"),
+        (0, None, OutcomeName::Answered, "0 - answered\n"),
+        (0, Some(0), OutcomeName::NotCi, "0 0 not-ci\n"),
+        (8, Some(1), OutcomeName::Short, "8 1 short\n"),
+        (16, Some(2), OutcomeName::BadAddress, "16 2 bad-address\n"),
+        (
+            24,
+            Some(3),
+            OutcomeName::ReservedMuid,
+            "24 3 reserved-muid\n",
+        ),
+        (32, Some(4), OutcomeName::NoBlock, "32 4 no-block\n"),
+        (40, Some(5), OutcomeName::Silent, "40 5 silent\n"),
+        (48, Some(6), OutcomeName::Collision, "48 6 collision\n"),
+        (56, Some(7), OutcomeName::OldVersion, "56 7 old-version\n"),
+        (64, Some(8), OutcomeName::NotOurs, "64 8 not-ours\n"),
+        (72, Some(9), OutcomeName::Moved, "72 9 moved\n"),
+        (80, Some(10), OutcomeName::Report, "80 10 report\n"),
+        (88, Some(11), OutcomeName::Broadcast, "88 11 broadcast\n"),
+        (96, Some(12), OutcomeName::Answered, "96 12 answered\n"),
+        (104, Some(13), OutcomeName::Passed, "104 13 passed\n"),
         (
             18446744073709551615,
             Some(15),
-            Name::Nak,
+            OutcomeName::Nak,
             "18446744073709551615 15 nak\n",
         ),
-        (112, None, Name::NoAnswer, "112 - no-answer\n"),
-        (128, None, Name::BadFormat, "128 - bad-format\n"),
+        (112, None, OutcomeName::NoAnswer, "112 - no-answer\n"),
+        (128, None, OutcomeName::BadFormat, "128 - bad-format\n"),
     ] {
         assert!(rt; is_told(offset, group, name, text), "{text}");
     }

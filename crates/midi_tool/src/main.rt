@@ -1,11 +1,11 @@
-//! Translates between Universal MIDI Packets and MIDI 1.0 streams, and shows both: `run` over the process's own words, input,
-//! folder, output, notes and files.
+//! Translates between Universal MIDI Packets and MIDI 1.0 streams, and shows both: `run` over the process's
+//! own words, input, folder, output, notes and files.
 #![tactic(auto)]
 
 use midi_commands::{finish, run, unread_words};
-use midi_edge::{FileShelf, FolderLanes, ReadSource, WriteSink};
+use midi_edge::{BufferedSource, FileShelf, FolderLanes, NoMemory, WriteSink};
 use std::fs::{self, File};
-use std::io::Stdin;
+use std::io::{ErrorKind, Stdin};
 use std::process::ExitCode;
 use std::{env, io};
 
@@ -20,25 +20,24 @@ fn open_root(rt: &HostRuntime) -> Option<File> {
 }
 
 // Standard input, of which a read may wait, unless it is a file.
-fn read_input(rt: &HostRuntime) -> ReadSource<Stdin> {
+fn open_input(rt: &HostRuntime) -> Result<BufferedSource<Stdin>, NoMemory> {
     match fs::metadata(rt, "/dev/stdin") {
-        Ok(about) if about.is_file() => ReadSource::of_file(rt.stdin()),
-        _ => ReadSource::new(rt.stdin()),
+        Ok(about) if about.is_file() => BufferedSource::of_file(rt.alloc(), rt.stdin()),
+        _ => BufferedSource::new(rt.alloc(), rt.stdin()),
     }
 }
 
 fn main(rt: HostRuntime) -> io::Result<ExitCode> {
-    // A folder that is open can be neither read nor written. Where standard streams are closed, these take their numbers, so that such a
-    // stream fails, and no file of a lane stands in its place.
+    // A folder that is open can be neither read nor written. Where standard streams are closed, these take
+    // their numbers, so that such a stream fails, and no file of a lane stands in its place.
     let _in_place_of_closed = [open_root(&rt), open_root(&rt), open_root(&rt)];
     let alloc = rt.alloc();
-    let mut input = read_input(&rt);
     let mut lanes = FolderLanes::new(rt.clone()?);
     let mut output = WriteSink::new(rt.stdout());
     let mut notes = WriteSink::new(rt.stderr());
     let mut shelf = FileShelf::new(rt.clone()?);
-    let status = match words(&rt) {
-        Ok(words) => run(
+    let status = match (words(&rt), open_input(&rt)) {
+        (Ok(words), Ok(mut input)) => run(
             alloc,
             &words,
             &mut input,
@@ -47,7 +46,8 @@ fn main(rt: HostRuntime) -> io::Result<ExitCode> {
             &mut notes,
             &mut shelf,
         ),
-        Err(error) => unread_words(error.kind(), &mut notes),
+        (Ok(_), Err(NoMemory)) => unread_words(ErrorKind::OutOfMemory, &mut notes),
+        (Err(error), _) => unread_words(error.kind(), &mut notes),
     };
     let code = finish(status, &mut lanes, &mut output, &mut notes);
     Ok(ExitCode::from(code))

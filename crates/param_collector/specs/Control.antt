@@ -2,8 +2,10 @@
 use Rattle.std.specs.Prelude.{◌≡◌, ℕ, ◌+◌, ◌-◌, ◌*◌, ◌<◌, Option, Some, None, IfSome, slice_set}
 use Rattle.voice_messages.specs.declared.voice2.Param.{Param}
 use Rattle.voice_messages.specs.Ranges.{IsParam}
-use Rattle.voice_state.specs.Registers.{Registers, with_bank_msb, with_bank_lsb, with_number_msb, with_number_lsb, without_selection, selected}
-use Rattle.voice_state.specs.Controllers.{Role, bank_msb, bank_lsb, data_msb, data_lsb, data_increment, data_decrement, number_msb, number_lsb, reset_all, channel_mode, coarse, fine, plain}
+use Rattle.midi_meaning.specs.Registers.{Registers, with_bank_msb, with_bank_lsb, with_number_msb}
+use Rattle.midi_meaning.specs.Registers.{with_number_lsb, without_selection, selected}
+use Rattle.midi_meaning.specs.Controllers.{Role, bank_msb, bank_lsb, data_msb, data_lsb, data_increment, data_decrement}
+use Rattle.midi_meaning.specs.Controllers.{number_msb, number_lsb, reset_all, channel_mode, coarse, fine, plain}
 use Rattle.param_collector.specs.declared.collected.Collected.{Collected}
 use Rattle.param_collector.specs.declared.collected.Collected.TheVariants as collected
 use Rattle.param_collector.specs.Holding.{Holding, registers_at, msb_at, pair_at}
@@ -33,21 +35,22 @@ answer_by fine index param values controllers = collected.Pair (index - 32) (con
 answer_by plain index param values controllers = collected.Plain
 
 -- the value after a data entry or a half of a pair: the MSB sets the LSB to 0, the LSB keeps the MSB
-abbrev pub value_behind : Role → ℕ → ℕ → ℕ
-value_behind data_msb value msb = value * 128
-value_behind coarse value msb = value * 128
-value_behind _ value msb = msb * 128 + value
+abbrev pub value_after : Role → ℕ → ℕ → ℕ
+value_after data_msb value msb = value * 128
+value_after coarse value msb = value * 128
+value_after _ value msb = msb * 128 + value
 
 abbrev pub answer_of : Role → Holding → ℕ → ℕ → ℕ → Collected
 answer_of role holding channel index value =
     answer_by role index (selected (registers_at holding channel))
-    (λ param. value_behind role value (msb_at holding channel param))
-    (λ coarse. value_behind role value (pair_at holding channel coarse))
+    (λ param. value_after role value (msb_at holding channel param))
+    (λ coarse. value_after role value (pair_at holding channel coarse))
 
 -- ---- what is held after it
 
 abbrev pub at_registers : ℕ → (Registers → Registers) → Holding → Holding
-at_registers channel change holding = record holding { registers = slice_set holding.registers channel (change (registers_at holding channel)) }
+at_registers channel change holding =
+    record holding { registers = slice_set holding.registers channel (change (registers_at holding channel)) }
 
 abbrev pub with_msb_at : ℕ → Param → ℕ → Holding → Holding
 with_msb_at channel param msb holding = record holding { msbs = slice_set holding.msbs (place_of channel param) msb }
@@ -64,20 +67,20 @@ with_pair_at channel index msb holding = record holding { pairs = slice_set hold
 abbrev pub with_reset : ℕ → Holding → Holding
 with_reset channel holding = with_pair_at channel 1 0 (with_pair_at channel 11 127 (at_registers channel without_selection holding))
 
-abbrev pub holding_behind : Role → Holding → ℕ → ℕ → ℕ → Holding
-holding_behind bank_msb holding channel index value = at_registers channel (with_bank_msb value) holding
-holding_behind bank_lsb holding channel index value = at_registers channel (with_bank_lsb value) holding
-holding_behind data_msb holding channel index value = with_entry (selected (registers_at holding channel)) channel value holding
-holding_behind data_lsb holding channel index value = holding
-holding_behind data_increment holding channel index value = holding
-holding_behind data_decrement holding channel index value = holding
-holding_behind (number_msb kind) holding channel index value = at_registers channel (with_number_msb kind value) holding
-holding_behind (number_lsb kind) holding channel index value = at_registers channel (with_number_lsb kind value) holding
-holding_behind reset_all holding channel index value = with_reset channel holding
-holding_behind channel_mode holding channel index value = holding
-holding_behind coarse holding channel index value = with_pair_at channel index value holding
-holding_behind fine holding channel index value = holding
-holding_behind plain holding channel index value = holding
+abbrev pub holding_after : Role → Holding → ℕ → ℕ → ℕ → Holding
+holding_after bank_msb holding channel index value = at_registers channel (with_bank_msb value) holding
+holding_after bank_lsb holding channel index value = at_registers channel (with_bank_lsb value) holding
+holding_after data_msb holding channel index value = with_entry (selected (registers_at holding channel)) channel value holding
+holding_after data_lsb holding channel index value = holding
+holding_after data_increment holding channel index value = holding
+holding_after data_decrement holding channel index value = holding
+holding_after (number_msb kind) holding channel index value = at_registers channel (with_number_msb kind value) holding
+holding_after (number_lsb kind) holding channel index value = at_registers channel (with_number_lsb kind value) holding
+holding_after reset_all holding channel index value = with_reset channel holding
+holding_after channel_mode holding channel index value = holding
+holding_after coarse holding channel index value = with_pair_at channel index value holding
+holding_after fine holding channel index value = holding
+holding_after plain holding channel index value = holding
 
 -- after these answers nothing has changed
 abbrev pub Leaves : Collected → Holding → Holding → Type 0

@@ -1,7 +1,7 @@
 -- What a collector holds.
 use Rattle.std.specs.Prelude.{◌≡◌, ℕ, Bool, true, if◌then◌else◌, List, length, replicate, slice_index_or}
 use Rattle.voice_messages.specs.declared.voice2.Param.{Param}
-use Rattle.voice_state.specs.Registers.{Registers, unset_registers}
+use Rattle.midi_meaning.specs.Registers.{Registers, unset_registers}
 use Rattle.param_collector.specs.Msbs.{place_of, pair_place, zeros}
 
 -- the registers of the sixteen channels, the table of the MSBs, whether controllers are paired, and the table of the MSBs of pairs

@@ -1,6 +1,6 @@
 -- The indexes of each answer, where controllers are paired or aren't.
 use Rattle.std.specs.Prelude.{◌≡◌, ℕ, ◌+◌, ◌⊎◌, Bool, true}
-use Rattle.voice_state.specs.Indexes.{IsHalf, IsDataEntry, IsCoarse, IsFine, IsAlone}
+use Rattle.midi_meaning.specs.Indexes.{IsHalf, IsDataEntry, IsCoarse, IsFine, IsUnpaired}
 use Rattle.param_collector.specs.declared.collected.Collected.{Collected}
 use Rattle.param_collector.specs.declared.collected.Collected.TheVariants as collected
 
@@ -12,4 +12,4 @@ IsIndexOf paired (collected.Set param value) index = IsDataEntry index
 IsIndexOf paired collected.Ignored index = IsDataEntry index
 IsIndexOf paired (collected.Pair coarse value) index =
     (paired ≡ true) × ((IsCoarse index × (coarse ≡ index)) ⊎ (IsFine index × (coarse + 32 ≡ index)))
-IsIndexOf paired collected.Plain index = IsAlone paired index
+IsIndexOf paired collected.Plain index = IsUnpaired paired index

@@ -5,10 +5,10 @@ use Rattle.voice_messages.specs.declared.voice1.Voice1.TheVariants as voice1
 use Rattle.voice_messages.specs.declared.voice2.Param.{Param}
 use Rattle.voice_messages.specs.Ranges.{IsParam}
 use Rattle.midi1_bytes.specs.Messages.{Message, voice}
-use Rattle.voice_state.specs.Registers.{selected}
-use Rattle.voice_state.specs.Controllers.{coarse, pairing, role_of}
-use Rattle.voice_state.specs.State.{Channel, GroupState}
-use Rattle.voice_state.specs.Messages.{step1}
+use Rattle.midi_meaning.specs.Registers.{selected}
+use Rattle.midi_meaning.specs.Controllers.{coarse, pairing, role_of}
+use Rattle.midi_meaning.specs.State.{Channel, GroupState}
+use Rattle.midi_meaning.specs.Messages.{step1}
 use Rattle.param_collector.specs.declared.collected.Collected.{Collected}
 use Rattle.param_collector.specs.Holding.{Holding, registers_at, msb_at, pair_at}
 use Rattle.param_collector.specs.Control.{answer_by}
@@ -25,7 +25,8 @@ controller_of channel index = unwrap_or (channel.controllers index) 0
 -- of each pair's value of fourteen bits.
 pub record Keeps (holding : Holding) (group : GroupState) : Type 0 where
   pub registers : (channel : ℕ) → channel < 16 → registers_at holding channel ≡ (group.channels channel).registers
-  pub msbs : (channel : ℕ) (param : Param) → channel < 16 → IsParam param → msb_at holding channel param ≡ value_of (group.channels channel) param / 128
+  pub msbs : (channel : ℕ) (param : Param) → channel < 16 → IsParam param
+      → msb_at holding channel param ≡ value_of (group.channels channel) param / 128
   pub pairs : (channel index : ℕ) → channel < 16 → pairing holding.paired (role_of index) ≡ coarse →
       pair_at holding channel index ≡ controller_of (group.channels channel) index / 128
 

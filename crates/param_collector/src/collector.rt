@@ -1,17 +1,17 @@
 // The registers and parameters that the control changes of a stream have set.
 ghost use Rattle.std.specs.Prelude.{◌≡◌, ℕ, Bool, ◌<◌, ◌+◌, ◌*◌, IfOk, IfSome};
 ghost use Rattle.voice_messages.specs.Ranges.{IsParam};
-ghost use Rattle.voice_state.specs.Controllers.{coarse, fine, pairing, role_of};
-ghost use Rattle.voice_state.specs.Indexes.{HasIndex};
-ghost use Rattle.voice_state.specs.Messages.{as_they_come, start};
-ghost use Rattle.voice_state.specs.Registers.{bank_of, selected};
-ghost use Rattle.voice_state.specs.Roles.{registers_behind, role_in};
-ghost use Rattle.voice_state.specs.State.{GroupState};
+ghost use Rattle.midi_meaning.specs.Controllers.{coarse, fine, pairing, role_of};
+ghost use Rattle.midi_meaning.specs.Indexes.{HasIndex};
+ghost use Rattle.midi_meaning.specs.Messages.{as_they_come, start};
+ghost use Rattle.midi_meaning.specs.Registers.{bank_of, selected};
+ghost use Rattle.midi_meaning.specs.Roles.{registers_after, role_in};
+ghost use Rattle.midi_meaning.specs.State.{GroupState};
 ghost use Rattle.param_collector.specs.Control.{
   answer_of,
   at_registers,
   entered,
-  holding_behind,
+  holding_after,
   with_entry,
   with_reset,
   AreInRange,
@@ -26,14 +26,15 @@ use crate::collected::Collected;
 use crate::msbs::Msbs;
 use crate::pairs::PairMsbs;
 use midi_edge::{NoMemory, U4};
+use midi_meaning::{ControlRole, Registers};
 use std::alloc::Global;
 use std::marker::Model;
 use voice_messages::{Bank, Param, U7, U14};
-use voice_state::{ControlRole, Registers};
 
-/// What the control changes of a MIDI 1.0 stream have set: for each of sixteen channels the halves of the bank and of the two
-/// parameter numbers, and for each parameter the MSB of its value; where controllers are paired (own rule), also the MSB of each
-/// pair. A contract sees these registers and MSBs, and whether controllers are paired.
+/// What the control changes of a MIDI 1.0 stream have set: for each of sixteen channels the halves of the
+/// bank and of the two parameter numbers, and for each parameter the MSB of its value; where controllers are
+/// paired (own rule), also the MSB of each pair. A contract sees these registers and MSBs, and whether
+/// controllers are paired.
 #[derive(Drop)]
 pub struct Collector {
     registers: Vec<Registers>,
@@ -70,9 +71,10 @@ fn of_halves(msb: U7, lsb: U7) -> U14
 }
 
 impl Collector {
-    /// A collector for a stream that has had no byte yet: no half of a register is set, and no parameter or controller has a value.
-    /// Controllers are paired or aren't (own rule): where they are, the MSB and the LSB of a controller are one value of 14 bits. All
-    /// memory that it ever needs is taken here; `NoMemory` when there is none.
+    /// A collector for a stream that has had no byte yet: no half of a register is set, and no parameter or
+    /// controller has a value. Controllers are paired or aren't (own rule): where they are, the MSB and the
+    /// LSB of a controller are one value of 14 bits. All memory that it ever needs is taken here; `NoMemory`
+    /// when there is none.
     pub fn new(alloc: Global, paired: bool) -> Result<Collector, NoMemory>
         ensures fresh { IfOk result (λ collector. collector ≡ fresh paired) }
         ensures holding { IfOk result IsHolding }
@@ -96,14 +98,14 @@ impl Collector {
         })
     }
 
-    /// Takes one control change (MIDI 1.0 Detailed Specification, control change, bank select, registered and non-registered
-    /// parameter numbers; RP-015).
+    /// Takes one control change (MIDI 1.0 Detailed Specification, control change, bank select, registered and
+    /// non-registered parameter numbers; RP-015).
     #[inline(always)]
     pub fn control(&mut self, channel: U4, index: U7, value: U7) -> Collected
         ensures answer { result ≡
             answer_of (pairing self.old.paired (role_of index)) self.old channel index value }
         ensures behind { self.new ≡
-            holding_behind (pairing self.old.paired (role_of index)) self.old channel index value }
+            holding_after (pairing self.old.paired (role_of index)) self.old channel index value }
         ensures unchanged { Leaves result self.old self.new }
         ensures index { IsIndexOf self.old.paired result index }
         ensures holding { IsHolding self.new }
@@ -113,13 +115,14 @@ impl Collector {
         self.act(channel, role, index, value)
     }
 
-    // Takes a control change by its role, of which those of pairs count only where controllers are paired: that is asked for last.
+    // Takes a control change by its role, of which those of pairs count only
+    // where controllers are paired: that is asked for last.
     #[inline(always)]
     fn act(&mut self, channel: U4, role: ControlRole, index: U7, value: U7) -> Collected
         ensures answer { result ≡
             answer_of (pairing self.old.paired (role_in role)) self.old channel index value }
         ensures behind { self.new ≡
-            holding_behind (pairing self.old.paired (role_in role)) self.old channel index value }
+            holding_after (pairing self.old.paired (role_in role)) self.old channel index value }
         ensures unchanged { Leaves result self.old self.new }
         ensures index { HasIndex (role_in role) index → IsIndexOf self.old.paired result index }
         ensures before { IsHolding self.old }
@@ -166,7 +169,7 @@ impl Collector {
     // The channel's registers take a control change that is no data entry.
     #[inline(always)]
     fn take(&mut self, channel: U4, role: ControlRole, value: U7)
-        ensures behind { self.new ≡ at_registers channel (registers_behind (role_in role) value) self.old }
+        ensures behind { self.new ≡ at_registers channel (registers_after (role_in role) value) self.old }
     {
         let registers = &mut self.registers[channel.get() as usize];
         registers.take(role, value);
@@ -217,7 +220,7 @@ impl Collector {
     // The MSB of a pair, after which the LSB is 0.
     fn enter_coarse(&mut self, channel: U4, index: U7, value: U7) -> Collected
         ensures answer { result ≡ answer_of coarse self.old channel index value }
-        ensures behind { self.new ≡ holding_behind coarse self.old channel index value }
+        ensures behind { self.new ≡ holding_after coarse self.old channel index value }
         ensures in_range { (channel < 16) × (value < 128) }
     {
         self.pairs.set(channel, index, value);
@@ -234,7 +237,8 @@ impl Collector {
         Collected::Pair(coarse, of_halves(msb, value))
     }
 
-    /// The bank that a program change would take now: an unset half is 0; `None` exactly when neither half was set.
+    /// The bank that a program change would take now: an unset half
+    /// is 0; `None` exactly when neither half was set.
     pub fn program(&self, channel: U4) -> Option<Bank>
         ensures exact { result ≡ bank_of (registers_at self.now channel) }
         ensures meant { (group : GroupState) → Keeps self.now group →

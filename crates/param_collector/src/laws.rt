@@ -1,27 +1,27 @@
 // What holds of all collectors.
 ghost use Rattle.std.specs.Prelude.{◌≡◌, ℕ, false};
 ghost use Rattle.midi1_bytes.specs.Messages.{Message};
-ghost use Rattle.voice_state.specs.Controllers.{Role, pairing, role_of};
-ghost use Rattle.voice_state.specs.Messages.{step1};
-ghost use Rattle.voice_state.specs.Registers.{selected};
-ghost use Rattle.voice_state.specs.State.{GroupState};
-ghost use Rattle.param_collector.specs.Control.{answer_of, holding_behind, AreInRange};
+ghost use Rattle.midi_meaning.specs.Controllers.{Role, pairing, role_of};
+ghost use Rattle.midi_meaning.specs.Messages.{step1};
+ghost use Rattle.midi_meaning.specs.Registers.{selected};
+ghost use Rattle.midi_meaning.specs.State.{GroupState};
+ghost use Rattle.param_collector.specs.Control.{answer_of, holding_after, AreInRange};
 ghost use Rattle.param_collector.specs.Holding.{Holding, IsHolding, registers_at};
 ghost use Rattle.param_collector.specs.Keeps.{IsMeant, Keeps, is_control_change};
 
-/// What a control change gives and leaves is what it means: each state that is kept before it is kept after its step. Whether
-/// controllers are paired stays.
+/// What a control change gives and leaves is what it means: each state that is kept before it is kept after
+/// its step. Whether controllers are paired stays.
 pub fn control_changes_are_kept()
     ensures meant { (holding : Holding) (channel index value : ℕ) → IsHolding holding →
         AreInRange channel (selected (registers_at holding channel)) value →
         IsMeant holding
-        (holding_behind (pairing holding.paired (role_of index)) holding channel index value)
+        (holding_after (pairing holding.paired (role_of index)) holding channel index value)
         channel index value
         (answer_of (pairing holding.paired (role_of index)) holding channel index value) }
     ensures sizes { (holding : Holding) (role : Role) (channel index value : ℕ) → IsHolding holding →
-        IsHolding (holding_behind role holding channel index value) }
+        IsHolding (holding_after role holding channel index value) }
     ensures paired { (holding : Holding) (role : Role) (channel index value : ℕ) →
-        (holding_behind role holding channel index value).paired ≡ holding.paired }
+        (holding_after role holding channel index value).paired ≡ holding.paired }
 {}
 
 /// A message that is no control change leaves what a collector has to keep.

@@ -19,8 +19,8 @@ fn pair_place(channel: U4, index: U7) -> usize
     channel.get() as usize * 32 + index.get() as usize
 }
 
-/// The MSBs of the paired controllers of all channels, 0 where none was set; none where controllers aren't paired. A contract sees
-/// it as the table of them.
+/// The MSBs of the paired controllers of all channels, 0 where none was set; none where controllers aren't
+/// paired. A contract sees it as the table of them.
 #[derive(Drop)]
 pub(crate) struct PairMsbs {
     table: Vec<U7>,

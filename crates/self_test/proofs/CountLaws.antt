@@ -8,6 +8,7 @@ pub length-first_packets : (seed count : ℕ) → length (first_packets seed cou
 length-first_packets seed zero = refl
 length-first_packets seed (suc count) = ap suc (length-first_packets seed count)
 
-pub one_more_packet : (seed count offset : ℕ) (p : Packet) → offset ≡ 8 * count → p ≡ generated seed count → record { offset = offset; packet = p } ∷ first_packets seed count ≡ first_packets seed (count + 1)
+pub one_more_packet : (seed count offset : ℕ) (p : Packet) → offset ≡ 8 * count → p ≡ generated seed count
+    → record { offset = offset; packet = p } ∷ first_packets seed count ≡ first_packets seed (count + 1)
 one_more_packet seed count offset p place is =
     (λ i. record { offset = place i; packet = is i } ∷ first_packets seed count) ∙ ap (first_packets seed) (sym (add-one count))

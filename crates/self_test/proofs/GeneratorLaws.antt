@@ -3,32 +3,35 @@ use Rattle.std.proofs.Common.{◌≡◌, ◌<◌, ℕ, ◌+◌, ◌==◌, None, 
 use Rattle.std.proofs.lemmas.Bool.{cond_both, eqb-true}
 use Rattle.std.specs.Prelude.{nat_le}
 use Rattle.ump_grammar.specs.declared.packet.Packet.TheVariants as packet
-use Rattle.voice_state.specs.Controllers.{Role, role_of}
-use Rattle.voice_state.specs.Refusal.{bad_control, bad_role}
+use Rattle.midi_meaning.specs.Controllers.{Role, role_of}
+use Rattle.midi_meaning.specs.Refusal.{bad_control, bad_role}
 use Rattle.self_test.specs.declared.generator.Draws.{Draws}
 use Rattle.self_test.specs.Draws.{AreDrawn}
-use Rattle.self_test.specs.Generator.{HasGiven, after_draw, draw_at, generated, message_of, number_after, upper_half}
+use Rattle.self_test.specs.Generator.{HasGiven, after_draw, draw_at, generated, drawn_message, number_over, upper_half}
 
-number_behind : (seed place : ℕ) → number_after seed (suc place) ≡ after_draw (number_after seed place)
-unfolding number_after
-number_behind seed place = refl
+number_over_more : (seed place : ℕ) → number_over seed (suc place) ≡ after_draw (number_over seed place)
+unfolding number_over
+number_over_more seed place = refl
 
 -- a draw
-pub drawn_at : (seed place number drawn : ℕ) → number ≡ number_after seed place → drawn ≡ upper_half (after_draw number) → drawn ≡ draw_at seed place
-drawn_at seed place number drawn is e = e ∙ ap (λ n. upper_half (after_draw n)) is ∙ ap upper_half (sym (number_behind seed place))
+pub drawn_at : (seed place number drawn : ℕ) → number ≡ number_over seed place → drawn ≡ upper_half (after_draw number)
+    → drawn ≡ draw_at seed place
+drawn_at seed place number drawn is e = e ∙ ap (λ n. upper_half (after_draw n)) is ∙ ap upper_half (sym (number_over_more seed place))
 
 -- and the number after it
-pub after_at : (seed place next number new : ℕ) → next ≡ place + 1 → number ≡ number_after seed place → new ≡ after_draw number → new ≡ number_after seed next
+pub after_at : (seed place next number new : ℕ) → next ≡ place + 1 → number ≡ number_over seed place → new ≡ after_draw number
+    → new ≡ number_over seed next
 after_at seed place next number new place_is is e =
     let next_is : suc place ≡ next = omega arith in
-    e ∙ ap after_draw is ∙ sym (number_behind seed place) ∙ ap (number_after seed) next_is
+    e ∙ ap after_draw is ∙ sym (number_over_more seed place) ∙ ap (number_over seed) next_is
 
 pub nothing_given : (seed : ℕ) → HasGiven seed 0 seed
-unfolding number_after
+unfolding number_over
 nothing_given seed = refl
 
 -- the message of five draws
-pub message_is : (seed place : ℕ) (draws : Draws) → AreDrawn seed place draws → packet.Voice2 0 (message_of draws.kind draws.channel draws.number draws.high draws.low) ≡ generated seed place
+pub message_is : (seed place : ℕ) (draws : Draws) → AreDrawn seed place draws
+    → packet.Voice2 0 (drawn_message draws.kind draws.channel draws.number draws.high draws.low) ≡ generated seed place
 unfolding generated
 message_is seed place draws are = rw (are.kind, are.channel, are.number, are.high, are.low)
 

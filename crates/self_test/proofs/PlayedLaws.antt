@@ -1,5 +1,6 @@
 -- The bytes of channel voice messages, read after bytes in which nothing is open.
-use Rattle.std.proofs.Common.{◌≡◌, ◌<◌, ◌≤◌, ℕ, ◌+◌, ◌*◌, ◌/◌, ◌%◌, List, [], ◌∷◌, ◌++◌, reverse, length, None, Some, refl, ap, sym, ◌∙◌, subst, arith, append_assoc, false}
+use Rattle.std.proofs.Common.{◌≡◌, ◌<◌, ◌≤◌, ℕ, ◌+◌, ◌*◌, ◌/◌, ◌%◌, List, [], ◌∷◌, ◌++◌, reverse}
+use Rattle.std.proofs.Common.{length, None, Some, refl, ap, sym, ◌∙◌, subst, arith, append_assoc, false}
 use Rattle.std.proofs.lemmas.Bool.{cond_both, lt-ltb, le-ltb}
 use Rattle.std.proofs.lemmas.List.{reverse-append}
 use Rattle.std.specs.List.{AllByRecursion, flat_map}
@@ -12,13 +13,15 @@ use Rattle.voice_messages.specs.declared.voice2.Voice2.TheVariants as voice2
 use Rattle.voice_messages.specs.Ranges.{IsVoice1, IsVoice2}
 use Rattle.bit_scaling.specs.Scaled.{down7_fits, down14_fits, release_down_fits, velocity_down_fits}
 use Rattle.midi1_bytes.specs.Sorts.{one, two, data_byte, voice_status, sort_of}
-use Rattle.midi1_bytes.specs.Messages.{Message, voice, common, exclusive, real_time, spelled, spelled_voice, voice_of, voice_of_one, voice_of_two}
+use Rattle.midi1_bytes.specs.Messages.{Message, voice, common, exclusive, real_time, spelled}
+use Rattle.midi1_bytes.specs.Messages.{spelled_voice, voice_of, voice_of_one, voice_of_two}
 use Rattle.midi1_bytes.specs.Steps.{Step, held, completes, step_of}
 use Rattle.midi1_bytes.specs.Stream.{open_in}
-use Rattle.voice_state.specs.Controllers.{Role, channel_mode, reset_all, coarse, fine, plain, pairing, role_of, number_msb_index, number_lsb_index}
-use Rattle.voice_state.specs.Plain.{control_messages, voice_messages}
-use Rattle.voice_state.specs.Refusal.{bad_control, bad_voice1, bad_voice2}
-use Rattle.voice_state.specs.Registers.{is_null}
+use Rattle.midi_meaning.specs.Controllers.{Role, channel_mode, reset_all, coarse, fine, plain}
+use Rattle.midi_meaning.specs.Controllers.{pairing, role_of, number_msb_index, number_lsb_index}
+use Rattle.midi_meaning.specs.Plain.{control_messages, voice_messages}
+use Rattle.midi_meaning.specs.Refusal.{bad_control, bad_voice1, bad_voice2}
+use Rattle.midi_meaning.specs.Registers.{is_null}
 use Rattle.self_test.specs.Played.{ArePlayed, IsPlayedStep}
 
 -- ---- the sorts of bytes
@@ -53,7 +56,8 @@ is_held step e = subst IsPlayedStep (sym e) tt
 is_completed : (step : Step) (m : Voice1) → step ≡ completes (voice m) → bad_voice1 m ≡ None → IsPlayedStep step
 is_completed step m e good = subst IsPlayedStep (sym e) good
 
-read_two : (past : List ℕ) (s x y : ℕ) (m : Voice1) → sort_of s ≡ voice_status two → x < 128 → y < 128 → voice_of two s y (x ∷ []) ≡ m → bad_voice1 m ≡ None → open_in (Some 6) past ≡ None → ArePlayed past
+read_two : (past : List ℕ) (s x y : ℕ) (m : Voice1) → sort_of s ≡ voice_status two → x < 128 → y < 128 → voice_of two s y (x ∷ []) ≡ m
+    → bad_voice1 m ≡ None → open_in (Some 6) past ≡ None → ArePlayed past
     → IsRead past (s ∷ x ∷ y ∷ [])
 read_two past s x y m hs hx hy is good closed played =
     let dx : sort_of x ≡ data_byte = data_is x hx in
@@ -66,7 +70,8 @@ read_two past s x y m hs hx hy is good closed played =
       closed = simp (hs, dx, dy);
     }
 
-read_one : (past : List ℕ) (s x : ℕ) (m : Voice1) → sort_of s ≡ voice_status one → x < 128 → voice_of one s x [] ≡ m → bad_voice1 m ≡ None → open_in (Some 6) past ≡ None → ArePlayed past → IsRead past (s ∷ x ∷ [])
+read_one : (past : List ℕ) (s x : ℕ) (m : Voice1) → sort_of s ≡ voice_status one → x < 128 → voice_of one s x [] ≡ m → bad_voice1 m ≡ None
+    → open_in (Some 6) past ≡ None → ArePlayed past → IsRead past (s ∷ x ∷ [])
 read_one past s x m hs hx is good closed played =
     let dx : sort_of x ≡ data_byte = data_is x hx in
     let first : step_of (Some 6) past s ≡ held = simp (hs, closed) in
@@ -85,14 +90,30 @@ shaped_one s h ch x e f = rw (e, f)
 bend_whole : (v : ℕ) → v / 128 * 128 + v % 128 ≡ v
 bend_whole v = omega arith
 
-read_voice : (m : Voice1) (past : List ℕ) → IsVoice1 m → bad_voice1 m ≡ None → open_in (Some 6) past ≡ None → ArePlayed past → IsRead past (spelled_voice m)
-read_voice (voice1.NoteOff ch n v) past b good closed played = read_two past (0x80 + ch) n v _ (low_two _ (omega arith) (omega arith)) b.1 b.2 (shaped_two (0x80 + ch) 8 ch n v (omega arith) (omega arith)) good closed played
-read_voice (voice1.NoteOn ch n v) past b good closed played = read_two past (0x90 + ch) n v _ (low_two _ (omega arith) (omega arith)) b.1 b.2 (shaped_two (0x90 + ch) 9 ch n v (omega arith) (omega arith)) good closed played
-read_voice (voice1.PolyPressure ch n v) past b good closed played = read_two past (0xa0 + ch) n v _ (low_two _ (omega arith) (omega arith)) b.1 b.2 (shaped_two (0xa0 + ch) 10 ch n v (omega arith) (omega arith)) good closed played
-read_voice (voice1.Control ch n v) past b good closed played = read_two past (0xb0 + ch) n v _ (low_two _ (omega arith) (omega arith)) b.1 b.2 (shaped_two (0xb0 + ch) 11 ch n v (omega arith) (omega arith)) good closed played
-read_voice (voice1.Program ch v) past b good closed played = read_one past (0xc0 + ch) v _ (one_status _ (omega arith) (omega arith)) b.1 (shaped_one (0xc0 + ch) 12 ch v (omega arith) (omega arith)) good closed played
-read_voice (voice1.Pressure ch v) past b good closed played = read_one past (0xd0 + ch) v _ (one_status _ (omega arith) (omega arith)) b.1 (shaped_one (0xd0 + ch) 13 ch v (omega arith) (omega arith)) good closed played
-read_voice (voice1.Bend ch v) past b good closed played = read_two past (0xe0 + ch) (v % 128) (v / 128) (voice1.Bend ch v) (bend_status _ (omega arith) (omega arith)) (omega arith) (omega arith) (shaped_two (0xe0 + ch) 14 ch (v % 128) (v / 128) (omega arith) (omega arith) ∙ ap (λ n. voice1.Bend ch n) (bend_whole v)) good closed played
+read_voice : (m : Voice1) (past : List ℕ) → IsVoice1 m → bad_voice1 m ≡ None → open_in (Some 6) past ≡ None → ArePlayed past
+    → IsRead past (spelled_voice m)
+read_voice (voice1.NoteOff ch n v) past b good closed played =
+    read_two past (0x80 + ch) n v _ (low_two _ (omega arith) (omega arith)) b.1 b.2
+    (shaped_two (0x80 + ch) 8 ch n v (omega arith) (omega arith)) good closed played
+read_voice (voice1.NoteOn ch n v) past b good closed played =
+    read_two past (0x90 + ch) n v _ (low_two _ (omega arith) (omega arith)) b.1 b.2
+    (shaped_two (0x90 + ch) 9 ch n v (omega arith) (omega arith)) good closed played
+read_voice (voice1.PolyPressure ch n v) past b good closed played =
+    read_two past (0xa0 + ch) n v _ (low_two _ (omega arith) (omega arith)) b.1 b.2
+    (shaped_two (0xa0 + ch) 10 ch n v (omega arith) (omega arith)) good closed played
+read_voice (voice1.Control ch n v) past b good closed played =
+    read_two past (0xb0 + ch) n v _ (low_two _ (omega arith) (omega arith)) b.1 b.2
+    (shaped_two (0xb0 + ch) 11 ch n v (omega arith) (omega arith)) good closed played
+read_voice (voice1.Program ch v) past b good closed played =
+    read_one past (0xc0 + ch) v _ (one_status _ (omega arith) (omega arith)) b.1
+    (shaped_one (0xc0 + ch) 12 ch v (omega arith) (omega arith)) good closed played
+read_voice (voice1.Pressure ch v) past b good closed played =
+    read_one past (0xd0 + ch) v _ (one_status _ (omega arith) (omega arith)) b.1
+    (shaped_one (0xd0 + ch) 13 ch v (omega arith) (omega arith)) good closed played
+read_voice (voice1.Bend ch v) past b good closed played =
+    read_two past (0xe0 + ch) (v % 128) (v / 128) (voice1.Bend ch v) (bend_status _ (omega arith) (omega arith)) (omega arith) (omega arith)
+    (shaped_two (0xe0 + ch) 14 ch (v % 128) (v / 128) (omega arith) (omega arith) ∙ ap (λ n. voice1.Bend ch n) (bend_whole v)) good
+    closed played
 
 -- ---- messages
 
@@ -105,7 +126,8 @@ read_both past first rest r =
     let turned : reverse (first ++ rest) ++ past ≡ reverse rest ++ (reverse first ++ past) = simp (reverse-append, append_assoc) in
     record { played = subst ArePlayed (sym turned) r.played; closed = ap (open_in (Some 6)) turned ∙ r.closed }
 
-pub read_all : (ms : List Message) (past : List ℕ) → AllByRecursion IsPlayedMessage ms → open_in (Some 6) past ≡ None → ArePlayed past → IsRead past (flat_map spelled ms)
+pub read_all : (ms : List Message) (past : List ℕ) → AllByRecursion IsPlayedMessage ms → open_in (Some 6) past ≡ None → ArePlayed past
+    → IsRead past (flat_map spelled ms)
 read_all [] past a closed played = record { played = played; closed = closed }
 read_all (voice m ∷ ms) past a closed played =
     let r = read_voice m past a.0.0 a.0.1 closed played in
@@ -139,7 +161,8 @@ unfolding role_of
 are_halves = record { bank_msb_good = refl; bank_lsb_good = refl; data_msb_good = refl; data_lsb_good = refl }
 
 -- controllers aren't paired
-control_played : (role : Role) (ch i v : ℕ) → IsVoice2 (voice2.Control ch i v) → bad_control i ≡ None → AllByRecursion IsPlayedMessage (control_messages (pairing false role) ch i v)
+control_played : (role : Role) (ch i v : ℕ) → IsVoice2 (voice2.Control ch i v) → bad_control i ≡ None
+    → AllByRecursion IsPlayedMessage (control_messages (pairing false role) ch i v)
 control_played channel_mode ch i v b good = (((b.0, b.1, down7_fits v b.2), good), tt)
 control_played reset_all ch i v b good = (((b.0, b.1, down7_fits v b.2), good), tt)
 control_played coarse ch i v b good = (((b.0, b.1, down7_fits v b.2), good), tt)
@@ -156,10 +179,19 @@ messages_played (voice2.Set ch p v) b good =
     let w = down14_fits v b.2 in
     let k = are_numbers p.kind in
     cond_both (is_null p) _ _ (AllByRecursion IsPlayedMessage) (λ e. tt)
-    (λ e. (((b.0, k.msb_fits, b.1.0), k.msb_good), (((b.0, k.lsb_fits, b.1.1), k.lsb_good), (((b.0, omega arith, omega arith), are_halves.data_msb_good), (((b.0, omega arith, omega arith), are_halves.data_lsb_good), tt)))))
+    (λ e. (
+      ((b.0, k.msb_fits, b.1.0), k.msb_good),
+      (
+        ((b.0, k.lsb_fits, b.1.1), k.lsb_good),
+        (((b.0, omega arith, omega arith), are_halves.data_msb_good), (((b.0, omega arith, omega arith), are_halves.data_lsb_good), tt)),
+      ),
+    ))
 messages_played (voice2.Shift ch p v) b good = tt
 messages_played (voice2.Program ch p None) b good = (((b.0, b.1), refl), tt)
-messages_played (voice2.Program ch p (Some k)) b good = (((b.0, omega arith, b.2.0), are_halves.bank_msb_good), (((b.0, omega arith, b.2.1), are_halves.bank_lsb_good), (((b.0, b.1), refl), tt)))
+messages_played (voice2.Program ch p (Some k)) b good = (
+  ((b.0, omega arith, b.2.0), are_halves.bank_msb_good),
+  (((b.0, omega arith, b.2.1), are_halves.bank_lsb_good), (((b.0, b.1), refl), tt)),
+)
 messages_played (voice2.Pressure ch v) b good = (((b.0, down7_fits v b.1), refl), tt)
 messages_played (voice2.Bend ch v) b good = (((b.0, down14_fits v b.1), refl), tt)
 messages_played _ b good = tt

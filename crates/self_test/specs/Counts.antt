@@ -2,11 +2,11 @@
 use Rattle.std.specs.Prelude.{ℕ, ◌+◌, ◌*◌, ◌==◌, if◌then◌else◌, zero, suc, List, [], ◌∷◌, ◌++◌, length, reverse, None, false}
 use Rattle.std.specs.Option.{option_to_list}
 use Rattle.ump_grammar.specs.declared.packet.Packet.{Packet}
-use Rattle.voice_state.specs.Back.{back}
-use Rattle.voice_state.specs.Lanes.{pairs_behind}
-use Rattle.voice_state.specs.Listing.{lines_behind}
-use Rattle.voice_state.specs.Parts.{Placed, whole_of}
-use Rattle.voice_state.specs.Plain.{plain_piece}
+use Rattle.midi_meaning.specs.Back.{back}
+use Rattle.midi_meaning.specs.Lanes.{pairs_over}
+use Rattle.midi_meaning.specs.Listing.{lines_over}
+use Rattle.midi_meaning.specs.Parts.{Placed, whole_of}
+use Rattle.midi_meaning.specs.Plain.{plain_piece}
 use Rattle.down_translator.specs.declared.carried.Carried.{Carried}
 use Rattle.down_translator.specs.Carried.{line_in}
 use Rattle.down_translator.specs.Recording.{packets_of}
@@ -14,18 +14,18 @@ use Rattle.self_test.specs.declared.counts.Counts.{Counts}
 use Rattle.self_test.specs.Generator.{generated}
 
 -- the bytes of the plain pieces of packets; both are listed newest first
-abbrev pub bytes_behind : List Packet → List ℕ
-bytes_behind [] = []
-bytes_behind (packet ∷ past) = reverse (plain_piece false (whole_of past packet) packet) ++ bytes_behind past
+abbrev pub bytes_over : List Packet → List ℕ
+bytes_over [] = []
+bytes_over (packet ∷ past) = reverse (plain_piece false (whole_of past packet) packet) ++ bytes_over past
 
 -- The counts over packets of group 0, the newest first: those that are carried, which have a pair each; their lines; the bytes of
 -- their plain pieces; and the bytes of the plain pieces of the packets to which these bytes are raised in group 0.
 abbrev pub counts_of : List Placed → Counts
 counts_of past =
-    let bytes : List ℕ = bytes_behind (packets_of past) in
+    let bytes : List ℕ = bytes_over (packets_of past) in
     record {
-      carried = length (pairs_behind false (packets_of past));
-      listed = length (lines_behind false None past);
+      carried = length (pairs_over false (packets_of past));
+      listed = length (lines_over false None past);
       bytes = length bytes;
       again = length (back false None 0 bytes);
     }

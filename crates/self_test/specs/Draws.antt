@@ -1,3 +1,4 @@
+-- For proofs alone: no contract of a public call rests on what stands here.
 -- The five draws of a packet.
 use Rattle.std.specs.Prelude.{◌≡◌, ℕ, ◌+◌, ◌*◌}
 use Rattle.self_test.specs.declared.generator.Draws.{Draws}

@@ -18,13 +18,13 @@ abbrev pub upper_half : ℕ → ℕ
 upper_half number = number / 65536
 
 -- the number after so many draws from a seed
-unfoldable pub number_after : ℕ → ℕ → ℕ
-number_after seed zero = seed
-number_after seed (suc draws) = after_draw (number_after seed draws)
+unfoldable pub number_over : ℕ → ℕ → ℕ
+number_over seed zero = seed
+number_over seed (suc draws) = after_draw (number_over seed draws)
 
 -- a draw by its place, counted from 0
 abbrev pub draw_at : ℕ → ℕ → ℕ
-draw_at seed place = upper_half (number_after seed (suc place))
+draw_at seed place = upper_half (number_over seed (suc place))
 
 -- ---- the packet of five draws: of its kind, its channel, its number, and the two halves of its value
 
@@ -42,8 +42,8 @@ message_by kind channel number high low =
     else (if kind == 6 then voice2.PolyPressure channel (number % 128) (high * 65536 + low)
     else voice2.Pressure channel (high * 65536 + low)))))))
 
-unfoldable pub message_of : ℕ → ℕ → ℕ → ℕ → ℕ → Voice2
-message_of kind channel number high low = message_by (kind % 8) (channel % 16) number high low
+unfoldable pub drawn_message : ℕ → ℕ → ℕ → ℕ → ℕ → Voice2
+drawn_message kind channel number high low = message_by (kind % 8) (channel % 16) number high low
 
 -- ---- the packets
 
@@ -51,9 +51,9 @@ message_of kind channel number high low = message_by (kind % 8) (channel % 16) n
 unfoldable pub generated : ℕ → ℕ → Packet
 generated seed place =
     packet.Voice2 0
-    (message_of (draw_at seed (5 * place)) (draw_at seed (5 * place + 1)) (draw_at seed (5 * place + 2)) (draw_at seed (5 * place + 3))
+    (drawn_message (draw_at seed (5 * place)) (draw_at seed (5 * place + 1)) (draw_at seed (5 * place + 2)) (draw_at seed (5 * place + 3))
     (draw_at seed (5 * place + 4)))
 
 -- a generator, by the number that its next draw begins with, has given so many packets of a seed
 abbrev pub HasGiven : ℕ → ℕ → ℕ → Type 0
-HasGiven seed count number = number ≡ number_after seed (5 * count)
+HasGiven seed count number = number ≡ number_over seed (5 * count)

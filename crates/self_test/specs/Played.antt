@@ -5,7 +5,7 @@ use Rattle.ump_grammar.specs.declared.packet.Packet.{Packet}
 use Rattle.ump_grammar.specs.declared.packet.Packet.TheVariants as packet
 use Rattle.midi1_bytes.specs.Messages.{voice}
 use Rattle.midi1_bytes.specs.Steps.{Step, held, completes, step_of}
-use Rattle.voice_state.specs.Refusal.{bad_voice1, bad_voice2}
+use Rattle.midi_meaning.specs.Refusal.{bad_voice1, bad_voice2}
 
 -- a MIDI 2.0 channel voice message in group 0, with its fields in range, and no data increment or decrement
 abbrev pub IsPlayed : Packet → Type 0

@@ -21,12 +21,13 @@ fn bring_down(packet: &RaisedPacket, offset: u64, down: &mut Down) -> u64
 {
     match down.packet(&packet.packet(), offset) {
         Ok(carried) => carried.piece.len() as u64,
+        // The packet is one that the translator accepts.
         Err(_) => unreachable!(),
     }
 }
 
-// Takes a byte up, and the packet that it completes down again: the number of bytes that come back, at most twelve. Channel
-// voice messages complete no exclusive, and neither way refuses any.
+// Takes a byte up, and the packet that it completes down again: the number of bytes that come back, at most
+// twelve. Channel voice messages complete no exclusive, and neither way refuses any.
 fn bring_byte_back(byte: u8, offset: u64, up: &mut Up, down: &mut Down) -> u64
     requires ready { (past : List ℕ) × HasReturned past up.old down.old
         × IsPlayedStep (step_of (Some 6) past byte) × (offset ≡ length past) }
@@ -42,12 +43,13 @@ fn bring_byte_back(byte: u8, offset: u64, up: &mut Up, down: &mut Down) -> u64
             Some(packet) => bring_down(packet, offset, down),
             None => 0,
         },
+        // A byte of a channel voice message that was played is never refused.
         Err(_) => unreachable!(),
     }
 }
 
-// Takes the bytes of a piece up, and the packets that they complete down again: the number of bytes that come back, at most
-// twelve for each.
+// Takes the bytes of a piece up, and the packets that they complete down again: the number of bytes that come
+// back, at most twelve for each.
 pub(crate) fn bring_back(piece: &[u8], offset: u64, up: &mut Up, down: &mut Down) -> u64
     requires ready { (past : List ℕ) × HasReturned past up.old down.old
         × ArePlayed (reverse piece.now ++ past) × (offset ≡ length past) }

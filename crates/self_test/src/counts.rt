@@ -20,9 +20,10 @@ pub struct Counts {
     pub again: u64,
 }
 
-/// The counts of the first packets of a seed (own rule): they go down in plain style, the bytes of their pieces go up in group 0,
-/// and the packets of these go down in plain style again. No exclusive is among them. `NoMemory` when there isn't the memory that
-/// the three translators reserve at first; no more is taken, however many packets there are.
+/// The counts of the first packets of a seed (own rule): they go down in plain style, the bytes of their
+/// pieces go up in group 0, and the packets of these go down in plain style again. No exclusive is among
+/// them. `NoMemory` when there isn't the memory that the three translators reserve at first; no more is
+/// taken, however many packets there are.
 pub fn count(alloc: Global, seed: u32, packets: u32) -> Result<Counts, NoMemory>
     ensures { IfOk result (λ counts. counts ≡ counted seed packets) }
 {

@@ -1,7 +1,7 @@
 // The course of packets: down, up and down again.
 ghost use Rattle.std.specs.Prelude.{◌≡◌, ◌≤◌, ◌<◌, ◌*◌, ◌^◌, ◌==◌, if◌then◌else◌, [], ◌∷◌, IfOk, List, length};
 ghost use Rattle.std.specs.Option.{option_to_list};
-ghost use Rattle.voice_state.specs.Parts.{Placed};
+ghost use Rattle.midi_meaning.specs.Parts.{Placed};
 ghost use Rattle.down_translator.specs.Carried.{line_in};
 ghost use Rattle.self_test.specs.Counts.{counts_of, counts_with};
 ghost use Rattle.self_test.specs.Held.{HasTaken};
@@ -11,11 +11,11 @@ use crate::back::bring_back;
 use crate::counts::Counts;
 use down_translator::{Carried, Down, Style};
 use midi_edge::{NoMemory, U4};
+use midi_meaning::laws::carried_packets_have_a_piece;
+use midi_meaning::up_laws::rooms_that_are_not_reached_do_not_matter_in_bytes;
 use std::alloc::Global;
 use ump_grammar::Packet;
 use up_translator::Up;
-use voice_state::laws::carried_packets_have_a_piece;
-use voice_state::up_laws::rooms_that_are_not_reached_do_not_matter_in_bytes;
 
 // The most bytes of an exclusive between F0 and F7. There is none.
 const ROOM: u32 = 6;
@@ -70,6 +70,7 @@ impl Course {
                 );
                 self.counts = with_more(self.counts, &carried, again);
             }
+            // A packet that is played is never refused.
             Err(_) => unreachable!(),
         }
     }

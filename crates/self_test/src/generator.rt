@@ -1,8 +1,8 @@
 // The generator of packets (own rule).
 ghost use Rattle.std.specs.Prelude.{◌≡◌, ◌+◌, ◌*◌, ◌<◌, ◌^◌, None};
 ghost use Rattle.voice_messages.specs.Ranges.{IsBank, IsVoice2};
-ghost use Rattle.voice_state.specs.Refusal.{bad_voice2};
-ghost use Rattle.self_test.specs.Generator.{bank_of, message_of};
+ghost use Rattle.midi_meaning.specs.Refusal.{bad_voice2};
+ghost use Rattle.self_test.specs.Generator.{bank_of, drawn_message};
 
 use midi_edge::U4;
 use std::marker::Model;
@@ -50,10 +50,10 @@ impl Draws {
     }
 
     // The message.
-    #[tactic(auto, using(crate::proofs::GeneratorLaws::not_refused), unfolding(crate::specs::Generator::message_of))]
+    #[tactic(auto, using(crate::proofs::GeneratorLaws::not_refused), unfolding(crate::specs::Generator::drawn_message))]
     fn message(&self) -> Voice2
         ensures message { result ≡
-            message_of self.now.kind self.now.channel self.now.number self.now.high self.now.low }
+            drawn_message self.now.kind self.now.channel self.now.number self.now.high self.now.low }
         ensures range { IsVoice2 result }
         ensures accepted { bad_voice2 result ≡ None }
     {
@@ -110,8 +110,8 @@ impl Draws {
     }
 }
 
-/// A generator of packets: MIDI 2.0 channel voice messages in group 0, each by five draws from a linear congruential sequence
-/// (own rule). To a contract it is the number that the next draw begins with.
+/// A generator of packets: MIDI 2.0 channel voice messages in group 0, each by five draws from a linear
+/// congruential sequence (own rule). To a contract it is the number that the next draw begins with.
 #[derive(Clone, Copy, Debug, PartialEq, Eq)]
 pub struct Generator {
     number: u32,

@@ -35,6 +35,14 @@ fn packets_of_each_kind_are_counted(rt: HostRuntime) -> Result<(), Fail> {
     counts_are(&rt, rt.alloc(), 7, 10000, [9961, 39, 42382, 61012])
 }
 
+// The greatest number of packets finds its memory too. Each packet is carried or listed, and few are listed.
+#[test]
+fn a_million_packets_are_counted(rt: HostRuntime) -> Result<(), Fail> {
+    let found = count(rt.alloc(), 7, 1_000_000)?;
+    assert!(rt; 990_000 < found.carried && found.carried < 1_000_000);
+    Ok(())
+}
+
 // Seed 0 draws 3C6E, 4750, D1CC, AAF9 and 6252.
 #[test]
 fn the_first_packet_of_seed_0(rt: HostRuntime) -> Result<(), Fail> {

@@ -1,5 +1,6 @@
 -- What a stream has begun, by the places of its parts.
-use Rattle.std.proofs.Common.{ℕ, ◌≡◌, ◌≤◌, ◌∙◌, ap, sym, refl, subst, List, [], ◌∷◌, ◌++◌, length, Option, Some, None, is_some, Bool, true, false, arith, ◌==◌, inl, inr, nat_lt, length-append}
+use Rattle.std.proofs.Common.{ℕ, ◌≡◌, ◌≤◌, ◌∙◌, ap, sym, refl, subst, List, [], ◌∷◌, ◌++◌, length, Option, Some}
+use Rattle.std.proofs.Common.{None, is_some, Bool, true, false, arith, ◌==◌, inl, inr, nat_lt, length-append}
 use Rattle.std.specs.List.{AllByRecursion}
 use Rattle.std.specs.Option.{option_and_then}
 use Rattle.std.proofs.lemmas.Bool.{cases_Bool, cond_both, cond-true, cond-false, eqb-true, eqb-false, eq-eqb, true≢false, le-leb, leb-true}
@@ -10,7 +11,8 @@ use Rattle.sysex_groups.specs.Laws.{PartsOfOneGroup}
 use Rattle.sysex8_streams.specs.History.{is_begun, begun_count, is_taken_by, is_taken, taken, opened8, IsOpenedBy}
 
 -- what is within the limit
-within-some : (room : ℕ) (o : Option (List Part)) (parts : List Part) → option_and_then (within (Some room)) o ≡ Some parts → (o ≡ Some parts) × (length (bytes_of parts) ≤ room)
+within-some : (room : ℕ) (o : Option (List Part)) (parts : List Part) → option_and_then (within (Some room)) o ≡ Some parts
+    → (o ≡ Some parts) × (length (bytes_of parts) ≤ room)
 within-some room None parts is = absurd cc
 within-some room (Some own) parts is = elim (cases_Bool (fits (Some room) (length (bytes_of own)))) [
   | inl fitting ↦
@@ -23,11 +25,15 @@ within-some room (Some own) parts is = elim (cases_Bool (fits (Some room) (lengt
     none_some : None ≡ Some parts → ⊥
     none_some e = cc
 
-some-within : (room : ℕ) (o : Option (List Part)) (parts : List Part) → o ≡ Some parts → length (bytes_of parts) ≤ room → option_and_then (within (Some room)) o ≡ Some parts
-some-within room o parts is few = ap (option_and_then (within (Some room))) is ∙ cond-true (fits (Some room) (length (bytes_of parts))) (Some parts) None (le-leb (length (bytes_of parts)) room few)
+some-within : (room : ℕ) (o : Option (List Part)) (parts : List Part) → o ≡ Some parts → length (bytes_of parts) ≤ room
+    → option_and_then (within (Some room)) o ≡ Some parts
+some-within room o parts is few =
+    ap (option_and_then (within (Some room))) is
+    ∙ cond-true (fits (Some room) (length (bytes_of parts))) (Some parts) None (le-leb (length (bytes_of parts)) room few)
 
 -- fewer parts are within it
-fewer-within : (groups : PartsOfOneGroup) (room : ℕ) (part : Part) (parts : List Part) → length (bytes_of (part ∷ parts)) ≤ room → length (bytes_of parts) ≤ room
+fewer-within : (groups : PartsOfOneGroup) (room : ℕ) (part : Part) (parts : List Part) → length (bytes_of (part ∷ parts)) ≤ room
+    → length (bytes_of parts) ≤ room
 fewer-within groups room part parts few = omega (arith, few, ap length (groups.bytes part parts), length-append (bytes_of parts) part.bytes)
 
 refused-unbegun : (f : Form) (begun fewer : Bool) → is_taken_by f begun fewer ≡ false → begun ≡ false
@@ -51,19 +57,26 @@ module _ (groups : PartsOfOneGroup) (slots room key : ℕ) where
   other-taken : (part : Part) (past : List Part) → (part.group == key) ≡ false → own_taken (part ∷ past) ≡ own_taken past
   other-taken part past other =
       let P : List Part → Type 0 = λ parts. of_group key parts ≡ own_taken past in
-      cond_both (is_taken slots room (taken slots room past) part) (part ∷ taken slots room past) (taken slots room past) P (λ is. other_parts part (taken slots room past) other) (λ is. refl)
+      cond_both (is_taken slots room (taken slots room past) part) (part ∷ taken slots room past) (taken slots room past) P
+      (λ is. other_parts part (taken slots room past) other) (λ is. refl)
 
   -- a part of this one that is taken is the newest
-  own-more : (part : Part) (past : List Part) → (part.group == key) ≡ true → is_taken slots room (taken slots room past) part ≡ true → own_taken (part ∷ past) ≡ part ∷ own_taken past
+  own-more : (part : Part) (past : List Part) → (part.group == key) ≡ true → is_taken slots room (taken slots room past) part ≡ true
+      → own_taken (part ∷ past) ≡ part ∷ own_taken past
   own-more part past same accepted =
-      ap (of_group key) (cond-true (is_taken slots room (taken slots room past) part) (part ∷ taken slots room past) (taken slots room past) accepted)
+      ap (of_group key)
+      (cond-true (is_taken slots room (taken slots room past) part) (part ∷ taken slots room past) (taken slots room past) accepted)
       ∙ own_parts part (taken slots room past) same
 
-  opens-by : (start : Part) (before : List Part) → start.group ≡ key → start.form ≡ form.Start → is_taken slots room (taken slots room before) start ≡ true → (after : List Part) → AllByRecursion (λ part. part.group ≡ key → part.form ≡ form.Continue) after → length (bytes_of (of_group key after ++ start ∷ [])) ≤ room →
+  opens-by : (start : Part) (before : List Part) → start.group ≡ key → start.form ≡ form.Start
+      → is_taken slots room (taken slots room before) start ≡ true → (after : List Part)
+      → AllByRecursion (λ part. part.group ≡ key → part.form ≡ form.Continue) after
+      → length (bytes_of (of_group key after ++ start ∷ [])) ≤ room →
       opened8 slots room (after ++ start ∷ before) key ≡ Some (of_group key after ++ start ∷ [])
   opens-by start before of_key starts accepted [] continues few =
       some-within room (since_start (own_taken (start ∷ before))) (start ∷ [])
-      (ap since_start (own-more start before (eq-eqb start.group key of_key) accepted) ∙ ap (λ f. since_start_by f start (since_start (own_taken before))) starts)
+      (ap since_start (own-more start before (eq-eqb start.group key of_key) accepted)
+      ∙ ap (λ f. since_start_by f start (since_start (own_taken before))) starts)
       few
   opens-by start before of_key starts accepted (part ∷ after) continues few =
       let rest : List Part = after ++ start ∷ before in
@@ -72,9 +85,14 @@ module _ (groups : PartsOfOneGroup) (slots room key : ℕ) where
         | inl same ↦
             let goes_on : part.form ≡ form.Continue = continues.0 (eqb-true part.group key same) in
             let own : of_group key (part ∷ after) ++ start ∷ [] ≡ part ∷ parts = ap (λ ps. ps ++ start ∷ []) (own_parts part after same) in
-            let few_own : length (bytes_of (part ∷ parts)) ≤ room = (let P : List Part → Type 0 = λ ps. length (bytes_of ps) ≤ room in subst P own few) in
-            let older : opened8 slots room rest key ≡ Some parts = opens-by start before of_key starts accepted after continues.1 (fewer-within groups room part parts few_own) in
-            let is_accepted : is_taken slots room (taken slots room rest) part ≡ true = ap (λ f. is_taken_by f (is_begun room (taken slots room rest) part.group) (nat_lt (begun_count room (taken slots room rest)) slots)) goes_on in
+            let few_own : length (bytes_of (part ∷ parts)) ≤ room =
+            (let P : List Part → Type 0 = λ ps. length (bytes_of ps) ≤ room in subst P own few) in
+            let older : opened8 slots room rest key ≡ Some parts =
+            opens-by start before of_key starts accepted after continues.1 (fewer-within groups room part parts few_own) in
+            let is_accepted : is_taken slots room (taken slots room rest) part ≡ true =
+            ap (λ f. is_taken_by f (is_begun room (taken slots room rest) part.group)
+            (nat_lt (begun_count room (taken slots room rest)) slots))
+            goes_on in
             some-within room (since_start (own_taken (part ∷ rest))) (part ∷ parts)
             (ap since_start (own-more part rest same is_accepted)
             ∙ ap (λ f. since_start_by f part (since_start (own_taken rest))) goes_on
@@ -83,7 +101,8 @@ module _ (groups : PartsOfOneGroup) (slots room key : ℕ) where
             ∙ ap Some (sym own)
         | inr other ↦
             let own : of_group key (part ∷ after) ++ start ∷ [] ≡ parts = ap (λ ps. ps ++ start ∷ []) (other_parts part after other) in
-            let few_own : length (bytes_of parts) ≤ room = (let P : List Part → Type 0 = λ ps. length (bytes_of ps) ≤ room in subst P own few) in
+            let few_own : length (bytes_of parts) ≤ room =
+            (let P : List Part → Type 0 = λ ps. length (bytes_of ps) ≤ room in subst P own few) in
             ap (λ ps. option_and_then (within (Some room)) (since_start ps)) (other-taken part rest other)
             ∙ opens-by start before of_key starts accepted after continues.1 few_own
             ∙ ap Some (sym own)
@@ -99,13 +118,18 @@ module _ (groups : PartsOfOneGroup) (slots room key : ℕ) where
               (within-some room (since_start_by part.form part (since_start (own_taken past))) parts
               (ap (λ ps. option_and_then (within (Some room)) (since_start ps)) (sym (own-more part past same accepted)) ∙ is))
           | inr refused ↦
-              let unbegun : is_begun room older_taken part.group ≡ false = refused-unbegun part.form (is_begun room older_taken part.group) (nat_lt (begun_count room older_taken) slots) refused in
-              let kept : taken slots room (part ∷ past) ≡ older_taken = cond-false (is_taken slots room older_taken part) (part ∷ older_taken) older_taken refused in
-              let begun : opened8 slots room past key ≡ Some parts = ap (λ ps. option_and_then (within (Some room)) (since_start (of_group key ps))) (sym kept) ∙ is in
+              let unbegun : is_begun room older_taken part.group ≡ false =
+              refused-unbegun part.form (is_begun room older_taken part.group) (nat_lt (begun_count room older_taken) slots) refused in
+              let kept : taken slots room (part ∷ past) ≡ older_taken =
+              cond-false (is_taken slots room older_taken part) (part ∷ older_taken) older_taken refused in
+              let begun : opened8 slots room past key ≡ Some parts =
+              ap (λ ps. option_and_then (within (Some room)) (since_start (of_group key ps))) (sym kept) ∙ is in
               absurd (true≢false (sym (ap is_some begun) ∙ ap (is_begun room older_taken) (sym (eqb-true part.group key same)) ∙ unbegun))
         ]
         | inr other ↦
-            let older : IsOpenedBy slots room past key parts = opened-since past parts (ap (λ ps. option_and_then (within (Some room)) (since_start ps)) (sym (other-taken part past other)) ∙ is) in
+            let older : IsOpenedBy slots room past key parts =
+            opened-since past parts
+            (ap (λ ps. option_and_then (within (Some room)) (since_start ps)) (sym (other-taken part past other)) ∙ is) in
             record {
               before = older.before;
               start = older.start;
@@ -120,8 +144,10 @@ module _ (groups : PartsOfOneGroup) (slots room key : ℕ) where
             }
       ]
     where
-      by_form : (f : Form) → part.form ≡ f → (part.group == key) ≡ true → is_taken slots room (taken slots room past) part ≡ true → ((ps : List Part) → opened8 slots room past key ≡ Some ps → IsOpenedBy slots room past key ps) →
-          (since_start_by f part (since_start (own_taken past)) ≡ Some parts) × (length (bytes_of parts) ≤ room) → IsOpenedBy slots room (part ∷ past) key parts
+      by_form : (f : Form) → part.form ≡ f → (part.group == key) ≡ true → is_taken slots room (taken slots room past) part ≡ true
+          → ((ps : List Part) → opened8 slots room past key ≡ Some ps → IsOpenedBy slots room past key ps) →
+          (since_start_by f part (since_start (own_taken past)) ≡ Some parts) × (length (bytes_of parts) ≤ room)
+          → IsOpenedBy slots room (part ∷ past) key parts
       by_form form.Start starts same accepted earlier (since, few) = record {
         before = past;
         start = part;
@@ -136,7 +162,8 @@ module _ (groups : PartsOfOneGroup) (slots room key : ℕ) where
       }
       by_form form.Continue goes_on same accepted earlier (since, few) = continued (since_start (own_taken past)) refl since
         where
-          continued : (o : Option (List Part)) → since_start (own_taken past) ≡ o → since_start_by form.Continue part o ≡ Some parts → IsOpenedBy slots room (part ∷ past) key parts
+          continued : (o : Option (List Part)) → since_start (own_taken past) ≡ o → since_start_by form.Continue part o ≡ Some parts
+              → IsOpenedBy slots room (part ∷ past) key parts
           continued None none is_some_parts = absurd cc
           continued (Some ps) some is_some_parts =
               let grown : part ∷ ps ≡ parts = cc is_some_parts in
@@ -152,18 +179,21 @@ module _ (groups : PartsOfOneGroup) (slots room key : ℕ) where
                 starts = older.starts;
                 accepted = older.accepted;
                 continues = ((λ own. goes_on), older.continues);
-                own = sym grown ∙ ap (λ qs. part ∷ qs) older.own ∙ ap (λ qs. qs ++ older.start ∷ []) (sym (own_parts part older.after same));
+                own =
+                    sym grown ∙ ap (λ qs. part ∷ qs) older.own ∙ ap (λ qs. qs ++ older.start ∷ []) (sym (own_parts part older.after same));
                 within = few;
               }
       by_form form.Complete completes same accepted earlier (since, few) = absurd cc
       by_form form.End ends same accepted earlier (since, few) = absurd cc
 
-pub opens : (groups : PartsOfOneGroup) (slots room : ℕ) (past : List Part) (key : ℕ) (parts : List Part) → IsOpenedBy slots room past key parts → opened8 slots room past key ≡ Some parts
+pub opens : (groups : PartsOfOneGroup) (slots room : ℕ) (past : List Part) (key : ℕ) (parts : List Part)
+    → IsOpenedBy slots room past key parts → opened8 slots room past key ≡ Some parts
 opens groups slots room past key parts by =
     let P : List Part → Type 0 = λ ps. length (bytes_of ps) ≤ room in
     ap (λ ps. opened8 slots room ps key) by.split
     ∙ opens-by groups slots room key by.start by.before by.of_key by.starts by.accepted by.after by.continues (subst P by.own by.within)
     ∙ ap Some (sym by.own)
 
-pub opened-by : (groups : PartsOfOneGroup) (slots room : ℕ) (past : List Part) (key : ℕ) (parts : List Part) → opened8 slots room past key ≡ Some parts → IsOpenedBy slots room past key parts
+pub opened-by : (groups : PartsOfOneGroup) (slots room : ℕ) (past : List Part) (key : ℕ) (parts : List Part)
+    → opened8 slots room past key ≡ Some parts → IsOpenedBy slots room past key parts
 opened-by groups slots room past key parts is = opened-since groups slots room key past parts is

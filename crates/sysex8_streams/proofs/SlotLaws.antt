@@ -1,5 +1,6 @@
 -- What one slot that changes does to what the streams have begun.
-use Rattle.std.proofs.Common.{ℕ, ◌≡◌, ◌<◌, ◌≤◌, ◌+◌, ◌∙◌, zero, suc, ap, sym, refl, List, [], ◌∷◌, length, Option, Some, None, is_some, Bool, true, false, cond, arith, slice_set, slice_index_or, ◌==◌, inl, inr, nat_lt}
+use Rattle.std.proofs.Common.{ℕ, ◌≡◌, ◌<◌, ◌≤◌, ◌+◌, ◌∙◌, zero, suc, ap, sym, refl, List, [], ◌∷◌, length, Option, Some, None}
+use Rattle.std.proofs.Common.{is_some, Bool, true, false, cond, arith, slice_set, slice_index_or, ◌==◌, inl, inr, nat_lt}
 use Rattle.std.specs.List.{count_by, position, position_or_len}
 use Rattle.std.specs.Option.{option_map, is_none}
 use Rattle.std.proofs.lemmas.Bool.{cases_Bool, eqb-true, eq-eqb, true≢false, lt-ltb, le-ltb, ltb-false}
@@ -14,10 +15,12 @@ use Rattle.sysex8_streams.proofs.CountLaws.{one}
 pub slots-cons : (p : Slot8 → Bool) (slot : Slot8) (slots : List Slot8) → count_by p (slot ∷ slots) ≡ one (p slot) + count_by p slots
 slots-cons p slot slots = sum_by-cons (λ s. one (p s)) slot slots
 
-pub slots-set : (p : Slot8 → Bool) (slots : List Slot8) (i : ℕ) (new : Slot8) → i < length slots → count_by p (slice_set slots i new) + one (p (slice_index_or slots i None)) ≡ count_by p slots + one (p new)
+pub slots-set : (p : Slot8 → Bool) (slots : List Slot8) (i : ℕ) (new : Slot8) → i < length slots
+    → count_by p (slice_set slots i new) + one (p (slice_index_or slots i None)) ≡ count_by p slots + one (p new)
 slots-set p slots i new within = sum_by-set (λ s. one (p s)) slots i new None within
 
-fail-all : (p : Slot8 → Bool) (slots : List Slot8) → ((k : ℕ) → k < length slots → p (slice_index_or slots k None) ≡ false) → count_by p slots ≡ 0
+fail-all : (p : Slot8 → Bool) (slots : List Slot8) → ((k : ℕ) → k < length slots → p (slice_index_or slots k None) ≡ false)
+    → count_by p slots ≡ 0
 fail-all p [] fails = refl
 fail-all p (slot ∷ slots) fails =
     let rest : count_by p slots ≡ 0 = fail-all p slots (λ k below. fails (suc k) (omega arith)) in
@@ -26,7 +29,9 @@ fail-all p (slot ∷ slots) fails =
 pub none-found : (p : Slot8 → Bool) (slots : List Slot8) → position p slots ≡ None → count_by p slots ≡ 0
 none-found p slots none = elim (cases_Bool (nat_lt (position_or_len p slots) (length slots))) [
   | inl some ↦ absurd (some_none (rw some at none))
-  | inr past ↦ fail-all p slots (λ k below. fails_before_first p slots k None (omega (arith, ltb-false (position_or_len p slots) (length slots) past)))
+  | inr past ↦
+      fail-all p slots
+      (λ k below. fails_before_first p slots k None (omega (arith, ltb-false (position_or_len p slots) (length slots) past)))
 ]
   where
     some_none : Some (position_or_len p slots) ≡ None → ⊥
@@ -48,8 +53,11 @@ idle-fewer slots = go (idle_slot slots) refl
     go : (o : Option ℕ) → idle_slot slots ≡ o → is_some o ≡ nat_lt (count_by is_some slots) (length slots)
     go None none = sym (le-ltb (count_by is_some slots) (length slots) (omega (arith, some-and-none slots, none-found is_none slots none)))
     go (Some i) found =
-        let at : (i < length slots) × (is_none (slice_index_or slots i None) ≡ true) × ((k : ℕ) → k < i → is_none (slice_index_or slots k None) ≡ false) = position-Some is_none slots i None found in
-        let here : one (is_none (slice_index_or slots i None)) ≤ count_by is_none slots = get_or-le-sum_by (λ s. one (is_none s)) slots i None at.0 in
+        let at : (i < length slots) × (is_none (slice_index_or slots i None) ≡ true)
+        × ((k : ℕ) → k < i → is_none (slice_index_or slots k None) ≡ false) =
+        position-Some is_none slots i None found in
+        let here : one (is_none (slice_index_or slots i None)) ≤ count_by is_none slots =
+        get_or-le-sum_by (λ s. one (is_none s)) slots i None at.0 in
         sym (lt-ltb (count_by is_some slots) (length slots) (omega (arith, some-and-none slots, here, ap one at.1)))
 
 -- ---- what a stream has begun
@@ -57,31 +65,38 @@ idle-fewer slots = go (idle_slot slots) refl
 pub begun-none : (key : ℕ) (slots : List Slot8) → count_by (is_of key) slots ≡ 0 → begun_among key slots ≡ None
 begun-none key [] none = refl
 begun-none key (slot ∷ slots) none =
-    let counted : count_by (is_of key) (slot ∷ slots) ≡ one (is_of key slot) + count_by (is_of key) slots = slots-cons (is_of key) slot slots in
+    let counted : count_by (is_of key) (slot ∷ slots) ≡ one (is_of key slot) + count_by (is_of key) slots =
+    slots-cons (is_of key) slot slots in
     elim (cases_Bool (is_of key slot)) [
       | inl own ↦ absurd (omega (arith, counted, none, ap one own))
       | inr other ↦ rw other (begun-none key slots (omega (arith, counted, none)))
     ]
 
 -- the slot of a stream
-pub begun-found : (key : ℕ) (slots : List Slot8) (i : ℕ) → i < length slots → is_of key (slice_index_or slots i None) ≡ true → ((k : ℕ) → k < i → is_of key (slice_index_or slots k None) ≡ false) →
+pub begun-found : (key : ℕ) (slots : List Slot8) (i : ℕ) → i < length slots → is_of key (slice_index_or slots i None) ≡ true
+    → ((k : ℕ) → k < i → is_of key (slice_index_or slots k None) ≡ false) →
     begun_among key slots ≡ option_map (λ stream. stream.begun) (slice_index_or slots i None)
 begun-found key [] i within own before = absurd (omega arith)
 begun-found key (slot ∷ slots) zero within own before = rw own refl
-begun-found key (slot ∷ slots) (suc i) within own before = rw (before zero (omega arith)) (begun-found key slots i (omega arith) own (λ k below. before (suc k) (omega arith)))
+begun-found key (slot ∷ slots) (suc i) within own before =
+    rw (before zero (omega arith)) (begun-found key slots i (omega arith) own (λ k below. before (suc k) (omega arith)))
 
-pub begun-set_own : (key : ℕ) (slots : List Slot8) (i : ℕ) (new : Slot8) → i < length slots → is_of key new ≡ true → ((k : ℕ) → k < i → is_of key (slice_index_or slots k None) ≡ false) →
+pub begun-set_own : (key : ℕ) (slots : List Slot8) (i : ℕ) (new : Slot8) → i < length slots → is_of key new ≡ true
+    → ((k : ℕ) → k < i → is_of key (slice_index_or slots k None) ≡ false) →
     begun_among key (slice_set slots i new) ≡ option_map (λ stream. stream.begun) new
 begun-set_own key [] i new within own before = absurd (omega arith)
 begun-set_own key (slot ∷ slots) zero new within own before = rw own refl
-begun-set_own key (slot ∷ slots) (suc i) new within own before = rw (before zero (omega arith)) (begun-set_own key slots i new (omega arith) own (λ k below. before (suc k) (omega arith)))
+begun-set_own key (slot ∷ slots) (suc i) new within own before =
+    rw (before zero (omega arith)) (begun-set_own key slots i new (omega arith) own (λ k below. before (suc k) (omega arith)))
 
-pub begun-set_other : (key : ℕ) (slots : List Slot8) (i : ℕ) (new : Slot8) → i < length slots → is_of key new ≡ false → is_of key (slice_index_or slots i None) ≡ false →
+pub begun-set_other : (key : ℕ) (slots : List Slot8) (i : ℕ) (new : Slot8) → i < length slots → is_of key new ≡ false
+    → is_of key (slice_index_or slots i None) ≡ false →
     begun_among key (slice_set slots i new) ≡ begun_among key slots
 begun-set_other key [] i new within new_other old_other = absurd (omega arith)
 begun-set_other key (slot ∷ slots) zero new within new_other old_other = rw (new_other, old_other) refl
 begun-set_other key (slot ∷ slots) (suc i) new within new_other old_other =
-    ap (λ rest. cond (is_of key slot) (option_map (λ stream. stream.begun) slot) rest) (begun-set_other key slots i new (omega arith) new_other old_other)
+    ap (λ rest. cond (is_of key slot) (option_map (λ stream. stream.begun) slot) rest)
+    (begun-set_other key slots i new (omega arith) new_other old_other)
 
 -- a slot that a stream is put into is its own
 pub is_of-own : (key : ℕ) (begun : Begun) → is_of key (slot_with key (Some begun)) ≡ true

@@ -2,7 +2,8 @@
 -- is a group and a stream id. What is joined, cut and stray, and which limit holds, is what `Exclusives` of `sysex_groups` says of
 -- groups, with the key of a stream in the place of a group's number, over the parts that were taken. Lists of parts are newest
 -- first.
-use Rattle.std.specs.Prelude.{ℕ, ◌≡◌, ◌≤◌, ◌+◌, ◌*◌, ◌==◌, nat_lt, not, ◌||◌, Bool, true, false, if◌then◌else◌, List, [], ◌∷◌, ◌++◌, length, filter, count_by, Option, Some, None, is_some}
+use Rattle.std.specs.Prelude.{ℕ, ◌≡◌, ◌≤◌, ◌+◌, ◌*◌, ◌==◌, nat_lt, not, ◌||◌, Bool, true, false, if◌then◌else◌}
+use Rattle.std.specs.Prelude.{List, [], ◌∷◌, ◌++◌, length, filter, count_by, Option, Some, None, is_some}
 use Rattle.std.specs.List.{AllByRecursion}
 use Rattle.voice_messages.specs.declared.voice2.Form.{Form}
 use Rattle.voice_messages.specs.declared.voice2.Form.TheVariants as form
@@ -89,10 +90,11 @@ answer8_from None None false true accepted = stray8
 answer8_from None None false false true = held8
 answer8_from None None false false false = full8
 
-abbrev pub answer_behind : ℕ → ℕ → List Part → Part → Answer8
-answer_behind slots room past part =
-    answer8_from (cut_at (Some room) past part) (ended (Some room) past part) (passes_room (Some room) past part) (is_stray (Some room) past part) (is_taken slots room past part)
+abbrev pub answer_taken : ℕ → ℕ → List Part → Part → Answer8
+answer_taken slots room past part =
+    answer8_from (cut_at (Some room) past part) (ended (Some room) past part) (passes_room (Some room) past part)
+    (is_stray (Some room) past part) (is_taken slots room past part)
 
 -- the answer to a part after these
 abbrev pub answer8 : ℕ → ℕ → List Part → Part → Answer8
-answer8 slots room past part = answer_behind slots room (taken slots room past) part
+answer8 slots room past part = answer_taken slots room (taken slots room past) part

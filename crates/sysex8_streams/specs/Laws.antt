@@ -1,9 +1,9 @@
 -- What holds of all streams.
 use Rattle.std.specs.Prelude.{◌≡◌, ◌≢◌, ◌≤◌, ◌∷◌, ℕ, List, [], Some}
 use Rattle.sysex_groups.specs.Exclusives.{Part, of_group}
-use Rattle.sysex_groups.specs.Table.{begun_behind}
+use Rattle.sysex_groups.specs.Table.{begun_over}
 use Rattle.sysex8_streams.specs.History.{taken, opened8, IsOpenedBy, answer8, full8}
-use Rattle.sysex8_streams.specs.Table.{Table8, AreParts8, begun8_in, answer8_to, with_part8, table8_after}
+use Rattle.sysex8_streams.specs.Table.{Table8, AreParts8, begun8_in, answer8_to, with_part8, table8_over}
 
 -- none of these parts was answered by Full
 abbrev pub IsNeverFull : ℕ → ℕ → List Part → Type 0
@@ -14,12 +14,14 @@ IsNeverFull slots room (part ∷ past) = (answer8 slots room past part ≢ full8
 -- each stream has begun, and the answer to one more part. Where none is answered by Full, both are what the stream's own parts alone
 -- give. Full leaves all as before, and a part leaves all other streams as they are.
 pub record FedStreamsAreTheDefinition : Type 0 where
-  pub opens : (slots room : ℕ) (past : List Part) (key : ℕ) (parts : List Part) → IsOpenedBy slots room past key parts → opened8 slots room past key ≡ Some parts
-  pub opened : (slots room : ℕ) (past : List Part) (key : ℕ) (parts : List Part) → opened8 slots room past key ≡ Some parts → IsOpenedBy slots room past key parts
+  pub opens : (slots room : ℕ) (past : List Part) (key : ℕ) (parts : List Part) → IsOpenedBy slots room past key parts
+      → opened8 slots room past key ≡ Some parts
+  pub opened : (slots room : ℕ) (past : List Part) (key : ℕ) (parts : List Part) → opened8 slots room past key ≡ Some parts
+      → IsOpenedBy slots room past key parts
   pub begun : (slots room : ℕ) (past : List Part) → 13 ≤ room → AreParts8 past → (key : ℕ) →
-      begun8_in (table8_after slots room past) key ≡ begun_behind (Some room) key (taken slots room past)
+      begun8_in (table8_over slots room past) key ≡ begun_over (Some room) key (taken slots room past)
   pub answers : (slots room : ℕ) (past : List Part) → 13 ≤ room → AreParts8 past → (part : Part) →
-      answer8_to (table8_after slots room past) part ≡ answer8 slots room past part
+      answer8_to (table8_over slots room past) part ≡ answer8 slots room past part
   pub begun_alone : (slots room : ℕ) (past : List Part) (key : ℕ) → 1 ≤ slots → IsNeverFull slots room past →
       opened8 slots room past key ≡ opened8 slots room (of_group key past) key
   pub answers_alone : (slots room : ℕ) (past : List Part) (part : Part) → 1 ≤ slots → IsNeverFull slots room (part ∷ past) →

@@ -1,7 +1,7 @@
 -- The parts of 8-bit exclusives in the words of type 5 packets (M2-104-UM, system exclusive 8-bit messages). Bytes are counted
 -- from 1: the high half of byte 2 is the form, its low half a count, byte 3 the stream id, and bytes 4 to 16 may hold data.
 use Rattle.std.specs.Prelude.{◌≡◌, ℕ, ◌-◌, ◌==◌, nat_lt, Bool, true, false, ◌||◌, List, [], ◌∷◌, take, Option, MatchOption}
-use Rattle.ump_grammar.specs.Places.{byte, group_of, opcode_of, count_of}
+use Rattle.ump_grammar.specs.WordFields.{byte, group_of, opcode_of, count_of}
 use Rattle.ump_grammar.specs.Spelling.{form_number}
 use Rattle.sysex8_streams.specs.declared.part8.Part8.{Part8}
 

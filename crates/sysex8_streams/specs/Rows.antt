@@ -17,16 +17,20 @@ part8 form stream bytes offset = record { group = key_of 0 stream; form = form; 
 
 -- two streams, the second within the first
 abbrev pub crossed : List Part
-crossed = part8 form.End 1 (0xA1 ∷ []) 48 ∷ part8 form.End 2 (0xB1 ∷ []) 32 ∷ part8 form.Start 2 (0xB0 ∷ []) 16 ∷ part8 form.Start 1 (0xA0 ∷ []) 0 ∷ []
+crossed =
+    part8 form.End 1 (0xA1 ∷ []) 48 ∷ part8 form.End 2 (0xB1 ∷ []) 32 ∷ part8 form.Start 2 (0xB0 ∷ []) 16 ∷ part8 form.Start 1 (0xA0 ∷ []) 0
+    ∷ []
 
 -- one stream after another in one slot
 abbrev pub in_turn : List Part
 in_turn =
     part8 form.Start 2 [] 96 ∷ part8 form.Continue 1 (1 ∷ []) 80 ∷ part8 form.Continue 1 (4 ∷ 5 ∷ 6 ∷ 7 ∷ 8 ∷ 9 ∷ 10 ∷ 11 ∷ 12 ∷ 13 ∷ []) 64
-    ∷ part8 form.Start 2 [] 48 ∷ part8 form.Start 1 (1 ∷ 2 ∷ 3 ∷ 4 ∷ []) 32 ∷ part8 form.Complete 1 (2 ∷ []) 16 ∷ part8 form.Start 1 [] 0 ∷ []
+    ∷ part8 form.Start 2 [] 48 ∷ part8 form.Start 1 (1 ∷ 2 ∷ 3 ∷ 4 ∷ []) 32 ∷ part8 form.Complete 1 (2 ∷ []) 16 ∷ part8 form.Start 1 [] 0
+    ∷ []
 
 pub record WorkedRows : Type 0 where
-  pub complete : Reads8 (0x500307AA ∷ 0xBB000000 ∷ 0 ∷ 0 ∷ []) (Some (record { group = 0; form = form.Complete; stream = 7; bytes = 0xAA ∷ 0xBB ∷ [] }))
+  pub complete : Reads8 (0x500307AA ∷ 0xBB000000 ∷ 0 ∷ 0 ∷ [])
+      (Some (record { group = 0; form = form.Complete; stream = 7; bytes = 0xAA ∷ 0xBB ∷ [] }))
   pub continued : Reads8 (0x5F2E0901 ∷ 0x02030405 ∷ 0x06070809 ∷ 0x0A0B0C0D ∷ [])
       (Some (record { group = 15; form = form.Continue; stream = 9; bytes = 1 ∷ 2 ∷ 3 ∷ 4 ∷ 5 ∷ 6 ∷ 7 ∷ 8 ∷ 9 ∷ 10 ∷ 11 ∷ 12 ∷ 13 ∷ [] }))
   pub two_slots : answers8 16 1048576 crossed ≡ held8 ∷ held8 ∷ whole8 (0xB0 ∷ 0xB1 ∷ []) ∷ whole8 (0xA0 ∷ 0xA1 ∷ []) ∷ []

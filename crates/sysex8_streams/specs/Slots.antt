@@ -17,7 +17,8 @@ holder_key holder = key_of holder.group holder.stream
 
 -- what a slot has begun
 abbrev pub slot8_of : Slot → Slot8
-slot8_of slot = option_map (λ holder. record { key = holder_key holder; begun = record { start = holder.start; bytes = slot.bytes.items } }) slot.holder
+slot8_of slot =
+    option_map (λ holder. record { key = holder_key holder; begun = record { start = holder.start; bytes = slot.bytes.items } }) slot.holder
 
 -- and with it how many bytes an exclusive may have
 pub record SlotState : Type 0 where

@@ -1,5 +1,6 @@
 -- The table of the slots: what each has begun, the answer to one more part, and what is begun after it.
-use Rattle.std.specs.Prelude.{ℕ, ◌≤◌, ◌==◌, Bool, true, false, if◌then◌else◌, List, [], ◌∷◌, ◌++◌, length, Option, Some, None, is_some, is_none, slice_set, replicate, position}
+use Rattle.std.specs.Prelude.{ℕ, ◌≤◌, ◌==◌, Bool, true, false, if◌then◌else◌, List, [], ◌∷◌, ◌++◌, length}
+use Rattle.std.specs.Prelude.{Option, Some, None, is_some, is_none, slice_set, replicate, position}
 use Rattle.std.specs.List.{AllByRecursion}
 use Rattle.std.specs.Option.{option_map}
 use Rattle.voice_messages.specs.declared.voice2.Form.{Form}
@@ -55,7 +56,8 @@ abbrev pub answer_begun : ℕ → Begun → Form → List ℕ → Answer8
 answer_begun room begun form.Complete bytes = restarted_whole8 begun.start bytes
 answer_begun room begun form.Start bytes = restarted8 begun.start
 answer_begun room begun form.Continue bytes = if fits (Some room) (length (begun.bytes ++ bytes)) then held8 else too_long8
-answer_begun room begun form.End bytes = if fits (Some room) (length (begun.bytes ++ bytes)) then whole8 (begun.bytes ++ bytes) else too_long8
+answer_begun room begun form.End bytes =
+    if fits (Some room) (length (begun.bytes ++ bytes)) then whole8 (begun.bytes ++ bytes) else too_long8
 
 abbrev pub answer8_of : ℕ → Option Begun → Bool → Form → List ℕ → Answer8
 answer8_of room None idle form bytes = answer_unbegun idle form bytes
@@ -79,16 +81,17 @@ slots_with key (Some begun) None None slots = slots
 
 abbrev pub slots_after : ℕ → Part → List Slot8 → List Slot8
 slots_after room part slots =
-    slots_with part.group (begun_after (Some room) (begun_among part.group slots) part.form part.bytes part.offset) (position (is_of part.group) slots) (idle_slot slots) slots
+    slots_with part.group (begun_after (Some room) (begun_among part.group slots) part.form part.bytes part.offset)
+    (position (is_of part.group) slots) (idle_slot slots) slots
 
 -- the table after one more part
 abbrev pub with_part8 : Part → Table8 → Table8
 with_part8 part table = record { room = table.room; slots = slots_after table.room part table.slots }
 
 -- the table after parts of all streams, newest first
-abbrev pub table8_after : ℕ → ℕ → List Part → Table8
-table8_after slots room [] = empty_table8 slots room
-table8_after slots room (part ∷ past) = with_part8 part (table8_after slots room past)
+abbrev pub table8_over : ℕ → ℕ → List Part → Table8
+table8_over slots room [] = empty_table8 slots room
+table8_over slots room (part ∷ past) = with_part8 part (table8_over slots room past)
 
 -- parts that packets can have
 abbrev pub AreParts8 : List Part → Type 0

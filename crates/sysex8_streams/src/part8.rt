@@ -1,7 +1,7 @@
 // The part of an 8-bit exclusive in a packet.
 ghost use Rattle.std.specs.Prelude.{◌≡◌, length};
 ghost use Rattle.ump_words.specs.Cut.{IsWhole};
-ghost use Rattle.ump_grammar.specs.Places.{type_of};
+ghost use Rattle.ump_grammar.specs.WordFields.{type_of};
 ghost use Rattle.sysex8_streams.specs.Reading.{Reads8, data_places as places_of};
 
 use midi_edge::{ShortList, U4};
@@ -23,8 +23,8 @@ pub struct Part8 {
     pub bytes: ShortList<u8, 13>,
 }
 
-/// The part in the words of a type 5 packet (M2-104-UM, system exclusive 8-bit messages). `None` exactly where the form is above 3,
-/// as in mixed data, or the count, which includes the stream id, is 0 or 15.
+/// The part in the words of a type 5 packet (M2-104-UM, system exclusive 8-bit messages). `None` exactly
+/// where the form is above 3, as in mixed data, or the count, which includes the stream id, is 0 or 15.
 pub fn read8(words: &Words) -> Option<Part8>
     requires whole { IsWhole words.now }
     requires kind { type_of words.now ≡ 0x5 }

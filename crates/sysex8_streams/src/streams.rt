@@ -12,9 +12,10 @@ use std::alloc::Global;
 use std::marker::Model;
 use voice_messages::Form;
 
-/// The exclusives that streams have begun, each in a slot of its own; a stream is a group and a stream id. A contract sees, for
-/// each slot, either nothing or a stream, the offset of the packet that began its exclusive and the bytes joined so far, and
-/// beside them the limit, `room`: how many bytes an exclusive may have.
+/// The exclusives that streams have begun, each in a slot of its own; a stream is a group and a stream id. A
+/// contract sees, for each slot, either nothing or a stream, the offset of the packet that began its
+/// exclusive and the bytes joined so far, and beside them the limit, `room`: how many bytes an exclusive may
+/// have.
 ///
 /// An exclusive of one packet of a stream that isn't begun takes no slot.
 #[derive(Drop)]
@@ -64,8 +65,8 @@ impl Streams {
     ghost use Rattle.std.specs.Borrow.{sem};
     ghost use Rattle.std.specs.Option.{option_map};
 
-    /// This many slots, 1 to 64, all idle. Reserves memory for `room` bytes in each, 13 to 1,048,576 (own rules); no other call takes
-    /// any. `NoMemory` when there isn't that much.
+    /// This many slots, 1 to 64, all idle. Reserves memory for `room` bytes in each, 13 to 1,048,576 (own
+    /// rules); no other call takes any. `NoMemory` when there isn't that much.
     pub fn new(alloc: Global, slots: u8, room: u32) -> Result<Streams, NoMemory>
         requires some { 1 ≤ slots }
         requires few { slots ≤ 64 }
@@ -127,9 +128,10 @@ impl Streams {
         }
     }
 
-    /// Takes one more part of a stream, with its packet's offset (M2-104-UM, system exclusive 8-bit messages). The offset, in bytes
-    /// from the start of the input, is only kept, and given back as the start of what the part begins; any number will do. What is
-    /// lent are the joined bytes. `Full` leaves all as it was, and all other streams stay as they are.
+    /// Takes one more part of a stream, with its packet's offset (M2-104-UM, system exclusive 8-bit
+    /// messages). The offset, in bytes from the start of the input, is only kept, and given back as the start
+    /// of what the part begins; any number will do. What is lent are the joined bytes. `Full` leaves all as
+    /// it was, and all other streams stay as they are.
     pub fn feed8(&mut self, part: &Part8, offset: u64) -> Fed8<'_>
         ensures answer { fed8_view result ≡ answer8_to self.old (part_of part.now offset) }
         ensures* after { sem 𝓛 (KeepsStreams self.entry (with_part8 (part_of part.now offset) self.old)) }
@@ -143,7 +145,8 @@ impl Streams {
         }
     }
 
-    /// The offset of the packet that began the stream's exclusive; `None` exactly where the stream isn't begun.
+    /// The offset of the packet that began the stream's exclusive;
+    /// `None` exactly where the stream isn't begun.
     pub fn begun8_at(&self, group: U4, stream: u8) -> Option<u64>
         ensures { result ≡ option_map (λ begun. begun.start) (begun8_in self.now (key_of group stream)) }
     {

@@ -7,7 +7,8 @@ use Rattle.voice_messages.specs.declared.voice2.Form.TheVariants as form
 use Rattle.sysex_groups.specs.Exclusives.{IsData, IsExclusive, framed, whole}
 use Rattle.sysex_groups.specs.Table.{answer_of}
 
-pub end-answers : (room start : ℕ) (begun : Option ℕ) (before bytes all : List ℕ) → begun ≡ Some start → length (before ++ bytes) ≤ room → all ≡ framed (before ++ bytes) →
+pub end-answers : (room start : ℕ) (begun : Option ℕ) (before bytes all : List ℕ) → begun ≡ Some start → length (before ++ bytes) ≤ room
+    → all ≡ framed (before ++ bytes) →
     whole all ≡ answer_of (Some room) (option_map (λ offset. record { start = offset; bytes = before }) begun) form.End bytes
 end-answers room start begun before bytes all is fitting joins = rw (is, le-leb (length (before ++ bytes)) room fitting) (ap whole joins)
 

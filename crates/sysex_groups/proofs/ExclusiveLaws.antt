@@ -1,5 +1,6 @@
 -- What one more part does to the exclusives of the groups, by the definition.
-use Rattle.std.proofs.Common.{ℕ, ◌≡◌, ◌<◌, ◌∙◌, subst, ap, sym, refl, List, [], ◌∷◌, ◌++◌, length, reverse, Option, Some, None, Bool, true, false, cond, arith, length-append, append-nil, ◌==◌}
+use Rattle.std.proofs.Common.{ℕ, ◌≡◌, ◌<◌, ◌∙◌, subst, ap, sym, refl, List, [], ◌∷◌, ◌++◌, length, reverse}
+use Rattle.std.proofs.Common.{Option, Some, None, Bool, true, false, cond, arith, length-append, append-nil, ◌==◌}
 use Rattle.std.proofs.lemmas.Bool.{lt-leb, leb-false, cond_both, true≢false}
 use Rattle.std.proofs.lemmas.Grind.{flat_map-append, reverse_onto}
 use Rattle.std.specs.List.{flat_map, AllByRecursion}
@@ -8,20 +9,26 @@ use Rattle.std.proofs.lemmas.List.Elements.{All-nil, All-append}
 use Rattle.std.specs.Option.{option_map, option_and_then}
 use Rattle.voice_messages.specs.declared.voice2.Form.{Form}
 use Rattle.voice_messages.specs.declared.voice2.Form.TheVariants as form
-use Rattle.sysex_groups.specs.Exclusives.{Part, Room, of_group, since_start, since_start_by, bytes_of, start_of, fits, within, opened, joined, IsData}
-use Rattle.sysex_groups.specs.Table.{Begun, begun_after, begun_of, begun_behind}
+use Rattle.sysex_groups.specs.Exclusives.{Part, Room, of_group, since_start, since_start_by}
+use Rattle.sysex_groups.specs.Exclusives.{bytes_of, start_of, fits, within, opened, joined, IsData}
+use Rattle.sysex_groups.specs.Table.{Begun, begun_after, begun_of, begun_over}
 
 -- a part of another group changes nothing
-pub of_other_group : (group : ℕ) (part : Part) (past : List Part) → (part.group == group) ≡ false → of_group group (part ∷ past) ≡ of_group group past
+pub of_other_group : (group : ℕ) (part : Part) (past : List Part) → (part.group == group) ≡ false
+    → of_group group (part ∷ past) ≡ of_group group past
 of_other_group group part past other = rw other refl
 
-pub of_own_group : (group : ℕ) (part : Part) (past : List Part) → (part.group == group) ≡ true → of_group group (part ∷ past) ≡ part ∷ of_group group past
+pub of_own_group : (group : ℕ) (part : Part) (past : List Part) → (part.group == group) ≡ true
+    → of_group group (part ∷ past) ≡ part ∷ of_group group past
 of_own_group group part past own = rw own refl
 
-pub opened-other : (room : Room) (group : ℕ) (part : Part) (past : List Part) → (part.group == group) ≡ false → opened room group (part ∷ past) ≡ opened room group past
-opened-other room group part past other = ap (λ parts. option_and_then (within room) (since_start parts)) (of_other_group group part past other)
+pub opened-other : (room : Room) (group : ℕ) (part : Part) (past : List Part) → (part.group == group) ≡ false
+    → opened room group (part ∷ past) ≡ opened room group past
+opened-other room group part past other =
+    ap (λ parts. option_and_then (within room) (since_start parts)) (of_other_group group part past other)
 
-pub joined-other : (room : Room) (group : ℕ) (part : Part) (past : List Part) → (part.group == group) ≡ false → joined room group (part ∷ past) ≡ joined room group past
+pub joined-other : (room : Room) (group : ℕ) (part : Part) (past : List Part) → (part.group == group) ≡ false
+    → joined room group (part ∷ past) ≡ joined room group past
 joined-other room group part past other = ap (option_map bytes_of) (opened-other room group part past other)
 
 -- the bytes of one part, and of one more
@@ -37,7 +44,8 @@ bytes_of-more part parts =
 -- more bytes don't fit where fewer don't
 pub fits-more : (room : Room) (before bytes : List ℕ) → fits room (length before) ≡ false → fits room (length (before ++ bytes)) ≡ false
 fits-more None before bytes passed = absurd (true≢false passed)
-fits-more (Some room) before bytes passed = lt-leb (length (before ++ bytes)) room (omega (arith, length-append before bytes, leb-false (length before) room passed))
+fits-more (Some room) before bytes passed =
+    lt-leb (length (before ++ bytes)) room (omega (arith, length-append before bytes, leb-false (length before) room passed))
 
 -- what one group has open, by its own parts alone
 abbrev pub begun_on : Room → List Part → Option Begun
@@ -61,28 +69,36 @@ since_start-has_part (part ∷ past) = go part.form (since_start past)
     go form.End before = tt
 
 -- a Continue after parts that leave an exclusive open
-continued : (room : Room) (more older : List Part) (bytes : List ℕ) (offset : ℕ) → bytes_of more ≡ bytes_of older ++ bytes → start_of more ≡ start_of older →
+continued : (room : Room) (more older : List Part) (bytes : List ℕ) (offset : ℕ) → bytes_of more ≡ bytes_of older ++ bytes
+    → start_of more ≡ start_of older →
     option_map begun_of (within room more) ≡ begun_after room (option_map begun_of (within room older)) form.Continue bytes offset
 continued room more older bytes offset joins starts =
-    ap (λ bs. option_map begun_of (cond (fits room (length bs)) (Some more) None)) joins ∙ go (fits room (length (bytes_of older))) refl (fits room (length (bytes_of older ++ bytes))) refl
+    ap (λ bs. option_map begun_of (cond (fits room (length bs)) (Some more) None)) joins
+    ∙ go (fits room (length (bytes_of older))) refl (fits room (length (bytes_of older ++ bytes))) refl
   where
     go : (t : Bool) → fits room (length (bytes_of older)) ≡ t → (u : Bool) → fits room (length (bytes_of older ++ bytes)) ≡ u →
-        option_map begun_of (cond (fits room (length (bytes_of older ++ bytes))) (Some more) None) ≡ begun_after room (option_map begun_of (cond t (Some older) None)) form.Continue bytes offset
+        option_map begun_of (cond (fits room (length (bytes_of older ++ bytes))) (Some more) None)
+        ≡ begun_after room (option_map begun_of (cond t (Some older) None)) form.Continue bytes offset
     go true e true f = rw f (λ i. Some (record { start = starts i; bytes = joins i }))
     go true e false f = rw f refl
     go false e u f = rw (fits-more room (bytes_of older) bytes e) refl
 
 -- one more part of the group
-pub begun_on-more : (room : Room) (part : Part) (past : List Part) → fits room (length part.bytes) ≡ true → begun_on room (part ∷ past) ≡ begun_after room (begun_on room past) part.form part.bytes part.offset
+pub begun_on-more : (room : Room) (part : Part) (past : List Part) → fits room (length part.bytes) ≡ true
+    → begun_on room (part ∷ past) ≡ begun_after room (begun_on room past) part.form part.bytes part.offset
 begun_on-more room part past room_for = go part.form
   where
     grows : (before : Option (List Part)) → HasPart before →
-        option_map begun_of (option_and_then (within room) (since_start_by form.Continue part before)) ≡ begun_after room (option_map begun_of (option_and_then (within room) before)) form.Continue part.bytes part.offset
+        option_map begun_of (option_and_then (within room) (since_start_by form.Continue part before))
+        ≡ begun_after room (option_map begun_of (option_and_then (within room) before)) form.Continue part.bytes part.offset
     grows None has = refl
     grows (Some []) has = absurd has
-    grows (Some (first ∷ parts)) has = continued room (part ∷ first ∷ parts) (first ∷ parts) part.bytes part.offset (bytes_of-more part (first ∷ parts)) refl
+    grows (Some (first ∷ parts)) has =
+        continued room (part ∷ first ∷ parts) (first ∷ parts) part.bytes part.offset (bytes_of-more part (first ∷ parts)) refl
 
-    go : (f : Form) → option_map begun_of (option_and_then (within room) (since_start_by f part (since_start past))) ≡ begun_after room (begun_on room past) f part.bytes part.offset
+    go : (f : Form)
+        → option_map begun_of (option_and_then (within room) (since_start_by f part (since_start past)))
+        ≡ begun_after room (begun_on room past) f part.bytes part.offset
     go form.Start =
         ap (λ bs. option_map begun_of (cond (fits room (length bs)) (Some (part ∷ [])) None)) (bytes_of-one part)
         ∙ rw room_for (λ i. Some (record { start = part.offset; bytes = bytes_of-one part i }))
@@ -90,12 +106,15 @@ begun_on-more room part past room_for = go part.form
     go form.Complete = refl
     go form.End = refl
 
-pub begun_behind-own : (room : Room) (part : Part) (group : ℕ) (past : List Part) → (part.group == group) ≡ true → fits room (length part.bytes) ≡ true →
-    begun_behind room group (part ∷ past) ≡ begun_after room (begun_behind room group past) part.form part.bytes part.offset
-begun_behind-own room part group past own room_for = ap (begun_on room) (of_own_group group part past own) ∙ begun_on-more room part (of_group group past) room_for
+pub begun_over-own : (room : Room) (part : Part) (group : ℕ) (past : List Part) → (part.group == group) ≡ true
+    → fits room (length part.bytes) ≡ true →
+    begun_over room group (part ∷ past) ≡ begun_after room (begun_over room group past) part.form part.bytes part.offset
+begun_over-own room part group past own room_for =
+    ap (begun_on room) (of_own_group group part past own) ∙ begun_on-more room part (of_group group past) room_for
 
 -- the bytes alone
-pub joined-begun : (room : Room) (group : ℕ) (past : List Part) → joined room group past ≡ option_map (λ begun. begun.bytes) (begun_behind room group past)
+pub joined-begun : (room : Room) (group : ℕ) (past : List Part)
+    → joined room group past ≡ option_map (λ begun. begun.bytes) (begun_over room group past)
 joined-begun room group past = go (opened room group past)
   where
     go : (o : Option (List Part)) → option_map bytes_of o ≡ option_map (λ begun. begun.bytes) (option_map begun_of o)
@@ -109,12 +128,17 @@ joined_with form.Continue before bytes = option_map (λ joined. joined ++ bytes)
 joined_with form.Complete before bytes = None
 joined_with form.End before bytes = None
 
-pub joined-own : (part : Part) (group : ℕ) (past : List Part) → (part.group == group) ≡ true → joined None group (part ∷ past) ≡ joined_with part.form (joined None group past) part.bytes
+pub joined-own : (part : Part) (group : ℕ) (past : List Part) → (part.group == group) ≡ true
+    → joined None group (part ∷ past) ≡ joined_with part.form (joined None group past) part.bytes
 joined-own part group past own =
-    joined-begun None group (part ∷ past) ∙ ap (option_map (λ begun. begun.bytes)) (begun_behind-own None part group past own refl) ∙ go part.form (begun_behind None group past)
+    joined-begun None group (part ∷ past)
+    ∙ ap (option_map (λ begun. begun.bytes)) (begun_over-own None part group past own refl)
+    ∙ go part.form (begun_over None group past)
     ∙ ap (λ before. joined_with part.form before part.bytes) (sym (joined-begun None group past))
   where
-    go : (f : Form) (o : Option Begun) → option_map (λ begun. begun.bytes) (begun_after None o f part.bytes part.offset) ≡ joined_with f (option_map (λ begun. begun.bytes) o) part.bytes
+    go : (f : Form) (o : Option Begun)
+        → option_map (λ begun. begun.bytes) (begun_after None o f part.bytes part.offset)
+        ≡ joined_with f (option_map (λ begun. begun.bytes) o) part.bytes
     go form.Start o = refl
     go form.Continue None = refl
     go form.Continue (Some begun) = refl
@@ -131,12 +155,14 @@ bytes_of-data : (parts : List Part) → AreData parts → IsData (bytes_of parts
 bytes_of-data [] each = All-nil (λ byte. byte < 128)
 bytes_of-data (part ∷ parts) each =
     let P : List ℕ → Type 0 = IsData in
-    subst P (sym (bytes_of-more part parts)) (All-append (λ byte. byte < 128) (bytes_of parts) part.bytes (bytes_of-data parts each.1) each.0)
+    subst P (sym (bytes_of-more part parts))
+    (All-append (λ byte. byte < 128) (bytes_of parts) part.bytes (bytes_of-data parts each.1) each.0)
 
 of_group-data : (group : ℕ) (past : List Part) → AreData past → AreData (of_group group past)
 of_group-data group [] each = tt
 of_group-data group (part ∷ past) each =
-    cond_both (part.group == group) (part ∷ of_group group past) (of_group group past) AreData (λ same. (each.0, of_group-data group past each.1)) (λ other. of_group-data group past each.1)
+    cond_both (part.group == group) (part ∷ of_group group past) (of_group group past) AreData
+    (λ same. (each.0, of_group-data group past each.1)) (λ other. of_group-data group past each.1)
 
 since_start-data : (own : List Part) → AreData own → IfSome (since_start own) AreData
 since_start-data [] each = tt
@@ -150,7 +176,8 @@ since_start-data (part ∷ past) each = go part.form (since_start past) (since_s
     go form.End before older = tt
 
 pub joined-data : (room : Room) (group : ℕ) (past : List Part) → AreData past → IfSome (joined room group past) IsData
-joined-data room group past each = go (since_start (of_group group past)) (since_start-data (of_group group past) (of_group-data group past each))
+joined-data room group past each =
+    go (since_start (of_group group past)) (since_start-data (of_group group past) (of_group-data group past each))
   where
     go : (o : Option (List Part)) → IfSome o AreData → IfSome (option_map bytes_of (option_and_then (within room) o)) IsData
     go None parts = tt

@@ -9,7 +9,8 @@ use Rattle.sysex_groups.specs.Exclusives.{Part, Room, IsOpenedBy, of_group, byte
 use Rattle.sysex_groups.proofs.ExclusiveLaws.{of_other_group, of_own_group}
 
 -- what is within the limit
-within-some : (room : Room) (o : Option (List Part)) (parts : List Part) → option_and_then (within room) o ≡ Some parts → (o ≡ Some parts) × (fits room (length (bytes_of parts)) ≡ true)
+within-some : (room : Room) (o : Option (List Part)) (parts : List Part) → option_and_then (within room) o ≡ Some parts
+    → (o ≡ Some parts) × (fits room (length (bytes_of parts)) ≡ true)
 within-some room None parts is = absurd cc
 within-some room (Some own) parts is = elim (cases_Bool (fits room (length (bytes_of own)))) [
   | inl fitting ↦
@@ -46,7 +47,8 @@ since-by group start before own starts (part ∷ after) continues =
 pub opens_by : (room : Room) (group : ℕ) (past parts : List Part) → IsOpenedBy room group past parts → opened room group past ≡ Some parts
 opens_by room group past parts by =
     ap (λ ps. option_and_then (within room) (since_start (of_group group ps))) by.split
-    ∙ ap (option_and_then (within room)) (since-by group by.start by.before (eq-eqb by.start.group group by.own_start) by.starts by.after by.continues)
+    ∙ ap (option_and_then (within room))
+    (since-by group by.start by.before (eq-eqb by.start.group group by.own_start) by.starts by.after by.continues)
     ∙ ap (within room) (sym by.own)
     ∙ cond-true (fits room (length (bytes_of parts))) (Some parts) None by.within
 
@@ -54,9 +56,11 @@ opens_by room group past parts by =
 since-places : (group : ℕ) (past parts : List Part) → since_start (of_group group past) ≡ Some parts → IsOpenedBy None group past parts
 since-places group [] parts is = absurd cc
 since-places group (part ∷ past) parts is = elim (cases_Bool (part.group == group)) [
-  | inl same ↦ by_form part.form refl same (λ ps e. since-places group past ps e) (ap since_start (sym (of_own_group group part past same)) ∙ is)
+  | inl same ↦
+      by_form part.form refl same (λ ps e. since-places group past ps e) (ap since_start (sym (of_own_group group part past same)) ∙ is)
   | inr other ↦
-      let older : IsOpenedBy None group past parts = since-places group past parts (ap since_start (sym (of_other_group group part past other)) ∙ is) in
+      let older : IsOpenedBy None group past parts =
+      since-places group past parts (ap since_start (sym (of_other_group group part past other)) ∙ is) in
       record {
         before = older.before;
         start = older.start;
@@ -70,7 +74,8 @@ since-places group (part ∷ past) parts is = elim (cases_Bool (part.group == gr
       }
 ]
   where
-    by_form : (f : Form) → part.form ≡ f → (part.group == group) ≡ true → ((ps : List Part) → since_start (of_group group past) ≡ Some ps → IsOpenedBy None group past ps)
+    by_form : (f : Form) → part.form ≡ f → (part.group == group) ≡ true
+        → ((ps : List Part) → since_start (of_group group past) ≡ Some ps → IsOpenedBy None group past ps)
         → since_start_by f part (since_start (of_group group past)) ≡ Some parts → IsOpenedBy None group (part ∷ past) parts
     by_form form.Start starts same earlier since = record {
       before = past;
@@ -85,7 +90,8 @@ since-places group (part ∷ past) parts is = elim (cases_Bool (part.group == gr
     }
     by_form form.Continue goes_on same earlier since = continued (since_start (of_group group past)) refl since
       where
-        continued : (o : Option (List Part)) → since_start (of_group group past) ≡ o → since_start_by form.Continue part o ≡ Some parts → IsOpenedBy None group (part ∷ past) parts
+        continued : (o : Option (List Part)) → since_start (of_group group past) ≡ o → since_start_by form.Continue part o ≡ Some parts
+            → IsOpenedBy None group (part ∷ past) parts
         continued None none is_some = absurd cc
         continued (Some ps) some is_some =
             let grown : part ∷ ps ≡ parts = cc is_some in
@@ -98,13 +104,17 @@ since-places group (part ∷ past) parts is = elim (cases_Bool (part.group == gr
               own_start = older.own_start;
               starts = older.starts;
               continues = ((λ own. goes_on), older.continues);
-              own = sym grown ∙ ap (λ qs. part ∷ qs) older.own ∙ ap (λ qs. qs ++ older.start ∷ []) (sym (of_own_group group part older.after same));
+              own =
+                  sym grown
+                  ∙ ap (λ qs. part ∷ qs) older.own
+                  ∙ ap (λ qs. qs ++ older.start ∷ []) (sym (of_own_group group part older.after same));
               within = refl;
             }
     by_form form.Complete completes same earlier since = absurd cc
     by_form form.End ends same earlier since = absurd cc
 
-pub is_opened_by : (room : Room) (group : ℕ) (past parts : List Part) → opened room group past ≡ Some parts → IsOpenedBy room group past parts
+pub is_opened_by : (room : Room) (group : ℕ) (past parts : List Part) → opened room group past ≡ Some parts
+    → IsOpenedBy room group past parts
 is_opened_by room group past parts is =
     let both = within-some room (since_start (of_group group past)) parts is in
     let run : IsOpenedBy None group past parts = since-places group past parts both.0 in

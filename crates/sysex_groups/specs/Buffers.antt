@@ -15,7 +15,8 @@ pub record State : Type 0 where
   pub begun : Option Begun
 
 abbrev pub state_of : Buffer → State
-state_of buffer = record { room = buffer.room; begun = option_map (λ start. record { start = start; bytes = drop 1 buffer.bytes.items }) buffer.start }
+state_of buffer =
+    record { room = buffer.room; begun = option_map (λ start. record { start = start; bytes = drop 1 buffer.bytes.items }) buffer.start }
 
 abbrev pub idle : ℕ → State
 idle room = record { room = room; begun = None }

@@ -17,7 +17,8 @@ part_at payload k = if nat_lt k (part_count payload) then Some (form_at (part_co
 
 -- Packet k as a part that comes in a group; its offset is that of `offsets`.
 abbrev pub sent_part : ℕ → (ℕ → ℕ) → List ℕ → ℕ → Part
-sent_part group offsets payload k = record { group = group; form = form_at (part_count payload) k; bytes = slice_chunk payload 6 k; offset = offsets k }
+sent_part group offsets payload k =
+    record { group = group; form = form_at (part_count payload) k; bytes = slice_chunk payload 6 k; offset = offsets k }
 
 -- the parts of a group once the first k packets have come after others of the group, newest first
 abbrev pub sent : ℕ → (ℕ → ℕ) → List ℕ → List Part → ℕ → List Part

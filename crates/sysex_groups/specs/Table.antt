@@ -1,10 +1,12 @@
 -- The table of the sixteen groups: what each has open, the answer to one more part, and what is open after it.
-use Rattle.std.specs.Prelude.{ℕ, ◌<◌, ◌≤◌, if◌then◌else◌, List, [], ◌∷◌, ◌++◌, length, Option, Some, None, slice_index_or, slice_set, replicate}
+use Rattle.std.specs.Prelude.{ℕ, ◌<◌, ◌≤◌, if◌then◌else◌, List, [], ◌∷◌, ◌++◌, length}
+use Rattle.std.specs.Prelude.{Option, Some, None, slice_index_or, slice_set, replicate}
 use Rattle.std.specs.List.{AllByRecursion}
 use Rattle.std.specs.Option.{option_map}
 use Rattle.voice_messages.specs.declared.voice2.Form.{Form}
 use Rattle.voice_messages.specs.declared.voice2.Form.TheVariants as form
-use Rattle.sysex_groups.specs.Exclusives.{Part, Room, fits, Answer, held, whole, stray, restarted, restarted_whole, too_long, framed, opened, start_of, bytes_of}
+use Rattle.sysex_groups.specs.Exclusives.{Part, Room, fits, Answer, held, whole, stray, restarted}
+use Rattle.sysex_groups.specs.Exclusives.{restarted_whole, too_long, framed, opened, start_of, bytes_of}
 
 -- an exclusive that is open: the offset of its Start, and the bytes that are joined
 pub record Begun : Type 0 where
@@ -20,14 +22,16 @@ answer_of room None form.End bytes = stray
 answer_of room (Some begun) form.Complete bytes = restarted_whole begun.start (framed bytes)
 answer_of room (Some begun) form.Start bytes = restarted begun.start
 answer_of room (Some begun) form.Continue bytes = if fits room (length (begun.bytes ++ bytes)) then held else too_long
-answer_of room (Some begun) form.End bytes = if fits room (length (begun.bytes ++ bytes)) then whole (framed (begun.bytes ++ bytes)) else too_long
+answer_of room (Some begun) form.End bytes =
+    if fits room (length (begun.bytes ++ bytes)) then whole (framed (begun.bytes ++ bytes)) else too_long
 
 -- what the group has open after it
 abbrev pub begun_after : Room → Option Begun → Form → List ℕ → ℕ → Option Begun
 begun_after room before form.Complete bytes offset = None
 begun_after room before form.Start bytes offset = Some (record { start = offset; bytes = bytes })
 begun_after room None form.Continue bytes offset = None
-begun_after room (Some begun) form.Continue bytes offset = if fits room (length (begun.bytes ++ bytes)) then Some (record { start = begun.start; bytes = begun.bytes ++ bytes }) else None
+begun_after room (Some begun) form.Continue bytes offset =
+    if fits room (length (begun.bytes ++ bytes)) then Some (record { start = begun.start; bytes = begun.bytes ++ bytes }) else None
 begun_after room before form.End bytes offset = None
 
 -- the sixteen groups, and how many bytes an exclusive may have between F0 and F7
@@ -48,19 +52,22 @@ answer_to table part = answer_of (Some table.room) (begun_in table part.group) p
 
 -- the table after it; all other groups stay
 abbrev pub with_part : Part → Table → Table
-with_part part table = record { room = table.room; groups = slice_set table.groups part.group (begun_after (Some table.room) (begun_in table part.group) part.form part.bytes part.offset) }
+with_part part table = record {
+  room = table.room;
+  groups = slice_set table.groups part.group (begun_after (Some table.room) (begun_in table part.group) part.form part.bytes part.offset);
+}
 
 -- the table after parts of all groups, newest first
-abbrev pub table_after : ℕ → List Part → Table
-table_after room [] = empty_table room
-table_after room (part ∷ past) = with_part part (table_after room past)
+abbrev pub table_over : ℕ → List Part → Table
+table_over room [] = empty_table room
+table_over room (part ∷ past) = with_part part (table_over room past)
 
 -- what the definition says that a group has open
 abbrev pub begun_of : List Part → Begun
 begun_of parts = record { start = start_of parts; bytes = bytes_of parts }
 
-abbrev pub begun_behind : Room → ℕ → List Part → Option Begun
-begun_behind room group past = option_map begun_of (opened room group past)
+abbrev pub begun_over : Room → ℕ → List Part → Option Begun
+begun_over room group past = option_map begun_of (opened room group past)
 
 -- a part that a packet can have
 abbrev pub IsPart : Part → Type 0

@@ -26,8 +26,8 @@ use crate::reserved::append;
 use std::alloc::{AllocError, Global};
 use voice_messages::{END_OF_EXCLUSIVE, Form, START_OF_EXCLUSIVE};
 
-/// The exclusive that a group has open, if any. The bytes always begin with F0; F7 is added after them at the end. There is
-/// memory for `room` bytes between the two.
+/// The exclusive that a group has open, if any. The bytes always begin with F0; F7 is added after them at the
+/// end. There is memory for `room` bytes between the two.
 #[derive(Drop)]
 pub struct Buffer {
     start: Option<u64>,

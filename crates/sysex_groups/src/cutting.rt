@@ -20,9 +20,10 @@ fn bytes_of(payload: &[u8], k: usize) -> ShortList<u8, 6>
     bytes
 }
 
-/// Packet `k` (counted from 0) of an exclusive's payload, the bytes between F0 and F7, cut every six bytes (M2-104-UM, system
-/// exclusive 7-bit messages): one `Complete` for up to 6 bytes, else a `Start`, `Continue`s, and an `End` of 1 to 6 bytes. An
-/// empty payload is one empty `Complete` (own rule). `None` exactly when `k` is past the last packet.
+/// Packet `k` (counted from 0) of an exclusive's payload, the bytes between F0 and F7, cut every six bytes
+/// (M2-104-UM, system exclusive 7-bit messages): one `Complete` for up to 6 bytes, else a `Start`,
+/// `Continue`s, and an `End` of 1 to 6 bytes. An empty payload is one empty `Complete` (own rule). `None`
+/// exactly when `k` is past the last packet.
 pub fn part(payload: &[u8], k: usize) -> Option<(Form, ShortList<u8, 6>)>
     ensures { result ≡ part_at payload.now k }
 {

@@ -9,9 +9,9 @@ use std::alloc::Global;
 use std::marker::Model;
 use voice_messages::Form;
 
-/// The exclusives that sixteen groups have open, each in a buffer of its own. A contract sees, for each group, either nothing or
-/// the offset of the packet that began the exclusive and the bytes joined so far, and beside them the limit, `room`: how many
-/// bytes an exclusive may have between F0 and F7.
+/// The exclusives that sixteen groups have open, each in a buffer of its own. A contract sees, for each
+/// group, either nothing or the offset of the packet that began the exclusive and the bytes joined so far,
+/// and beside them the limit, `room`: how many bytes an exclusive may have between F0 and F7.
 ///
 /// Packets of other kinds don't end an exclusive (own rule), so they aren't passed to it.
 #[derive(Drop)]
@@ -43,8 +43,8 @@ impl Groups {
     ghost use Rattle.std.specs.Borrow.{sem};
     ghost use Rattle.std.specs.Option.{option_map};
 
-    /// Sixteen groups in which nothing is open. Reserves memory for `room` bytes between F0 and F7 in each, 6 to 1,048,576 (own
-    /// rule); no other call takes any. `NoMemory` when there isn't that much.
+    /// Sixteen groups in which nothing is open. Reserves memory for `room` bytes between F0 and F7 in each, 6
+    /// to 1,048,576 (own rule); no other call takes any. `NoMemory` when there isn't that much.
     pub fn new(alloc: Global, room: u32) -> Result<Groups, NoMemory>
         requires least { 6 ≤ room }
         requires most { room ≤ 1048576 }
@@ -64,9 +64,10 @@ impl Groups {
         Ok(Groups { buffers, room })
     }
 
-    /// Takes one more part of a group's exclusive: the payload bytes of a packet, at most 6, and the packet's offset (M2-104-UM,
-    /// system exclusive 7-bit messages). The offset, in bytes from the start of the input, is only kept, and given back as the start
-    /// of what the packet begins; any number will do. What is lent is the exclusive from F0 to F7. All other groups stay as they are.
+    /// Takes one more part of a group's exclusive: the payload bytes of a packet, at most 6, and the packet's
+    /// offset (M2-104-UM, system exclusive 7-bit messages). The offset, in bytes from the start of the input,
+    /// is only kept, and given back as the start of what the packet begins; any number will do. What is lent
+    /// is the exclusive from F0 to F7. All other groups stay as they are.
     pub fn feed(&mut self, group: U4, form: Form, bytes: &[u8], offset: u64) -> Fed<'_>
         requires few { length bytes.now ≤ 6 }
         requires data_bytes { IsData bytes.now }
@@ -81,8 +82,8 @@ impl Groups {
         buffer.feed(form, bytes, offset)
     }
 
-    /// Whether a part ends an exclusive of its group, so that `feed` would lend it: it is Complete, or it is the End of one that is
-    /// open and that has no more bytes than the limit.
+    /// Whether a part ends an exclusive of its group, so that `feed` would lend it: it is Complete, or it is
+    /// the End of one that is open and that has no more bytes than the limit.
     pub fn ends(&self, group: U4, form: Form, bytes: &[u8]) -> bool
         ensures { result ≡ is_some (ended_by (Some self.now.room) form
             (option_map (λ begun. begun.bytes) (begun_in self.now group)) bytes.now) }

@@ -10,6 +10,7 @@ pub fn append(bytes: &mut Vec<u8>, more: &[u8])
 {
     match bytes.extend_from_slice(more) {
         Ok(()) => {}
+        // Memory is reserved for these bytes, so the call takes none.
         Err(_) => unreachable!(),
     }
 }

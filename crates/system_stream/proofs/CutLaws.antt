@@ -1,5 +1,7 @@
 -- A text that is cut into packets is joined again.
-use Rattle.std.proofs.Common.{lit<, ℕ, ◌≡◌, ◌≢◌, ◌<◌, ◌≤◌, ◌+◌, ◌*◌, ◌-◌, ◌∙◌, zero, suc, ap, sym, refl, List, [], ◌∷◌, ◌++◌, length, take, drop, reverse, replicate, get_or, Option, Some, true, cond, arith, ◌==◌, leb, length-take, length-drop, length-append, append-nil, append_assoc, inl, inr}
+use Rattle.std.proofs.Common.{lit<, ℕ, ◌≡◌, ◌≢◌, ◌<◌, ◌≤◌, ◌+◌, ◌*◌, ◌-◌, ◌∙◌, zero, suc, ap, sym, refl, List, [], ◌∷◌}
+use Rattle.std.proofs.Common.{◌++◌, length, take, drop, reverse, replicate, get_or, Option, Some, true, cond, arith}
+use Rattle.std.proofs.Common.{◌==◌, leb, length-take, length-drop, length-append, append-nil, append_assoc, inl, inr}
 use Rattle.std.proofs.lemmas.Bool.{le-leb, eq-eqb, ne_eqb, cases_eq}
 use Rattle.std.proofs.lemmas.Grind.{div_ceil_times}
 use Rattle.std.proofs.lemmas.List.{take_all, take-append-drop, reverse-append, reverse-reverse, length-replicate}
@@ -65,7 +67,8 @@ size-some kind.EndpointName = lit< tt
 size-some kind.ProductId = lit< tt
 size-some kind.BlockName = lit< tt
 
-whole-packets : (kind : TextKind) (n count : ℕ) → n ≤ limit_of kind → count * part_size kind < n + part_size kind → count * part_size kind ≤ limit_of kind
+whole-packets : (kind : TextKind) (n count : ℕ) → n ≤ limit_of kind → count * part_size kind < n + part_size kind
+    → count * part_size kind ≤ limit_of kind
 whole-packets kind.EndpointName n count fits below = omega arith
 whole-packets kind.ProductId n count fits below = omega arith
 whole-packets kind.BlockName n count fits below = omega arith
@@ -78,7 +81,8 @@ abbrev part_of : Form → ℕ → List ℕ → Part
 part_of f block bytes = record { form = f; block = block; bytes = bytes }
 
 -- a packet that isn't the last
-inner-part : (kind : TextKind) (block : ℕ) (text : List ℕ) (k : ℕ) (f : Form) → k + 1 < part_count kind text → form_at (part_count kind text) k ≡ f →
+inner-part : (kind : TextKind) (block : ℕ) (text : List ℕ) (k : ℕ) (f : Form) → k + 1 < part_count kind text
+    → form_at (part_count kind text) k ≡ f →
     sent_part kind block text k ≡ part_of f block (slice_chunk text (part_size kind) k)
 inner-part kind block text k f more form_is =
     let size : ℕ = part_size kind in
@@ -86,11 +90,13 @@ inner-part kind block text k f more form_is =
     let bounds : (length text ≤ count * size) × (count * size < length text + size) = div_ceil_times (length text) size (size-some kind) in
     let below : (k + 2) * size ≤ count * size = grind arith in
     let two : (k + 2) * size ≡ (k + 1) * size + size = grind arith in
-    let bytes_are : part_bytes size text k ≡ slice_chunk text size k = filled-full size (slice_chunk text size k) (chunk-full size text k (omega arith)) in
+    let bytes_are : part_bytes size text k ≡ slice_chunk text size k =
+    filled-full size (slice_chunk text size k) (chunk-full size text k (omega arith)) in
     λ i. record { form = form_is i; block = block; bytes = bytes_are i }
 
 -- what is open after all packets up to k, which isn't the last
-sent-opened : (kind : TextKind) (block : ℕ) (text : List ℕ) (past : List Part) → length text ≤ limit_of kind → (k : ℕ) → k + 1 < part_count kind text →
+sent-opened : (kind : TextKind) (block : ℕ) (text : List ℕ) (past : List Part) → length text ≤ limit_of kind → (k : ℕ)
+    → k + 1 < part_count kind text →
     opened_text kind (sent kind block text past (suc k)) ≡ Some (record { block = block; bytes = take ((k + 1) * part_size kind) text })
 sent-opened kind block text past fits zero more =
     let size : ℕ = part_size kind in
@@ -109,18 +115,21 @@ sent-opened kind block text past fits (suc k) more =
     let before : List Part = sent kind block text past (suc k) in
     let part : Part = part_of form.Continue block chunk in
     let same : suc k ≡ k + 1 = omega arith in
-    let joins : front ++ chunk ≡ take ((suc k + 1) * size) text = ap (λ n. take (n * size) text ++ chunk) (sym same) ∙ chunk-joins size text (suc k) in
+    let joins : front ++ chunk ≡ take ((suc k + 1) * size) text =
+    ap (λ n. take (n * size) text ++ chunk) (sym same) ∙ chunk-joins size text (suc k) in
     opened-more kind before (sent_part kind block text (suc k))
     ∙ ap (λ p. open_after p (option_and_then (limited kind) (joined_with (opened_text kind before) p)))
     (inner-part kind block text (suc k) form.Continue more (form_at-inner (part_count kind text) (suc k) (omega arith) more))
-    ∙ ap (λ text. open_after part (option_and_then (limited kind) (joined_with text part))) (sent-opened kind block text past fits k (omega arith))
+    ∙ ap (λ text. open_after part (option_and_then (limited kind) (joined_with text part)))
+    (sent-opened kind block text past fits k (omega arith))
     ∙ rw (eq-eqb block block refl) refl
     ∙ ap (λ bytes. open_after part (limited kind bytes)) joins
     ∙ rw (front-fits kind text ((suc k + 1) * size) fits) refl
 
 -- the last packet: the text, and the zeros that fill it
 last-joins : (kind : TextKind) (text : List ℕ) (k : ℕ) → k + 1 ≡ part_count kind text →
-    take (k * part_size kind) text ++ part_bytes (part_size kind) text k ≡ text ++ replicate (part_size kind - length (slice_chunk text (part_size kind) k)) 0
+    take (k * part_size kind) text ++ part_bytes (part_size kind) text k
+    ≡ text ++ replicate (part_size kind - length (slice_chunk text (part_size kind) k)) 0
 last-joins kind text k last =
     let size : ℕ = part_size kind in
     let count : ℕ = part_count kind text in
@@ -143,7 +152,13 @@ last-fits kind text k fits last =
     let limit : count * size ≤ limit_of kind = whole-packets kind (length text) count fits bounds.1 in
     let filling : List ℕ = replicate (size - length chunk) 0 in
     le-leb (length (text ++ filling)) (limit_of kind)
-    (omega (arith, length-append text filling, length-replicate {A = ℕ} (size - length chunk) 0, length-take size (drop (k * size) text), length-drop (k * size) text))
+    (omega (
+      arith,
+      length-append text filling,
+      length-replicate {A = ℕ} (size - length chunk) 0,
+      length-take size (drop (k * size) text),
+      length-drop (k * size) text,
+    ))
 
 ended : (kind : TextKind) (text : List ℕ) (count : ℕ) → 0 < length text → get_or text (length text - 1) 0 ≢ 0 → is_text kind text ≡ true →
     finished kind (text ++ replicate count 0) ≡ whole text
@@ -151,7 +166,8 @@ ended kind text count some last is =
     ap (λ bytes. cond (is_text kind bytes) (whole bytes) bad) (zeros count text ∙ no-zero text some last) ∙ rw is refl
 
 -- the last packet gives the text, and those before are held
-pub cut-joined : (kind : TextKind) (block : ℕ) (text : List ℕ) → 0 < length text → length text ≤ limit_of kind → get_or text (length text - 1) 0 ≢ 0 → is_text kind text ≡ true →
+pub cut-joined : (kind : TextKind) (block : ℕ) (text : List ℕ) → 0 < length text → length text ≤ limit_of kind
+    → get_or text (length text - 1) 0 ≢ 0 → is_text kind text ≡ true →
     (past : List Part) (k : ℕ) → k < part_count kind text →
     answer_at kind (sent kind block text past k) (sent_part kind block text k) ≡ cond (k + 1 == part_count kind text) (whole text) held
 cut-joined kind block text some fits last is past zero within =
@@ -159,14 +175,18 @@ cut-joined kind block text some fits last is past zero within =
     let count : ℕ = part_count kind text in
     let chunk : List ℕ = slice_chunk text size 0 in
     let none : 0 * size ≡ 0 = omega arith in
-    let answers : Part → Answer = λ part. answer_of kind part.form (option_and_then (limited kind) (joined_with (opened_text kind past) part)) in
+    let answers : Part → Answer =
+    λ part. answer_of kind part.form (option_and_then (limited kind) (joined_with (opened_text kind past) part)) in
     answer-more kind past (sent_part kind block text 0)
     ∙ elim (cases_eq count 1) [
       | inl only ↦
           let filling : ℕ = size - length chunk in
           let form_is : form_at count 0 ≡ form.Complete = form_at-only count 0 only in
-          let bytes_are : part_bytes size text 0 ≡ text ++ replicate filling 0 = ap (λ n. take n text ++ part_bytes size text 0) (sym none) ∙ last-joins kind text 0 (sym only) in
-          ap answers (let same : sent_part kind block text 0 ≡ part_of form.Complete block (text ++ replicate filling 0) = λ i. record { form = form_is i; block = block; bytes = bytes_are i } in same)
+          let bytes_are : part_bytes size text 0 ≡ text ++ replicate filling 0 =
+          ap (λ n. take n text ++ part_bytes size text 0) (sym none) ∙ last-joins kind text 0 (sym only) in
+          ap answers (let same : sent_part kind block text 0 ≡ part_of form.Complete block (text ++ replicate filling 0) =
+          λ i. record { form = form_is i; block = block; bytes = bytes_are i } in
+          same)
           ∙ rw (last-fits kind text 0 fits (sym only), eq-eqb (0 + 1) count (sym only)) (ended kind text filling some last is)
       | inr many ↦
           let joins : chunk ≡ take ((0 + 1) * size) text = ap (λ n. take n text ++ chunk) (sym none) ∙ chunk-joins size text 0 in
@@ -181,7 +201,8 @@ cut-joined kind block text some fits last is past (suc k) within =
     let front : List ℕ = take ((k + 1) * size) text in
     let before : List Part = sent kind block text past (suc k) in
     let same : suc k ≡ k + 1 = omega arith in
-    let answers : Option OpenText → Part → Answer = λ open_text part. answer_of kind part.form (option_and_then (limited kind) (joined_with open_text part)) in
+    let answers : Option OpenText → Part → Answer =
+    λ open_text part. answer_of kind part.form (option_and_then (limited kind) (joined_with open_text part)) in
     let known : Option OpenText = Some (record { block = block; bytes = front }) in
     answer-more kind before (sent_part kind block text (suc k))
     ∙ ap (λ o. answers o (sent_part kind block text (suc k))) (sent-opened kind block text past fits k (omega arith))
@@ -190,14 +211,19 @@ cut-joined kind block text some fits last is past (suc k) within =
           let filling : ℕ = size - length chunk in
           let form_is : form_at count (suc k) ≡ form.End = form_at-last count (suc k) (omega arith) ends_now in
           let bytes : List ℕ = part_bytes size text (suc k) in
-          let joins : front ++ bytes ≡ text ++ replicate filling 0 = ap (λ n. take (n * size) text ++ bytes) (sym same) ∙ last-joins kind text (suc k) ends_now in
-          ap (answers known) (let part_is : sent_part kind block text (suc k) ≡ part_of form.End block bytes = λ i. record { form = form_is i; block = block; bytes = bytes } in part_is)
+          let joins : front ++ bytes ≡ text ++ replicate filling 0 =
+          ap (λ n. take (n * size) text ++ bytes) (sym same) ∙ last-joins kind text (suc k) ends_now in
+          ap (answers known) (let part_is : sent_part kind block text (suc k) ≡ part_of form.End block bytes =
+          λ i. record { form = form_is i; block = block; bytes = bytes } in
+          part_is)
           ∙ rw (eq-eqb block block refl) refl
           ∙ ap (λ all. answer_of kind form.End (limited kind all)) joins
           ∙ rw (last-fits kind text (suc k) fits ends_now, eq-eqb (suc k + 1) count ends_now) (ended kind text filling some last is)
       | inr inner ↦
-          let joins : front ++ chunk ≡ take ((suc k + 1) * size) text = ap (λ n. take (n * size) text ++ chunk) (sym same) ∙ chunk-joins size text (suc k) in
-          ap (answers known) (inner-part kind block text (suc k) form.Continue (omega arith) (form_at-inner count (suc k) (omega arith) (omega arith)))
+          let joins : front ++ chunk ≡ take ((suc k + 1) * size) text =
+          ap (λ n. take (n * size) text ++ chunk) (sym same) ∙ chunk-joins size text (suc k) in
+          ap (answers known)
+          (inner-part kind block text (suc k) form.Continue (omega arith) (form_at-inner count (suc k) (omega arith) (omega arith)))
           ∙ rw (eq-eqb block block refl) refl
           ∙ ap (λ all. answer_of kind form.Continue (limited kind all)) joins
           ∙ rw (front-fits kind text ((suc k + 1) * size) fits, ne_eqb (suc k + 1) count inner) refl

@@ -21,12 +21,17 @@ part-bytes size text k bytes =
     let filling : List ℕ = replicate (size - length chunk) 0 in
     let zero_fits : IsByte 0 = lit< tt in (
       omega (arith, length-append chunk filling, length-replicate {A = ℕ} (size - length chunk) 0, length-take size (drop (k * size) text)),
-      All-append IsByte chunk filling (All-take IsByte size (drop (k * size) text) (All-drop IsByte (k * size) text bytes)) (All-replicate IsByte (size - length chunk) 0 zero_fits),
+      All-append IsByte chunk filling (All-take IsByte size (drop (k * size) text) (All-drop IsByte (k * size) text bytes))
+          (All-replicate IsByte (size - length chunk) 0 zero_fits),
     )
 
-pub packet-read : (kind : TextKind) (block : ℕ) (text : List ℕ) → block < 2 ^ 8 → All (λ byte. byte < 2 ^ 8) text → (k : ℕ) → k < part_count kind text →
+pub packet-read : (kind : TextKind) (block : ℕ) (text : List ℕ) → block < 2 ^ 8 → All (λ byte. byte < 2 ^ 8) text → (k : ℕ)
+    → k < part_count kind text →
     message_in (packet_of (part_message kind (form_at (part_count kind text) k) block (part_bytes (part_size kind) text k)))
     ≡ part_message kind (form_at (part_count kind text) k) block (part_bytes (part_size kind) text k)
-packet-read kind.EndpointName block text small bytes k within = message-read (part_message kind.EndpointName _ block _) (part-bytes 14 text k bytes)
-packet-read kind.ProductId block text small bytes k within = message-read (part_message kind.ProductId _ block _) (part-bytes 14 text k bytes)
-packet-read kind.BlockName block text small bytes k within = message-read (part_message kind.BlockName _ block _) (small, part-bytes 13 text k bytes)
+packet-read kind.EndpointName block text small bytes k within =
+    message-read (part_message kind.EndpointName _ block _) (part-bytes 14 text k bytes)
+packet-read kind.ProductId block text small bytes k within =
+    message-read (part_message kind.ProductId _ block _) (part-bytes 14 text k bytes)
+packet-read kind.BlockName block text small bytes k within =
+    message-read (part_message kind.BlockName _ block _) (small, part-bytes 13 text k bytes)

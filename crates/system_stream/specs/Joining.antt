@@ -4,7 +4,7 @@ use Rattle.std.specs.Option.{option_map, option_and_then}
 use Rattle.voice_messages.specs.declared.voice2.Form.{Form}
 use Rattle.system_stream.specs.declared.texts.TextKind.{TextKind}
 use Rattle.system_stream.specs.Texts.{limit_of}
-use Rattle.system_stream.specs.Parts.{Part, begins, ends, opened, bytes_of, Answer, held, bad, finished}
+use Rattle.system_stream.specs.Parts.{Part, begins, ends, opened, text_bytes, Answer, held, bad, finished}
 
 -- a text that is open: the block that its parts name, and the bytes that are joined
 pub record OpenText : Type 0 where
@@ -39,8 +39,8 @@ abbrev pub answer_of : TextKind → Form → Option (List ℕ) → Answer
 answer_of kind form None = bad
 answer_of kind form (Some bytes) = if ends form then finished kind bytes else held
 
-abbrev pub answer_to : State → Part → Answer
-answer_to state part = answer_of state.kind part.form (text_with state part)
+abbrev pub text_answer : State → Part → Answer
+text_answer state part = answer_of state.kind part.form (text_with state part)
 
 -- what is open after a part
 abbrev pub open_after : Part → Option (List ℕ) → Option OpenText
@@ -50,14 +50,14 @@ abbrev pub after_part : State → Part → State
 after_part state part = record { kind = state.kind; text = open_after part (text_with state part) }
 
 -- the state after parts, newest first
-abbrev pub state_after : TextKind → List Part → State
-state_after kind [] = idle kind
-state_after kind (part ∷ past) = after_part (state_after kind past) part
+abbrev pub state_over : TextKind → List Part → State
+state_over kind [] = idle kind
+state_over kind (part ∷ past) = after_part (state_over kind past) part
 
 -- the open text of parts, by the definition
-abbrev pub block_of : List Part → ℕ
-block_of [] = 0
-block_of (latest ∷ parts) = latest.block
+abbrev pub block_number : List Part → ℕ
+block_number [] = 0
+block_number (latest ∷ parts) = latest.block
 
 abbrev pub opened_text : TextKind → List Part → Option OpenText
-opened_text kind past = option_map (λ parts. record { block = block_of parts; bytes = bytes_of parts }) (opened kind past)
+opened_text kind past = option_map (λ parts. record { block = block_number parts; bytes = text_bytes parts }) (opened kind past)

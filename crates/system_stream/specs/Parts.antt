@@ -43,12 +43,12 @@ since_start [] = None
 since_start (part ∷ past) = if ends part.form then None else parts_with part (since_start past)
 
 -- their bytes, in the order in which they came
-abbrev pub bytes_of : List Part → List ℕ
-bytes_of parts = flat_map (λ part. part.bytes) (reverse parts)
+abbrev pub text_bytes : List Part → List ℕ
+text_bytes parts = flat_map (λ part. part.bytes) (reverse parts)
 
 -- parts whose bytes are within the limit of the kind
 abbrev pub within : TextKind → List Part → Option (List Part)
-within kind parts = if nat_le (length (bytes_of parts)) (limit_of kind) then Some parts else None
+within kind parts = if nat_le (length (text_bytes parts)) (limit_of kind) then Some parts else None
 
 -- the parts of the text that is open after these parts
 abbrev pub opened : TextKind → List Part → Option (List Part)
@@ -67,7 +67,7 @@ finished kind bytes = if is_text kind (without_trailing_zeros bytes) then whole 
 -- The answer by the parts of the text that a part belongs to, where these are within the limit.
 abbrev pub answer_from : TextKind → Form → Option (List Part) → Answer
 answer_from kind form None = bad
-answer_from kind form (Some parts) = if ends form then finished kind (bytes_of parts) else held
+answer_from kind form (Some parts) = if ends form then finished kind (text_bytes parts) else held
 
 -- the answer to a part that comes after these parts
 abbrev pub answer_at : TextKind → List Part → Part → Answer

@@ -11,17 +11,18 @@ use crate::writing::write;
 use ump_grammar::Packet;
 use voice_messages::Form;
 
-/// How many packets a text has (M2-104-UM, UMP stream messages): one for every 14 bytes, or for every 13 of a block's name.
+/// How many packets a text has (M2-104-UM, UMP stream messages): one
+/// for every 14 bytes, or for every 13 of a block's name.
 pub fn packet_count(kind: TextKind, text: &[u8]) -> usize
     ensures { result ≡ part_count kind text.now }
 {
     text.len().div_ceil(kind.part_size())
 }
 
-/// Packet `k` (counted from 0) of a text, which has at least one byte and is within the limit of its kind (M2-104-UM, UMP stream
-/// messages). A text is cut every 14 bytes, a block's name every 13, and zeros fill the last packet; a cut may fall inside a
-/// character (own rule). `block` is the number of the function block, and is used for a block's name only. `None` exactly when
-/// `k` is past the last packet.
+/// Packet `k` (counted from 0) of a text, which has at least one byte and is within the limit of its kind
+/// (M2-104-UM, UMP stream messages). A text is cut every 14 bytes, a block's name every 13, and zeros fill
+/// the last packet; a cut may fall inside a character (own rule). `block` is the number of the function
+/// block, and is used for a block's name only. `None` exactly when `k` is past the last packet.
 pub fn cut_text(kind: TextKind, block: u8, text: &[u8], k: usize) -> Option<Packet>
     requires some { 0 < length text.now }
     requires limit { length text.now ≤ limit_of kind }

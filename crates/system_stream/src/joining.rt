@@ -7,9 +7,9 @@ use midi_edge::ShortList;
 use std::marker::Model;
 use voice_messages::Form;
 
-/// Joins the texts of one kind from the parts in their packets (M2-104-UM, UMP stream messages), without memory from an allocator. A
-/// contract sees it as the kind, and either nothing or the block that the open text's parts name together with the bytes joined so
-/// far.
+/// Joins the texts of one kind from the parts in their packets (M2-104-UM, UMP stream messages), without
+/// memory from an allocator. A contract sees it as the kind, and either nothing or the block that the open
+/// text's parts name together with the bytes joined so far.
 #[derive(Drop)]
 pub struct TextJoin {
     kind: TextKind,
@@ -33,7 +33,7 @@ impl TextJoin {
     ghost use Rattle.std.specs.Borrow.{sem};
     ghost use Rattle.std.specs.Option.{option_map};
     ghost use Rattle.system_stream.specs.Joined.{joined_view};
-    ghost use Rattle.system_stream.specs.Joining.{after_part, answer_of, answer_to, idle, text_with};
+    ghost use Rattle.system_stream.specs.Joining.{after_part, answer_of, text_answer, idle, text_with};
     ghost use Rattle.system_stream.specs.Lend.{KeepsJoining};
     ghost use Rattle.voice_messages.specs.declared.voice2.Form.TheVariants as form;
 
@@ -48,12 +48,12 @@ impl TextJoin {
         }
     }
 
-    /// Takes one more part: its bytes, including the zeros that fill it, and the number of the block that it names; for a kind
-    /// whose packets name none, always the same number. A `Complete` or `Start` begins a new text, and gives no answer for the
-    /// one that it replaces. After `Whole` and `Bad` nothing is open.
+    /// Takes one more part: its bytes, including the zeros that fill it, and the number of the block that it
+    /// names; for a kind whose packets name none, always the same number. A `Complete` or `Start` begins a
+    /// new text, and gives no answer for the one that it replaces. After `Whole` and `Bad` nothing is open.
     pub fn part(&mut self, form: Form, block: u8, bytes: &[u8]) -> Joined<'_>
         ensures answer { joined_view result ≡
-            answer_to self.old (record { form = form; block = block; bytes = bytes.now }) }
+            text_answer self.old (record { form = form; block = block; bytes = bytes.now }) }
         ensures* after { sem 𝓛 (KeepsJoining self.entry
             (after_part self.old (record { form = form; block = block; bytes = bytes.now }))) }
     {
@@ -66,8 +66,8 @@ impl TextJoin {
         }
     }
 
-    /// Joins a part to the text that it belongs to, and says whether there is one and it stays within the limit. If not, nothing
-    /// is open afterwards.
+    /// Joins a part to the text that it belongs to, and says whether there is one and it stays within the
+    /// limit. If not, nothing is open afterwards.
     fn append(&mut self, form: Form, block: u8, bytes: &[u8]) -> bool
         ensures joined { result ≡
             is_some (text_with self.old (record { form = form; block = block; bytes = bytes.now })) }

@@ -17,7 +17,7 @@ ghost use Rattle.std.specs.Prelude.{
 };
 ghost use Rattle.std.specs.List.{All};
 ghost use Rattle.system_stream.specs.Cut.{message_at, part_count, sent, sent_part};
-ghost use Rattle.system_stream.specs.Joining.{answer_to, opened_text, state_after};
+ghost use Rattle.system_stream.specs.Joining.{text_answer, opened_text, state_over};
 ghost use Rattle.system_stream.specs.Layout.{IsWritten, has_bad_format, message_in, packet_of};
 ghost use Rattle.system_stream.specs.Parts.{Part, answer_at, held, whole};
 ghost use Rattle.system_stream.specs.Texts.{is_text, limit_of};
@@ -32,17 +32,17 @@ pub fn written_messages_are_read()
         message_in (packet_of message) ≡ message }
 {}
 
-/// Joining any parts of a kind, one after the other, agrees with the definition that looks back over them: on which text is open,
-/// and on the answer to one more part.
+/// Joining any parts of a kind, one after the other, agrees with the definition that looks back over them: on
+/// which text is open, and on the answer to one more part.
 pub fn joined_parts_are_the_definition()
     ensures open_text { (kind : TextKind) (past : List Part) →
-        (state_after kind past).text ≡ opened_text kind past }
+        (state_over kind past).text ≡ opened_text kind past }
     ensures answers { (kind : TextKind) (past : List Part) (part : Part) →
-        answer_to (state_after kind past) part ≡ answer_at kind past part }
+        text_answer (state_over kind past) part ≡ answer_at kind past part }
 {}
 
-/// A text that doesn't end in a zero byte, and whose bytes are a text of its kind, is joined again from the packets into which it
-/// is cut: the last one gives it, and those before are held, whatever came before them.
+/// A text that doesn't end in a zero byte, and whose bytes are a text of its kind, is joined again from the
+/// packets into which it is cut: the last one gives it, and those before are held, whatever came before them.
 pub fn cut_text_is_joined()
     ensures { (kind : TextKind) (block : ℕ) (text : List ℕ) →
         0 < length text → length text ≤ limit_of kind →

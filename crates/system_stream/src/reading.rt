@@ -1,15 +1,15 @@
 // From stream packets to messages.
 ghost use Rattle.std.specs.Prelude.{◌≡◌, ◌<◌, ◌∷◌, ◌++◌, []};
-ghost use Rattle.ump_grammar.specs.Places.{field};
+ghost use Rattle.ump_grammar.specs.WordFields.{field};
 ghost use Rattle.ump_grammar.specs.Ranges.{IsPacket};
 ghost use Rattle.system_stream.specs.Layout.{
   IsStream,
   Reads,
-  bytes_of as word_bytes,
+  word_bytes,
   flag as is_flag,
   form_of as form_at,
-  is_single as has_one_packet,
-  message_of,
+  has_one_packet,
+  stream_message,
 };
 ghost use Rattle.system_stream.specs.declared.message.StreamMessage.TheVariants as stream;
 
@@ -19,8 +19,9 @@ use ump_grammar::decoding::form_of;
 use ump_grammar::fields::{bits, byte};
 use voice_messages::Form;
 
-/// The message of a stream packet (M2-104-UM, UMP stream messages). `Err(BadFormat)` is returned exactly when the status is that
-/// of a message of one packet and the format isn't 0. A status without a row is read as `Other`.
+/// The message of a stream packet (M2-104-UM, UMP stream messages). `Err(BadFormat)` is returned exactly when
+/// the status is that of a message of one packet and the format isn't 0. A status without a row is read as
+/// `Other`.
 pub fn read(packet: &Packet) -> Result<StreamMessage, BadFormat>
     requires stream { IsStream packet.now }
     requires packet { IsPacket packet.now }
@@ -35,9 +36,10 @@ pub fn read(packet: &Packet) -> Result<StreamMessage, BadFormat>
         fourth,
     } = packet
     else {
+        // The contract asks for a stream packet.
         unreachable!()
     };
-    if *format != 0 && is_single(*status) {
+    if *format != 0 && has_one_packet(*status) {
         return Err(BadFormat);
     }
     let low = u32::from(*low);
@@ -45,7 +47,7 @@ pub fn read(packet: &Packet) -> Result<StreamMessage, BadFormat>
 }
 
 // Whether the status is that of a message of one packet.
-fn is_single(status: u16) -> bool
+fn has_one_packet(status: u16) -> bool
     ensures { result ≡ has_one_packet status }
 {
     matches!(
@@ -56,7 +58,7 @@ fn is_single(status: u16) -> bool
 
 fn message(format: u8, status: u16, low: u32, second: u32, third: u32, fourth: u32) -> StreamMessage
     requires { format < 4 }
-    ensures { result ≡ message_of format status low second third fourth }
+    ensures { result ≡ stream_message format status low second third fourth }
 {
     match status {
         0x000 => StreamMessage::Discovery {
@@ -104,6 +106,7 @@ fn form(format: u8) -> Form
 {
     match form_of(u32::from(format)) {
         Some(form) => form,
+        // Each of the numbers 0 to 3 is that of a form.
         None => unreachable!(),
     }
 }

@@ -20,8 +20,8 @@ use ump_grammar::Packet;
 use ump_grammar::encoding::form_bits;
 use voice_messages::Form;
 
-/// The packet of a message that isn't `Other` (M2-104-UM, UMP stream messages), with zeros in the places that its row doesn't
-/// name. Each field of the message is in its range.
+/// The packet of a message that isn't `Other` (M2-104-UM, UMP stream messages), with zeros in the places that
+/// its row doesn't name. Each field of the message is in its range.
 pub fn write(message: &StreamMessage) -> Packet
     requires { FitsPlaces message.now }
     ensures packet { result ≡ packet_of message.now }
@@ -61,6 +61,7 @@ pub fn write(message: &StreamMessage) -> Packet
         }
         StreamMessage::StartClip => single(0x020, 0, 0, 0, 0),
         StreamMessage::EndClip => single(0x021, 0, 0, 0, 0),
+        // `Other` has no row, so the contract asks for another message.
         StreamMessage::Other => unreachable!(),
     }
 }
@@ -83,6 +84,7 @@ fn info(message: &StreamMessage) -> Packet
         sends_jr,
     } = message
     else {
+        // Only Endpoint Info is written here.
         unreachable!()
     };
     let second = (bit(*fixed) << 31)
@@ -123,6 +125,7 @@ fn block_info(message: &StreamMessage) -> Packet
         sysex8,
     } = message
     else {
+        // Only Function Block Info is written here.
         unreachable!()
     };
     let low = block_half(*active, *block, *hint, *midi1, *direction);

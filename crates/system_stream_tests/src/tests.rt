@@ -326,8 +326,8 @@ fn a_block_name_stays_with_its_block(rt: HostRuntime) {
     assert_eq!(rt; name.part(Form::End, 2, b"!\0"), Joined::Whole(b"Right!"));
 }
 
-// What a number of full packets answer, one after the other, the last of them as an end; `None` before the last where one before
-// it isn't held.
+// What a number of full packets answer, one after the other, the last of them as an end; `None` before the
+// last where one before it isn't held.
 fn joins_packets(kind: TextKind, count: usize) -> Option<bool> {
     let mut join = TextJoin::new(kind);
     for k in 1..count {

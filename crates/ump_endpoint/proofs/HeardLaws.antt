@@ -7,13 +7,14 @@ use Rattle.system_stream.specs.declared.message.StreamMessage.{StreamMessage}
 use Rattle.system_stream.specs.Layout.{IsStream, has_bad_format, message_in}
 use Rattle.function_blocks.specs.InForce.{message_read}
 use Rattle.ci_messages.specs.Reading.{ci_fault}
-use Rattle.ci_responder.specs.Messages.{Told}
-use Rattle.ci_responder.specs.Read.{told_in}
+use Rattle.ci_responder.specs.Messages.{Received}
+use Rattle.ci_responder.specs.Read.{received_in}
 use Rattle.ump_endpoint.specs.Answers.{outcome_of_replies, said_in, said_with}
 use Rattle.ump_endpoint.specs.declared.taken.Outcome.TheVariants as outcomes
 
 -- the message of a stream packet
-pub message_is : (packet : Packet) (message : StreamMessage) → IsStream packet → has_bad_format packet ≡ false → message ≡ message_in packet → message_read packet ≡ Some message
+pub message_is : (packet : Packet) (message : StreamMessage) → IsStream packet → has_bad_format packet ≡ false → message ≡ message_in packet
+    → message_read packet ≡ Some message
 message_is (packets.Stream f s l w x y) message stream fine is =
     ap (λ bad. if bad then None else Some (message_in (packets.Stream f s l w x y))) fine ∙ ap Some (sym is)
 message_is (packets.Utility s v) message stream fine is = absurd stream
@@ -25,12 +26,14 @@ message_is (packets.Data8 g w) message stream fine is = absurd stream
 message_is (packets.Flex g w) message stream fine is = absurd stream
 message_is (packets.Reserved w) message stream fine is = absurd stream
 
-pub outcome_is : (replies : List Packet) (some : Bool) → IsTrue some ↔ (0 < length replies) → (if some then outcomes.Answered else outcomes.NoAnswer) ≡ outcome_of_replies replies
+pub outcome_is : (replies : List Packet) (some : Bool) → IsTrue some ↔ (0 < length replies)
+    → (if some then outcomes.Answered else outcomes.NoAnswer) ≡ outcome_of_replies replies
 outcome_is [] true same = absurd (omega (arith, same.0 refl))
 outcome_is [] false same = refl
 outcome_is (p ∷ ps) true same = refl
 outcome_is (p ∷ ps) false same = absurd (let e : false ≡ true = same.1 (omega arith) in cc)
 
 -- what an exclusive without a fault says
-pub said_is_told : (group : ℕ) (message : List ℕ) (told : Told) → ci_fault message ≡ None → told ≡ told_in group message → said_in group message ≡ Ok told
-said_is_told group message told fine is = ap (λ fault. said_with fault (told_in group message)) fine ∙ ap Ok (sym is)
+pub said_is_told : (group : ℕ) (message : List ℕ) (received : Received) → ci_fault message ≡ None → received ≡ received_in group message
+    → said_in group message ≡ Ok received
+said_is_told group message received fine is = ap (λ fault. said_with fault (received_in group message)) fine ∙ ap Ok (sym is)

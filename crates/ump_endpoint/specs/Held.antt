@@ -5,23 +5,24 @@ use Rattle.voice_messages.specs.declared.voice2.Form.{Form}
 use Rattle.ump_grammar.specs.declared.packet.Packet.{Packet}
 use Rattle.ump_grammar.specs.declared.packet.Packet.TheVariants as packets
 use Rattle.sysex_groups.specs.Exclusives.{Answer, Part, restarted, restarted_whole, stray, too_long, whole}
-use Rattle.sysex_groups.specs.Table.{Table, answer_to, empty_table, table_after, with_part}
-use Rattle.function_blocks.specs.Setups.{Facts}
+use Rattle.sysex_groups.specs.Table.{Table, answer_to, empty_table, table_over, with_part}
+use Rattle.function_blocks.specs.Setups.{SetupData}
 use Rattle.ci_responder.specs.Held.{Held, after, heard_in, replies_in as message_replies_in}
-use Rattle.ci_responder.specs.History.{held_at}
-use Rattle.voice_state.specs.declared.listed.BadStep.{BadStep}
-use Rattle.voice_state.specs.declared.listed.BadStep.TheVariants as bad
-use Rattle.voice_state.specs.declared.listed.Kind.TheVariants as kinds
-use Rattle.voice_state.specs.declared.listed.Listed.{Listed}
-use Rattle.voice_state.specs.Parts.{Placed, part_of, parts_of}
+use Rattle.ci_responder.specs.History.{responder_at}
+use Rattle.midi_meaning.specs.declared.listed.BadStep.{BadStep}
+use Rattle.midi_meaning.specs.declared.listed.BadStep.TheVariants as bad
+use Rattle.midi_meaning.specs.declared.listed.Kind.TheVariants as kinds
+use Rattle.midi_meaning.specs.declared.listed.Listed.{Listed}
+use Rattle.midi_meaning.specs.Parts.{Placed, part_of, parts_of}
 use Rattle.ump_endpoint.specs.declared.taken.Outcome.{Outcome}
 use Rattle.ump_endpoint.specs.declared.taken.Outcome.TheVariants as outcomes
 use Rattle.ump_endpoint.specs.declared.taken.Taken.{Taken}
-use Rattle.ump_endpoint.specs.Answers.{Said, in_force, protocol_after_packet, said_in, stream_outcome, stream_packet_replies, told_in_packets}
+use Rattle.ump_endpoint.specs.Answers.{SaidOrFault, in_force, protocol_after_packet, said_in}
+use Rattle.ump_endpoint.specs.Answers.{stream_outcome, stream_packet_replies, received_in_packets}
 
 -- its setup, the protocol in force, the exclusives that the groups have open, and its responder
 pub record EndpointState : Type 0 where
-  pub setup : Facts
+  pub setup : SetupData
   pub protocol : ℕ
   pub exclusives : Table
   pub responder : Held
@@ -32,43 +33,43 @@ pub record EndpointValue : Type 0 where
   pub replies : List ℕ
 
 -- an endpoint to which nothing has come, with this limit for the bytes of an exclusive
-abbrev pub new_endpoint : Facts → ℕ → EndpointState
+abbrev pub new_endpoint : SetupData → ℕ → EndpointState
 new_endpoint setup room =
     record {
       setup = setup;
       protocol = setup.endpoint.protocol;
       exclusives = empty_table room;
-      responder = held_at setup room [];
+      responder = responder_at setup room [];
     }
 
 -- ---- one message
 
 -- what a responder holds after a message, the replies to it, and what becomes of it
-abbrev pub after_said : Held → Said → Held
-after_said held (Ok told) = after held told
+abbrev pub after_said : Held → SaidOrFault → Held
+after_said held (Ok received) = after held received
 after_said held (Err fault) = held
 
-abbrev pub said_replies : Held → Said → List Packet
-said_replies held (Ok told) = message_replies_in held told
+abbrev pub said_replies : Held → SaidOrFault → List Packet
+said_replies held (Ok received) = message_replies_in held received
 said_replies held (Err fault) = []
 
-abbrev pub said_outcome_in : Held → Said → Outcome
-said_outcome_in held (Ok told) = outcomes.Heard (heard_in held told)
+abbrev pub said_outcome_in : Held → SaidOrFault → Outcome
+said_outcome_in held (Ok received) = outcomes.Heard (heard_in held received)
 said_outcome_in held (Err fault) = outcomes.Unread fault
 
 -- ---- one part of an exclusive, by the answer to it
 
 -- what the exclusive says that an answer lends, if it lends one
-abbrev pub said_of : ℕ → Answer → Option Said
+abbrev pub said_of : ℕ → Answer → Option SaidOrFault
 said_of group (whole message) = Some (said_in group message)
 said_of group (restarted_whole at message) = Some (said_in group message)
 said_of group _ = None
 
-abbrev pub after_part : Held → Option Said → Held
+abbrev pub after_part : Held → Option SaidOrFault → Held
 after_part held None = held
 after_part held (Some said) = after_said held said
 
-abbrev pub part_replies : Held → Option Said → List Packet
+abbrev pub part_replies : Held → Option SaidOrFault → List Packet
 part_replies held None = []
 part_replies held (Some said) = said_replies held said
 
@@ -106,7 +107,7 @@ abbrev pub placed_part : ℕ → ℕ → Form → List ℕ → Part
 placed_part group offset form bytes = record { group = group; form = form; bytes = bytes; offset = offset }
 
 -- what the exclusive says that a packet ends
-abbrev pub said_of_packet : Table → Packet → Option Said
+abbrev pub said_of_packet : Table → Packet → Option SaidOrFault
 said_of_packet table (packets.Exclusive group form bytes) =
     said_of group (answer_to table (placed_part group 0 form bytes))
 said_of_packet table _ = None
@@ -156,11 +157,11 @@ after_packet offset packet held =
 -- ---- packets, the newest first
 
 -- what is held after them
-abbrev pub held_after : Facts → ℕ → List Placed → EndpointState
-held_after setup room past =
+abbrev pub held_over : SetupData → ℕ → List Placed → EndpointState
+held_over setup room past =
     record {
       setup = setup;
       protocol = in_force setup past;
-      exclusives = table_after room (parts_of past);
-      responder = held_at setup room (told_in_packets room past);
+      exclusives = table_over room (parts_of past);
+      responder = responder_at setup room (received_in_packets room past);
     }

@@ -7,15 +7,15 @@ use Rattle.ump_grammar.specs.declared.packet.Packet.{Packet}
 use Rattle.sysex_groups.specs.Exclusives.{started}
 use Rattle.sysex_groups.specs.Table.{begun_in}
 use Rattle.function_blocks.specs.Profiles.{profiles_are_distinct}
-use Rattle.function_blocks.specs.Setups.{Facts}
+use Rattle.function_blocks.specs.Setups.{SetupData}
 use Rattle.ci_responder.specs.Held.{muid_in}
 use Rattle.ci_responder.specs.History.{muid_at, on_at}
 use Rattle.ci_responder.specs.Keys.{state_in}
 use Rattle.ci_responder.specs.declared.keys.Key.{Key}
-use Rattle.voice_state.specs.Parts.{Placed, part_of, parts_of}
-use Rattle.voice_state.specs.Refusal.{bad_part}
-use Rattle.ump_endpoint.specs.Answers.{packet_listed, packet_outcome, packet_replies, told_in_packets}
-use Rattle.ump_endpoint.specs.Held.{after_packet, held_after, listed_in, new_endpoint, outcome_in, refusal_in, replies_in}
+use Rattle.midi_meaning.specs.Parts.{Placed, part_of, parts_of}
+use Rattle.midi_meaning.specs.Refusal.{bad_part}
+use Rattle.ump_endpoint.specs.Answers.{packet_listed, packet_outcome, packet_replies, received_in_packets}
+use Rattle.ump_endpoint.specs.Held.{after_packet, held_over, listed_in, new_endpoint, outcome_in, refusal_in, replies_in}
 
 -- each of these is a packet that some words decode to
 abbrev pub ArePackets : List Placed → Type 0
@@ -24,22 +24,22 @@ ArePackets past = AllByRecursion (λ placed. IsPacket placed.packet) past
 -- What is held after packets answers to one more what the definitions answer that look back over them. The room is at least 6, as an
 -- exclusive packet may have that many bytes.
 pub record AnswersAreThoseOfTheHistory : Type 0 where
-  pub begins : (setup : Facts) (room : ℕ) → new_endpoint setup room ≡ held_after setup room []
-  pub refusal : (setup : Facts) (room : ℕ) (past : List Placed) → 6 ≤ room → ArePackets past → (packet : Packet) →
-      refusal_in (held_after setup room past) packet ≡ bad_part (Some room) (parts_of past) (part_of 0 packet)
-  pub replies : (setup : Facts) (room : ℕ) (past : List Placed) → 6 ≤ room → ArePackets past → (placed : Placed) →
-      replies_in (held_after setup room past) placed.packet ≡ packet_replies setup room past placed
-  pub outcome : (setup : Facts) (room : ℕ) (past : List Placed) → 6 ≤ room → ArePackets past → (placed : Placed) →
-      outcome_in (held_after setup room past) placed.packet ≡ packet_outcome setup room past placed
-  pub listed : (setup : Facts) (room : ℕ) (past : List Placed) → 6 ≤ room → ArePackets past → (placed : Placed) →
-      listed_in (held_after setup room past) placed.offset placed.packet ≡ packet_listed room past placed
-  pub after : (setup : Facts) (room : ℕ) (past : List Placed) → 6 ≤ room → ArePackets past →
+  pub begins : (setup : SetupData) (room : ℕ) → new_endpoint setup room ≡ held_over setup room []
+  pub refusal : (setup : SetupData) (room : ℕ) (past : List Placed) → 6 ≤ room → ArePackets past → (packet : Packet) →
+      refusal_in (held_over setup room past) packet ≡ bad_part (Some room) (parts_of past) (part_of 0 packet)
+  pub replies : (setup : SetupData) (room : ℕ) (past : List Placed) → 6 ≤ room → ArePackets past → (placed : Placed) →
+      replies_in (held_over setup room past) placed.packet ≡ packet_replies setup room past placed
+  pub outcome : (setup : SetupData) (room : ℕ) (past : List Placed) → 6 ≤ room → ArePackets past → (placed : Placed) →
+      outcome_in (held_over setup room past) placed.packet ≡ packet_outcome setup room past placed
+  pub listed : (setup : SetupData) (room : ℕ) (past : List Placed) → 6 ≤ room → ArePackets past → (placed : Placed) →
+      listed_in (held_over setup room past) placed.offset placed.packet ≡ packet_listed room past placed
+  pub after : (setup : SetupData) (room : ℕ) (past : List Placed) → 6 ≤ room → ArePackets past →
       profiles_are_distinct setup.profiles ≡ true → (placed : Placed) →
-      after_packet placed.offset placed.packet (held_after setup room past) ≡ held_after setup room (placed ∷ past)
-  pub begun : (setup : Facts) (room : ℕ) (past : List Placed) → 6 ≤ room → ArePackets past → (group : ℕ) →
-      option_map (λ begun. begun.start) (begun_in (held_after setup room past).exclusives group)
+      after_packet placed.offset placed.packet (held_over setup room past) ≡ held_over setup room (placed ∷ past)
+  pub begun : (setup : SetupData) (room : ℕ) (past : List Placed) → 6 ≤ room → ArePackets past → (group : ℕ) →
+      option_map (λ begun. begun.start) (begun_in (held_over setup room past).exclusives group)
       ≡ started (Some room) group (parts_of past)
-  pub muid : (setup : Facts) (room : ℕ) (past : List Placed) (block : ℕ) →
-      muid_in (held_after setup room past).responder.blocks block ≡ muid_at setup (told_in_packets room past) block
-  pub on : (setup : Facts) (room : ℕ) (past : List Placed) (key : Key) →
-      state_in (held_after setup room past).responder.states key ≡ on_at setup (told_in_packets room past) key
+  pub muid : (setup : SetupData) (room : ℕ) (past : List Placed) (block : ℕ) →
+      muid_in (held_over setup room past).responder.blocks block ≡ muid_at setup (received_in_packets room past) block
+  pub on : (setup : SetupData) (room : ℕ) (past : List Placed) (key : Key) →
+      state_in (held_over setup room past).responder.states key ≡ on_at setup (received_in_packets room past) key

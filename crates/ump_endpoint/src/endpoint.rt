@@ -16,20 +16,20 @@ use crate::taken::{Outcome, Taken};
 use ci_responder::{Key, Responder};
 use function_blocks::{Config, Setup};
 use midi_edge::{NoMemory, U4};
+use midi_meaning::BadStep;
 use std::alloc::Global;
 use std::marker::Model;
 use sysex_groups::Groups;
 use system_stream::read;
 use ump_grammar::{Packet, Replies};
-use voice_state::BadStep;
 
-/// The most words that the replies to one packet have: for each of 32 function blocks, one info and seven packets of a name, four
-/// words each. The reply to a message of MIDI-CI has at most 114.
+/// The most words that the replies to one packet have: for each of 32 function blocks, one info and seven
+/// packets of a name, four words each. The reply to a message of MIDI-CI has at most 114.
 pub const MOST_REPLY_WORDS: usize = 1024;
 
-/// A UMP Endpoint: it answers the stream messages and the MIDI-CI messages of a peer (M2-104-UM, UMP stream messages; M2-101-UM). A
-/// contract sees what it holds, which is its setup, the protocol in force, the exclusives that the groups have open and its responder;
-/// and the words of the replies to the last packet.
+/// A UMP Endpoint: it answers the stream messages and the MIDI-CI messages of a peer (M2-104-UM, UMP stream
+/// messages; M2-101-UM). A contract sees what it holds, which is its setup, the protocol in force, the
+/// exclusives that the groups have open and its responder; and the words of the replies to the last packet.
 #[derive(Drop)]
 pub struct Endpoint {
     setup: Setup,
@@ -55,7 +55,8 @@ impl Model for Endpoint {
     } };
 }
 
-// Answers a stream packet: adds its replies to the replies, which are empty, and puts in force the protocol that it asks for.
+// Answers a stream packet: adds its replies to the replies, which are
+// empty, and puts in force the protocol that it asks for.
 fn answer(setup: &Setup, config: &mut Config, replies: &mut Replies, packet: &Packet) -> Outcome
     requires stream { IsStream packet.now }
     requires packet { IsPacket packet.now }
@@ -78,8 +79,9 @@ fn answer(setup: &Setup, config: &mut Config, replies: &mut Replies, packet: &Pa
 }
 
 impl Endpoint {
-    /// An endpoint of this setup, to which nothing has come. `room` is the most bytes of an exclusive between F0 and F7, 6 to
-    /// 1,048,576, for which each group reserves memory; `NoMemory` when there isn't that much. No other call takes any.
+    /// An endpoint of this setup, to which nothing has come. `room` is the most bytes of an exclusive between
+    /// F0 and F7, 6 to 1,048,576, for which each group reserves memory; `NoMemory` when there isn't that
+    /// much. No other call takes any.
     pub fn new(alloc: Global, setup: Setup, room: u32) -> Result<Endpoint, NoMemory>
         requires least { 6 ≤ room }
         requires most { room ≤ 1048576 }
@@ -98,13 +100,15 @@ impl Endpoint {
         })
     }
 
-    /// Takes one more packet of the peer, one that some words decode to, and makes the replies to it: those to a stream packet, or to the
-    /// MIDI-CI message that a packet of an exclusive ends. Packets of other kinds change nothing and have no reply (own rule). What it
-    /// did with the packet names the message that the packet ended and the exclusive that it lost.
+    /// Takes one more packet of the peer, one that some words decode to, and makes the replies to it: those
+    /// to a stream packet, or to the MIDI-CI message that a packet of an exclusive ends. Packets of other
+    /// kinds change nothing and have no reply (own rule). What it did with the packet names the message that
+    /// the packet ended and the exclusive that it lost.
     ///
-    /// The offset, in bytes from the start of the input, is only kept, and given back as the place of an exclusive that is lost; any
-    /// number will do. `Err` is always `ExclusiveTooLong`, and comes exactly where the exclusive has more bytes than the room: it is
-    /// dropped, nothing else is changed, and the endpoint may go on.
+    /// The offset, in bytes from the start of the input, is only kept, and given back as the place of an
+    /// exclusive that is lost; any number will do. `Err` is always `ExclusiveTooLong`, and comes exactly
+    /// where the exclusive has more bytes than the room: it is dropped, nothing else is changed, and the
+    /// endpoint may go on.
     pub fn packet(&mut self, packet: &Packet, offset: u64) -> Result<Taken, BadStep>
         requires { IsPacket packet.now }
         ensures held { self.new.held ≡ after_packet offset packet.now self.old.held }
@@ -154,8 +158,8 @@ impl Endpoint {
         self.config.protocol
     }
 
-    /// The MUID in force of a function block, counted from 0; `None` exactly where the block has no MIDI-CI or has used up its MUIDs, or
-    /// where there is no such block (M2-101-UM).
+    /// The MUID in force of a function block, counted from 0; `None` exactly where the block has no MIDI-CI
+    /// or has used up its MUIDs, or where there is no such block (M2-101-UM).
     pub fn muid(&self, block: u8) -> Option<u32>
         ensures { result ≡ muid_in self.now.held.responder.blocks block }
     {

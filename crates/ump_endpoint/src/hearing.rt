@@ -22,10 +22,10 @@ use ci_messages::laws::views_that_are_read_fit;
 use ci_messages::read;
 use ci_responder::{Responder, views_tell_their_bytes};
 use midi_edge::U4;
+use midi_meaning::{BadStep, Kind, Listed};
 use sysex_groups::{Fed, Groups};
 use ump_grammar::Replies;
 use voice_messages::Form;
-use voice_state::{BadStep, Kind, Listed};
 
 // Hears an exclusive of a group, and adds its reply to the replies, which are empty: what became of it.
 fn hear(responder: &mut Responder, replies: &mut Replies, group: U4, message: &[u8]) -> Outcome
@@ -54,8 +54,8 @@ fn cut_off(group: U4, cut_at: u64) -> Listed
     }
 }
 
-/// Takes one more part of an exclusive of a group, and answers the message that it ends: adds its reply to the replies, which are
-/// empty. One that is too long is refused.
+/// Takes one more part of an exclusive of a group, and answers the message that it ends: adds its reply to
+/// the replies, which are empty. One that is too long is refused.
 pub(crate) fn take_part(
     groups: &mut Groups,
     responder: &mut Responder,

@@ -1,4 +1,5 @@
-//! A UMP Endpoint of MIDI 2.0: takes one packet at a time, and gives its replies to stream messages and to MIDI-CI.
+//! A UMP Endpoint of MIDI 2.0: takes one packet at a time, and gives
+//! its replies to stream messages and to MIDI-CI.
 #![tactic(auto)]
 
 mod endpoint;
@@ -13,4 +14,4 @@ pub use crate::replies::ReplyPackets;
 pub use crate::taken::{Outcome, Taken};
 pub use ci_messages::CiFault;
 pub use ci_responder::{Heard, Key, Place};
-pub use voice_state::{BadStep, Kind, Listed};
+pub use midi_meaning::{BadStep, Kind, Listed};

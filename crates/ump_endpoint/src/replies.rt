@@ -5,8 +5,8 @@ ghost use Rattle.ump_words.specs.Cut.{words_asked};
 use std::marker::Model;
 use ump_words::words::words_in_packet;
 
-/// The packets of replies that are yet to be given, lent from the endpoint that made them. A contract sees it as the list of their
-/// words.
+/// The packets of replies that are yet to be given, lent from the endpoint that made them. A contract sees it
+/// as the list of their words.
 #[derive(Debug, Drop)]
 pub struct ReplyPackets<'a> {
     words: &'a [u32],
@@ -42,8 +42,8 @@ impl<'a> ReplyPackets<'a> {
         self.words
     }
 
-    /// The words of the next packet, as many as its first word asks for, 1 to 4 (M2-104-UM, message types); `None` exactly where none is
-    /// left.
+    /// The words of the next packet, as many as its first word asks for, 1 to 4 (M2-104-UM, message types);
+    /// `None` exactly where none is left.
     pub fn next(&mut self) -> Option<&'a [u32]>
         ensures none { is_none result ≡ (length self.old == 0) }
         ensures words { IfSome result (λ words.

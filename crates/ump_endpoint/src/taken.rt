@@ -1,7 +1,7 @@
 // What an endpoint did with a packet.
 use ci_messages::CiFault;
 use ci_responder::Heard;
-use voice_state::Listed;
+use midi_meaning::Listed;
 
 /// What became of a message that a packet ended: of a stream message, or of a whole exclusive.
 #[derive(Clone, Copy, Debug, PartialEq, Eq)]
@@ -12,7 +12,8 @@ pub enum Outcome {
     NoAnswer,
     /// The stream packet has a format that its message may not have, and isn't answered (own rule).
     BadFormat,
-    /// The exclusive isn't a message of MIDI-CI, or breaks its form: this is its first fault. It isn't answered (own rule).
+    /// The exclusive isn't a message of MIDI-CI, or breaks its form: this
+    /// is its first fault. It isn't answered (own rule).
     Unread(CiFault),
     /// The exclusive is a message of MIDI-CI, which was heard so (M2-101-UM).
     Heard(Heard),

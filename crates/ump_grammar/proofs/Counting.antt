@@ -3,7 +3,7 @@ use Rattle.std.proofs.Common.{◌≡◌, ◌<◌, ℕ, ◌/◌, ◌^◌, List, l
 use Rattle.ump_words.specs.Cut.{IsWhole, word_counts}
 use Rattle.ump_grammar.specs.declared.packet.Packet.{Packet}
 use Rattle.ump_grammar.specs.declared.packet.Packet.TheVariants as packet
-use Rattle.ump_grammar.specs.Places.{type_of}
+use Rattle.ump_grammar.specs.WordFields.{type_of}
 use Rattle.ump_grammar.specs.Reading.{Encodes}
 use Rattle.ump_grammar.specs.Replies.{word_count}
 use Rattle.ump_grammar.specs.Spelling.{Spells}
@@ -28,7 +28,8 @@ spelled-count (packet.Stream format status low second third fourth) words below 
 spelled-count (packet.Reserved kept) words below s = sym (ap length s.row.1)
 
 -- the words that are lent of an encoded packet are as many as its row says
-pub encoded_count : (p : Packet) (words encoded : List ℕ) → words ≡ encoded → get_or words 0 0 < 2 ^ 32 → Encodes p encoded → length words ≡ word_count p
+pub encoded_count : (p : Packet) (words encoded : List ℕ) → words ≡ encoded → get_or words 0 0 < 2 ^ 32 → Encodes p encoded
+    → length words ≡ word_count p
 encoded_count p words encoded same below e =
     let first : get_or encoded 0 0 < 2 ^ 32 = rw (← same) below in
     ap length same ∙ spelled-count p encoded first e.spelled

@@ -5,7 +5,7 @@ use Rattle.ump_words.specs.Cut.{IsWhole}
 use Rattle.voice_messages.specs.declared.voice2.Form.{Form}
 use Rattle.voice_messages.specs.declared.voice2.Form.TheVariants as form
 use Rattle.ump_grammar.specs.declared.packet.Packet.TheVariants as packet
-use Rattle.ump_grammar.specs.Places.{type_of, group_of, opcode_of, count_of}
+use Rattle.ump_grammar.specs.WordFields.{type_of, group_of, opcode_of, count_of}
 use Rattle.ump_grammar.specs.Ranges.{IsPacket}
 use Rattle.ump_grammar.specs.Reading.{Encodes}
 use Rattle.ump_grammar.specs.Reason.{has_bad_count, has_high, marked}
@@ -21,7 +21,8 @@ form_number-le form.End = refl
 
 pub Encodes-exclusive : (group : ℕ) (f : Form) (bytes words : List ℕ) → IsPacket (packet.Exclusive group f bytes)
     → IsWhole words → type_of words ≡ 3 → group_of words ≡ group → opcode_of words ≡ form_number f → count_of words ≡ length bytes
-    → exclusive_places words ≡ (get_or bytes 0 0 ∷ get_or bytes 1 0 ∷ get_or bytes 2 0 ∷ get_or bytes 3 0 ∷ get_or bytes 4 0 ∷ get_or bytes 5 0 ∷ [])
+    → exclusive_places words
+    ≡ (get_or bytes 0 0 ∷ get_or bytes 1 0 ∷ get_or bytes 2 0 ∷ get_or bytes 3 0 ∷ get_or bytes 4 0 ∷ get_or bytes 5 0 ∷ [])
     → Encodes (packet.Exclusive group f bytes) words
 Encodes-exclusive group f bytes words fits whole kind in_group opcode count places =
     let same : bytes ≡ take (count_of words) (exclusive_places words) = rw (count, places) (take-six bytes fits.1) in

@@ -24,7 +24,8 @@ place_small [] i small = omega arith
 place_small (b ∷ bytes) zero small = let low : b < 128 = All-head (λ x. x < 128) b bytes small in omega (arith, low)
 place_small (b ∷ bytes) (suc i) small = place_small bytes i (All-tail (λ x. x < 128) b bytes small)
 
-six : (a b c d e f a' b' c' d' e' f' : ℕ) → a ≡ a' → b ≡ b' → c ≡ c' → d ≡ d' → e ≡ e' → f ≡ f' → (a ∷ b ∷ c ∷ d ∷ e ∷ f ∷ []) ≡ (a' ∷ b' ∷ c' ∷ d' ∷ e' ∷ f' ∷ [])
+six : (a b c d e f a' b' c' d' e' f' : ℕ) → a ≡ a' → b ≡ b' → c ≡ c' → d ≡ d' → e ≡ e' → f ≡ f'
+    → (a ∷ b ∷ c ∷ d ∷ e ∷ f ∷ []) ≡ (a' ∷ b' ∷ c' ∷ d' ∷ e' ∷ f' ∷ [])
 six a b c d e f a' b' c' d' e' f' p q r s t u = cc
 
 abbrev first_word : ℕ → ℕ → ℕ → ℕ → ℕ → ℕ
@@ -44,20 +45,31 @@ record HasFields (group form count b c : ℕ) : Type 0 where
 
 first_fields : (group form count b c : ℕ) → group < 16 → form < 16 → count ≤ 6 → b < 256 → c < 256 → HasFields group form count b c
 first_fields group form count b c few small counted low last =
-    record { typed = omega arith; kind = omega arith; in_group = omega arith; opcode = omega arith; counted = omega arith; third = omega arith; fourth = omega arith }
+    record {
+      typed = omega arith;
+      kind = omega arith;
+      in_group = omega arith;
+      opcode = omega arith;
+      counted = omega arith;
+      third = omega arith;
+      fourth = omega arith;
+    }
 
 second_fields : (d e f g : ℕ) → d < 256 → e < 256 → f < 256 → g < 256
-    → (second_word d e f g / 16777216 % 256 ≡ d) × (second_word d e f g / 65536 % 256 ≡ e) × (second_word d e f g / 256 % 256 ≡ f) × (second_word d e f g / 1 % 256 ≡ g)
+    → (second_word d e f g / 16777216 % 256 ≡ d) × (second_word d e f g / 65536 % 256 ≡ e) × (second_word d e f g / 256 % 256 ≡ f)
+    × (second_word d e f g / 1 % 256 ≡ g)
 second_fields d e f g small low last least = (omega arith, omega arith, omega arith, omega arith)
 
-pub exclusive_words : (group : ℕ) (f : Form) (bytes : List ℕ) → IsPacket (Exclusive group f bytes) → (words : List ℕ) × Encodes (Exclusive group f bytes) words
+pub exclusive_words : (group : ℕ) (f : Form) (bytes : List ℕ) → IsPacket (Exclusive group f bytes)
+    → (words : List ℕ) × Encodes (Exclusive group f bytes) words
 exclusive_words group f bytes fits =
     let at = λ (i : ℕ). get_or bytes i 0 in
     let small = λ (i : ℕ). place_small bytes i fits.2 in
     let first = first_fields group (form_number f) (length bytes) (at 0) (at 1) fits.0 (form_small f) fits.1 (small 0) (small 1) in
     let second = second_fields (at 2) (at 3) (at 4) (at 5) (small 2) (small 3) (small 4) (small 5) in
     let words : List ℕ = first_word group (form_number f) (length bytes) (at 0) (at 1) ∷ second_word (at 2) (at 3) (at 4) (at 5) ∷ [] in
-    let whole : 2 ≡ words_asked (first_word group (form_number f) (length bytes) (at 0) (at 1)) = ap (λ (kind : ℕ). slice_index_or word_counts kind 4) (sym first.typed) in (
+    let whole : 2 ≡ words_asked (first_word group (form_number f) (length bytes) (at 0) (at 1)) =
+    ap (λ (kind : ℕ). slice_index_or word_counts kind 4) (sym first.typed) in (
       words,
       Encodes-exclusive group f bytes words fits whole first.kind first.in_group first.opcode first.counted
           (six _ _ _ _ _ _ _ _ _ _ _ _ first.third first.fourth second.0 second.1 second.2 second.3),

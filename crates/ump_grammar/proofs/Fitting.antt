@@ -1,5 +1,6 @@
 -- What words spell without a reason to refuse them fits its places.
-use Rattle.std.proofs.Common.{◌≡◌, ◌<◌, ℕ, ◌+◌, Bool, true, false, cond, eqb, leb, ltb, List, [], ◌∷◌, length, take, refl, sym, ap, ◌∙◌, subst, ◌⊎◌, inl, inr, arith, None, Some}
+use Rattle.std.proofs.Common.{◌≡◌, ◌<◌, ℕ, ◌+◌, Bool, true, false, cond, eqb, leb, ltb, List, [], ◌∷◌}
+use Rattle.std.proofs.Common.{length, take, refl, sym, ap, ◌∙◌, subst, ◌⊎◌, inl, inr, arith, None, Some}
 use Rattle.std.specs.Prelude.{Option, Result, Ok, Err, IfOk}
 use Rattle.std.proofs.lemmas.Bool.{ltb-false}
 use Rattle.std.proofs.lemmas.List.{length-take}
@@ -20,7 +21,7 @@ use Rattle.ump_grammar.specs.declared.packet.Bad.{Bad}
 use Rattle.ump_grammar.specs.declared.packet.Bad.TheVariants.{BadCount, HighBit}
 use Rattle.ump_grammar.specs.declared.packet.Packet.{Packet}
 use Rattle.ump_grammar.specs.declared.packet.Packet.TheVariants as packet
-use Rattle.ump_grammar.specs.Places.{field, word, byte, opcode_of, count_of}
+use Rattle.ump_grammar.specs.WordFields.{field, word, byte, opcode_of, count_of}
 use Rattle.ump_grammar.specs.Ranges.{IsPacket}
 use Rattle.ump_grammar.specs.Reading.{Decodes}
 use Rattle.ump_grammar.specs.Reason.{reason, has_bad_count, has_high, marked, marked_in_system, marked_in_voice1, marked_in_voice2}
@@ -38,8 +39,11 @@ small-two b c none =
 small-three : (b c d : ℕ) → has_high (b ∷ c ∷ d ∷ []) ≡ false → (b < 128) × (c < 128) × (d < 128)
 small-three b c d none =
     let all = small-has_high (b ∷ c ∷ d ∷ []) none in
-    let rest = All-tail (λ b. b < 128) b (c ∷ d ∷ []) all in
-    (All-head (λ b. b < 128) b (c ∷ d ∷ []) all, All-head (λ b. b < 128) c (d ∷ []) rest, All-head (λ b. b < 128) d [] (All-tail (λ b. b < 128) c (d ∷ []) rest))
+    let rest = All-tail (λ b. b < 128) b (c ∷ d ∷ []) all in (
+      All-head (λ b. b < 128) b (c ∷ d ∷ []) all,
+      All-head (λ b. b < 128) c (d ∷ []) rest,
+      All-head (λ b. b < 128) d [] (All-tail (λ b. b < 128) c (d ∷ []) rest),
+    )
 
 system-fits : (m : System) (words : List ℕ) → SpellsSystem m words → has_high (marked_in_system words) ≡ false → IsSystem m
 system-fits (system.Quarter value) words s none =
@@ -72,7 +76,8 @@ voice1-fits (voice1.Pressure channel value) words s none =
 voice1-fits (voice1.Bend channel value) words s none =
     let low = small-two (byte words 3) (byte words 4) (rw s.0 at none) in (omega arith, omega arith)
 
-note_controller-fits : (k : ParamKind) (channel note index value : ℕ) (words : List ℕ) → SpellsVoice2 (voice2.NoteController channel k note index value) words
+note_controller-fits : (k : ParamKind) (channel note index value : ℕ) (words : List ℕ)
+    → SpellsVoice2 (voice2.NoteController channel k note index value) words
     → has_high (marked_in_voice2 words) ≡ false → IsVoice2 (voice2.NoteController channel k note index value)
 note_controller-fits kind.Registered channel note index value words s none =
     let low = small-one (byte words 3) (rw s.0 at none) in (omega arith, omega arith, omega arith, omega arith)
@@ -92,7 +97,8 @@ param-small kind.Assignable low words (inr e) opcode none =
     let five : opcode_of words ≡ 5 = omega arith in small-two (byte words 3) (byte words 4) (rw five at none)
 
 program-fits : (t : Bool) (channel program : ℕ) (bank : Option Bank) (words : List ℕ) → eqb (field (word words 1) 0 1) 1 ≡ t
-    → SpellsVoice2 (voice2.Program channel program bank) words → has_high (marked_in_voice2 words) ≡ false → IsVoice2 (voice2.Program channel program bank)
+    → SpellsVoice2 (voice2.Program channel program bank) words → has_high (marked_in_voice2 words) ≡ false
+    → IsVoice2 (voice2.Program channel program bank)
 program-fits true channel program bank words flag s none =
     let low = small-three (byte words 5) (byte words 7) (byte words 8) (rw (s.0, flag) at none) in
     let there : Some (record { msb = byte words 7; lsb = byte words 8 }) ≡ bank = sym (s.3 ∙ rw flag refl) in
@@ -103,7 +109,8 @@ program-fits false channel program bank words flag s none =
     (omega arith, omega arith, subst IsBank there tt)
 
 voice2-fits : (m : Voice2) (words : List ℕ) → SpellsVoice2 m words → has_high (marked_in_voice2 words) ≡ false → IsVoice2 m
-voice2-fits (voice2.NoteController channel kind note index value) words s none = note_controller-fits kind channel note index value words s none
+voice2-fits (voice2.NoteController channel kind note index value) words s none =
+    note_controller-fits kind channel note index value words s none
 voice2-fits (voice2.Set channel param value) words s none =
     let low = param-small param.kind 2 words (inl refl) s.0 none in (omega arith, (omega arith, omega arith), omega arith)
 voice2-fits (voice2.Shift channel param value) words s none =
@@ -118,7 +125,8 @@ voice2-fits (voice2.PolyPressure channel note value) words s none =
     let low = small-one (byte words 3) (rw s.0 at none) in (omega arith, omega arith, omega arith)
 voice2-fits (voice2.Control channel index value) words s none =
     let low = small-one (byte words 3) (rw s.0 at none) in (omega arith, omega arith, omega arith)
-voice2-fits (voice2.Program channel program bank) words s none = program-fits (eqb (field (word words 1) 0 1) 1) channel program bank words refl s none
+voice2-fits (voice2.Program channel program bank) words s none =
+    program-fits (eqb (field (word words 1) 0 1) 1) channel program bank words refl s none
 voice2-fits (voice2.Pressure channel value) words s none = (omega arith, omega arith)
 voice2-fits (voice2.Bend channel value) words s none = (omega arith, omega arith)
 voice2-fits (voice2.NoteManagement channel note flags) words s none =
@@ -150,8 +158,12 @@ exclusive-fits group f bytes words r none =
     let form_is = form-opcode f (opcode_of words) r.2.0 in
     let count : ltb 6 (count_of words) ≡ false = simp (r.0, form_is) at (good_count words none) in
     let low : has_high (take (count_of words) (exclusive_places words)) ≡ false = simp (r.0, form_is) at (no_high words none) in
-    let few = ltb-false 6 (count_of words) count in
-    (omega arith, omega (arith, ap length r.2.1, length-take (count_of words) (exclusive_places words)), All-same (λ b. b < 128) bytes (take (count_of words) (exclusive_places words)) r.2.1 (small-has_high (take (count_of words) (exclusive_places words)) low))
+    let few = ltb-false 6 (count_of words) count in (
+      omega arith,
+      omega (arith, ap length r.2.1, length-take (count_of words) (exclusive_places words)),
+      All-same (λ b. b < 128) bytes (take (count_of words) (exclusive_places words)) r.2.1
+          (small-has_high (take (count_of words) (exclusive_places words)) low),
+    )
 
 -- the packet fits its places
 pub IsPacket-spelled : (p : Packet) (words : List ℕ) → Spells p words → reason words ≡ None → IsPacket p

@@ -15,8 +15,9 @@ use Rattle.voice_messages.specs.declared.voice2.Voice2.{Voice2}
 use Rattle.voice_messages.specs.declared.voice2.Voice2.TheVariants as voice2
 use Rattle.ump_grammar.specs.declared.packet.Packet.{Packet}
 use Rattle.ump_grammar.specs.declared.packet.Packet.TheVariants as packet
-use Rattle.ump_grammar.specs.Places.{field, word, byte, type_of, group_of, opcode_of, channel_of, count_of}
-use Rattle.ump_grammar.specs.Spelling.{IsRead, both, SpellsSystem, SpellsVoice1, SpellsVoice2, HasRow, Spells, has_row, is_system_status, bank_of, exclusive_places, form_number, kind_number}
+use Rattle.ump_grammar.specs.WordFields.{field, word, byte, type_of, group_of, opcode_of, channel_of, count_of}
+use Rattle.ump_grammar.specs.Spelling.{IsRead, both, SpellsSystem, SpellsVoice1, SpellsVoice2, HasRow, Spells}
+use Rattle.ump_grammar.specs.Spelling.{has_row, is_system_status, bank_of, exclusive_places, form_number, kind_number}
 
 -- what is read off, by the status or opcode
 
@@ -61,8 +62,10 @@ voice2_by opcode words =
     else if opcode == 0x4 then voice2.Shift (channel_of words) (param_in kind.Registered words) (value_in words)
     else if opcode == 0x5 then voice2.Shift (channel_of words) (param_in kind.Assignable words) (value_in words)
     else if opcode == 0x6 then voice2.NoteBend (channel_of words) (byte words 3) (value_in words)
-    else if opcode == 0x8 then voice2.NoteOff (channel_of words) (byte words 3) (field (word words 2) 16 16) (byte words 4) (field (word words 2) 0 16)
-    else if opcode == 0x9 then voice2.NoteOn (channel_of words) (byte words 3) (field (word words 2) 16 16) (byte words 4) (field (word words 2) 0 16)
+    else if opcode == 0x8
+    then voice2.NoteOff (channel_of words) (byte words 3) (field (word words 2) 16 16) (byte words 4) (field (word words 2) 0 16)
+    else if opcode == 0x9
+    then voice2.NoteOn (channel_of words) (byte words 3) (field (word words 2) 16 16) (byte words 4) (field (word words 2) 0 16)
     else if opcode == 0xA then voice2.PolyPressure (channel_of words) (byte words 3) (value_in words)
     else if opcode == 0xB then voice2.Control (channel_of words) (byte words 3) (value_in words)
     else if opcode == 0xC then voice2.Program (channel_of words) (byte words 5) (bank_of words)
@@ -79,7 +82,8 @@ packet_by type words =
     else if type == 0x4 then packet.Voice2 (group_of words) (voice2_by (opcode_of words) words)
     else if type == 0x5 then packet.Data8 (group_of words) words
     else if type == 0xD then packet.Flex (group_of words) words
-    else packet.Stream (field (word words 1) 26 2) (field (word words 1) 16 10) (field (word words 1) 0 16) (field (word words 2) 0 32) (field (word words 3) 0 32) (field (word words 4) 0 32)
+    else packet.Stream (field (word words 1) 26 2) (field (word words 1) 16 10) (field (word words 1) 0 16) (field (word words 2) 0 32)
+    (field (word words 3) 0 32) (field (word words 4) 0 32)
 
 -- the packet of these words
 abbrev packet_of : List ℕ → Packet
@@ -187,7 +191,8 @@ kind-opcode kind.Registered low opcode small e = ap not (ne_eqb opcode 7 (λ sev
 kind-opcode kind.Assignable low opcode small e = ap not (ne_eqb opcode 7 (λ seven. omega arith))
 
 voice2-opcode : (m : Voice2) (words : List ℕ) → SpellsVoice2 m words → is_voice2_opcode (opcode_of words) ≡ true
-voice2-opcode (voice2.NoteController channel kind note index value) words s = kind-opcode kind 0 (opcode_of words) (omega arith) (omega arith)
+voice2-opcode (voice2.NoteController channel kind note index value) words s =
+    kind-opcode kind 0 (opcode_of words) (omega arith) (omega arith)
 voice2-opcode (voice2.Set channel param value) words s = kind-opcode param.kind 2 (opcode_of words) (omega arith) s.0
 voice2-opcode (voice2.Shift channel param value) words s = kind-opcode param.kind 4 (opcode_of words) (omega arith) s.0
 voice2-opcode (voice2.NoteBend channel note value) words s = rw s.0 refl

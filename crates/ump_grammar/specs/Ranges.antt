@@ -5,7 +5,7 @@ use Rattle.ump_words.specs.Cut.{IsWhole}
 use Rattle.voice_messages.specs.Ranges.{IsVoice1, IsVoice2, IsSystem}
 use Rattle.ump_grammar.specs.declared.packet.Packet.{Packet}
 use Rattle.ump_grammar.specs.declared.packet.Packet.TheVariants as packet
-use Rattle.ump_grammar.specs.Places.{type_of, group_of}
+use Rattle.ump_grammar.specs.WordFields.{type_of, group_of}
 use Rattle.ump_grammar.specs.Spelling.{has_row}
 
 abbrev pub IsPacket : Packet → Type 0

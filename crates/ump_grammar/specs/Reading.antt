@@ -39,4 +39,5 @@ pub record Encodes (p : Packet) (words : List ℕ) : Type 0 where
 -- each 7-bit exclusive whose fields fit is encoded by some words
 abbrev pub ExclusivesHaveWords : Type 0
 ExclusivesHaveWords =
-    (group : ℕ) (form : Form) (bytes : List ℕ) → IsPacket (Exclusive group form bytes) → (words : List ℕ) × Encodes (Exclusive group form bytes) words
+    (group : ℕ) (form : Form) (bytes : List ℕ) → IsPacket (Exclusive group form bytes)
+    → (words : List ℕ) × Encodes (Exclusive group form bytes) words

@@ -3,7 +3,7 @@ use Rattle.std.specs.Prelude.{ℕ, ◌==◌, nat_le, nat_lt, Bool, ◌&&◌, ◌
 use Rattle.std.specs.List.{list_any}
 use Rattle.ump_grammar.specs.declared.packet.Bad.{Bad}
 use Rattle.ump_grammar.specs.declared.packet.Bad.TheVariants.{BadCount, HighBit}
-use Rattle.ump_grammar.specs.Places.{field, word, byte, type_of, opcode_of, count_of}
+use Rattle.ump_grammar.specs.WordFields.{field, word, byte, type_of, opcode_of, count_of}
 use Rattle.ump_grammar.specs.Spelling.{exclusive_places}
 
 -- The marked bytes carry seven bits. First those of a system common message, by its status byte.

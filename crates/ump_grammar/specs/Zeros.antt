@@ -9,7 +9,7 @@ use Rattle.voice_messages.specs.declared.voice2.Voice2.{Voice2}
 use Rattle.voice_messages.specs.declared.voice2.Voice2.TheVariants as voice2
 use Rattle.ump_grammar.specs.declared.packet.Packet.{Packet}
 use Rattle.ump_grammar.specs.declared.packet.Packet.TheVariants as packet
-use Rattle.ump_grammar.specs.Places.{field, word, byte, group_of}
+use Rattle.ump_grammar.specs.WordFields.{field, word, byte, group_of}
 use Rattle.ump_grammar.specs.Spelling.{exclusive_places}
 
 abbrev pub ZerosInSystem : System → List ℕ → Type 0

@@ -1,7 +1,7 @@
 // From words to packets.
 ghost use Rattle.std.specs.Prelude.{◌≡◌, ◌<◌, length, false, IfOk, MatchOption};
 ghost use Rattle.ump_words.specs.Cut.{IsWhole};
-ghost use Rattle.ump_grammar.specs.Places.{type_of};
+ghost use Rattle.ump_grammar.specs.WordFields.{type_of};
 ghost use Rattle.ump_grammar.specs.Ranges.{IsPacket};
 ghost use Rattle.ump_grammar.specs.Reading.{Decodes};
 ghost use Rattle.ump_grammar.specs.Reason.{has_high as is_any_high};
@@ -20,10 +20,10 @@ use midi_edge::ShortList;
 use ump_words::{Framed, Words};
 use voice_messages::Form;
 
-/// The packet that the words spell (M2-104-UM); they are as many as the type in the first one has. `Err(BadCount)` is returned
-/// exactly when a 7-bit exclusive of form 0 to 3 counts more than six bytes, and `Err(HighBit)` exactly when another packet has a
-/// byte of 128 or more that carries seven bits: of an exclusive those that it counts, of a program's bank those of a bank that is
-/// there.
+/// The packet that the words spell (M2-104-UM); they are as many as the type in the first one has.
+/// `Err(BadCount)` is returned exactly when a 7-bit exclusive of form 0 to 3 counts more than six bytes, and
+/// `Err(HighBit)` exactly when another packet has a byte of 128 or more that carries seven bits: of an
+/// exclusive those that it counts, of a program's bank those of a bank that is there.
 #[tactic(auto, using(crate::proofs::Fitting::decoded_fits))]
 #[inline(always)]
 pub fn decode(framed: &Framed) -> Result<Packet, Bad>
@@ -205,8 +205,8 @@ fn exclusive(words: &Words) -> Result<Packet, Bad>
     })
 }
 
-/// The form of this number (M2-104-UM, formats of stream messages and of 7-bit exclusives): 0 complete, 1 start, 2 continue,
-/// 3 end; `None` exactly above 3.
+/// The form of this number (M2-104-UM, formats of stream messages and of 7-bit exclusives): 0 complete, 1
+/// start, 2 continue, 3 end; `None` exactly above 3.
 pub fn form_of(number: u32) -> Option<Form>
     ensures { MatchOption result (3 < number) (λ form. number ≡ form_number form) }
 {

@@ -1,7 +1,7 @@
 // From packets to words.
 ghost use Rattle.std.specs.Prelude.{◌≡◌, ◌≤◌, ◌<◌, ◌+◌, ◌*◌, ◌/◌, ◌%◌, ◌^◌, length, slice_index, [], ◌∷◌};
 ghost use Rattle.ump_words.specs.Cut.{IsWhole};
-ghost use Rattle.ump_grammar.specs.Places.{
+ghost use Rattle.ump_grammar.specs.WordFields.{
   field,
   word,
   byte,
@@ -20,8 +20,8 @@ use crate::packet::Packet;
 use ump_words::Words;
 use voice_messages::{Bank, Form, ParamKind, System, U4, U7, U14, Voice1, Voice2};
 
-/// The words that spell the packet (M2-104-UM), with zeros in the places that its row doesn't name. The packet is one that some
-/// words decode to.
+/// The words that spell the packet (M2-104-UM), with zeros in the places that its row doesn't name. The
+/// packet is one that some words decode to.
 #[inline(always)]
 #[tactic(auto, using(crate::proofs::OnePacket::one_packet))]
 pub fn encode(packet: &Packet) -> Words
@@ -284,6 +284,7 @@ fn note(group: U4, message: &Voice2) -> Words
             *attribute_type,
             halves(*velocity, *attribute),
         ),
+        // Only a note off or a note on is written here.
         _ => unreachable!(),
     }
 }
@@ -318,6 +319,7 @@ fn of_one_note(group: U4, message: &Voice2) -> Words
             note,
             flags,
         } => voice2_words(group, 0xF, *channel, note.get(), *flags, 0),
+        // Only a message of one note that is neither a note off nor a note on is written here.
         _ => unreachable!(),
     }
 }
@@ -354,6 +356,7 @@ fn parameter(group: U4, message: &Voice2) -> Words
             param.index.get(),
             *value,
         ),
+        // Only a parameter that is set or shifted is written here.
         _ => unreachable!(),
     }
 }

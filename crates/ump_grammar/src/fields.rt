@@ -1,6 +1,6 @@
 // Fields of words.
 ghost use Rattle.std.specs.Prelude.{◌≡◌, ◌<◌, ◌≤◌, MatchOption};
-ghost use Rattle.ump_grammar.specs.Places.{field};
+ghost use Rattle.ump_grammar.specs.WordFields.{field};
 
 use voice_messages::{U4, U7};
 
@@ -36,7 +36,8 @@ pub fn half(word: u32, low: u32) -> u16
     ((word >> low) % 0x1_0000) as u16
 }
 
-/// The field of eight bits from bit `low` on, which is below 32; `None` exactly when the field is 128 or more.
+/// The field of eight bits from bit `low` on, which is below 32;
+/// `None` exactly when the field is 128 or more.
 pub fn data_byte(word: u32, low: u32) -> Option<U7>
     requires { low < 32 }
     ensures { MatchOption result (128 ≤ field word low 8) (λ b. (b ≡ field word low 8) × (b < 128)) }

@@ -22,7 +22,8 @@ pub fn rows_are_not_reserved()
     ensures { (p : Packet) (words : List ℕ) → IsRead p → HasRow p words → has_row words ≡ true }
 {}
 
-/// Each 7-bit exclusive packet whose fields fit their places has words (M2-104-UM, system exclusive 7-bit messages).
+/// Each 7-bit exclusive packet whose fields fit their places has
+/// words (M2-104-UM, system exclusive 7-bit messages).
 pub fn exclusives_have_words()
     ensures { ExclusivesHaveWords }
 {}

@@ -7,8 +7,8 @@ use voice_messages::{Form, System, U4, Voice1, Voice2};
 /// A packet of the Universal MIDI Packet format (M2-104-UM).
 #[derive(Debug, PartialEq, Eq, Drop)]
 pub enum Packet {
-    /// Type 0, with a value of 20 bits and a status of 0 to 4: 0 NOOP, 1 JR Clock, 2 JR Timestamp, 3 Delta Clockstamp Ticks Per
-    /// Quarter Note, 4 Delta Clockstamp.
+    /// Type 0, with a value of 20 bits and a status of 0 to 4: 0 NOOP, 1 JR Clock, 2 JR Timestamp, 3 Delta
+    /// Clockstamp Ticks Per Quarter Note, 4 Delta Clockstamp.
     Utility {
         status: u8,
         value: u32,
@@ -44,8 +44,8 @@ pub enum Packet {
         group: U4,
         words: Words,
     },
-    /// Type F: stream messages, with a format of 0 to 3 and a status of 10 bits. `low` is bytes 3 and 4, the low half of word 1, and
-    /// `second` to `fourth` are words 2 to 4.
+    /// Type F: stream messages, with a format of 0 to 3 and a status of 10 bits. `low` is bytes 3 and 4, the
+    /// low half of word 1, and `second` to `fourth` are words 2 to 4.
     Stream {
         format: u8,
         status: u16,

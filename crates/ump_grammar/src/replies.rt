@@ -8,8 +8,8 @@ use crate::packet::Packet;
 use midi_edge::ShortList;
 use std::marker::Model;
 
-/// At most 1,024 words of packets that are to be sent, kept in place, without memory from an allocator. A contract sees it as the
-/// list of the words.
+/// At most 1,024 words of packets that are to be sent, kept in place, without memory from an allocator. A
+/// contract sees it as the list of the words.
 #[derive(Debug, Drop)]
 pub struct Replies {
     words: ShortList<u32, 1024>,
@@ -33,8 +33,8 @@ impl Replies {
         }
     }
 
-    /// Appends the words of the packet, as `encode` gives them (M2-104-UM), where no more than 1,024 words stand afterwards.
-    /// The packet is one that some words decode to.
+    /// Appends the words of the packet, as `encode` gives them (M2-104-UM), where no more than 1,024 words
+    /// stand afterwards. The packet is one that some words decode to.
     pub fn push(&mut self, packet: &Packet)
         requires packet { IsPacket packet.now }
         requires fits { length self.old + word_count packet.now ≤ 1024 }

@@ -1,6 +1,6 @@
 // The rows of system messages and of the MIDI 1.0 protocol's channel voice messages.
 ghost use Rattle.std.specs.Prelude.{◌≡◌, ◌≤◌, ◌⊎◌, ◌+◌, ◌*◌, length, true};
-ghost use Rattle.ump_grammar.specs.Places.{byte as byte_of, opcode_of};
+ghost use Rattle.ump_grammar.specs.WordFields.{byte as byte_of, opcode_of};
 ghost use Rattle.ump_grammar.specs.Reading.{ReadsSystem, ReadsVoice1};
 ghost use Rattle.ump_grammar.specs.Spelling.{is_system_status};
 

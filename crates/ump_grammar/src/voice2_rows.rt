@@ -1,6 +1,6 @@
 // The rows of the MIDI 2.0 protocol's channel voice messages.
 ghost use Rattle.std.specs.Prelude.{◌≡◌, ◌≢◌, ◌≤◌, ◌⊎◌, length, Some};
-ghost use Rattle.ump_grammar.specs.Places.{opcode_of};
+ghost use Rattle.ump_grammar.specs.WordFields.{opcode_of};
 ghost use Rattle.ump_grammar.specs.Reading.{ReadsVoice2};
 
 use crate::fields::{bits, byte, data_byte, half, nibble};

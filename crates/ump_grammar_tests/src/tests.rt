@@ -1,5 +1,5 @@
-// The rows of the standard's tables: the words, with ones in the places that a row doesn't name; the words with zeros there;
-// and the packet that both spell.
+// The rows of the standard's tables: the words, with ones in the places that a row doesn't name; the words
+// with zeros there; and the packet that both spell.
 ghost use Rattle.std.specs.Prelude.{◌≤◌, length, IfOk, IfSome};
 ghost use Rattle.ump_grammar.specs.Ranges.{IsPacket};
 

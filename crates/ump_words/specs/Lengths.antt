@@ -1,5 +1,7 @@
+-- For proofs alone: no contract of a public call rests on what stands here.
 -- The first word of a packet tells how many bytes it has.
-use Rattle.std.specs.Prelude.{◌≡◌, ℕ, ◌*◌, ◌/◌, ◌^◌, ◌≤◌, nat_lt, if◌then◌else◌, Bool, true, false, List, [], ◌∷◌, ◌++◌, length, slice_index_or}
+use Rattle.std.specs.Prelude.{◌≡◌, ℕ, ◌*◌, ◌/◌, ◌^◌, ◌≤◌, nat_lt, if◌then◌else◌, Bool}
+use Rattle.std.specs.Prelude.{true, false, List, [], ◌∷◌, ◌++◌, length, slice_index_or}
 use Rattle.std.proofs.Common.{zero, suc, ap, sym, ◌∙◌, subst, lit<, lit≤}
 use Rattle.std.proofs.Math.Nat.{le_trans, le-add_right}
 use Rattle.std.proofs.lemmas.Bool.{le-ltb}
@@ -53,7 +55,8 @@ module _ (order : Order) where
   told_by_word : (front more : List ℕ) → 4 ≤ length front → bytes_asked order (front ++ more) ≡ bytes_asked order front
   told_by_word front more enough =
       let L : ℕ → Type 0 = λ n. 4 ≤ n in
-      let longer : 4 ≤ length (front ++ more) = subst L (sym (length-append front more)) (le_trans enough (le-add_right (length front) (length more))) in
+      let longer : 4 ≤ length (front ++ more) =
+      subst L (sym (length-append front more)) (le_trans enough (le-add_right (length front) (length more))) in
       asked_by_word (front ++ more) longer
       ∙ ap (λ xs. 4 * words_asked (number_of order xs)) (take-append-le 4 front more enough)
       ∙ sym (asked_by_word front enough)

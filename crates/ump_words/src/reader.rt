@@ -53,8 +53,8 @@ impl Model for WordReader {
 }
 
 impl WordReader {
-    /// A reader that has given out nothing yet. It gives out at most `limit` bytes, which is at most 2^62 (own rule); offsets
-    /// count bytes from 0.
+    /// A reader that has given out nothing yet. It gives out at most `limit` bytes, which is at most 2^62
+    /// (own rule); offsets count bytes from 0.
     pub fn new(order: Order, limit: u64) -> Self
         requires { limit ≤ 2 ^ 62 }
         ensures { result ≡ new_reading order limit }
@@ -64,14 +64,15 @@ impl WordReader {
         }
     }
 
-    /// The next packet (M2-104-UM, message types) and its offset, the number of bytes before it; `None` when the source ends with
-    /// the last packet.
+    /// The next packet (M2-104-UM, message types) and its offset, the number of bytes before it; `None` when
+    /// the source ends with the last packet.
     ///
-    /// `Truncated` is returned when the source ends within the limit and within a packet: after some of the bytes that the
-    /// message type asks for, or of the first word. It carries the offset of that packet. `TooLong` is returned when the source
-    /// gave more bytes than the limit, and what is left within the limit is no whole packet (own rule). `Read` is returned only
-    /// when the source's count of faults rose; no byte is lost, and a later call goes on from there. Any other answer without a
-    /// packet is returned again by every later call. The source is asked only where no whole packet is held.
+    /// `Truncated` is returned when the source ends within the limit and within a packet: after some of the
+    /// bytes that the message type asks for, or of the first word. It carries the offset of that packet.
+    /// `TooLong` is returned when the source gave more bytes than the limit, and what is left within the
+    /// limit is no whole packet (own rule). `Read` is returned only when the source's count of faults rose;
+    /// no byte is lost, and a later call goes on from there. Any other answer without a packet is returned
+    /// again by every later call. The source is asked only where no whole packet is held.
     #[inline(always)]
     pub fn next<S: Source>(&mut self, src: &mut S) -> Result<Option<Framed>, ReadStop>
         ensures answer { self.old.end ≡ None →
@@ -86,7 +87,8 @@ impl WordReader {
         self.packets.next(src)
     }
 
-    /// No whole packet is held (M2-104-UM, message types), so that `next` asks the source, unless the packets have ended.
+    /// No whole packet is held (M2-104-UM, message types), so that
+    /// `next` asks the source, unless the packets have ended.
     #[inline(always)]
     pub fn needs_input(&self) -> bool
         ensures { IsTrue result ↔ (length self.now.pending < bytes_asked self.now.how self.now.pending) }

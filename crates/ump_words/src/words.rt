@@ -1,6 +1,6 @@
 // The words of a packet.
 ghost use Rattle.std.specs.Prelude.{◌≡◌, ◌≤◌, ◌+◌, ◌*◌, ◌<◌, [], ◌∷◌, length, flat_map};
-ghost use Rattle.midi_edge.specs.Outside.{HasCause, Puts};
+ghost use Rattle.midi_edge.specs.Outside.{HasCause, PutsPiece};
 ghost use Rattle.ump_words.specs.Cut.{words_asked, word_at, words_of, word_bytes, IsPacket};
 
 use byteorder::{BigEndian, ByteOrder, LittleEndian};
@@ -202,12 +202,13 @@ pub fn pair_bytes(first: u32, second: u32, order: Order) -> [u8; 8]
     bytes
 }
 
-/// Puts the bytes of these words, one to four, one word after the other, in a single put. At an `Err`, which comes only where the count
-/// of the output's faults rose, a front of them that isn't all of them may have been put.
+/// Puts the bytes of these words, one to four, one word after the other, in a single put. At an `Err`, which
+/// comes only where the count of the output's faults rose, a front of them that isn't all of them may have
+/// been put.
 #[inline(always)]
 pub fn put_words<W: Sink>(words: &[u32], order: Order, output: &mut W) -> Result<(), Failed>
     requires { (0 < length words.now) × (length words.now ≤ 4) }
-    ensures bytes { Puts (W.held output.old) (W.held output.new) result
+    ensures bytes { PutsPiece (W.held output.old) (W.held output.new) result
         (flat_map (word_bytes order) words.now) }
     ensures cause { HasCause (W.faults output.old) (W.faults output.new) result }
 {

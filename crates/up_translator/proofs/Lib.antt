@@ -1,4 +1,4 @@
-pub mod AloneLaws
+pub mod DirectLaws
 pub mod ControlLaws
 pub mod RecordingLaws
 pub mod StepLaws

@@ -1,19 +1,19 @@
 -- The lines of the listing that a byte has.
 use Rattle.std.specs.Prelude.{ℕ, Bool, ◌&&◌, is_none, List, ◌++◌, Option, Some, None}
 use Rattle.std.specs.Option.{option_map, option_to_list}
-use Rattle.voice_state.specs.declared.listed.Kind.{Kind}
-use Rattle.voice_state.specs.declared.listed.Listed.{Listed}
+use Rattle.midi_meaning.specs.declared.listed.Kind.{Kind}
+use Rattle.midi_meaning.specs.declared.listed.Listed.{Listed}
 use Rattle.up_translator.specs.declared.byte_lines.ByteLines.{ByteLines}
-use Rattle.up_translator.specs.declared.byte_lines.Line.{Line}
+use Rattle.up_translator.specs.declared.byte_lines.ByteLine.{ByteLine}
 
 abbrev pub group_of : ByteLines → ℕ
 group_of lines = lines.group.number
 
 -- its kind and offset
-abbrev pub told_of : Line → Kind × ℕ
+abbrev pub told_of : ByteLine → Kind × ℕ
 told_of line = (line.kind, line.offset)
 
-abbrev pub line_by : ℕ → Line → Listed
+abbrev pub line_by : ℕ → ByteLine → Listed
 line_by group line = record { offset = line.offset; group = Some group; kind = line.kind }
 
 abbrev pub first_in : ByteLines → Option Listed

@@ -3,8 +3,8 @@ use Rattle.std.specs.Prelude.{ℕ, Bool, Option, Some, None}
 use Rattle.midi1_bytes.specs.Messages.{Message, voice}
 use Rattle.midi1_bytes.specs.Parsing.{Parsing, parse}
 use Rattle.midi1_bytes.specs.Steps.{Step, completed_by}
-use Rattle.voice_state.specs.State.{GroupState}
-use Rattle.voice_state.specs.Messages.{step1}
+use Rattle.midi_meaning.specs.State.{GroupState}
+use Rattle.midi_meaning.specs.Messages.{step1}
 use Rattle.param_collector.specs.Holding.{Holding}
 use Rattle.param_collector.specs.Keeps.{Keeps}
 use Rattle.up_translator.specs.Outcome.{holding_with}
@@ -22,33 +22,33 @@ pub record UpState : Type 0 where
 
 -- ---- after a byte
 
-abbrev pub holding_behind_message : Holding → Option Message → Holding
-holding_behind_message holding (Some (voice message)) = holding_with holding message
-holding_behind_message holding _ = holding
+abbrev pub holding_after_message : Holding → Option Message → Holding
+holding_after_message holding (Some (voice message)) = holding_with holding message
+holding_after_message holding _ = holding
 
-abbrev pub holding_behind_step : Holding → Step → Holding
-holding_behind_step holding step = holding_behind_message holding (completed_by step)
+abbrev pub holding_after_step : Holding → Step → Holding
+holding_after_step holding step = holding_after_message holding (completed_by step)
 
 -- what the byte does
 abbrev pub step_in : UpState → ℕ → ℕ → Step
 step_in up offset byte = (parse up.parsing offset byte).step
 
 -- only the byte that completes a control change changes what control changes have set
-abbrev pub up_behind : UpState → ℕ → ℕ → UpState
-up_behind up offset byte = record {
+abbrev pub up_after : UpState → ℕ → ℕ → UpState
+up_after up offset byte = record {
   group = up.group;
   parsing = (parse up.parsing offset byte).after;
-  holding = holding_behind_step up.holding (step_in up offset byte);
+  holding = holding_after_step up.holding (step_in up offset byte);
 }
 
 -- ---- by the meaning of MIDI 1.0
 
-abbrev pub state_behind : Bool → GroupState → Option Message → GroupState
-state_behind paired state None = state
-state_behind paired state (Some message) = step1 paired state message
+abbrev pub state_after : Bool → GroupState → Option Message → GroupState
+state_after paired state None = state
+state_after paired state (Some message) = step1 paired state message
 
 -- each state that is kept is kept after a step, as it then is
-abbrev pub KeepsBehind : Holding → Step → Type 0
-KeepsBehind holding step =
+abbrev pub KeepsAfter : Holding → Step → Type 0
+KeepsAfter holding step =
     (state : GroupState) → Keeps holding state →
-    Keeps (holding_behind_step holding step) (state_behind holding.paired state (completed_by step))
+    Keeps (holding_after_step holding step) (state_after holding.paired state (completed_by step))

@@ -2,12 +2,12 @@
 use Rattle.std.specs.Prelude.{◌≡◌, ℕ, Bool, List, ◌∷◌, length, map, Some, Result}
 use Rattle.std.specs.Option.{option_map}
 use Rattle.midi1_bytes.specs.Parsing.{open_of}
-use Rattle.voice_state.specs.declared.listed.BadStep.{BadStep}
-use Rattle.voice_state.specs.StepListing.{kinds_at_end, line_up, open_pair}
-use Rattle.voice_state.specs.UpRefusal.{AreStepsWithinRoom}
+use Rattle.midi_meaning.specs.declared.listed.BadStep.{BadStep}
+use Rattle.midi_meaning.specs.StepListing.{kinds_at_end, line_up, open_pair}
+use Rattle.midi_meaning.specs.UpRefusal.{AreStepsWithinRoom}
 use Rattle.up_translator.specs.declared.raised.Raised.{Raised}
 use Rattle.up_translator.specs.Answers.{IsAnswerAt}
-use Rattle.up_translator.specs.Held.{UpState, KeepsBehind, step_in, up_behind}
+use Rattle.up_translator.specs.Held.{UpState, KeepsAfter, step_in, up_after}
 use Rattle.up_translator.specs.Recording.{HoldsUp}
 use Rattle.up_translator.specs.Step.{Raises}
 
@@ -16,8 +16,8 @@ pub record RaisedBytesAreTheDefinition (paired : Bool) : Type 0 where
       HoldsUp paired room group past up → Raises up (length past) byte result → IsAnswerAt paired room group past byte result
   pub after : (room group : ℕ) (past : List ℕ) (byte : ℕ) (up : UpState) →
       AreStepsWithinRoom room (byte ∷ past) → HoldsUp paired room group past up →
-      KeepsBehind up.holding (step_in up (length past) byte) →
-      HoldsUp paired room group (byte ∷ past) (up_behind up (length past) byte)
+      KeepsAfter up.holding (step_in up (length past) byte) →
+      HoldsUp paired room group (byte ∷ past) (up_after up (length past) byte)
   pub end : (room group : ℕ) (past : List ℕ) (up : UpState) → HoldsUp paired room group past up →
       map (line_up up.group)
       (kinds_at_end (option_map (λ begun. (begun.start, begun.kind)) (open_of up.parsing))) ≡

@@ -1,3 +1,4 @@
+-- For proofs alone: no contract of a public call rests on what stands here.
 -- What the raiser ends as once the packet that it lends is given back.
 use Rattle.std.specs.Prelude.{◌≡◌}
 use Rattle.std.specs.Borrow.{MutBor, Fml}

@@ -1,4 +1,4 @@
-pub mod Alone
+pub mod Direct
 pub mod Answers
 pub mod ByteLines
 pub mod Held
@@ -10,4 +10,4 @@ pub mod Raised
 pub mod RaisedPacket
 pub mod Recording
 pub mod Step
-pub mod ValueWords
+pub mod DirectWords

@@ -5,18 +5,18 @@ use Rattle.voice_messages.specs.declared.voice1.Voice1.TheVariants as voice1
 use Rattle.voice_messages.specs.declared.voice2.Voice2.{Voice2}
 use Rattle.voice_messages.specs.declared.voice2.Voice2.TheVariants as voice2
 use Rattle.voice_messages.specs.Ranges.{IsVoice2}
-use Rattle.encoded_packets.specs.ValueMessages.{is_value_voice}
+use Rattle.direct_packets.specs.DirectMessages.{is_direct_voice}
 use Rattle.bit_scaling.specs.Scaling.{up}
-use Rattle.voice_state.specs.declared.listed.BadStep.{BadStep}
-use Rattle.voice_state.specs.declared.listed.BadStep.TheVariants as bad
-use Rattle.voice_state.specs.Controllers.{pairing, role_of}
-use Rattle.voice_state.specs.State.{GroupState}
-use Rattle.voice_state.specs.Messages.{channel_of}
-use Rattle.voice_state.specs.Raising.{raised_voice}
-use Rattle.voice_state.specs.StepListing.{is_ignored_voice}
+use Rattle.midi_meaning.specs.declared.listed.BadStep.{BadStep}
+use Rattle.midi_meaning.specs.declared.listed.BadStep.TheVariants as bad
+use Rattle.midi_meaning.specs.Controllers.{pairing, role_of}
+use Rattle.midi_meaning.specs.State.{GroupState}
+use Rattle.midi_meaning.specs.Messages.{channel_of}
+use Rattle.midi_meaning.specs.Raising.{raised_voice}
+use Rattle.midi_meaning.specs.StepListing.{is_ignored_voice}
 use Rattle.param_collector.specs.declared.collected.Collected.{Collected}
 use Rattle.param_collector.specs.declared.collected.Collected.TheVariants as collected
-use Rattle.param_collector.specs.Control.{holding_behind}
+use Rattle.param_collector.specs.Control.{holding_after}
 use Rattle.param_collector.specs.Holding.{Holding}
 use Rattle.up_translator.specs.declared.outcome.Outcome.{Outcome}
 use Rattle.up_translator.specs.declared.outcome.Outcome.TheVariants as outcome
@@ -39,7 +39,7 @@ refusal_in _ = None
 -- the fields of a message fit their places, and only a control change has a value
 abbrev pub FitsVoice2 : Outcome → Type 0
 FitsVoice2 (outcome.Control channel index value) = IsVoice2 (voice2.Control channel index value)
-FitsVoice2 (outcome.Message message) = IsVoice2 message × (is_value_voice message ≡ false)
+FitsVoice2 (outcome.Message message) = IsVoice2 message × (is_direct_voice message ≡ false)
 FitsVoice2 _ = Unit {0}
 
 -- from the state of the group before the message, with paired controllers or without
@@ -63,5 +63,5 @@ outcome_by collected.Plain channel index value = outcome.Control channel index (
 
 abbrev pub holding_with : Holding → Voice1 → Holding
 holding_with holding (voice1.Control channel index value) =
-    holding_behind (pairing holding.paired (role_of index)) holding channel index value
+    holding_after (pairing holding.paired (role_of index)) holding channel index value
 holding_with holding _ = holding

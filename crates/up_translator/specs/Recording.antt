@@ -1,12 +1,12 @@
 -- What the translator holds after the bytes of a stream, which are listed newest first, with paired controllers or without.
 use Rattle.std.specs.Prelude.{◌≡◌, ℕ, Bool, List}
-use Rattle.midi1_bytes.specs.Parsing.{held_behind}
-use Rattle.voice_state.specs.Messages.{meaning1}
+use Rattle.midi1_bytes.specs.Parsing.{held_over}
+use Rattle.midi_meaning.specs.Messages.{meaning1}
 use Rattle.param_collector.specs.Keeps.{Keeps}
 use Rattle.up_translator.specs.Held.{UpState}
 
 pub record HoldsUp (paired : Bool) (room group : ℕ) (past : List ℕ) (up : UpState) : Type 0 where
   pub group_is : up.group ≡ group
-  pub parsing_is : up.parsing ≡ held_behind room past
+  pub parsing_is : up.parsing ≡ held_over room past
   pub paired_is : up.holding.paired ≡ paired
   pub keeps : Keeps up.holding (meaning1 paired past)

@@ -3,11 +3,11 @@ use Rattle.std.specs.Prelude.{◌≡◌, ℕ, Bool, List, map, Option, Some, Non
 use Rattle.ump_grammar.specs.Ranges.{IsPacket}
 use Rattle.midi1_bytes.specs.Messages.{Message, exclusive, AreData}
 use Rattle.midi1_bytes.specs.Steps.{Step, completed_by}
-use Rattle.voice_state.specs.declared.listed.BadStep.{BadStep}
-use Rattle.voice_state.specs.State.{GroupState}
-use Rattle.voice_state.specs.Raising.{raised_step}
-use Rattle.voice_state.specs.StepListing.{kinds_up, line_up}
-use Rattle.voice_state.specs.UpRefusal.{refusal_of_step}
+use Rattle.midi_meaning.specs.declared.listed.BadStep.{BadStep}
+use Rattle.midi_meaning.specs.State.{GroupState}
+use Rattle.midi_meaning.specs.Raising.{raised_step}
+use Rattle.midi_meaning.specs.StepListing.{kinds_up, line_up}
+use Rattle.midi_meaning.specs.UpRefusal.{refusal_of_step}
 use Rattle.param_collector.specs.Holding.{Holding}
 use Rattle.param_collector.specs.Keeps.{Keeps}
 use Rattle.up_translator.specs.declared.raised.Raised.{Raised}

@@ -1,30 +1,31 @@
 // The lines of the listing that a byte has.
 use midi_edge::{LentU4, U4};
-use voice_state::{Kind, Listed};
+use midi_meaning::{Kind, Listed};
 
 /// A line of the listing that a byte has (own rule). Its group is that of the byte.
 #[derive(Clone, Copy, Debug)]
-pub struct Line {
-    /// The number of input bytes before what it tells of: of a message or exclusive that is cut or open its start, of an ignored data
-    /// entry the byte that completes it, of a stray or undefined byte that byte.
+pub struct ByteLine {
+    /// The number of input bytes before what it tells of: of a message or exclusive that is cut or open its
+    /// start, of an ignored data entry the byte that completes it, of a stray or undefined byte that byte.
     pub offset: u64,
     /// What it tells.
     pub kind: Kind,
 }
 
-/// The lines of the listing that a byte has (own rule): at most two, both in one group, in order. What the byte cuts off comes
-/// first, and then what the byte is itself. A stream on a USB cable has the cable as its group.
+/// The lines of the listing that a byte has (own rule): at most two, both in one group, in order. What the
+/// byte cuts off comes first, and then what the byte is itself. A stream on a USB cable has the cable as its
+/// group.
 #[derive(Clone, Copy, Debug)]
 pub struct ByteLines {
     group: LentU4,
-    first: Option<Line>,
-    second: Option<Line>,
+    first: Option<ByteLine>,
+    second: Option<ByteLine>,
 }
 
 impl ByteLines {
     ghost use Rattle.std.specs.Prelude.{◌≡◌, ◌++◌, map};
     ghost use Rattle.std.specs.Option.{option_map, option_to_list};
-    ghost use Rattle.voice_state.specs.StepListing.{line_up};
+    ghost use Rattle.midi_meaning.specs.StepListing.{line_up};
     ghost use Rattle.up_translator.specs.ByteLines.{
       first_in,
       group_of,
@@ -38,7 +39,7 @@ impl ByteLines {
     };
 
     /// These lines in this group, 0 to 15. There is a second only where there is a first.
-    pub fn new(group: U4, first: Option<Line>, second: Option<Line>) -> ByteLines
+    pub fn new(group: U4, first: Option<ByteLine>, second: Option<ByteLine>) -> ByteLines
         requires { AreInOrder first second }
         ensures group { group_of result ≡ group }
         ensures order { IsInOrder result }
@@ -68,12 +69,12 @@ impl ByteLines {
     }
 
     // A line in the group.
-    fn listed(&self, line: Option<Line>) -> Option<Listed>
+    fn listed(&self, line: Option<ByteLine>) -> Option<Listed>
         ensures { result ≡ option_map (line_by (group_of self.now)) line }
     {
         match line {
             None => None,
-            Some(Line { offset, kind }) => Some(Listed {
+            Some(ByteLine { offset, kind }) => Some(Listed {
                 offset,
                 group: Some(self.group.get()),
                 kind,

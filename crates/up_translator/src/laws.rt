@@ -2,13 +2,14 @@
 ghost use Rattle.std.specs.Prelude.{Bool};
 ghost use Rattle.up_translator.specs.Laws.{RaisedBytesAreTheDefinition};
 
+use midi_meaning::up_laws::rooms_that_are_not_reached_do_not_matter_in_bytes;
 use midi1_bytes::laws::{completed_messages_are_in_range, parsed_bytes_are_the_definition};
 use param_collector::laws::control_changes_are_kept;
-use voice_state::up_laws::rooms_that_are_not_reached_do_not_matter_in_bytes;
 
-/// A translator that holds what any bytes leave answers one more byte, at its offset, with what the definitions tell, which look
-/// back over all the bytes: its packets, its lines, and why it is refused. It then holds what all of them leave, as long as no
-/// exclusive has exceeded the limit. At the end it tells what is open there.
+/// A translator that holds what any bytes leave answers one more byte, at its offset, with what the
+/// definitions tell, which look back over all the bytes: its packets, its lines, and why it is refused. It
+/// then holds what all of them leave, as long as no exclusive has exceeded the limit. At the end it tells
+/// what is open there.
 pub fn raised_bytes_are_the_definition()
     ensures { (paired : Bool) → RaisedBytesAreTheDefinition paired }
 {

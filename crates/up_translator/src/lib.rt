@@ -2,6 +2,8 @@
 #![tactic(auto)]
 
 pub mod byte_lines;
+mod direct_message;
+mod direct_words;
 pub mod laws;
 pub mod lines;
 mod outcome;
@@ -9,13 +11,11 @@ pub mod raised;
 pub mod raised_packet;
 mod raiser;
 pub mod up;
-mod value_message;
-mod value_words;
 mod voice;
 
-pub use crate::byte_lines::{ByteLines, Line};
+pub use crate::byte_lines::{ByteLine, ByteLines};
 pub use crate::lines::{kind_of_cut, kind_of_open};
 pub use crate::raised::Raised;
 pub use crate::raised_packet::RaisedPacket;
 pub use crate::up::Up;
-pub use voice_state::{BadStep, Kind, Listed};
+pub use midi_meaning::{BadStep, Kind, Listed};

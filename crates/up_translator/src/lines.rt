@@ -1,48 +1,48 @@
 // The lines of what a byte does, and of what is open at the end.
 ghost use Rattle.std.specs.Prelude.{◌≡◌};
-ghost use Rattle.voice_state.specs.declared.listed.Kind.TheVariants as kinds;
-ghost use Rattle.voice_state.specs.StepListing.{cut_kind, open_kind};
+ghost use Rattle.midi_meaning.specs.declared.listed.Kind.TheVariants as kinds;
+ghost use Rattle.midi_meaning.specs.StepListing.{cut_kind, open_kind};
 ghost use Rattle.up_translator.specs.ByteLines.{told_of};
 
-use crate::byte_lines::Line;
+use crate::byte_lines::ByteLine;
+use midi_meaning::Kind;
 use midi1_bytes::CutKind;
-use voice_state::Kind;
 
 /// The line of a byte at this offset that belongs to nothing (own rule).
-pub fn stray(offset: u64) -> Line
+pub fn stray(offset: u64) -> ByteLine
     ensures { told_of result ≡ (kinds.Stray, offset) }
 {
-    Line {
+    ByteLine {
         offset,
         kind: Kind::Stray,
     }
 }
 
 /// The line of a status at this offset that no message has (own rule).
-pub fn undefined(offset: u64) -> Line
+pub fn undefined(offset: u64) -> ByteLine
     ensures { told_of result ≡ (kinds.Undefined, offset) }
 {
-    Line {
+    ByteLine {
         offset,
         kind: Kind::Undefined,
     }
 }
 
 /// The line of a data entry without a selected parameter, completed at this offset (own rule).
-pub fn ignored(offset: u64) -> Line
+pub fn ignored(offset: u64) -> ByteLine
     ensures { told_of result ≡ (kinds.IgnoredDataEntry, offset) }
 {
-    Line {
+    ByteLine {
         offset,
         kind: Kind::IgnoredDataEntry,
     }
 }
 
 /// The line of what started at this offset and is cut off (own rule).
-pub fn cut_off(start: u64, what: CutKind) -> Line
+pub fn cut_off(start: u64, what: CutKind) -> ByteLine
     ensures { told_of result ≡ (cut_kind what, start) }
 {
-    Line {
+    ByteLine {
         offset: start,
         kind: kind_of_cut(what),
     }

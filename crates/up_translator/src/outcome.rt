@@ -2,13 +2,13 @@
 ghost use Rattle.std.specs.Prelude.{◌≡◌, Some, false};
 ghost use Rattle.midi1_bytes.specs.Messages.{voice};
 ghost use Rattle.voice_messages.specs.declared.voice1.Voice1.TheVariants as voice1;
-ghost use Rattle.voice_state.specs.Controllers.{pairing, role_of};
-ghost use Rattle.voice_state.specs.Messages.{step1};
-ghost use Rattle.voice_state.specs.Refusal.{bad_control, bad_voice1};
-ghost use Rattle.voice_state.specs.State.{GroupState};
-ghost use Rattle.param_collector.specs.Control.{holding_behind};
+ghost use Rattle.midi_meaning.specs.Controllers.{pairing, role_of};
+ghost use Rattle.midi_meaning.specs.Messages.{step1};
+ghost use Rattle.midi_meaning.specs.Refusal.{bad_control, bad_voice1};
+ghost use Rattle.midi_meaning.specs.State.{GroupState};
+ghost use Rattle.param_collector.specs.Control.{holding_after};
 ghost use Rattle.param_collector.specs.Keeps.{Keeps};
-ghost use Rattle.up_translator.specs.Alone.{stands_alone};
+ghost use Rattle.up_translator.specs.Direct.{goes_direct};
 ghost use Rattle.up_translator.specs.Outcome.{
   messages_in,
   refusal_in,
@@ -20,10 +20,10 @@ ghost use Rattle.up_translator.specs.Outcome.{
 
 use crate::voice::{raise_data_entry, raise_program};
 use bit_scaling::{up7, up14};
+use midi_meaning::BadStep;
 use param_collector::laws::other_messages_change_nothing_kept;
 use param_collector::{Collected, Collector};
 use voice_messages::{U4, U7, Voice1, Voice2};
-use voice_state::BadStep;
 
 /// What comes of a voice message.
 #[derive(Debug, Drop)]
@@ -75,7 +75,7 @@ fn raise_control_change(collector: &mut Collector, channel: U4, index: U7, value
         IsRaisedVoice collector.old.paired state (voice1.Control channel index value) result }
     ensures fits { FitsVoice2 result }
     ensures behind { collector.new ≡
-        holding_behind (pairing collector.old.paired (role_of index)) collector.old channel index value }
+        holding_after (pairing collector.old.paired (role_of index)) collector.old channel index value }
     ensures kept { (state : GroupState) → Keeps collector.old state →
         Keeps collector.new
         (step1 collector.old.paired state (voice (voice1.Control channel index value))) }
@@ -84,11 +84,11 @@ fn raise_control_change(collector: &mut Collector, channel: U4, index: U7, value
     outcome_of(collected, channel, index, value)
 }
 
-/// What comes of a message that doesn't stand alone (M2-104-UM, translation from MIDI 1.0). A control change is collected; a program
-/// change takes the bank that is selected.
+/// What comes of a message that doesn't go the direct road (M2-104-UM, translation from MIDI 1.0). A control
+/// change is collected; a program change takes the bank that is selected.
 #[inline(always)]
 pub fn raise(collector: &mut Collector, message: &Voice1) -> Outcome
-    requires { stands_alone (Some collector.old.paired) message.now ≡ false }
+    requires { goes_direct (Some collector.old.paired) message.now ≡ false }
     ensures refused { refusal_in result ≡ bad_voice1 message.now }
     ensures raised { (state : GroupState) → Keeps collector.old state →
         IsRaisedVoice collector.old.paired state message.now result }
@@ -108,6 +108,7 @@ pub fn raise(collector: &mut Collector, message: &Voice1) -> Outcome
             let bank = collector.program(channel);
             Outcome::Message(raise_program(channel, program, bank))
         }
+        // Every other message stands alone, so it isn't raised here.
         _ => unreachable!(),
     }
 }

@@ -1,5 +1,5 @@
 // What comes of a byte.
-use crate::byte_lines::{ByteLines, Line};
+use crate::byte_lines::{ByteLine, ByteLines};
 use crate::raised_packet::RaisedPacket;
 use midi_edge::U4;
 
@@ -8,8 +8,8 @@ use midi_edge::U4;
 pub struct Raised<'a> {
     /// The packet of the voice or system message that the byte completes.
     pub packet: Option<&'a RaisedPacket>,
-    /// The bytes between F0 and F7 of the exclusive that the byte ends. Its packets are those of `sysex_groups::part`. Where
-    /// there is a payload, there is no packet.
+    /// The bytes between F0 and F7 of the exclusive that the byte ends. Its packets are those of
+    /// `sysex_groups::part`. Where there is a payload, there is no packet.
     pub payload: Option<&'a [u8]>,
     /// Its lines of the listing, in the group of the packets.
     pub lines: ByteLines,
@@ -19,8 +19,8 @@ impl<'a> Raised<'a> {
     ghost use Rattle.std.specs.Prelude.{◌≡◌, ◌++◌, [], ◌∷◌, map, Some, None};
     ghost use Rattle.std.specs.Option.{option_to_list};
     ghost use Rattle.midi1_bytes.specs.Answers.{framed, payload_of};
-    ghost use Rattle.voice_state.specs.Raising.{exclusive_packets};
-    ghost use Rattle.voice_state.specs.StepListing.{line_up};
+    ghost use Rattle.midi_meaning.specs.Raising.{exclusive_packets};
+    ghost use Rattle.midi_meaning.specs.StepListing.{line_up};
     ghost use Rattle.up_translator.specs.ByteLines.{lines_in, told_of, AreInOrder, IsInOrder};
     ghost use Rattle.up_translator.specs.Raised.{
       group_in,
@@ -31,7 +31,11 @@ impl<'a> Raised<'a> {
     };
 
     /// Lines alone, at most two, in order.
-    pub(crate) fn only_listed(group: U4, first: Option<Line>, second: Option<Line>) -> Raised<'a>
+    pub(crate) fn only_listed(
+        group: U4,
+        first: Option<ByteLine>,
+        second: Option<ByteLine>,
+    ) -> Raised<'a>
         requires { AreInOrder first second }
         ensures group { group_in result ≡ group }
         ensures order { IsInOrder result.lines }
@@ -50,7 +54,11 @@ impl<'a> Raised<'a> {
     }
 
     /// A packet, and a line if there is one.
-    pub(crate) fn of_packet(group: U4, packet: &'a RaisedPacket, first: Option<Line>) -> Raised<'a>
+    pub(crate) fn of_packet(
+        group: U4,
+        packet: &'a RaisedPacket,
+        first: Option<ByteLine>,
+    ) -> Raised<'a>
         ensures group { group_in result ≡ group }
         ensures order { IsInOrder result.lines }
         ensures apart { IsApart result }

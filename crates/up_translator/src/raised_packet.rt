@@ -1,14 +1,14 @@
 // The packet of a message, as it is written.
 ghost use Rattle.std.specs.Prelude.{◌≡◌, MatchOption, false, true};
-ghost use Rattle.encoded_packets.specs.ValueMessages.{has_value, is_value_voice};
+ghost use Rattle.direct_packets.specs.DirectMessages.{has_direct_kind, is_direct_voice};
 ghost use Rattle.ump_grammar.specs.Ranges.{IsPacket};
 ghost use Rattle.ump_grammar.specs.Reading.{Encodes};
 ghost use Rattle.ump_grammar.specs.declared.packet.Packet.TheVariants as packet;
 ghost use Rattle.up_translator.specs.RaisedPacket.{packet_by};
-ghost use Rattle.up_translator.specs.ValueWords.{IsBare, packet_of};
+ghost use Rattle.up_translator.specs.DirectWords.{IsRaisedDirect, packet_of};
 
-use crate::value_words::ValueWords;
-use encoded_packets::ValueMessage;
+use crate::direct_words::DirectWords;
+use direct_packets::DirectMessage;
 use midi_edge::ShortList;
 use std::marker::Model;
 use ump_grammar::{Packet, encode};
@@ -18,8 +18,8 @@ use voice_messages::{Form, System, U4, Voice2};
 // How a packet is held: each kind to which a message is raised.
 #[derive(Debug, Drop)]
 enum PacketForm {
-    // a message of MIDI 2.0 that has a value, and its group
-    Value(ValueWords),
+    // a direct message, and its group
+    Value(DirectWords),
     // any other message of MIDI 2.0
     Voice2 {
         group: U4,
@@ -59,7 +59,7 @@ impl RaisedPacket {
     /// A message of MIDI 2.0 that has no value, in a group.
     #[inline(always)]
     pub(crate) fn of_voice2(group: U4, message: Voice2) -> RaisedPacket
-        requires { is_value_voice message ≡ false }
+        requires { is_direct_voice message ≡ false }
         ensures { result ≡ packet.Voice2 group message }
     {
         RaisedPacket {
@@ -87,14 +87,14 @@ impl RaisedPacket {
         }
     }
 
-    /// A message of MIDI 2.0 that has a value, in its group.
+    /// A direct message, in its group.
     #[inline(always)]
-    pub(crate) fn of_value(message: &ValueMessage) -> RaisedPacket
-        requires { IsBare message.now }
+    pub(crate) fn of_value(message: &DirectMessage) -> RaisedPacket
+        requires { IsRaisedDirect message.now }
         ensures { result ≡ packet_of message.now }
     {
         RaisedPacket {
-            form: PacketForm::Value(ValueWords::new(message)),
+            form: PacketForm::Value(DirectWords::new(message)),
         }
     }
 
@@ -124,11 +124,11 @@ impl RaisedPacket {
         }
     }
 
-    /// The message, where it has a value; `None` exactly for all other packets.
+    /// The message, where it is a direct one; `None` exactly for all other packets.
     #[inline(always)]
-    pub fn value_message(&self) -> Option<ValueMessage>
-        ensures { MatchOption result (has_value self.now ≡ false)
-            (λ message. IsBare message × (self.now ≡ packet_of message)) }
+    pub fn direct_message(&self) -> Option<DirectMessage>
+        ensures { MatchOption result (has_direct_kind self.now ≡ false)
+            (λ message. IsRaisedDirect message × (self.now ≡ packet_of message)) }
     {
         match &self.form {
             PacketForm::Value(words) => Some(words.fields()),
@@ -136,12 +136,12 @@ impl RaisedPacket {
         }
     }
 
-    /// The two words that encode a message that has a value (M2-104-UM, MIDI 2.0 channel voice messages); `None` exactly for all
-    /// other packets, whose words `words` gives.
+    /// The two words that encode a direct message (M2-104-UM, MIDI 2.0 channel voice messages); `None`
+    /// exactly for all other packets, whose words `words` gives.
     #[inline(always)]
     pub fn pair(&self) -> Option<[u32; 2]>
-        ensures { MatchOption result (has_value self.now ≡ false)
-            (λ pair. (has_value self.now ≡ true) × Encodes self.now pair) }
+        ensures { MatchOption result (has_direct_kind self.now ≡ false)
+            (λ pair. (has_direct_kind self.now ≡ true) × Encodes self.now pair) }
     {
         match &self.form {
             PacketForm::Value(words) => Some(words.pair()),
@@ -149,8 +149,8 @@ impl RaisedPacket {
         }
     }
 
-    /// The words that encode it (M2-104-UM), with zeros in the places that its row doesn't name. The packet is one that some words
-    /// decode to.
+    /// The words that encode it (M2-104-UM), with zeros in the places that its row doesn't name. The packet
+    /// is one that some words decode to.
     #[inline(always)]
     pub fn words(&self) -> Words
         requires { IsPacket self.now }

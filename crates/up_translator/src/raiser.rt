@@ -4,23 +4,23 @@ ghost use Rattle.std.specs.Option.{option_to_list};
 ghost use Rattle.midi1_bytes.specs.Messages.{voice};
 ghost use Rattle.midi1_bytes.specs.Spoken.{voice_in};
 ghost use Rattle.midi1_bytes.specs.Steps.{completes};
-ghost use Rattle.up_translator.specs.Alone.{stands_alone};
+ghost use Rattle.up_translator.specs.Direct.{goes_direct};
 ghost use Rattle.ump_grammar.specs.Ranges.{IsPacket};
 ghost use Rattle.ump_grammar.specs.declared.packet.Packet.TheVariants as packet;
 ghost use Rattle.voice_messages.specs.declared.voice2.Voice2.TheVariants as voice2;
 
-use crate::byte_lines::Line;
+use crate::byte_lines::ByteLine;
+use crate::direct_message::{control_change, goes_direct, raise_direct};
 use crate::lines::ignored;
 use crate::outcome::{Outcome, raise};
 use crate::raised::Raised;
 use crate::raised_packet::RaisedPacket;
-use crate::value_message::{control_change, raise_alone, stands_alone};
+use midi_meaning::{BadStep, DirectControls};
 use midi1_bytes::VoiceBytes;
 use param_collector::Collector;
 use param_collector::laws::{control_changes_are_kept, other_messages_change_nothing_kept};
 use std::marker::Model;
 use voice_messages::{System, U4, U7, Voice1};
-use voice_state::{BadStep, LoneControls};
 
 // The fields of a system message and of its group fit their places.
 fn system_fits(group: U4, message: &System)
@@ -46,13 +46,13 @@ fn control_packet(group: U4, channel: U4, index: U7, value: u32) -> RaisedPacket
     RaisedPacket::of_value(&control_change(group, channel, index, value))
 }
 
-/// Raises messages to packets of one group. It keeps the packet that it lends. A contract sees the group and what control changes
-/// have set.
+/// Raises messages to packets of one group. It keeps the packet that it lends. A contract sees the group and
+/// what control changes have set.
 #[derive(Drop)]
 pub(crate) struct Raiser {
     group: U4,
     collector: Collector,
-    lone: LoneControls,
+    direct: DirectControls,
     packet: RaisedPacket,
 }
 
@@ -64,13 +64,13 @@ impl Model for Raiser {
 
     ghost view = { λ r. record { group = r.group; holding = r.collector } };
 
-    ghost invariant = { λ r. r.lone ≡ Some r.collector.paired };
+    ghost invariant = { λ r. r.direct ≡ Some r.collector.paired };
 }
 
 impl Raiser {
     ghost use Rattle.std.specs.Borrow.{sem};
-    ghost use Rattle.voice_state.specs.StepListing.{line_up};
-    ghost use Rattle.up_translator.specs.Held.{KeepsBehind};
+    ghost use Rattle.midi_meaning.specs.StepListing.{line_up};
+    ghost use Rattle.up_translator.specs.Held.{KeepsAfter};
     ghost use Rattle.up_translator.specs.LendRaiser.{KeepsRaiser};
     ghost use Rattle.up_translator.specs.Outcome.{holding_with};
     ghost use Rattle.up_translator.specs.ByteLines.{lines_in, told_of, IsInOrder};
@@ -85,7 +85,7 @@ impl Raiser {
         Raiser {
             group,
             collector,
-            lone: LoneControls::new(paired),
+            direct: DirectControls::new(paired),
             packet: RaisedPacket::of_system(group, System::Tune),
         }
     }
@@ -98,7 +98,7 @@ impl Raiser {
 
     // Lends a packet, with a line if there is one.
     #[inline(always)]
-    fn give(&mut self, packet: RaisedPacket, line: Option<Line>) -> Raised<'_>
+    fn give(&mut self, packet: RaisedPacket, line: Option<ByteLine>) -> Raised<'_>
         ensures group { group_in result ≡ self.old.group }
         ensures order { IsInOrder result.lines }
         ensures apart { IsApart result }
@@ -115,7 +115,7 @@ impl Raiser {
 
     /// A system message, with a line for what its byte cuts off, if it cuts anything off.
     #[inline(always)]
-    pub(crate) fn system(&mut self, message: System, line: Option<Line>) -> Raised<'_>
+    pub(crate) fn system(&mut self, message: System, line: Option<ByteLine>) -> Raised<'_>
         ensures group { group_in result ≡ self.old.group }
         ensures order { IsInOrder result.lines }
         ensures apart { IsApart result }
@@ -131,13 +131,13 @@ impl Raiser {
         self.give(RaisedPacket::of_system(group, message), line)
     }
 
-    // A voice message that doesn't stand alone.
+    // A voice message that doesn't go the direct road.
     #[inline(always)]
     fn other(&mut self, message: &Voice1, offset: u64) -> Result<Raised<'_>, BadStep>
-        requires { stands_alone (Some self.old.holding.paired) message.now ≡ false }
+        requires { goes_direct (Some self.old.holding.paired) message.now ≡ false }
         ensures answer { RaisesStep self.old.holding self.old.group offset
             (completes (voice message.now)) result }
-        ensures kept { KeepsBehind self.old.holding (completes (voice message.now)) }
+        ensures kept { KeepsAfter self.old.holding (completes (voice message.now)) }
         ensures* after { sem 𝓛 (KeepsRaiser self.entry
             (record self.old { holding = holding_with self.old.holding message.now })) }
     {
@@ -168,13 +168,13 @@ impl Raiser {
     pub(crate) fn voice(&mut self, bytes: &VoiceBytes, offset: u64) -> Result<Raised<'_>, BadStep>
         ensures answer { RaisesStep self.old.holding self.old.group offset
             (completes (voice (voice_in bytes.now))) result }
-        ensures kept { KeepsBehind self.old.holding (completes (voice (voice_in bytes.now))) }
+        ensures kept { KeepsAfter self.old.holding (completes (voice (voice_in bytes.now))) }
         ensures* after { sem 𝓛 (KeepsRaiser self.entry
             (record self.old { holding = holding_with self.old.holding (voice_in bytes.now) })) }
     {
         other_messages_change_nothing_kept();
-        if stands_alone(&self.lone, bytes) {
-            let message = raise_alone(self.group, bytes);
+        if goes_direct(&self.direct, bytes) {
+            let message = raise_direct(self.group, bytes);
             Ok(self.give(RaisedPacket::of_value(&message), None))
         } else {
             self.other(&bytes.message(), offset)

@@ -3,7 +3,7 @@ ghost use Rattle.std.specs.Prelude.{◌≡◌, ◌≢◌, ◌≤◌, [], map, If
 ghost use Rattle.std.specs.Option.{option_map, option_to_list};
 ghost use Rattle.midi1_bytes.specs.Answers.{step_view, LendsData, LendsFramed};
 ghost use Rattle.midi1_bytes.specs.Parsing.{ended_by, Begun};
-ghost use Rattle.voice_state.specs.StepListing.{kinds_at_end, line_up};
+ghost use Rattle.midi_meaning.specs.StepListing.{kinds_at_end, line_up};
 ghost use Rattle.param_collector.specs.Holding.{Holding};
 ghost use Rattle.up_translator.specs.Step.{Accepts};
 
@@ -11,15 +11,16 @@ use crate::lines::{cut_off, kind_of_open, stray, undefined};
 use crate::raised::Raised;
 use crate::raiser::Raiser;
 use midi_edge::{NoMemory, U4};
+use midi_meaning::{BadStep, Listed};
 use midi1_bytes::{AfterCut, Parser, Step, System};
 use param_collector::Collector;
 use param_collector::laws::other_messages_change_nothing_kept;
 use std::alloc::Global;
 use std::marker::Model;
 use voice_messages::END_OF_EXCLUSIVE;
-use voice_state::{BadStep, Listed};
 
-// What F7 gives: the exclusive that it ends, or the lines of what it cuts off and of F7 itself, which then is stray.
+// What F7 gives: the exclusive that it ends, or the lines of what it
+// cuts off and of F7 itself, which then is stray.
 #[inline(always)]
 fn raised_end<'a>(group: U4, step: Step<'a>, offset: u64) -> Raised<'a>
     requires ended { (begun : Option Begun) × (step_view step ≡ ended_by begun) }
@@ -33,6 +34,7 @@ fn raised_end<'a>(group: U4, step: Step<'a>, offset: u64) -> Raised<'a>
             Raised::only_listed(group, Some(cut_off(start, what)), Some(stray(offset)))
         }
         Step::Stray => Raised::only_listed(group, Some(stray(offset)), None),
+        // F7 ends an exclusive, cuts off what is open, or is stray: no other step comes of it.
         Step::Held
         | Step::Voice(_)
         | Step::Common(_)
@@ -42,8 +44,8 @@ fn raised_end<'a>(group: U4, step: Step<'a>, offset: u64) -> Raised<'a>
     }
 }
 
-/// Translates the bytes of one MIDI 1.0 stream to packets of one group. A contract sees the group, what is open of a message or
-/// an exclusive, and what control changes have set.
+/// Translates the bytes of one MIDI 1.0 stream to packets of one group. A contract sees the group, what is
+/// open of a message or an exclusive, and what control changes have set.
 #[derive(Drop)]
 pub struct Up {
     parser: Parser,
@@ -66,14 +68,14 @@ impl Up {
     ghost use Rattle.std.specs.Borrow.{sem};
     ghost use Rattle.midi1_bytes.specs.Parsing.{idle, open_of};
     ghost use Rattle.param_collector.specs.Holding.{fresh};
-    ghost use Rattle.up_translator.specs.Held.{KeepsBehind, step_in, up_behind};
+    ghost use Rattle.up_translator.specs.Held.{KeepsAfter, step_in, up_after};
     ghost use Rattle.up_translator.specs.Lend.{KeepsUp};
     ghost use Rattle.up_translator.specs.Recording.{HoldsUp};
     ghost use Rattle.up_translator.specs.Step.{Raises};
 
-    /// A translator into a group, for a stream that has had no byte yet. Takes all memory that it ever needs: for exclusives of
-    /// `room` bytes between F0 and F7, 6 to 1,048,576, and for what control changes set. Controllers are paired or aren't (own rule).
-    /// `NoMemory` when there isn't that much.
+    /// A translator into a group, for a stream that has had no byte yet. Takes all memory that it ever needs:
+    /// for exclusives of `room` bytes between F0 and F7, 6 to 1,048,576, and for what control changes set.
+    /// Controllers are paired or aren't (own rule). `NoMemory` when there isn't that much.
     pub fn new(alloc: Global, group: U4, room: u32, paired: bool) -> Result<Up, NoMemory>
         requires least { 6 ≤ room }
         requires most { room ≤ 1048576 }
@@ -93,8 +95,8 @@ impl Up {
     #[inline(always)]
     fn end_exclusive(&mut self, offset: u64) -> Result<Raised<'_>, BadStep>
         ensures answer { Raises self.old offset 247 result }
-        ensures kept { KeepsBehind self.old.holding (step_in self.old offset 247) }
-        ensures* after { sem 𝓛 (KeepsUp self.entry (up_behind self.old offset 247)) }
+        ensures kept { KeepsAfter self.old.holding (step_in self.old offset 247) }
+        ensures* after { sem 𝓛 (KeepsUp self.entry (up_after self.old offset 247)) }
     {
         other_messages_change_nothing_kept();
         let group = self.raiser.group();
@@ -106,8 +108,8 @@ impl Up {
     fn take(&mut self, byte: u8, offset: u64) -> Result<Raised<'_>, BadStep>
         requires { byte ≢ 247 }
         ensures answer { Raises self.old offset byte result }
-        ensures kept { KeepsBehind self.old.holding (step_in self.old offset byte) }
-        ensures* after { sem 𝓛 (KeepsUp self.entry (up_behind self.old offset byte)) }
+        ensures kept { KeepsAfter self.old.holding (step_in self.old offset byte) }
+        ensures* after { sem 𝓛 (KeepsUp self.entry (up_after self.old offset byte)) }
     {
         other_messages_change_nothing_kept();
         match self.parser.byte(byte, offset) {
@@ -115,6 +117,7 @@ impl Up {
             Step::Voice(bytes) => self.raiser.voice(&bytes, offset),
             Step::Common(bytes) => Ok(self.raiser.system(bytes.message(), None)),
             Step::RealTime(byte) => Ok(self.raiser.system(byte.message(), None)),
+            // Only F7 ends an exclusive, and this byte is another one.
             Step::Exclusive(_) => unreachable!(),
             Step::Stray => Ok(Raised::only_listed(self.raiser.group(), Some(stray(offset)), None)),
             Step::Undefined => Ok(Raised::only_listed(
@@ -154,19 +157,20 @@ impl Up {
         }
     }
 
-    /// The packets of one more byte (M2-104-UM, translation from MIDI 1.0; M2-115-U), and its lines of the listing (own rules).
-    /// The offset is the number of bytes before it.
+    /// The packets of one more byte (M2-104-UM, translation from MIDI 1.0; M2-115-U), and its lines of the
+    /// listing (own rules). The offset is the number of bytes before it.
     ///
-    /// `DataIncrement` and `DataDecrement` are returned exactly at the byte that completes a control change 96 or 97; what
-    /// control changes have set then stays as it was. `ExclusiveTooLong` is returned exactly when the byte makes an exclusive
-    /// longer than the limit; the exclusive is dropped (own rules).
+    /// `DataIncrement` and `DataDecrement` are returned exactly at the byte that completes a control change
+    /// 96 or 97; what control changes have set then stays as it was. `ExclusiveTooLong` is returned exactly
+    /// when the byte makes an exclusive longer than the limit; the exclusive is dropped (own rules).
     #[inline(always)]
     pub fn byte(&mut self, byte: u8, offset: u64) -> Result<Raised<'_>, BadStep>
         ensures answer { Raises self.old offset byte result }
-        ensures kept { KeepsBehind self.old.holding (step_in self.old offset byte) }
-        ensures* after { sem 𝓛 (KeepsUp self.entry (up_behind self.old offset byte)) }
+        ensures kept { KeepsAfter self.old.holding (step_in self.old offset byte) }
+        ensures* after { sem 𝓛 (KeepsUp self.entry (up_after self.old offset byte)) }
     {
-        // Most bytes are data bytes. The parser asks first whether a byte is one, so that this question costs nothing.
+        // Most bytes are data bytes. The parser asks first whether a
+        // byte is one, so that this question costs nothing.
         if byte >= 0x80 {
             if byte == END_OF_EXCLUSIVE {
                 return self.end_exclusive(offset);
@@ -175,8 +179,8 @@ impl Up {
         self.take(byte, offset)
     }
 
-    /// The line of what is open at the end of the stream, with the offset at which it starts; `None` exactly when nothing is
-    /// open.
+    /// The line of what is open at the end of the stream, with the offset at which it starts; `None` exactly
+    /// when nothing is open.
     pub fn end(&self) -> Option<Listed>
         ensures { option_to_list result ≡ map (line_up self.now.group) (kinds_at_end
             (option_map (λ begun. (begun.start, begun.kind)) (open_of self.now.parsing))) }

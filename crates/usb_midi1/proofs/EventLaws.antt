@@ -17,12 +17,21 @@ no_event : (cable : ℕ) (bytes : List ℕ) → first_event cable bytes ≡ None
 no_event cable [] is = refl
 no_event cable (first ∷ []) is = let e : Some (event cable 5 (first ∷ [])) ≡ None = is in cc
 no_event cable (first ∷ second ∷ []) is = let e : Some (event cable 6 (first ∷ second ∷ [])) ≡ None = is in cc
-no_event cable (first ∷ second ∷ third ∷ more) is = let e : Some (event cable (code_before more) (first ∷ second ∷ third ∷ [])) ≡ None = is in cc
+no_event cable (first ∷ second ∷ third ∷ more) is =
+    let e : Some (event cable (code_before more) (first ∷ second ∷ third ∷ [])) ≡ None = is in
+    cc
 
-one_event : (cable : ℕ) (bytes one : List ℕ) → first_event cable bytes ≡ Some one → exclusive_events cable bytes ≡ one ∷ exclusive_events cable (drop 3 bytes)
+one_event : (cable : ℕ) (bytes one : List ℕ) → first_event cable bytes ≡ Some one
+    → exclusive_events cable bytes ≡ one ∷ exclusive_events cable (drop 3 bytes)
 one_event cable [] one is = let e : None ≡ Some one = is in cc
-one_event cable (first ∷ []) one is = let e : Some (event cable 5 (first ∷ [])) ≡ Some one = is in let same : event cable 5 (first ∷ []) ≡ one = cc in ap (λ xs. xs ∷ []) same
-one_event cable (first ∷ second ∷ []) one is = let e : Some (event cable 6 (first ∷ second ∷ [])) ≡ Some one = is in let same : event cable 6 (first ∷ second ∷ []) ≡ one = cc in ap (λ xs. xs ∷ []) same
+one_event cable (first ∷ []) one is =
+    let e : Some (event cable 5 (first ∷ [])) ≡ Some one = is in
+    let same : event cable 5 (first ∷ []) ≡ one = cc in
+    ap (λ xs. xs ∷ []) same
+one_event cable (first ∷ second ∷ []) one is =
+    let e : Some (event cable 6 (first ∷ second ∷ [])) ≡ Some one = is in
+    let same : event cable 6 (first ∷ second ∷ []) ≡ one = cc in
+    ap (λ xs. xs ∷ []) same
 one_event cable (first ∷ second ∷ third ∷ more) one is =
     let e : Some (event cable (code_before more) (first ∷ second ∷ third ∷ [])) ≡ Some one = is in
     let same : event cable (code_before more) (first ∷ second ∷ third ∷ []) ≡ one = cc in
@@ -73,5 +82,6 @@ rest-few limit at rest TooLong ends other = absurd (other refl)
 pub those_of_the_bytes : EventsAreThoseOfTheBytes
 those_of_the_bytes = λ limit bytes items tail cut other.
     ap events_in cut.cuts.whole
-    ∙ chunks-are 0 cut.chunks cut.cuts.rest cut.cuts.each (rest-few limit (0 + length (concat cut.chunks)) cut.cuts.rest tail cut.cuts.ends other)
+    ∙ chunks-are 0 cut.chunks cut.cuts.rest cut.cuts.each
+    (rest-few limit (0 + length (concat cut.chunks)) cut.cuts.rest tail cut.cuts.ends other)
     ∙ ap (λ (xs : List (Event × ℕ)). map (λ (item : Event × ℕ). item.0) xs) (sym cut.same)

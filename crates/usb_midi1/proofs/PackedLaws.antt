@@ -5,7 +5,7 @@ use Rattle.midi1_bytes.specs.Laws.{ParsedBytesAreTheDefinition}
 use Rattle.midi1_bytes.specs.Parsing.{Parsing}
 use Rattle.midi1_bytes.specs.Steps.{Step}
 use Rattle.midi1_bytes.specs.Stream.{Open}
-use Rattle.voice_state.specs.StepListing.{kinds_at_end, line_up}
+use Rattle.midi_meaning.specs.StepListing.{kinds_at_end, line_up}
 use Rattle.usb_midi1.specs.Held.{PackerState}
 use Rattle.usb_midi1.specs.Laws.{PackedBytesAreTheDefinition}
 use Rattle.usb_midi1.specs.Packed.{PacksStep}
@@ -13,7 +13,8 @@ use Rattle.usb_midi1.specs.Packed.{PacksStep}
 pub packed_is : ParsedBytesAreTheDefinition → PackedBytesAreTheDefinition
 packed_is parsed =
     record {
-      new = λ room cable. let with : Parsing → PackerState = λ parsing. record { cable = cable; parsing = parsing } in ap with (parsed.new room);
+      new = λ room cable. let with : Parsing → PackerState = λ parsing. record { cable = cable; parsing = parsing } in
+          ap with (parsed.new room);
       answer = λ room cable past byte result packs.
           let P : Step → Type 0 = λ step. PacksStep cable (length past) step result in
           subst P (parsed.step room past byte) packs;
@@ -21,5 +22,6 @@ packed_is parsed =
           let with : Parsing → PackerState = λ parsing. record { cable = cable; parsing = parsing } in
           ap with (parsed.after room past byte);
       end = λ room cable past.
-          ap (λ (o : Option Open). map (line_up cable) (kinds_at_end (option_map (λ (begun : Open). (begun.start, begun.kind)) o))) (parsed.end room past);
+          ap (λ (o : Option Open). map (line_up cable) (kinds_at_end (option_map (λ (begun : Open). (begun.start, begun.kind)) o)))
+          (parsed.end room past);
     }

@@ -7,10 +7,10 @@ use Rattle.item_reader.specs.declared.cutting.Tail.{Tail}
 use Rattle.item_reader.specs.declared.cutting.Tail.TheVariants.{TooLong}
 use Rattle.midi1_bytes.specs.Parsing.{idle, open_of}
 use Rattle.midi1_bytes.specs.Steps.{completed, step_of}
-use Rattle.voice_state.specs.StepListing.{kinds_at_end, line_up, open_pair}
-use Rattle.voice_state.specs.UpRefusal.{AreStepsWithinRoom}
+use Rattle.midi_meaning.specs.StepListing.{kinds_at_end, line_up, open_pair}
+use Rattle.midi_meaning.specs.UpRefusal.{AreStepsWithinRoom}
 use Rattle.usb_midi1.specs.Events.{event_at, four_bytes}
-use Rattle.usb_midi1.specs.Held.{packer_after, packer_behind}
+use Rattle.usb_midi1.specs.Held.{packer_over, packer_after}
 use Rattle.usb_midi1.specs.Packed.{Packs, PacksStep}
 use Rattle.usb_midi1.specs.Packing.{exclusive_events, first_event, stream_events}
 use Rattle.usb_midi1.specs.Split.{events_in, on_cable, split}
@@ -20,15 +20,15 @@ use Rattle.usb_midi1.specs.declared.packed.TooLong as refused
 
 -- A packer answers each byte by the definition that looks back over all the bytes before it, and holds what they leave.
 pub record PackedBytesAreTheDefinition : Type 0 where
-  pub new : (room cable : ℕ) → packer_after room cable [] ≡ record { cable = cable; parsing = idle room }
+  pub new : (room cable : ℕ) → packer_over room cable [] ≡ record { cable = cable; parsing = idle room }
   pub answer : (room cable : ℕ) (past : List ℕ) (byte : ℕ) (result : Result Packed refused.TooLong) →
-      Packs (packer_after room cable past) (length past) byte result →
+      Packs (packer_over room cable past) (length past) byte result →
       PacksStep cable (length past) (step_of (Some room) past byte) result
   pub after : (room cable : ℕ) (past : List ℕ) (byte : ℕ) →
-      packer_behind (packer_after room cable past) (length past) byte ≡ packer_after room cable (byte ∷ past)
+      packer_after (packer_over room cable past) (length past) byte ≡ packer_over room cable (byte ∷ past)
   pub end : (room cable : ℕ) (past : List ℕ) →
       map (line_up cable)
-      (kinds_at_end (option_map (λ begun. (begun.start, begun.kind)) (open_of (packer_after room cable past).parsing))) ≡
+      (kinds_at_end (option_map (λ begun. (begun.start, begun.kind)) (open_of (packer_over room cable past).parsing))) ≡
       map (line_up cable) (kinds_at_end (open_pair (Some room) past))
 
 -- The events of an exclusive are, from each place on, the one that is cut there and then those of the bytes behind it.

@@ -4,7 +4,7 @@ use Rattle.std.specs.Option.{option_map}
 use Rattle.midi1_bytes.specs.Answers.{framed}
 use Rattle.midi1_bytes.specs.Messages.{Message, exclusive}
 use Rattle.midi1_bytes.specs.Steps.{Step, completed_by, too_long}
-use Rattle.voice_state.specs.StepListing.{kinds_of_step, line_up}
+use Rattle.midi_meaning.specs.StepListing.{kinds_of_step, line_up}
 use Rattle.up_translator.specs.ByteLines.{group_of, lines_in, IsInOrder}
 use Rattle.usb_midi1.specs.Held.{PackerState, step_in}
 use Rattle.usb_midi1.specs.Packing.{events_by, exclusive_events}

@@ -74,13 +74,15 @@ impl EventReader {
         }
     }
 
-    /// The next event and its offset, the number of bytes before it; `None` when the source ends with the last event.
+    /// The next event and its offset, the number of bytes before it;
+    /// `None` when the source ends with the last event.
     ///
-    /// `Truncated` is returned when the source ends within the limit, one to three bytes after the last event, with the offset of
-    /// the first of them. `TooLong` is returned when the source gave more bytes than the limit, and fewer than four of them are
-    /// left within it (own rule). `Read` is returned only when the source's count of faults rose; no byte is lost, and a later
-    /// call goes on from there. Any other answer without an event is returned again by every later call. The source is asked only
-    /// where no whole event is held.
+    /// `Truncated` is returned when the source ends within the limit, one to three bytes after the last
+    /// event, with the offset of the first of them. `TooLong` is returned when the source gave more bytes
+    /// than the limit, and fewer than four of them are left within it (own rule). `Read` is returned only
+    /// when the source's count of faults rose; no byte is lost, and a later call goes on from there. Any
+    /// other answer without an event is returned again by every later call. The source is asked only where no
+    /// whole event is held.
     #[inline(always)]
     pub fn next<S: Source>(&mut self, src: &mut S) -> Result<Option<(Event, u64)>, ReadStop>
         ensures answer { self.old.end ≡ None → Answers four_bytes event_at
@@ -114,8 +116,9 @@ fn carried_count(code: U4) -> usize
     CARRIED_COUNTS[usize::from(code.get())]
 }
 
-/// The bytes that an event carries, as many of its three as its code says (USB Device Class Definition for MIDI Devices 1.0, code
-/// index numbers): none for the reserved codes 0 and 1; two for 2, 6, C and D; one for 5 and F; three for any other.
+/// The bytes that an event carries, as many of its three as its code says (USB Device Class Definition for
+/// MIDI Devices 1.0, code index numbers): none for the reserved codes 0 and 1; two for 2, 6, C and D; one for
+/// 5 and F; three for any other.
 pub fn carried(event: &Event) -> ShortList<u8, 3>
     ensures bytes { result ≡ carried_by event.now }
     ensures some { is_reserved_code event.now.code ≡ false → 0 < length result }

@@ -1,7 +1,7 @@
 // What comes of a byte.
 use midi_edge::U4;
 use thiserror::Error;
-use up_translator::{ByteLines, Line};
+use up_translator::{ByteLine, ByteLines};
 
 /// An exclusive has more bytes between F0 and F7 than the limit (own rule).
 #[derive(Clone, Copy, Debug, PartialEq, Eq, Error)]
@@ -11,10 +11,11 @@ pub struct TooLong;
 /// What comes of a byte.
 #[derive(Clone, Copy, Debug)]
 pub struct Packed<'a> {
-    /// The event of the voice or system message that the byte completes, its cable and code in the first byte.
+    /// The event of the voice or system message that the byte
+    /// completes, its cable and code in the first byte.
     pub event: Option<[u8; 4]>,
-    /// The exclusive that the byte ends, from its F0 to its F7. Its events are those of `exclusive_event`. Where it is there, there is
-    /// no event.
+    /// The exclusive that the byte ends, from its F0 to its F7. Its events are those of `exclusive_event`.
+    /// Where it is there, there is no event.
     pub whole: Option<&'a [u8]>,
     /// Its lines of the listing, with the cable as their group.
     pub lines: ByteLines,
@@ -23,13 +24,17 @@ pub struct Packed<'a> {
 impl<'a> Packed<'a> {
     ghost use Rattle.std.specs.Prelude.{◌≡◌, ◌++◌, [], ◌∷◌, map, Some, None};
     ghost use Rattle.std.specs.Option.{option_to_list};
-    ghost use Rattle.voice_state.specs.StepListing.{line_up};
+    ghost use Rattle.midi_meaning.specs.StepListing.{line_up};
     ghost use Rattle.up_translator.specs.ByteLines.{lines_in, told_of, AreInOrder, IsInOrder};
     ghost use Rattle.usb_midi1.specs.Packed.{cable_in, events_in, whole_in, IsApart};
     ghost use Rattle.usb_midi1.specs.Packing.{exclusive_events};
 
     /// Lines alone, at most two, in order.
-    pub(crate) fn only_listed(cable: U4, first: Option<Line>, second: Option<Line>) -> Packed<'a>
+    pub(crate) fn only_listed(
+        cable: U4,
+        first: Option<ByteLine>,
+        second: Option<ByteLine>,
+    ) -> Packed<'a>
         requires { AreInOrder first second }
         ensures cable { cable_in result ≡ cable }
         ensures order { IsInOrder result.lines }
@@ -47,7 +52,7 @@ impl<'a> Packed<'a> {
     }
 
     /// An event, and a line if there is one.
-    pub(crate) fn of_event(cable: U4, event: [u8; 4], first: Option<Line>) -> Packed<'a>
+    pub(crate) fn of_event(cable: U4, event: [u8; 4], first: Option<ByteLine>) -> Packed<'a>
         ensures cable { cable_in result ≡ cable }
         ensures order { IsInOrder result.lines }
         ensures apart { IsApart result }

@@ -1,18 +1,18 @@
 // The packer of a stream into events.
 ghost use Rattle.std.specs.Prelude.{◌≡◌, ◌≤◌, map, IfOk};
 ghost use Rattle.std.specs.Option.{option_map, option_to_list};
-ghost use Rattle.voice_state.specs.StepListing.{kinds_at_end, line_up};
+ghost use Rattle.midi_meaning.specs.StepListing.{kinds_at_end, line_up};
 ghost use Rattle.midi1_bytes.specs.Steps as steps;
 ghost use Rattle.usb_midi1.specs.Packed.{IsPacked};
 
 use crate::packed::{Packed, TooLong};
 use crate::packing::{system_event, voice_event};
 use midi_edge::{NoMemory, U4};
+use midi_meaning::Listed;
 use midi1_bytes::{AfterCut, CutKind, Parser, Step, System};
 use std::alloc::Global;
 use std::marker::Model;
 use up_translator::lines::{cut_off, kind_of_open, stray, undefined};
-use voice_state::Listed;
 
 // What comes of a byte that cuts off what started at an offset.
 fn cut<'a>(cable: U4, start: u64, what: CutKind, after: AfterCut, offset: u64) -> Packed<'a>
@@ -30,8 +30,8 @@ fn cut<'a>(cable: U4, start: u64, what: CutKind, after: AfterCut, offset: u64) -
     }
 }
 
-/// Packs the bytes of one MIDI 1.0 stream into events of one cable. A contract sees the cable, and what is open of a message or an
-/// exclusive.
+/// Packs the bytes of one MIDI 1.0 stream into events of one cable. A contract sees the cable, and what is
+/// open of a message or an exclusive.
 #[derive(Drop)]
 pub struct Packer {
     parser: Parser,
@@ -49,12 +49,12 @@ impl Model for Packer {
 impl Packer {
     ghost use Rattle.std.specs.Borrow.{sem};
     ghost use Rattle.midi1_bytes.specs.Parsing.{idle, open_of};
-    ghost use Rattle.usb_midi1.specs.Held.{packer_behind};
+    ghost use Rattle.usb_midi1.specs.Held.{packer_after};
     ghost use Rattle.usb_midi1.specs.Lend.{KeepsPacker};
     ghost use Rattle.usb_midi1.specs.Packed.{Packs};
 
-    /// A packer for a stream that has had no byte yet. Takes all memory that it ever needs: for exclusives of `room` bytes between F0
-    /// and F7, 6 to 1,048,576 (own rule). `NoMemory` when there isn't that much.
+    /// A packer for a stream that has had no byte yet. Takes all memory that it ever needs: for exclusives of
+    /// `room` bytes between F0 and F7, 6 to 1,048,576 (own rule). `NoMemory` when there isn't that much.
     pub fn new(alloc: Global, cable: U4, room: u32) -> Result<Packer, NoMemory>
         requires least { 6 ≤ room }
         requires most { room ≤ 1048576 }
@@ -64,18 +64,20 @@ impl Packer {
         Ok(Packer { parser, cable })
     }
 
-    /// The events of one more byte (USB Device Class Definition for MIDI Devices 1.0, code index numbers), each with its status byte,
-    /// and its lines of the listing (own rules). The offset is the number of bytes before it. The call takes no memory.
+    /// The events of one more byte (USB Device Class Definition for MIDI Devices 1.0, code index numbers),
+    /// each with its status byte, and its lines of the listing (own rules). The offset is the number of bytes
+    /// before it. The call takes no memory.
     ///
-    /// `TooLong` is returned exactly at the data byte that makes the bytes of an exclusive between F0 and F7 more than the limit; the
-    /// exclusive is dropped (own rule).
+    /// `TooLong` is returned exactly at the data byte that makes the bytes of an exclusive between F0 and F7
+    /// more than the limit; the exclusive is dropped (own rule).
     #[inline(always)]
     pub fn byte(&mut self, byte: u8, offset: u64) -> Result<Packed<'_>, TooLong>
         ensures answer { Packs self.old offset byte result }
-        ensures* after { sem 𝓛 (KeepsPacker self.entry (packer_behind self.old offset byte)) }
+        ensures* after { sem 𝓛 (KeepsPacker self.entry (packer_after self.old offset byte)) }
     {
         let cable = self.cable;
-        // Each arm returns, so that its answer is proved by itself: of all arms at once the search for a proof finds no end.
+        // Each arm returns, so that its answer is proved by itself: of all
+        // arms at once the search for a proof finds no end.
         match self.parser.byte(byte, offset) {
             Step::Held => return Ok(Packed::only_listed(cable, None, None)),
             Step::Voice(bytes) => {
@@ -98,8 +100,8 @@ impl Packer {
         }
     }
 
-    /// The line of what is open at the end of the stream, with the offset at which it starts and the cable as its group; `None`
-    /// exactly when nothing is open.
+    /// The line of what is open at the end of the stream, with the offset at which it starts and the cable as
+    /// its group; `None` exactly when nothing is open.
     pub fn end(&self) -> Option<Listed>
         ensures { option_to_list result ≡ map (line_up self.now.cable) (kinds_at_end
             (option_map (λ begun. (begun.start, begun.kind)) (open_of self.now.parsing))) }

@@ -37,11 +37,13 @@ pub(crate) fn voice_event(cable: U4, message: &Voice1) -> [u8; 4]
     let bytes = write_voice(message);
     match *bytes.as_slice() {
         [status, ..] => event(cable, status / 16, bytes.as_slice()),
+        // A message has its status byte at least.
         [] => unreachable!(),
     }
 }
 
-// The code of a system message: 2 and 3 for a common one of two and three bytes, 5 for one of a single byte, F for Real Time.
+// The code of a system message: 2 and 3 for a common one of two and
+// three bytes, 5 for one of a single byte, F for Real Time.
 fn system_code(message: &System) -> u8
     ensures code { result ≡ code_by message.now }
     ensures below { result < 16 }
@@ -71,9 +73,9 @@ pub(crate) fn system_event(cable: U4, message: &System) -> [u8; 4]
     )
 }
 
-/// Event `k`, counted from 0, of an exclusive that is given from its F0 to its F7, cut every three bytes: its code is 4, but for the
-/// last event 5, 6 or 7 by the number of its bytes. `None` exactly where `k` is past the last (USB Device Class Definition for
-/// MIDI Devices 1.0, code index numbers).
+/// Event `k`, counted from 0, of an exclusive that is given from its F0 to its F7, cut every three bytes: its
+/// code is 4, but for the last event 5, 6 or 7 by the number of its bytes. `None` exactly where `k` is past
+/// the last (USB Device Class Definition for MIDI Devices 1.0, code index numbers).
 pub fn exclusive_event(cable: U4, whole: &[u8], k: usize) -> Option<[u8; 4]>
     requires { 2 ≤ length whole.now }
     ensures { result ≡ first_event cable (drop (3 * k) whole.now) }

@@ -2,11 +2,11 @@
 ghost use Rattle.std.specs.Prelude.{◌≤◌, length};
 
 use midi_edge::{Failed, MemSource, ReadStop, U4};
+use midi_meaning::{Kind, Listed};
 use std::alloc::{AllocError, Global};
 use std::process::Abort;
 use std::test::Fail;
 use usb_midi1::*;
-use voice_state::{Kind, Listed};
 
 const ROOM: u32 = 16;
 

@@ -17,7 +17,8 @@ pub form_at-last : (count k : ℕ) → 1 < count → k + 1 ≡ count → form_at
 form_at-last count k many last = rw (ne_eqb count 1 (λ e. omega arith), ne_eqb k 0 (λ e. omega arith), eq-eqb (k + 1) count last) refl
 
 pub form_at-inner : (count k : ℕ) → 0 < k → k + 1 < count → form_at count k ≡ form.Continue
-form_at-inner count k later inner = rw (ne_eqb count 1 (λ e. omega arith), ne_eqb k 0 (λ e. omega arith), ne_eqb (k + 1) count (λ e. omega arith)) refl
+form_at-inner count k later inner =
+    rw (ne_eqb count 1 (λ e. omega arith), ne_eqb k 0 (λ e. omega arith), ne_eqb (k + 1) count (λ e. omega arith)) refl
 
 -- one more packet's bytes
 pub chunk-joins : (size : ℕ) (bytes : List ℕ) (k : ℕ) → take (k * size) bytes ++ slice_chunk bytes size k ≡ take ((k + 1) * size) bytes

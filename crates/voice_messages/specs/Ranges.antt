@@ -32,8 +32,10 @@ IsBank None = Unit {0}
 IsBank (Some bank) = (bank.msb < 128) × (bank.lsb < 128)
 
 abbrev pub IsVoice2 : Voice2 → Type 0
-IsVoice2 (voice2.NoteOff channel note velocity attribute_type attribute) = (channel < 16) × (note < 128) × (velocity < 2 ^ 16) × (attribute_type < 256) × (attribute < 2 ^ 16)
-IsVoice2 (voice2.NoteOn channel note velocity attribute_type attribute) = (channel < 16) × (note < 128) × (velocity < 2 ^ 16) × (attribute_type < 256) × (attribute < 2 ^ 16)
+IsVoice2 (voice2.NoteOff channel note velocity attribute_type attribute) =
+    (channel < 16) × (note < 128) × (velocity < 2 ^ 16) × (attribute_type < 256) × (attribute < 2 ^ 16)
+IsVoice2 (voice2.NoteOn channel note velocity attribute_type attribute) =
+    (channel < 16) × (note < 128) × (velocity < 2 ^ 16) × (attribute_type < 256) × (attribute < 2 ^ 16)
 IsVoice2 (voice2.PolyPressure channel note value) = (channel < 16) × (note < 128) × (value < 2 ^ 32)
 IsVoice2 (voice2.Control channel index value) = (channel < 16) × (index < 128) × (value < 2 ^ 32)
 IsVoice2 (voice2.Set channel param value) = (channel < 16) × IsParam param × (value < 2 ^ 32)

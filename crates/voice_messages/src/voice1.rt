@@ -2,7 +2,8 @@
 use crate::small::{U7, U14};
 use midi_edge::U4;
 
-/// A channel voice message of the MIDI 1.0 protocol (MIDI 1.0 Detailed Specification, channel voice messages).
+/// A channel voice message of the MIDI 1.0 protocol (MIDI 1.0
+/// Detailed Specification, channel voice messages).
 #[derive(Clone, Copy, Debug, PartialEq, Eq)]
 pub enum Voice1 {
     /// Status 8n.
@@ -46,7 +47,8 @@ pub enum System {
     Reset,
 }
 
-/// The status byte that begins a system exclusive message (MIDI 1.0 Detailed Specification, system exclusive messages).
+/// The status byte that begins a system exclusive message (MIDI 1.0
+/// Detailed Specification, system exclusive messages).
 pub const START_OF_EXCLUSIVE: u8 = 0xF0;
 
 /// The status byte that ends a system exclusive message.

@@ -14,8 +14,8 @@ pub enum ParamKind {
     Assignable,
 }
 
-/// A registered or assignable parameter, by the MSB (`bank`) and the LSB (`index`) of its number (MIDI 1.0 Detailed Specification,
-/// registered and non-registered parameter numbers).
+/// A registered or assignable parameter, by the MSB (`bank`) and the LSB (`index`) of its number (MIDI 1.0
+/// Detailed Specification, registered and non-registered parameter numbers).
 #[derive(Clone, Copy, Debug, PartialEq, Eq)]
 pub struct Param {
     pub kind: ParamKind,
@@ -30,8 +30,9 @@ pub struct Bank {
     pub lsb: U7,
 }
 
-/// A channel voice message of the MIDI 2.0 protocol (M2-104-UM, MIDI 2.0 channel voice messages). Velocities and attributes have
-/// 16 bits, and values have 32; a bend has its centre at 0x8000_0000. A note whose `attribute_type` is 0 has no attribute.
+/// A channel voice message of the MIDI 2.0 protocol (M2-104-UM, MIDI 2.0 channel voice messages). Velocities
+/// and attributes have 16 bits, and values have 32; a bend has its centre at 0x8000_0000. A note whose
+/// `attribute_type` is 0 has no attribute.
 #[derive(Clone, Copy, Debug, PartialEq, Eq)]
 pub enum Voice2 {
     /// Opcode 8.
@@ -126,7 +127,8 @@ pub enum Form {
 }
 
 impl Form {
-    /// The form of packet `k`, counted from 0, of a message in `count` packets (M2-104-UM, system exclusive and stream messages).
+    /// The form of packet `k`, counted from 0, of a message in `count`
+    /// packets (M2-104-UM, system exclusive and stream messages).
     pub fn at(k: usize, count: usize) -> Form
         requires { k < count }
         ensures { result ≡ form_at count k }

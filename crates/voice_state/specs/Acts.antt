@@ -1,7 +1,7 @@
 -- The acts that the code names are those of the definition.
+use Rattle.midi_meaning.specs.State.{Act, on, off, mode}
 use Rattle.voice_state.specs.declared.note_act.NoteAct.{NoteAct}
 use Rattle.voice_state.specs.declared.note_act.NoteAct.TheVariants as note_act
-use Rattle.voice_state.specs.State.{Act, on, off, mode}
 
 abbrev pub act_of : NoteAct → Act
 act_of (note_act.On note velocity) = on note velocity

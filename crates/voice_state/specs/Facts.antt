@@ -5,10 +5,10 @@ use Rattle.std.specs.Option.{option_map, option_to_list}
 use Rattle.voice_messages.specs.declared.voice2.ParamKind.{ParamKind}
 use Rattle.voice_messages.specs.declared.voice2.ParamKind.TheVariants.{Registered, Assignable}
 use Rattle.voice_messages.specs.declared.voice2.Param.{Param}
+use Rattle.midi_meaning.specs.State.{Act, on, off, mode, ProgramChange, Channel, GroupState}
+use Rattle.midi_meaning.specs.Messages.{Scale}
 use Rattle.voice_state.specs.declared.fact.Fact.{Fact}
 use Rattle.voice_state.specs.declared.fact.Fact.TheVariants as fact
-use Rattle.voice_state.specs.State.{Act, on, off, mode, ProgramChange, Channel, GroupState}
-use Rattle.voice_state.specs.Messages.{Scale}
 
 -- 0, 1 and so on, so many; a name that stands for its list, which may be long
 unfoldable pub first : ℕ → List ℕ

@@ -1,12 +1,12 @@
 -- What a running state keeps, and when it stands for the states of the meaning.
 use Rattle.std.specs.Prelude.{ℕ, ◌≡◌, ◌<◌, ◌==◌, if◌then◌else◌, List, slice_index_or, Option, Some, None}
 use Rattle.std.specs.Option.{option_map}
+use Rattle.midi_meaning.specs.Messages.{Scale, reset_controllers}
+use Rattle.midi_meaning.specs.State.{ProgramChange, Channel, GroupState}
 use Rattle.voice_state.specs.declared.channel.ProgramChange as kept_program
 use Rattle.voice_state.specs.declared.channel.Channel as kept_channel
 use Rattle.voice_state.specs.Facts.{count_of}
 use Rattle.voice_state.specs.KeptParams.{KeepsParams}
-use Rattle.voice_state.specs.Messages.{Scale, reset_controllers}
-use Rattle.voice_state.specs.State.{ProgramChange, Channel, GroupState}
 use Rattle.voice_state.specs.Tables.{at}
 
 abbrev pub change_of : kept_program.ProgramChange → ProgramChange
@@ -38,7 +38,8 @@ pub record KeptGroup : Type 0 where
   pub real_times : ℕ
 
 pub record KeepsGroup (scale : Scale) (kept : KeptGroup) (group : GroupState) : Type 0 where
-  pub channels : (index : ℕ) (other : kept_channel.Channel) → index < 16 → KeepsChannel scale (slice_index_or kept.channels index other) (group.channels index)
+  pub channels : (index : ℕ) (other : kept_channel.Channel) → index < 16
+      → KeepsChannel scale (slice_index_or kept.channels index other) (group.channels index)
   pub commons : kept.commons ≡ count_of group.commons
   pub real_times : kept.real_times ≡ count_of group.real_times
 

@@ -3,10 +3,10 @@ use Rattle.std.specs.Prelude.{ℕ, ◌≡◌, ◌==◌, List, Option}
 use Rattle.voice_messages.specs.declared.voice2.ParamKind.{ParamKind}
 use Rattle.voice_messages.specs.declared.voice2.ParamKind.TheVariants.{Registered, Assignable}
 use Rattle.voice_messages.specs.declared.voice2.Param.{Param}
+use Rattle.midi_meaning.specs.State.{Channel, put}
 use Rattle.voice_state.specs.declared.param_map.ParamState.{ParamState}
 use Rattle.voice_state.specs.declared.params.Params.{Params}
 use Rattle.voice_state.specs.Params.{number_of, state_at, IsOf}
-use Rattle.voice_state.specs.State.{Channel, put}
 
 abbrev pub entries_of : ParamKind → Params → List (ℕ × ParamState)
 entries_of Registered params = params.registered
@@ -28,5 +28,5 @@ abbrev pub PutsBy : ParamKind → Params → Params → ℕ → ParamState → T
 PutsBy Registered old new number state = PutsIn old.registered new.registered number state × (new.assignable ≡ old.assignable)
 PutsBy Assignable old new number state = PutsIn old.assignable new.assignable number state × (new.registered ≡ old.registered)
 
-abbrev pub Puts : Params → Params → Param → ParamState → Type 0
-Puts old new param state = PutsBy param.kind old new (number_of param.bank param.index) state
+abbrev pub PutsParam : Params → Params → Param → ParamState → Type 0
+PutsParam old new param state = PutsBy param.kind old new (number_of param.bank param.index) state

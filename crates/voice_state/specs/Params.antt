@@ -5,9 +5,9 @@ use Rattle.std.specs.BTreeMap.{is_at}
 use Rattle.std.specs.Map.{lookup}
 use Rattle.voice_messages.specs.declared.voice2.ParamKind.{ParamKind}
 use Rattle.voice_messages.specs.declared.voice2.Param.{Param}
+use Rattle.midi_meaning.specs.State.{Channel}
 use Rattle.voice_state.specs.declared.param_map.ParamState.{ParamState}
 use Rattle.voice_state.specs.Facts.{is_told}
-use Rattle.voice_state.specs.State.{Channel}
 
 abbrev pub number_of : ℕ → ℕ → ℕ
 number_of bank index = bank * 128 + index

@@ -5,10 +5,10 @@ use Rattle.voice_messages.specs.declared.voice1.Voice1.{Voice1}
 use Rattle.voice_messages.specs.declared.voice2.Voice2.{Voice2}
 use Rattle.ump_grammar.specs.declared.packet.Packet.{Packet}
 use Rattle.midi1_bytes.specs.Messages.{Message, real_time}
-use Rattle.voice_state.specs.State.{GroupState, at_channel}
-use Rattle.voice_state.specs.Messages.{Scale, as_they_come, channel_of, start, step1, voice_at}
-use Rattle.voice_state.specs.Packets.{channel2, step2, voice2_at}
-use Rattle.voice_state.specs.Parts.{group_of, is_group}
+use Rattle.midi_meaning.specs.State.{GroupState, at_channel}
+use Rattle.midi_meaning.specs.Messages.{Scale, as_they_come, channel_of, start, step1, voice_at}
+use Rattle.midi_meaning.specs.Packets.{channel2, step2, voice2_at}
+use Rattle.midi_meaning.specs.Parts.{group_of, is_group}
 
 abbrev pub States : Type 0
 States = ℕ → GroupState
@@ -33,7 +33,8 @@ after_message group message states = at_group group (λ state. step1 false state
 
 -- behind a packet, with the bytes of the exclusive that it ends, if it ends one
 abbrev pub after_packet : Packet → Option (List ℕ) → States → States
-after_packet packet whole states = λ group. if is_group (group_of packet) group then step2 false (states group) packet whole else states group
+after_packet packet whole states =
+    λ group. if is_group (group_of packet) group then step2 false (states group) packet whole else states group
 
 -- whether a message is counted with the Real Time messages
 abbrev pub is_real_time : Message → Bool

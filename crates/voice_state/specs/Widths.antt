@@ -1,8 +1,9 @@
+-- For proofs alone: no contract of a public call rests on what stands here.
 -- The scales that the code names. Own rule: controllers aren't paired in a state that is kept.
 use Rattle.voice_state.specs.declared.width.Width.{Width}
 use Rattle.voice_state.specs.declared.width.Width.TheVariants as width
 use Rattle.std.specs.Prelude.{false}
-use Rattle.voice_state.specs.Messages.{Scale, as_they_come, raised, with_pairs}
+use Rattle.midi_meaning.specs.Messages.{Scale, as_they_come, raised, with_pairs}
 
 abbrev pub values_of : Width → Scale
 values_of width.Midi1 = as_they_come

@@ -17,7 +17,7 @@ pub(crate) struct Acts {
 
 impl Model for Acts {
     ghost use Rattle.std.specs.Prelude.{List, map};
-    ghost use Rattle.voice_state.specs.State.{Act};
+    ghost use Rattle.midi_meaning.specs.State.{Act};
     ghost use Rattle.voice_state.specs.Acts.{act_of};
 
     ghost Value = { List Act };

@@ -1,21 +1,21 @@
 // What is kept of a channel.
 ghost use Rattle.std.specs.Prelude.{◌≡◌, ◌++◌, IfOk, OnOk, OnErr};
 ghost use Rattle.std.specs.Option.{option_map, option_to_list};
+ghost use Rattle.midi_meaning.specs.Messages.{Scale, as_they_come, raised, start_channel};
+ghost use Rattle.midi_meaning.specs.State as definition;
 ghost use Rattle.voice_state.specs.Acts.{act_of};
 ghost use Rattle.voice_state.specs.Facts.{bend_facts, channel_facts, pressure_facts, program_fact, value_facts};
 ghost use Rattle.voice_state.specs.Kept.{KeepsChannel};
-ghost use Rattle.voice_state.specs.Messages.{Scale, as_they_come, raised, start_channel};
-ghost use Rattle.voice_state.specs.State as definition;
 ghost use Rattle.voice_state.specs.Widths.{scale_of};
 
 use crate::acts::Acts;
 use crate::fact::{Fact, put};
 use crate::note_act::NoteAct;
 use crate::params::Params;
-use crate::registers::Registers;
 use crate::table::{Content, Table};
 use crate::width::Width;
 use midi_edge::{NoMemory, U4};
+use midi_meaning::Registers;
 use std::alloc::Global;
 use voice_messages::{Bank, U7};
 

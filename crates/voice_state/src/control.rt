@@ -1,25 +1,25 @@
 // What a control change does to a channel.
 ghost use Rattle.std.specs.Prelude.{◌≡◌, false, OnOk, OnErr};
-ghost use Rattle.voice_state.specs.Controllers.{pairing, role_of};
+ghost use Rattle.midi_meaning.specs.Controllers.{pairing, role_of};
+ghost use Rattle.midi_meaning.specs.Messages as messages;
+ghost use Rattle.midi_meaning.specs.Messages.{raised};
+ghost use Rattle.midi_meaning.specs.Packets.{control2};
+ghost use Rattle.midi_meaning.specs.Registers.{selected};
+ghost use Rattle.midi_meaning.specs.Roles.{role_in};
+ghost use Rattle.midi_meaning.specs.State as definition;
 ghost use Rattle.voice_state.specs.Kept.{KeepsChannel, with_controllers_reset};
-ghost use Rattle.voice_state.specs.Messages as messages;
-ghost use Rattle.voice_state.specs.Messages.{raised};
-ghost use Rattle.voice_state.specs.Packets.{control2};
-ghost use Rattle.voice_state.specs.Registers.{selected};
-ghost use Rattle.voice_state.specs.Roles.{role_in};
-ghost use Rattle.voice_state.specs.State as definition;
 ghost use Rattle.voice_state.specs.Widths.{scale_of};
 
 use crate::channel::Channel;
 use crate::note_act::NoteAct;
-use crate::role::ControlRole;
 use crate::width::Width;
 use midi_edge::NoMemory;
+use midi_meaning::ControlRole;
 use voice_messages::U7;
 
 impl Channel {
-    /// Takes a control change of the MIDI 1.0 protocol (MIDI 1.0 Detailed Specification, control change; RP-015). After
-    /// `NoMemory` nothing has changed.
+    /// Takes a control change of the MIDI 1.0 protocol (MIDI 1.0 Detailed Specification, control change;
+    /// RP-015). After `NoMemory` nothing has changed.
     pub(crate) fn control(&mut self, width: Width, index: U7, value: U7) -> Result<(), NoMemory>
         ensures step { OnOk result
             ((state : definition.Channel) → KeepsChannel (scale_of width) self.old state
@@ -66,8 +66,8 @@ impl Channel {
         }
     }
 
-    /// Takes a control change of the MIDI 2.0 protocol (M2-104-UM, MIDI 2.0 control change): the indexes of banks, data entry and
-    /// parameter numbers do nothing. After `NoMemory` nothing has changed.
+    /// Takes a control change of the MIDI 2.0 protocol (M2-104-UM, MIDI 2.0 control change): the indexes of
+    /// banks, data entry and parameter numbers do nothing. After `NoMemory` nothing has changed.
     pub(crate) fn control2(&mut self, index: U7, value: u32) -> Result<(), NoMemory>
         ensures step { OnOk result ((state : definition.Channel) → KeepsChannel raised self.old state
             → KeepsChannel raised self.new (control2 (pairing false (role_of index)) index value state)) }

@@ -5,8 +5,9 @@ ghost use Rattle.std.specs.Option.{option_to_list};
 use midi_edge::NoMemory;
 use voice_messages::{Bank, U4, U7};
 
-/// One thing that is told of what messages have left in a receiver: a note or a channel mode message that came, or a value that
-/// isn't at its first one. Values are those of the stream, of 7 and 14 bits in MIDI 1.0 bytes, of 16 and 32 bits in packets.
+/// One thing that is told of what messages have left in a receiver: a note or a channel mode message that
+/// came, or a value that isn't at its first one. Values are those of the stream, of 7 and 14 bits in MIDI 1.0
+/// bytes, of 16 and 32 bits in packets.
 #[derive(Clone, Copy, Debug, PartialEq, Eq)]
 pub enum Fact {
     /// A note on, with its velocity.
@@ -63,8 +64,8 @@ pub enum Fact {
         program: U7,
         bank: Option<Bank>,
     },
-    /// A registered parameter by the MSB (`bank`) and the LSB (`index`) of its number: its value, where it was set, and whether
-    /// a relative change came since.
+    /// A registered parameter by the MSB (`bank`) and the LSB (`index`) of its number: its value, where it
+    /// was set, and whether a relative change came since.
     Registered {
         group: U4,
         channel: U4,

@@ -3,12 +3,12 @@ ghost use Rattle.std.specs.Prelude.{◌≡◌, ◌++◌, IfOk, OnOk, OnErr};
 ghost use Rattle.std.specs.Option.{option_to_list};
 ghost use Rattle.voice_messages.specs.declared.voice1.System as system;
 ghost use Rattle.midi1_bytes.specs.Messages.{Message};
+ghost use Rattle.midi_meaning.specs.Messages.{Scale, as_they_come, channel_of, raised, start};
+ghost use Rattle.midi_meaning.specs.Packets.{channel2};
+ghost use Rattle.midi_meaning.specs.State.{GroupState, with_common, with_real_time};
 ghost use Rattle.voice_state.specs.declared.fact.Fact.TheVariants as fact;
 ghost use Rattle.voice_state.specs.Facts.{count_facts, facts_of_channels, group_facts};
 ghost use Rattle.voice_state.specs.Kept.{KeepsGroup};
-ghost use Rattle.voice_state.specs.Messages.{Scale, as_they_come, channel_of, raised, start};
-ghost use Rattle.voice_state.specs.Packets.{channel2};
-ghost use Rattle.voice_state.specs.State.{GroupState, with_common, with_real_time};
 ghost use Rattle.voice_state.specs.States.{after_voice1, after_voice2};
 ghost use Rattle.voice_state.specs.Widths.{scale_of};
 
@@ -55,8 +55,8 @@ fn channel2(message: &Voice2) -> U4
     }
 }
 
-/// What messages have left in the sixteen channels of a group, and how many system messages came. To a contract it is a record
-/// of these.
+/// What messages have left in the sixteen channels of a group, and how many system messages came. To a
+/// contract it is a record of these.
 #[derive(Drop)]
 pub(crate) struct Group {
     channels: Vec<Channel>,

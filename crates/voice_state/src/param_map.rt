@@ -1,8 +1,8 @@
 // The parameters of one kind.
 ghost use Rattle.std.specs.Prelude.{◌≡◌, ℕ, ◌<◌, ◌==◌, ◌++◌, [], OnOk, OnErr};
+ghost use Rattle.midi_meaning.specs.State as definition;
 ghost use Rattle.voice_state.specs.Facts.{param_fact, params_in_order};
 ghost use Rattle.voice_state.specs.Params.{number_of, param_of, state_at, IsOf};
-ghost use Rattle.voice_state.specs.State as definition;
 
 use crate::fact::{Fact, put};
 use midi_edge::{NoMemory, U4};

@@ -1,10 +1,10 @@
 // The parameters of a channel.
 ghost use Rattle.std.specs.Prelude.{◌≡◌, ◌<◌, ◌++◌, true, OnOk, OnErr};
 ghost use Rattle.voice_messages.specs.declared.voice2.ParamKind.TheVariants.{Registered, Assignable};
+ghost use Rattle.midi_meaning.specs.Messages as messages;
+ghost use Rattle.midi_meaning.specs.State as definition;
 ghost use Rattle.voice_state.specs.Facts.{params_in_order};
-ghost use Rattle.voice_state.specs.KeptParams.{state_in, KeepsParams, Puts};
-ghost use Rattle.voice_state.specs.Messages as messages;
-ghost use Rattle.voice_state.specs.State as definition;
+ghost use Rattle.voice_state.specs.KeptParams.{state_in, KeepsParams, PutsParam};
 
 use crate::fact::Fact;
 use crate::param_map::{ParamMap, ParamState};
@@ -98,7 +98,7 @@ impl Params {
     }
 
     fn put(&mut self, param: &Param, state: ParamState) -> Result<(), NoMemory>
-        ensures put { OnOk result (Puts self.old self.new param.now state) }
+        ensures put { OnOk result (PutsParam self.old self.new param.now state) }
         ensures in_range { param.now.index < 128 }
         ensures unchanged { OnErr result (self.new ≡ self.old) }
     {
@@ -108,7 +108,8 @@ impl Params {
         }
     }
 
-    /// Adds the facts of the parameters: the registered ones, then the assignable ones, each by their numbers.
+    /// Adds the facts of the parameters: the registered ones, then
+    /// the assignable ones, each by their numbers.
     pub(crate) fn put_facts(
         &self,
         facts: &mut Vec<Fact>,

@@ -1,11 +1,11 @@
 // What messages or packets have left in a receiver, kept while they come.
 ghost use Rattle.std.specs.Prelude.{◌≡◌, true, false, None, IfOk, OnOk, OnErr};
 ghost use Rattle.voice_messages.specs.declared.voice1.System as system;
-ghost use Rattle.midi1_bytes.specs.Messages.{Message, message_of, voice};
+ghost use Rattle.midi1_bytes.specs.Messages.{Message, system_message, voice};
+ghost use Rattle.midi_meaning.specs.Messages.{Scale, as_they_come, raised};
+ghost use Rattle.midi_meaning.specs.State.{with_common, with_real_time};
 ghost use Rattle.voice_state.specs.Facts.{facts_of};
 ghost use Rattle.voice_state.specs.Kept.{Keeps};
-ghost use Rattle.voice_state.specs.Messages.{Scale, as_they_come, raised};
-ghost use Rattle.voice_state.specs.State.{with_common, with_real_time};
 ghost use Rattle.voice_state.specs.States.{States, after_message, after_packet, after_voice1, after_voice2, at_group, first_states, is_real_time};
 ghost use Rattle.voice_state.specs.Widths.{scale_of};
 
@@ -18,13 +18,13 @@ use std::marker::Model;
 use ump_grammar::Packet;
 use voice_messages::{System, Voice1, Voice2};
 
-/// What the messages of a MIDI 1.0 stream, or the packets of a recording, have left in a receiver: the states of sixteen groups,
-/// with counts in place of the lists of system messages. To a contract it is what is kept of each group; `Keeps` says which
-/// states that stands for. One state takes either messages, of 7 and 14 bits, or packets, of 16 and 32 bits; what one that
-/// took both stands for isn't promised.
+/// What the messages of a MIDI 1.0 stream, or the packets of a recording, have left in a receiver: the states
+/// of sixteen groups, with counts in place of the lists of system messages. To a contract it is what is kept
+/// of each group; `Keeps` says which states that stands for. One state takes either messages, of 7 and 14
+/// bits, or packets, of 16 and 32 bits; what one that took both stands for isn't promised.
 ///
-/// Notes and channel mode messages are kept as the list of all that came, and parameters in a map by their numbers. All other
-/// memory is taken when it is made.
+/// Notes and channel mode messages are kept as the list of all that came, and parameters in a map by their
+/// numbers. All other memory is taken when it is made.
 #[derive(Drop)]
 pub struct VoiceState {
     groups: Vec<Group>,
@@ -61,8 +61,8 @@ impl VoiceState {
         Ok(VoiceState { groups })
     }
 
-    /// Takes a channel voice message of a MIDI 1.0 stream in a group (MIDI 1.0 Detailed Specification, channel voice messages;
-    /// RP-015). After `NoMemory` nothing has changed.
+    /// Takes a channel voice message of a MIDI 1.0 stream in a group (MIDI 1.0 Detailed Specification,
+    /// channel voice messages; RP-015). After `NoMemory` nothing has changed.
     pub fn apply1(&mut self, group: U4, m: &Voice1) -> Result<(), NoMemory>
         ensures step { OnOk result ((states : States) → Keeps as_they_come self.old states
             → Keeps as_they_come self.new (after_message group (voice m.now) states)) }
@@ -71,8 +71,8 @@ impl VoiceState {
         self.voice1(Width::Midi1, group, m)
     }
 
-    /// Takes a packet (M2-104-UM). A packet of an exclusive changes nothing: whole exclusives are counted by `system`. After
-    /// `NoMemory` nothing has changed.
+    /// Takes a packet (M2-104-UM). A packet of an exclusive changes nothing: whole exclusives are counted by
+    /// `system`. After `NoMemory` nothing has changed.
     pub fn apply2(&mut self, p: &Packet) -> Result<(), NoMemory>
         ensures step { OnOk result ((states : States) → Keeps raised self.old states
             → Keeps raised self.new (after_packet p.now None states)) }
@@ -94,8 +94,8 @@ impl VoiceState {
         }
     }
 
-    /// Counts a system message of a group: a Real Time message, or else a common message or a whole exclusive. The counts stop
-    /// at their greatest value.
+    /// Counts a system message of a group: a Real Time message, or else a common message or a whole
+    /// exclusive. The counts stop at their greatest value.
     pub fn system(&mut self, group: U4, real_time: bool)
         ensures common { real_time ≡ false → (scale : Scale) (states : States) (message : Message)
             → Keeps scale self.old states
@@ -150,9 +150,10 @@ impl VoiceState {
         group.count_real_time();
     }
 
-    /// What isn't at its first value, in order (own rule): by group and channel; of a channel the notes and mode messages as they
-    /// came, then poly pressures by note, controllers by index, the pressure, the bend, the program, registered and assignable
-    /// parameters by bank and index; after a group's channels its counts.
+    /// What isn't at its first value, in order (own rule): by group and channel; of a channel the notes and
+    /// mode messages as they came, then poly pressures by note, controllers by index, the pressure, the bend,
+    /// the program, registered and assignable parameters by bank and index; after a group's channels its
+    /// counts.
     pub fn facts(&self, alloc: Global) -> Result<Vec<Fact>, NoMemory>
         ensures { IfOk result (λ facts. (scale : Scale) (states : States) → Keeps scale self.now states
             → facts.items ≡ facts_of scale states) }
@@ -167,7 +168,7 @@ impl VoiceState {
 
 // Whether a system message is a Real Time message.
 fn is_real_time(message: &System) -> bool
-    ensures { result ≡ is_real_time (message_of message.now) }
+    ensures { result ≡ is_real_time (system_message message.now) }
 {
     match message {
         System::Quarter(_) | System::Position(_) | System::Song(_) | System::Tune => false,

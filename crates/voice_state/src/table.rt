@@ -1,8 +1,8 @@
 // Values by an index of seven bits.
 ghost use Rattle.std.specs.Prelude.{◌≡◌, ℕ, ◌<◌, ◌++◌, ◌==◌, None, Option, IfOk, OnOk};
 ghost use Rattle.std.specs.Option.{option_map};
+ghost use Rattle.midi_meaning.specs.State.{put};
 ghost use Rattle.voice_state.specs.Facts.{in_order};
-ghost use Rattle.voice_state.specs.State.{put};
 ghost use Rattle.voice_state.specs.Tables.{at, table_fact};
 
 use crate::fact::{Fact, put};
@@ -40,7 +40,8 @@ impl Content {
     }
 }
 
-/// The pressures of 128 keys, or the values of 128 controllers, where they were set. To a contract it is the list of them.
+/// The pressures of 128 keys, or the values of 128 controllers, where
+/// they were set. To a contract it is the list of them.
 #[derive(Drop)]
 pub(crate) struct Table {
     cells: Vec<Option<u32>>,
@@ -82,7 +83,7 @@ impl Table {
     }
 
     /// Adds the facts of the values that are set, by their index.
-    #[tactic(auto, using(crate::proofs::Told::told_last), unfolding(crate::specs::Facts::first))]
+    #[tactic(auto, using(crate::proofs::ToldFacts::told_last), unfolding(crate::specs::Facts::first))]
     pub(crate) fn put_facts(
         &self,
         content: Content,

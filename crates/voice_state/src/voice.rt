@@ -1,18 +1,18 @@
 // What a channel voice message does to a channel.
 ghost use Rattle.std.specs.Prelude.{◌≡◌, true, false, if◌then◌else◌, OnOk, OnErr};
+ghost use Rattle.midi_meaning.specs.Messages.{note_on, raised, voice_at};
+ghost use Rattle.midi_meaning.specs.Packets.{program2, set_param, voice2_at};
+ghost use Rattle.midi_meaning.specs.Registers.{is_null};
+ghost use Rattle.midi_meaning.specs.State as definition;
 ghost use Rattle.voice_state.specs.Acts.{act_of};
 ghost use Rattle.voice_state.specs.Kept.{KeepsChannel};
-ghost use Rattle.voice_state.specs.Messages.{note_on, raised, voice_at};
-ghost use Rattle.voice_state.specs.Packets.{program2, set_param, voice2_at};
-ghost use Rattle.voice_state.specs.Registers.{is_null};
-ghost use Rattle.voice_state.specs.State as definition;
 ghost use Rattle.voice_state.specs.Widths.{scale_of};
 
 use crate::channel::Channel;
 use crate::note_act::NoteAct;
-use crate::registers::is_null_param;
 use crate::width::Width;
 use midi_edge::NoMemory;
+use midi_meaning::is_null_param;
 use voice_messages::{Bank, Param, U7, Voice1, Voice2};
 
 // A note on, and of velocity 0 a note off of velocity 64 (MIDI 1.0 Detailed Specification, note on).
@@ -62,8 +62,8 @@ impl Channel {
         }
     }
 
-    /// Takes a message of the MIDI 2.0 protocol (M2-104-UM, MIDI 2.0 channel voice messages). After `NoMemory` nothing has
-    /// changed.
+    /// Takes a message of the MIDI 2.0 protocol (M2-104-UM, MIDI 2.0 channel voice messages). After
+    /// `NoMemory` nothing has changed.
     pub(crate) fn voice2(&mut self, message: &Voice2) -> Result<(), NoMemory>
         ensures step { OnOk result ((state : definition.Channel) → KeepsChannel raised self.old state
             → KeepsChannel raised self.new (voice2_at false message.now state)) }

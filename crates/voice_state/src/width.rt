@@ -1,6 +1,6 @@
 // How wide the values are that are kept.
 ghost use Rattle.std.specs.Prelude.{◌≡◌, ◌*◌, ℕ};
-ghost use Rattle.voice_state.specs.Messages.{with_new_lsb};
+ghost use Rattle.midi_meaning.specs.Messages.{with_new_lsb};
 ghost use Rattle.voice_state.specs.Widths.{scale_of};
 
 use bit_scaling::{down14, up7, up14, velocity_up};
@@ -66,7 +66,8 @@ impl Width {
         self.wide(U14::low_bits(msb.get() as u32 * 128))
     }
 
-    /// The value of a parameter behind a data entry of its LSB, which keeps the MSB of the old value, 0 where there is none.
+    /// The value of a parameter behind a data entry of its LSB, which
+    /// keeps the MSB of the old value, 0 where there is none.
     pub(crate) fn with_new_lsb(self, old: Option<u32>, lsb: U7) -> u32
         ensures { result ≡ with_new_lsb (scale_of self) old lsb }
     {

@@ -1,7 +1,7 @@
 // Each answer of the table, worked rows, and many streams at once.
 ghost use Rattle.std.specs.Prelude.{◌≡◌, ◌≤◌, ◌<◌, length};
 ghost use Rattle.ump_words.specs.Cut.{IsWhole};
-ghost use Rattle.ump_grammar.specs.Places.{type_of};
+ghost use Rattle.ump_grammar.specs.WordFields.{type_of};
 
 use midi_edge::{ShortList, U4};
 use std::test::Fail;

@@ -4,8 +4,8 @@ use std::alloc::Global;
 use std::process::Abort;
 use std::test::Fail;
 
-// A put: the number of input bytes after which it is made, which is one more than there are at the end of the input; what a row says
-// of its first byte, and of the whole.
+// A put: the number of input bytes after which it is made, which is one more than there are at the end of the
+// input; what a row says of its first byte, and of the whole.
 #[derive(Clone, Copy)]
 struct Step<'a> {
     after: usize,
@@ -15,24 +15,24 @@ struct Step<'a> {
 
 // A place where puts are made: how a row says them, the status after one that fails, and the last line.
 #[derive(Clone, Copy)]
-struct Place {
+struct FaultPlace {
     kind: &'static str,
     fault: &'static str,
     last: &'static str,
 }
 
-const PLACES: [Place; 3] = [
-    Place {
+const PLACES: [FaultPlace; 3] = [
+    FaultPlace {
         kind: "lane",
         fault: "LaneFault",
         last: "\nnote lane write failed",
     },
-    Place {
+    FaultPlace {
         kind: "output",
         fault: "OutputFault",
         last: "\nnote output write failed",
     },
-    Place {
+    FaultPlace {
         kind: "note",
         fault: "NoteFault",
         last: "",
@@ -101,9 +101,9 @@ fn puts_fail_in_turn(
     alloc: Global,
     given: &str,
     steps: &[Step<'_>],
-    place: &Place,
+    place: &FaultPlace,
 ) -> Result<(), Fail> {
-    let Place { kind, fault, last } = place;
+    let FaultPlace { kind, fault, last } = place;
     let mut put = 0u64;
     for (i, step) in steps.iter().enumerate() {
         if step.whole.starts_with(*kind) {
@@ -138,7 +138,8 @@ pub(super) fn all_fail_in_turn(
     Ok(())
 }
 
-// Each front of a recording, where each packet has one put: it is done where a packet ends, and else refused at its last packet.
+// Each front of a recording, where each packet has one put: it is done
+// where a packet ends, and else refused at its last packet.
 fn fronts_hold(rt: &impl Abort, alloc: Global, given: &str, steps: &str) -> Result<(), Fail> {
     let steps = steps_of(alloc, steps)?;
     let length = given_of(alloc, given)?.input.len();

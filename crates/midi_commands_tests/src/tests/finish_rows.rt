@@ -1,7 +1,7 @@
 // What comes after a run: what is gathered is written out, and the exit code.
 use midi_commands::{Status, finish, unread_words};
 use midi_edge::{FolderLanes, Lanes, Sink, U4, WriteSink};
-use midi_pass::Reason;
+use pass_loop::Reason;
 use std::io::ErrorKind;
 use std::os::unix::fs as unix_fs;
 use std::process::Abort;
@@ -22,7 +22,8 @@ fn path_in(rt: &HostRuntime, folder: &str, name: &str) -> Result<String, Fail> {
     Ok(format!(in rt.alloc(); "{folder}/{name}")?)
 }
 
-// Ends a run of this status that has put a piece of lane 15 in the folder, a line in the output and one in the notes, in these files.
+// Ends a run of this status that has put a piece of lane 15 in the folder, a line in the output and one in
+// the notes, in these files.
 fn finished(
     rt: &HostRuntime,
     status: Status,
@@ -68,7 +69,8 @@ const CODES: [(Status, u8); 11] = [
     (Status::NoMemory, 10),
 ];
 
-// Where everything can be written, what is gathered is written out whatever the status, which gives its own exit code.
+// Where everything can be written, what is gathered is written out
+// whatever the status, which gives its own exit code.
 #[test]
 fn each_status_has_its_exit_code(rt: HostRuntime) -> Result<(), Fail> {
     for (status, code) in CODES {
@@ -110,7 +112,8 @@ lanes,output 3 lane write failed
 notes 5
 output,notes 4";
 
-// A full place gives its own code and line where the run was done; where it was refused both stay as they are.
+// A full place gives its own code and line where the run was done;
+// where it was refused both stay as they are.
 #[test]
 fn a_full_place_is_told(rt: HostRuntime) -> Result<(), Fail> {
     for row in FULL_PLACES.lines() {
@@ -122,7 +125,8 @@ fn a_full_place_is_told(rt: HostRuntime) -> Result<(), Fail> {
     Ok(())
 }
 
-// A run of this status whose objects write to these full places ends with this code, and this line where the notes take one.
+// A run of this status whose objects write to these full places ends
+// with this code, and this line where the notes take one.
 fn is_told(
     rt: &impl Abort,
     files: &HostRuntime,

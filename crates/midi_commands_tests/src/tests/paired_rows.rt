@@ -71,7 +71,39 @@ output 40B00700 C9249249 40B02700 0A000000
 run translate back
 input B0 07 64
 leaves Done
-output B0 07 64";
+output B0 07 64
+
+# all options down: words with the least byte first, both halves without the status, and an exclusive of six bytes ends it
+run translate down --folder F --compact --paired --little --room 6
+input 0007B040 000024C9 0007B040 000024C9
+input 02010630 06050403 0007B040 000024C9
+leaves Done
+lane 0 B0 07 64 27 49
+lane 0 07 64 27 49
+lane 0 F0 01 02 03 04 05 06 F7
+lane 0 B0 07 64 27 49
+
+# the same options, in another order, and an exclusive of seven bytes
+run translate down --room 6 --little --paired --compact --folder F
+input 0007B040 000024C9 02011630 06050403
+input 00073130 00000000
+leaves Refused { reason: ExclusiveTooLong, offset: 16 }
+lane 0 B0 07 64 27 49
+note refused ExclusiveTooLong at 16
+
+# all options up: the packets are of group 3, and an exclusive has at most six bytes
+run translate up --group 3 --paired --little --room 6
+input B0 07 64 27 05 F0 01 02 03 04 05 06 F7
+leaves Done
+output 0007B043 124002C8 0007B043 B24016C8
+output 02010633 06050403
+
+# all options back: both halves come back, and the seventh byte of an exclusive is refused
+run translate back --group 15 --paired --room 6
+input B0 07 64 F0 01 02 03 04 05 06 07 F7
+leaves Refused { reason: ExclusiveTooLong, offset: 10 }
+output B0 07 64 B0 27 00
+note refused ExclusiveTooLong at 10";
 
 #[test]
 fn controllers_are_paired(rt: HostRuntime) -> Result<(), Fail> {

@@ -157,7 +157,50 @@ demo-setup
 output-fails 1 0
 leaves OutputFault
 output held 0 unknown
-note output write failed";
+note output write failed
+
+# a setup that is no TOML: no event is read, not even one that would be refused
+run rehearse a.toml
+input 030000
+setup-line [endpoint]
+setup-line name =
+leaves SetupSyntax
+note setup is not TOML
+
+# a setup that is no UTF-8
+run rehearse a.toml
+input 000000
+setup-bytes 23 20 FF 0A
+leaves SetupSyntax
+note setup is not TOML
+
+# an empty setup
+run rehearse a.toml
+input 000000
+leaves SetupField(1)
+note setup field 1
+
+# an empty name
+run rehearse a.toml
+input 000000
+setup-line [endpoint]
+setup-line name = \"\"
+leaves SetupField(2)
+note setup field 2
+
+# a setup that is one byte longer than the longest
+run rehearse a.toml
+input 000000
+setup-filled 65537
+leaves SetupField(0)
+note setup field 0
+
+# a setup that the shelf has not
+run rehearse b.toml
+input 000000
+demo-setup
+leaves ShelfFault
+note setup read failed";
 
 #[test]
 fn rehearsals_are_told(rt: HostRuntime) -> Result<(), Fail> {

@@ -154,7 +154,8 @@ fn run_over(rt: &impl Abort, alloc: Global, words: &str, input: Vec<u8>) -> Resu
     Ok(left)
 }
 
-// `translate down` and `translate back` over the packets of seed 7 count what `selftest 7 --packets 10000` tells.
+// `translate down` and `translate back` over the packets of seed 7
+// count what `selftest 7 --packets 10000` tells.
 #[test]
 fn the_translators_count_the_same(rt: HostRuntime) -> Result<(), Fail> {
     let alloc = rt.alloc();

@@ -34,6 +34,13 @@ note 16 0 full-sysex8
 note 32 0 stray-sysex8
 note 48 0 sysex8 1 2
 
+# the greatest numbers of slots and of bytes
+run sysex8 --folder F --streams 64 --room 1048576
+input 500307AA BB000000 00000000 00000000
+leaves Done
+lane 0 AA BB
+note 0 0 sysex8 7 2
+
 # after a refusal no line tells of what is open
 run sysex8 --folder F --room 13
 input 500307AA BB000000 00000000 00000000

@@ -12,13 +12,14 @@ use std::fs;
 use std::io::Write;
 use std::rt::Files;
 
-/// Sixteen files in a folder, `group-00.midi1` to `group-15.midi1`, one for each lane. `begin` creates or empties them; the folder
-/// must exist. It takes an empty buffer of 8,192 bytes for each file. An empty path is no folder, so opening it fails; where there
-/// is no memory to open the files, the answer is `NoMemory`. A small piece is gathered in the buffer, and written out when a later
-/// one doesn't fit. So an `Ok` of `put` says that the piece was accepted, and a fault shows at the `put` that writes out, or at
-/// `flush`. A fault takes nothing from what was accepted before: what it left unwritten is written out by the next call that writes
-/// to this lane. `write_out` writes out what is gathered before its time, and counts no fault here. What is still gathered when the
-/// lanes are dropped is lost, so call `flush` when all is put.
+/// Sixteen files in a folder, `group-00.midi1` to `group-15.midi1`, one for each lane. `begin` creates or
+/// empties them; the folder must exist. It takes an empty buffer of 8,192 bytes for each file. An empty path
+/// is no folder, so opening it fails; where there is no memory to open the files, the answer is `NoMemory`. A
+/// small piece is gathered in the buffer, and written out when a later one doesn't fit. So an `Ok` of `put`
+/// says that the piece was accepted, and a fault shows at the `put` that writes out, or at `flush`. A fault
+/// takes nothing from what was accepted before: what it left unwritten is written out by the next call that
+/// writes to this lane. `write_out` writes out what is gathered before its time, and counts no fault here.
+/// What is still gathered when the lanes are dropped is lost, so call `flush` when all is put.
 #[derive(Drop)]
 pub struct FolderLanes<R: Files + AllocGlobal> {
     rt: R,
@@ -51,8 +52,8 @@ impl<R: Files + AllocGlobal> FolderLanes<R> {
         self.faults
     }
 
-    /// Writes out what is gathered, of every lane, also behind one that fails. After an `Err` what is not yet written
-    /// stays gathered, and a later call goes on from there. Before `begin` there is nothing to write.
+    /// Writes out what is gathered, of every lane, also behind one that fails. After an `Err` what is not yet
+    /// written stays gathered, and a later call goes on from there. Before `begin` there is nothing to write.
     pub fn flush(&mut self) -> Result<(), Failed>
         ensures begun { ⟦<FolderLanes<R> as Lanes>⟧.begun self.new
             ≡ ⟦<FolderLanes<R> as Lanes>⟧.begun self.old }

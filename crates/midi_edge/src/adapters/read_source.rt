@@ -10,13 +10,11 @@ use crate::outside::{Failed, Source};
 use std::io;
 use std::io::{ErrorKind, Read};
 
-/// A source over any reader, of which a read may wait, unless the source was made by `of_file`. A read that a signal interrupts is
-/// tried again.
+/// A source over any reader, of which any read may wait. A read that a signal interrupts is tried again.
 #[derive(Drop)]
 pub struct ReadSource<R: Read> {
     reader: R,
     faults: u64,
-    may_wait: bool,
 }
 
 impl<R: Read> ReadSource<R> {
@@ -25,23 +23,7 @@ impl<R: Read> ReadSource<R> {
         ensures gives { to_come R.remaining result ≡ R.remaining reader }
         ensures faults { ⟦<ReadSource<R> as Source>⟧.faults result ≡ 0 }
     {
-        ReadSource {
-            reader,
-            faults: 0,
-            may_wait: true,
-        }
-    }
-
-    /// A source that gives what the reader of a file gives, which never waits. No fault is counted yet.
-    pub fn of_file(reader: R) -> Self
-        ensures gives { to_come R.remaining result ≡ R.remaining reader }
-        ensures faults { ⟦<ReadSource<R> as Source>⟧.faults result ≡ 0 }
-    {
-        ReadSource {
-            reader,
-            faults: 0,
-            may_wait: false,
-        }
+        ReadSource { reader, faults: 0 }
     }
 
     /// How often it has failed, up to the last `u64`.
@@ -69,16 +51,10 @@ impl<R: Read> Source for ReadSource<R> {
         let answer = read_once(&mut self.reader, buf);
         counted(answer, &mut self.faults)
     }
-
-    fn may_wait(&self) -> bool
-        ensures { result ≡ self.now.may_wait }
-    {
-        self.may_wait
-    }
 }
 
 // One read, tried again where a signal interrupts it.
-fn read_once<R: Read>(reader: &mut R, buf: &mut [u8]) -> io::Result<usize>
+pub(super) fn read_once<R: Read>(reader: &mut R, buf: &mut [u8]) -> io::Result<usize>
     ensures bound { ReadsAtMost result buf.new }
     ensures bytes { ReadConsumes (R.remaining reader.old) (R.remaining reader.new) result buf.new }
 {

@@ -3,7 +3,7 @@ ghost use Rattle.std.specs.Prelude.{◌≡◌, ◌<◌, ◌≤◌, [], length, t
 ghost use Rattle.std.specs.Io.{WritesAtMost};
 ghost use Rattle.std.specs.Io.KnownBytes.{Keeps, Appends, WriteAppends};
 ghost use Rattle.midi_edge.specs.Adapters.{unwritten, accepted, Accepts};
-ghost use Rattle.midi_edge.specs.Outside.{HasCause, Puts};
+ghost use Rattle.midi_edge.specs.Outside.{HasCause, PutsPiece};
 
 use super::{CAPACITY, counted};
 use crate::outside::{Failed, Sink};
@@ -11,11 +11,12 @@ use crate::short_list::ShortList;
 use std::io;
 use std::io::{ErrorKind, Write};
 
-/// A sink over any writer, which gathers small pieces, up to 8,192 bytes, and writes them out when the next piece has no
-/// room. So an `Ok` of `put` says that the piece was accepted, and a fault shows at the `put` that makes room, or at
-/// `flush`. A fault takes nothing from what was accepted before: what it left unwritten is written out by the next call
-/// that writes. `write_out` writes out what is gathered before its time, and counts no fault. What is still gathered when
-/// the sink is dropped is lost, so call `flush` when all is put.
+/// A sink over any writer, which gathers small pieces, up to 8,192 bytes, and writes them out when the next
+/// piece has no room. So an `Ok` of `put` says that the piece was accepted, and a fault shows at the `put`
+/// that makes room, or at `flush`. A fault takes nothing from what was accepted before: what it left
+/// unwritten is written out by the next call that writes. `write_out` writes out what is gathered before its
+/// time, and counts no fault. What is still gathered when the sink is dropped is lost, so call `flush` when
+/// all is put.
 #[derive(Drop)]
 pub struct WriteSink<W: Write> {
     writer: W,
@@ -44,8 +45,8 @@ impl<W: Write> WriteSink<W> {
         self.faults
     }
 
-    /// Writes out what is gathered, and flushes the writer. After an `Err` what is not yet written stays gathered, and a
-    /// later call goes on from there.
+    /// Writes out what is gathered, and flushes the writer. After an `Err` what is not yet written stays
+    /// gathered, and a later call goes on from there.
     pub fn flush(&mut self) -> Result<(), Failed>
         ensures bytes { Keeps (accepted W.contents self.old) (accepted W.contents self.new) }
         ensures written { OnOk result (unwritten self.new ≡ []) }
@@ -77,7 +78,8 @@ impl<W: Write> WriteSink<W> {
         counted(answer, &mut self.faults)
     }
 
-    // Makes room for a piece and gathers it, or writes it where it is larger than the room for gathered bytes.
+    // Makes room for a piece and gathers it, or writes it where it is
+    // larger than the room for gathered bytes.
     fn gather_behind(&mut self, piece: &[u8]) -> io::Result<()>
         requires { 0 < length piece.now }
         ensures accepts { Accepts (accepted W.contents self.old)
@@ -123,8 +125,8 @@ impl<W: Write> WriteSink<W> {
         }
     }
 
-    // Keeps what is gathered behind the first `written` bytes. It is a function of its own, so that its list, of the size of
-    // the buffer, is made only after a fault.
+    // Keeps what is gathered behind the first `written` bytes. It is a function of its own, so that its list,
+    // of the size of the buffer, is made only after a fault.
     #[inline(never)]
     fn keep_behind(&mut self, written: usize)
         requires { written ≤ length (unwritten self.old) }
@@ -144,7 +146,7 @@ impl<W: Write> Sink for WriteSink<W> {
     #[inline(always)]
     fn put(&mut self, piece: &[u8]) -> Result<(), Failed>
         requires { 0 < length piece.now }
-        ensures bytes { Puts None None result piece.now }
+        ensures bytes { PutsPiece None None result piece.now }
         ensures cause { HasCause (⟦<Self as Sink>⟧.faults self.old)
             (⟦<Self as Sink>⟧.faults self.new) result }
         ensures accepts { Accepts (accepted W.contents self.old)
@@ -180,8 +182,8 @@ fn write_once<W: Write>(writer: &mut W, bytes: &[u8]) -> io::Result<usize>
     Err(io::Error::from(ErrorKind::Interrupted))
 }
 
-// Writes until all is written or a write fails, and says how many bytes were written: at a fault not all. A write that
-// takes nothing is a fault.
+// Writes until all is written or a write fails, and says how many bytes were written: at a fault not all. A
+// write that takes nothing is a fault.
 fn write_out<W: Write>(writer: &mut W, bytes: &[u8]) -> (usize, io::Result<()>)
     ensures bound { result.0 ≤ length bytes.now }
     ensures all { OnOk result.1 (result.0 ≡ length bytes.now) }

@@ -1,9 +1,12 @@
 // The adapters over a reader, a writer and files that fail as they are told to.
 use super::file_shelf::fetched;
 use super::scripted::{Log, Scripted, ScriptedFiles, Step};
-use midi_edge::{Failed, FolderLanes, Lanes, OpenFault, ReadSource, Sink, Source, WriteSink};
+use midi_edge::{
+    BufferedSource, Failed, FolderLanes, Lanes, OpenFault, ReadSource, Sink, Source, WriteSink,
+};
 use std::alloc::Global;
 use std::io::ErrorKind;
+use std::test::Fail;
 
 #[test]
 fn a_source_reads_again_after_a_signal(rt: HostRuntime) {
@@ -24,7 +27,63 @@ fn a_source_reads_again_after_a_signal(rt: HostRuntime) {
     assert_eq!(rt; source.faults(), 1);
 }
 
-// The counts of the log after small pieces, a large one, a flush with nothing gathered, and one more piece and two flushes.
+// What each of four takes of three bytes answers, and whether the next one may wait.
+fn takes(source: &mut BufferedSource<Scripted<'_>>) -> [(Result<usize, Failed>, bool); 4] {
+    let mut buf = [0; 3];
+    let first = (source.take(&mut buf), source.may_wait());
+    let second = (source.take(&mut buf), source.may_wait());
+    let third = (source.take(&mut buf), source.may_wait());
+    [
+        first,
+        second,
+        third,
+        (source.take(&mut buf), source.may_wait()),
+    ]
+}
+
+#[test]
+fn a_source_that_reads_ahead_waits_only_where_it_holds_nothing(
+    rt: HostRuntime,
+) -> Result<(), Fail> {
+    let steps = [
+        Step::Fails(ErrorKind::Interrupted),
+        Step::Moves(5),
+        Step::Fails(ErrorKind::BrokenPipe),
+        Step::Moves(4),
+    ];
+    let log = Log::new();
+    let mut source = BufferedSource::new(rt.alloc(), Scripted::new(&steps, b"", &log))?;
+    assert!(rt; source.may_wait());
+    let taken = takes(&mut source);
+    assert!(rt;
+        taken
+            == [
+                (Ok(3), false),
+                (Ok(2), true),
+                (Err(Failed), true),
+                (Ok(3), false)
+            ]
+    );
+    assert!(rt; log.counts() == [4, 0, 0]);
+    assert_eq!(rt; source.faults(), 1);
+    let log = Log::new();
+    let mut file = BufferedSource::of_file(rt.alloc(), Scripted::new(&steps, b"", &log))?;
+    assert!(rt; !file.may_wait());
+    let taken = takes(&mut file);
+    assert!(rt;
+        taken
+            == [
+                (Ok(3), false),
+                (Ok(2), false),
+                (Err(Failed), false),
+                (Ok(3), false)
+            ]
+    );
+    Ok(())
+}
+
+// The counts of the log after small pieces, a large one, a flush with
+// nothing gathered, and one more piece and two flushes.
 fn gathers(sink: &mut WriteSink<Scripted<'_>>, log: &Log) -> Result<[[usize; 3]; 4], Failed> {
     sink.put(b"one ")?;
     sink.put(b"two ")?;
@@ -94,7 +153,8 @@ fn a_writer_that_cannot_be_flushed_is_a_fault(rt: HostRuntime) {
     assert!(rt; sink.faults() == 1);
 }
 
-// The counts of the log after each of three times that a small piece is written out, of which the first stops within it.
+// The counts of the log after each of three times that a small piece
+// is written out, of which the first stops within it.
 fn writes_out(sink: &mut WriteSink<Scripted<'_>>, log: &Log) -> Result<[[usize; 3]; 3], Failed> {
     sink.put(b"one ")?;
     sink.write_out();

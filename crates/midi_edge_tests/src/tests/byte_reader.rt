@@ -19,7 +19,8 @@ fn gives(reader: &mut ByteReader, source: &mut MemSource, answers: &[Answer]) ->
     true
 }
 
-// Whether these are the first answers for "abcde", from a source that gives pieces of these sizes and fails at these calls.
+// Whether these are the first answers for "abcde", from a source that
+// gives pieces of these sizes and fails at these calls.
 fn is_row(
     alloc: Global,
     cuts: &[usize],

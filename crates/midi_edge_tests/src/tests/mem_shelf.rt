@@ -35,7 +35,8 @@ fn shelf_of(alloc: Global, fails: &[u64]) -> Result<MemShelf, Fail>
     Ok(MemShelf::new(texts, fails))
 }
 
-// Whether a fetch of at most four bytes, of a shelf that fails at these calls, answers so, and these bytes stand then.
+// Whether a fetch of at most four bytes, of a shelf that fails at
+// these calls, answers so, and these bytes stand then.
 fn is_row(
     alloc: Global,
     fails: &[u64],

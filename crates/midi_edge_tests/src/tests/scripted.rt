@@ -37,8 +37,8 @@ impl Log {
     }
 }
 
-// Moves at most so many bytes at each call, and all of them behind the last step. A write of other bytes than those that are awaited
-// next fails.
+// Moves at most so many bytes at each call, and all of them behind the last step. A write of other bytes than
+// those that are awaited next fails.
 #[derive(Clone, Copy)]
 pub(super) struct Scripted<'a> {
     steps: &'a [Step],

@@ -13,10 +13,12 @@ returns-then-has_id_at c =
 pub loop-k-preserved : goal.loop-k-preserved
 loop-k-preserved c =
     sym (lists-at c.args.id.now.bytes c.args.ids.now c.loop-k.k c.loop-k-test.true
-    ∙ ap (λ b. b || lists c.args.id.now.bytes (drop (5 * (c.loop-k.k + 1)) c.args.ids.now)) (sym c.has_id_at.ensures ∙ c.if-has_id_at.false))
+    ∙ ap (λ b. b || lists c.args.id.now.bytes (drop (5 * (c.loop-k.k + 1)) c.args.ids.now))
+    (sym c.has_id_at.ensures ∙ c.if-has_id_at.false))
     ∙ c.loop-k.invariant
 
 pub returns : goal.returns
 returns c =
-    let few : length (drop (5 * c.loop-k.k) c.args.ids.now) < 5 = omega (arith, c.loop-k-test.false, length-drop (5 * c.loop-k.k) c.args.ids.now) in
+    let few : length (drop (5 * c.loop-k.k) c.args.ids.now) < 5 =
+    omega (arith, c.loop-k-test.false, length-drop (5 * c.loop-k.k) c.args.ids.now) in
     sym (lists-short c.args.id.now.bytes (drop (5 * c.loop-k.k) c.args.ids.now) few) ∙ c.loop-k.invariant

@@ -9,4 +9,5 @@ pub returns : goal.returns
 returns c =
     c.told.ensures
     ∙ ap told_row (c.watch_reported.ensures
-    ∙ position-map (is_report_of c.args.id.now.bytes (incoming_of c.args.group c.args.view.now)) (λ (watched : Watched). watched.watch) c.args.watched.now)
+    ∙ position-map (is_report_of c.args.id.now.bytes (incoming_of c.args.group c.args.view.now)) (λ (watched : Watched). watched.watch)
+    c.args.watched.now)

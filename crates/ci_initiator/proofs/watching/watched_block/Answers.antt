@@ -1,19 +1,29 @@
-use Rattle.std.proofs.Common.{◌≡◌, ◌+◌, sym, ◌∙◌, ap, arith, suc, drop}
-use Rattle.std.specs.Option.{option_map}
+use Rattle.std.proofs.Common.{◌≡◌, ◌+◌, sym, ◌∙◌, ap, refl, arith, suc, drop, length, slice_get, Some}
+use Rattle.std.proofs.lemmas.Option.{slice_get_read}
 use Rattle.ci_initiator.specs.Watching.{watched_block}
-use Rattle.ci_initiator.proofs.SetupLaws.{block-here, block-later, not-past}
+use Rattle.ci_initiator.proofs.SetupLaws.{block-here, block-later}
 use Rattle.ci_initiator.proofs.watching.watched_block.Goals as goal
 
 pub returns-then-has_ci_at : goal.returns-then-has_ci_at
 returns-then-has_ci_at c =
-    sym (block-here c.args.setup.now.blocks c.args.setup.now.profiles c.loop-k.k c.in-Some.profile.now (sym c.in-Some.ensures.value) (sym c.has_ci_at.ensures ∙ c.if-has_ci_at.true)) ∙ c.loop-k.invariant
+    let all = c.profiles-profile-items.result.now in
+    let k = c.loop-profile.profile-index in
+    let profile = c.profile-item.result in
+    let there : slice_get c.args.setup.now.profiles k ≡ Some profile =
+    ap (λ ps. slice_get ps k) (sym c.profiles-profile-items.ensures.value)
+    ∙ slice_get_read all (length all) k profile refl c.loop-profile-test.true c.profile-item.is in
+    sym (block-here c.args.setup.now.blocks c.args.setup.now.profiles k profile there (sym c.has_ci_at.ensures ∙ c.if-has_ci_at.true))
+    ∙ c.loop-profile.invariant
 
-pub unreachable-requires : goal.unreachable-requires
-unreachable-requires c =
-    not-past c.loop-k.k c.args.setup.now.profiles (sym (ap (option_map (λ p. p.now)) (sym c.in-None.is) ∙ c.profile.ensures.value)) (omega (arith, c.loop-k-test.true, c.profile_count-k-end.ensures.value))
-
-pub loop-k-preserved : goal.loop-k-preserved
-loop-k-preserved c =
-    let more : c.loop-k.k + 1 ≡ suc c.loop-k.k = omega arith in
+pub loop-profile-preserved : goal.loop-profile-preserved
+loop-profile-preserved c =
+    let all = c.profiles-profile-items.result.now in
+    let k = c.loop-profile.profile-index in
+    let profile = c.profile-item.result in
+    let there : slice_get c.args.setup.now.profiles k ≡ Some profile =
+    ap (λ ps. slice_get ps k) (sym c.profiles-profile-items.ensures.value)
+    ∙ slice_get_read all (length all) k profile refl c.loop-profile-test.true c.profile-item.is in
+    let more : k + 1 ≡ suc k = omega arith in
     ap (λ n. watched_block c.args.setup.now.blocks (drop n c.args.setup.now.profiles)) more
-    ∙ sym (block-later c.args.setup.now.blocks c.args.setup.now.profiles c.loop-k.k c.in-Some.profile.now (sym c.in-Some.ensures.value) (sym c.has_ci_at.ensures ∙ c.if-has_ci_at.false)) ∙ c.loop-k.invariant
+    ∙ sym (block-later c.args.setup.now.blocks c.args.setup.now.profiles k profile there (sym c.has_ci_at.ensures ∙ c.if-has_ci_at.false))
+    ∙ c.loop-profile.invariant

@@ -3,8 +3,8 @@ use Rattle.std.specs.List.{flat_map}
 use Rattle.ci_initiator.specs.Watching.{HasIds, watch_where}
 use Rattle.ci_initiator.proofs.watching.watches.Given as goal
 
-abbrev pub invariant-loop-k : goal.invariant-loop-k
-invariant-loop-k l = record {
-  watches : l.watches.items ≡ flat_map (watch_where l.watched l.first) (take l.k l.setup.profiles);
-  ids : HasIds (take l.k l.setup.profiles);
+abbrev pub invariant-loop-profile : goal.invariant-loop-profile
+invariant-loop-profile l = record {
+  watches : l.watches.items ≡ flat_map (watch_where l.watched l.first) (take l.profile-index l.profiles);
+  ids : HasIds (take l.profile-index l.profiles);
 }

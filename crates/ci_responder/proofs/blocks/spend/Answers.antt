@@ -14,11 +14,13 @@ use_up-requires c =
 
 pub returns-clause-value : goal.returns-clause-value
 returns-clause-value c =
-    ap (slice_set c.args.blocks.now c.args.number) c.use_up.ensures ∙ change_is_set c.args.blocks.now c.args.number c.index-blocks-number.result
+    ap (slice_set c.args.blocks.now c.args.number) c.use_up.ensures
+    ∙ change_is_set c.args.blocks.now c.args.number c.index-blocks-number.result
 
 pub returns-clause-fits : goal.returns-clause-fits
 returns-clause-fits c =
     let block : CiBlock = c.index-blocks-number.result in
     let within : c.args.number < length c.args.blocks.now = number_within c.args.blocks.now c.args.number c.requires.in_force in
     let P : CiBlock → Type 0 = IsCiBlock in
-    All-set IsCiBlock c.args.blocks.now c.args.number c.use_up.new.block (subst P (sym c.use_up.ensures) (next_fits _ (c.requires.blocks c.args.number block within))) c.requires.blocks
+    All-set IsCiBlock c.args.blocks.now c.args.number c.use_up.new.block
+    (subst P (sym c.use_up.ensures) (next_fits _ (c.requires.blocks c.args.number block within))) c.requires.blocks

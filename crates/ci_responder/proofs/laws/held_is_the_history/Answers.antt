@@ -6,7 +6,7 @@ returns c = record {
   heard = heard_follows;
   reply = reply_follows;
   replies = replies_follow;
-  after = λ setup room past told distinct. after_follows setup room past told distinct;
+  after = λ setup room past received distinct. after_follows setup room past received distinct;
   muid = muid_follows;
   on = on_follows;
 }

@@ -1,4 +1,4 @@
-use Rattle.ci_responder.proofs.ToldLaws.{told_by_bytes}
+use Rattle.ci_responder.proofs.ReceivedLaws.{told_by_bytes}
 use Rattle.ci_responder.proofs.laws.views_tell_their_bytes.Goals as goal
 
 pub returns : goal.returns

@@ -15,13 +15,21 @@ push-requires-clause-packet c =
     let within : k < part_count payload = part-within payload k p c.in-Some.ensures in
     let cut : p ≡ part payload k = part-cut payload k p within c.in-Some.ensures in
     let bytes : c.in-Some.bytes ≡ (part payload k).1 = ap (λ q. q.1) cut in
-    let Q : List ℕ → Type 0 = All (λ b. b < 128) in
-    (c.get.ensures.below, omega (arith, ap length bytes, length-take 6 (drop (k * 6) payload)), subst Q (sym bytes) (chunk-data payload k c.requires.bytes))
+    let Q : List ℕ → Type 0 = All (λ b. b < 128) in (
+      c.get.ensures.below,
+      omega (arith, ap length bytes, length-take 6 (drop (k * 6) payload)),
+      subst Q (sym bytes) (chunk-data payload k c.requires.bytes),
+    )
 
 pub push-requires-clause-fits : goal.push-requires-clause-fits
 push-requires-clause-fits c =
     let payload : List ℕ = c.args.payload.now in
-    omega (arith, part-within payload c.loop-form.k (c.in-Some.form, c.in-Some.bytes) c.in-Some.ensures, part-few payload c.requires.fits, c.loop-form.invariant.count)
+    omega (
+      arith,
+      part-within payload c.loop-form.k (c.in-Some.form, c.in-Some.bytes) c.in-Some.ensures,
+      part-few payload c.requires.fits,
+      c.loop-form.invariant.count,
+    )
 
 pub loop-form-smaller : goal.loop-form-smaller
 loop-form-smaller c = omega (arith, part-within c.args.payload.now c.loop-form.k (c.in-Some.form, c.in-Some.bytes) c.in-Some.ensures)
@@ -34,7 +42,8 @@ loop-form-preserved c =
     let within : k < part_count payload = part-within payload k p c.in-Some.ensures in
     let cut : p ≡ part payload k = part-cut payload k p within c.in-Some.ensures in
     record {
-      packets = first-more c.args.group payload k p c.loop-form.replies c.push.new.self cut c.loop-form.invariant.packets c.push.ensures.added;
+      packets =
+          first-more c.args.group payload k p c.loop-form.replies c.push.new.self cut c.loop-form.invariant.packets c.push.ensures.added;
       count = omega (arith, c.push.ensures.length, c.loop-form.invariant.count);
       within = omega (arith, within);
     }
@@ -42,7 +51,8 @@ loop-form-preserved c =
 pub returns-clause-packets : goal.returns-clause-packets
 returns-clause-packets c =
     let payload : List ℕ = c.args.payload.now in
-    let all : c.loop-form.k ≡ part_count payload = omega (arith, part-past payload c.loop-form.k c.in_default.ensures, c.loop-form.invariant.within) in
+    let all : c.loop-form.k ≡ part_count payload =
+    omega (arith, part-past payload c.loop-form.k c.in_default.ensures, c.loop-form.invariant.within) in
     let P : ℕ → Type 0 = λ k. AddsPackets (first_packets c.args.group payload k) [] c.loop-form.replies in
     subst P all c.loop-form.invariant.packets
 

@@ -13,8 +13,14 @@ loop-k-preserved c =
     let state : Key × Bool = (c.in-Some.key.now, c.in-Some.on.now) in
     let is : Some state ≡ slice_get states k = c.in-Some.ensures.entry in
     record {
-      on = c.add_listed.ensures.on ∙ ap (λ ids. ids ++ listed true block place state) c.loop-k.invariant.on ∙ sym (ids-more true block place states k state is);
-      off = c.add_listed.ensures.off ∙ ap (λ ids. ids ++ listed false block place state) c.loop-k.invariant.off ∙ sym (ids-more false block place states k state is);
+      on =
+          c.add_listed.ensures.on
+          ∙ ap (λ ids. ids ++ listed true block place state) c.loop-k.invariant.on
+          ∙ sym (ids-more true block place states k state is);
+      off =
+          c.add_listed.ensures.off
+          ∙ ap (λ ids. ids ++ listed false block place state) c.loop-k.invariant.off
+          ∙ sym (ids-more false block place states k state is);
       few = omega (arith, c.add_listed.ensures.few, c.loop-k.invariant.few);
       on_fives = c.add_listed.ensures.on_fives c.loop-k.invariant.on_fives;
       off_fives = c.add_listed.ensures.off_fives c.loop-k.invariant.off_fives;

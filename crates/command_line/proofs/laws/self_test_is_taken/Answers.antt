@@ -1,7 +1,6 @@
 use Rattle.std.proofs.Common.{refl}
 use Rattle.clap.proofs.OnLiterals.{clap_on_literals}
-use Rattle.command_line.specs.Rules.{command_of}
-use Rattle.command_line.specs.Words.{cli}
+use Rattle.command_line.specs.Rules.{cli, command_of}
 use Rattle.command_line.proofs.laws.self_test_is_taken.Goals as goal
 
 pub returns-clause-least : goal.returns-clause-least

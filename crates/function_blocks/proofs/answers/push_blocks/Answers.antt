@@ -13,6 +13,7 @@ loop-number-preserved c =
     let P : List Packet → Type 0 = λ ps. Pushes ps c.args.replies.now c.push_block.new.replies in
     record {
       pushes = subst P (sym (from-more c.args.filter blocks number block c.loop-number-test.true c.index-blocks-number.is))
-          (pushes_append (replies_from c.args.filter 0 (take number blocks)) (block_replies c.args.filter number block) c.args.replies.now c.loop-number.replies c.push_block.new.replies c.loop-number.invariant.pushes c.push_block.ensures.pushes);
+          (pushes_append (replies_from c.args.filter 0 (take number blocks)) (block_replies c.args.filter number block) c.args.replies.now
+          c.loop-number.replies c.push_block.new.replies c.loop-number.invariant.pushes c.push_block.ensures.pushes);
       few = omega arith;
     }

@@ -14,7 +14,8 @@ push-requires-clause-fits c =
     let few : part_count kind text ≤ 7 = few_parts kind text c.requires.limit in
     let counted : c.packet_count-k-end.result ≡ part_count kind text = c.packet_count-k-end.ensures in
     let within : k < part_count kind text = omega (arith, counted, c.loop-k-test.true) in
-    let four : word_count c.in-Some.packet ≡ 4 = ap word_count (packet-cut kind block text k c.in-Some.packet within c.in-Some.ensures.packet)
+    let four : word_count c.in-Some.packet ≡ 4 =
+    ap word_count (packet-cut kind block text k c.in-Some.packet within c.in-Some.ensures.packet)
     ∙ part_four_words kind (form_at (part_count kind text) k) block (part_bytes (part_size kind) text k) in
     omega (arith, four, c.loop-k.invariant.count, first-count kind block text k)
 
@@ -24,7 +25,8 @@ loop-k-preserved c =
     let text = c.args.text.now in
     let counted : c.packet_count-k-end.result ≡ part_count kind text = c.packet_count-k-end.ensures in
     let within : c.loop-k.k < part_count kind text = omega (arith, counted, c.loop-k-test.true) in
-    text-more kind c.args.block text c.loop-k.k c.in-Some.packet c.args.replies.now c.loop-k.replies c.push.new.self within c.in-Some.ensures.packet c.loop-k.invariant c.push.ensures.added c.push.ensures.length
+    text-more kind c.args.block text c.loop-k.k c.in-Some.packet c.args.replies.now c.loop-k.replies c.push.new.self within
+    c.in-Some.ensures.packet c.loop-k.invariant c.push.ensures.added c.push.ensures.length
 
 pub returns-clause-few : goal.returns-clause-few
 returns-clause-few c =

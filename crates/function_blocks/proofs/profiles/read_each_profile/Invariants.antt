@@ -11,5 +11,6 @@ abbrev pub invariant-loop-value : goal.invariant-loop-value
 invariant-loop-value l = record {
   count : length l.profiles.items ≡ l.value-index;
   fits : All (IsProfile l.blocks) l.profiles.items;
-  rest : read_on l.profiles.items (each rule.ProfilesAreTables (profile_of l.blocks) (map view (drop l.value-index l.values))) ≡ each rule.ProfilesAreTables (profile_of l.blocks) (map view l.values);
+  rest : read_on l.profiles.items (each rule.ProfilesAreTables (profile_of l.blocks) (map view (drop l.value-index l.values)))
+      ≡ each rule.ProfilesAreTables (profile_of l.blocks) (map view l.values);
 }

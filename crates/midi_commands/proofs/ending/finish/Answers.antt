@@ -8,9 +8,14 @@ returns-clause-ends g c is = (
   c.exit_code.ensures,
   ends_as c.write_out-written.result c.after_writing.result c.flush.result
       (record { lanes = c.args.lanes.now.faults; output = c.args.output.now.faults; notes = c.args.notes.now.faults })
-      (record { lanes = c.write_out-written.new.lanes.faults; output = c.write_out-written.new.output.faults; notes = c.flush.new.self.faults })
+      (record {
+        lanes = c.write_out-written.new.lanes.faults;
+        output = c.write_out-written.new.output.faults;
+        notes = c.flush.new.self.faults;
+      })
       c.tell_fault.new.notes.faults
-      (accepted g.N.Write.contents c.args.notes.now) (accepted g.N.Write.contents c.tell_fault.new.notes) (accepted g.N.Write.contents c.flush.new.self)
+      (accepted g.N.Write.contents c.args.notes.now) (accepted g.N.Write.contents c.tell_fault.new.notes)
+      (accepted g.N.Write.contents c.flush.new.self)
       (c.write_out-written.ensures.done is) (c.tell_fault.ensures.done is) c.flush.ensures.cause c.flush.ensures.bytes
       c.after_writing.ensures.written c.after_writing.ensures.fault c.after_writing.ensures.cause,
 )

@@ -28,7 +28,8 @@ loop-byte-preserved c =
       few = omega (arith, c.loop-byte.invariant.few, c.bring_byte_back-again.ensures.few);
       back = λ past returned played place.
           let before = c.loop-byte.invariant.back past returned played place in
-          comes_back_more past piece i c.loop-byte.again c.bring_byte_back-again.result c.loop-byte.up c.bring_byte_back-again.new.up c.loop-byte.down c.bring_byte_back-again.new.down within before
+          comes_back_more past piece i c.loop-byte.again c.bring_byte_back-again.result c.loop-byte.up c.bring_byte_back-again.new.up
+          c.loop-byte.down c.bring_byte_back-again.new.down within before
           (c.bring_byte_back-again.ensures.back (reverse (take i piece) ++ past) before.returned (played_at past piece i within played).0
           (place_at past piece i c.args.offset c.loop-byte.at within place c.loop-byte.invariant.place));
     }

@@ -1,5 +1,5 @@
 use Rattle.std.proofs.Common.{◌≡◌, ◌*◌, List, subst, arith}
-use Rattle.voice_state.specs.Parts.{Placed}
+use Rattle.midi_meaning.specs.Parts.{Placed}
 use Rattle.self_test.specs.Counts.{first_packets}
 use Rattle.self_test.specs.Held.{HasTaken}
 use Rattle.self_test.proofs.CountLaws.{length-first_packets, one_more_packet}
@@ -25,5 +25,8 @@ loop-index-preserved c =
     let T : List Placed → Type 0 = λ past. HasTaken past c.take.new.self in
     record {
       given = c.next-packet.ensures.after seed index given;
-      taken = subst T (one_more_packet seed index (c.from.result * 8) c.next-packet.result place (c.next-packet.ensures.packet seed index given)) (c.take.ensures (first_packets seed index) c.loop-index.invariant.taken);
+      taken =
+          subst T
+          (one_more_packet seed index (c.from.result * 8) c.next-packet.result place (c.next-packet.ensures.packet seed index given))
+          (c.take.ensures (first_packets seed index) c.loop-index.invariant.taken);
     }

@@ -1,6 +1,7 @@
 use Rattle.std.proofs.Common.{map, refl}
-use Rattle.ump_endpoint.specs.Answers.{told_in_packets}
-use Rattle.ump_endpoint.proofs.HistoryLaws.{begun_is, held_next, packet_listed_is, packet_outcome_is, packet_replies_are, protocol_next, refusal_is}
+use Rattle.ump_endpoint.specs.Answers.{received_in_packets}
+use Rattle.ump_endpoint.proofs.HistoryLaws.{begun_is, held_next, packet_listed_is, packet_outcome_is}
+use Rattle.ump_endpoint.proofs.HistoryLaws.{packet_replies_are, protocol_next, refusal_is}
 use Rattle.ump_endpoint.proofs.laws.answers_are_those_of_the_history.Goals as goal
 
 pub returns : goal.returns
@@ -18,6 +19,6 @@ returns c =
           held_next fed room past least are setup history distinct placed
           (protocol_next follows.protocol follows.unread setup (map (λ placed. placed.packet) past) placed.packet);
       begun = λ setup room past least are. begun_is fed room past least are;
-      muid = λ setup room past. history.muid setup room (told_in_packets room past);
-      on = λ setup room past. history.on setup room (told_in_packets room past);
+      muid = λ setup room past. history.muid setup room (received_in_packets room past);
+      on = λ setup room past. history.on setup room (received_in_packets room past);
     }

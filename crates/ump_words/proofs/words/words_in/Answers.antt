@@ -14,5 +14,13 @@ returns c = elim c.match-count-div4.branch [
   | in_default w ↦
       let count = packet_count c.args.order c.args.bytes.now c.requires in
       let four : length c.args.bytes.now / 4 ≡ 4 = omega (arith, count.0, count.1, w.in_default) in
-      search (rules, four, w.cells-is, c.word_in-first.ensures, w.word_in-in_default.ensures, w.word_in-in_default-2.ensures, w.word_in-in_default-3.ensures)
+      search (
+        rules,
+        four,
+        w.cells-is,
+        c.word_in-first.ensures,
+        w.word_in-in_default.ensures,
+        w.word_in-in_default-2.ensures,
+        w.word_in-in_default-3.ensures,
+      )
 ]

@@ -6,6 +6,8 @@ returns c = λ paired.
     let parsed = c.parsed_bytes_are_the_definition.ensures in
     record {
       answer = held-answer paired parsed c.completed_messages_are_in_range.ensures;
-      after = held-after paired c.control_changes_are_kept.ensures.paired parsed (c.rooms_that_are_not_reached_do_not_matter_in_bytes.ensures paired);
+      after =
+          held-after paired c.control_changes_are_kept.ensures.paired parsed
+          (c.rooms_that_are_not_reached_do_not_matter_in_bytes.ensures paired);
       end = held-end paired parsed;
     }

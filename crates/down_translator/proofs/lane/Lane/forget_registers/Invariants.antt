@@ -1,5 +1,5 @@
 use Rattle.std.proofs.Common.{◌≡◌, ℕ, ◌<◌, get_or}
-use Rattle.voice_state.specs.Registers.{unset_registers}
+use Rattle.midi_meaning.specs.Registers.{unset_registers}
 use Rattle.down_translator.proofs.lane.Lane.forget_registers.Given as goal
 
 abbrev pub invariant-loop-registers : goal.invariant-loop-registers

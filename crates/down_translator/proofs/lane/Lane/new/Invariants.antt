@@ -1,5 +1,5 @@
 use Rattle.std.proofs.Common.{◌≡◌, replicate}
-use Rattle.voice_state.specs.Registers.{unset_registers}
+use Rattle.midi_meaning.specs.Registers.{unset_registers}
 use Rattle.down_translator.proofs.lane.Lane.new.Given as goal
 
 abbrev pub invariant-loop : goal.invariant-loop

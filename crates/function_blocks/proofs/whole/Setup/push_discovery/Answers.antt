@@ -7,7 +7,8 @@ pub returns : goal.returns
 returns c =
     let name = c.as_slice-name.ensures.value ∙ ap (λ facts. facts.endpoint.name) c.self.view_is in
     let id = c.as_slice-id.ensures.value ∙ ap (λ facts. facts.endpoint.id) c.self.view_is in
-    pushes_five _ _ _ _ _ c.args.replies.now c.push_asked.new.replies c.push_asked-2.new.replies c.push_asked_text.new.replies c.push_asked_text-2.new.replies c.push_asked-3.new.replies
+    pushes_five _ _ _ _ _ c.args.replies.now c.push_asked.new.replies c.push_asked-2.new.replies c.push_asked_text.new.replies
+    c.push_asked_text-2.new.replies c.push_asked-3.new.replies
     (asked_message _ _ _ _ _ _ c.asks.ensures c.info.ensures.value c.push_asked.ensures)
     (asked_message _ _ _ _ _ _ c.asks-2.ensures c.identity_message.ensures.value c.push_asked-2.ensures)
     (asked_text _ _ kind.EndpointName 0 _ _ _ _ c.asks-3.ensures name c.push_asked_text.ensures.pushes)

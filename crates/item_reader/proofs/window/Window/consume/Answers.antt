@@ -3,7 +3,8 @@ use Rattle.std.proofs.lemmas.List.{length-take, drop-take, drop-drop}
 use Rattle.item_reader.proofs.window.Window.consume.Goals as goal
 
 -- what is left of a part of the buffer behind its first n bytes
-part_behind : (start n end : ℕ) (bytes : List ℕ) → start + n ≤ end → take (end - (start + n)) (drop (start + n) bytes) ≡ drop n (take (end - start) (drop start bytes))
+part_behind : (start n end : ℕ) (bytes : List ℕ) → start + n ≤ end
+    → take (end - (start + n)) (drop (start + n) bytes) ≡ drop n (take (end - start) (drop start bytes))
 part_behind start n end bytes fits =
     let e : end - start ≡ n + (end - (start + n)) = omega arith in
     rw (e, drop-take, drop-drop)

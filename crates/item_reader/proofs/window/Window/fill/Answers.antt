@@ -7,13 +7,15 @@ use Rattle.midi_edge.specs.Outside.{Loses, ahead}
 use Rattle.item_reader.proofs.window.Window.fill.Goals as goal
 
 -- what stands at the front of the buffer after the move
-moved_front : (start end : ℕ) (bytes : List ℕ) → start ≤ end → end ≤ length bytes → take (end - start) (copy_within bytes start end 0) ≡ take (end - start) (drop start bytes)
+moved_front : (start end : ℕ) (bytes : List ℕ) → start ≤ end → end ≤ length bytes
+    → take (end - start) (copy_within bytes start end 0) ≡ take (end - start) (drop start bytes)
 moved_front start end bytes order fits =
     take_at (take (end - start) (drop start bytes)) (drop (0 + (end - start)) bytes) (end - start)
     (length-take-le (end - start) (drop start bytes) (omega (arith, length-drop start bytes)))
 
 -- the front, and then what was taken
-taken_behind : (m n k : ℕ) (front buf : List ℕ) → m ≤ length front → n ≤ length buf → take (m + n - 0) (put_mid m k front buf) ≡ take m front ++ take n buf
+taken_behind : (m n k : ℕ) (front buf : List ℕ) → m ≤ length front → n ≤ length buf
+    → take (m + n - 0) (put_mid m k front buf) ≡ take m front ++ take n buf
 taken_behind m n k front buf fits room =
     let len : length (take m front) ≡ m = length-take-le m front fits in
     let e : m + n - 0 ≡ length (take m front) + n = omega arith in
@@ -26,7 +28,8 @@ ahead-append bytes chunk (Some old) (Some new) lost = ap Some (append_assoc byte
 ahead-append bytes chunk None (Some new) lost = absurd lost
 ahead-append bytes chunk (Some old) None lost = absurd lost
 
-window_after : (start end n k : ℕ) (bytes front buf value : List ℕ) → start ≤ end → end ≤ length bytes → n ≤ length buf → length front ≡ length bytes → front ≡ copy_within bytes start end 0
+window_after : (start end n k : ℕ) (bytes front buf value : List ℕ) → start ≤ end → end ≤ length bytes → n ≤ length buf
+    → length front ≡ length bytes → front ≡ copy_within bytes start end 0
     → take (end - start) (drop start bytes) ≡ value → take (end - start + n - 0) (put_mid (end - start) k front buf) ≡ value ++ take n buf
 window_after start end n k bytes front buf value order fits room len moved view =
     taken_behind (end - start) n k front buf (omega arith) room
@@ -34,7 +37,9 @@ window_after start end n k bytes front buf value order fits room len moved view 
 
 pub returns-clause-ahead : goal.returns-clause-ahead
 returns-clause-ahead g c =
-    let view = window_after c.self.inside.start c.self.inside.end c.in_ok-count.count (4096 - (c.self.inside.end - c.self.inside.start)) c.self.inside.bytes c.copy_within.new.self c.take.new.buf c.args.self.now
+    let view =
+    window_after c.self.inside.start c.self.inside.end c.in_ok-count.count (4096 - (c.self.inside.end - c.self.inside.start))
+    c.self.inside.bytes c.copy_within.new.self c.take.new.buf c.args.self.now
     (omega arith) (omega arith) c.in_ok-count.ensures.bound c.copy_within.ensures.len c.copy_within.ensures.after c.self.view_is in
     ap (λ xs. ahead xs (g.S.Source.left c.take.new.self)) view
     ∙ ahead-append c.args.self.now _ _ _ c.in_ok-count.ensures.bytes.0
@@ -42,7 +47,8 @@ returns-clause-ahead g c =
 pub returns-clause-kept : goal.returns-clause-kept
 returns-clause-kept g c = (
   take c.in_ok-count.count c.take.new.buf,
-  window_after c.self.inside.start c.self.inside.end c.in_ok-count.count (4096 - (c.self.inside.end - c.self.inside.start)) c.self.inside.bytes c.copy_within.new.self c.take.new.buf c.args.self.now
+  window_after c.self.inside.start c.self.inside.end c.in_ok-count.count (4096 - (c.self.inside.end - c.self.inside.start))
+      c.self.inside.bytes c.copy_within.new.self c.take.new.buf c.args.self.now
       (omega arith) (omega arith) c.in_ok-count.ensures.bound c.copy_within.ensures.len c.copy_within.ensures.after c.self.view_is,
 )
 

@@ -19,10 +19,13 @@ loop-sink-preserved g c =
 
 pub returns-clause-written : goal.returns-clause-written
 returns-clause-written g c =
-    let passed : length c.loop-sink.sink-items ≤ c.loop-sink.sink-index = omega (arith, c.loop-sink.auto.sink-items, c.loop-sink-test.false) in
-    subst (λ xs. OnOk c.loop-sink.outcome (All (λ s. unwritten s ≡ []) xs)) (take_all c.loop-sink.sink-index c.loop-sink.sink-items passed) c.loop-sink.invariant.1
+    let passed : length c.loop-sink.sink-items ≤ c.loop-sink.sink-index =
+    omega (arith, c.loop-sink.auto.sink-items, c.loop-sink-test.false) in
+    subst (λ xs. OnOk c.loop-sink.outcome (All (λ s. unwritten s ≡ []) xs)) (take_all c.loop-sink.sink-index c.loop-sink.sink-items passed)
+    c.loop-sink.invariant.1
 
 pub returns-clause-tried : goal.returns-clause-tried
 returns-clause-tried g c =
-    let passed : length c.loop-sink.sink-items ≤ c.loop-sink.sink-index = omega (arith, c.loop-sink.auto.sink-items, c.loop-sink-test.false) in
+    let passed : length c.loop-sink.sink-items ≤ c.loop-sink.sink-index =
+    omega (arith, c.loop-sink.auto.sink-items, c.loop-sink-test.false) in
     TriesFirst-all _ _ _ passed c.loop-sink.invariant.2

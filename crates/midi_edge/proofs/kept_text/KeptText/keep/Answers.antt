@@ -5,7 +5,8 @@ use Rattle.midi_edge.specs.Outside.{kept_bytes}
 use Rattle.midi_edge.proofs.kept_text.KeptText.keep.Goals as goal
 
 -- the front that was copied, of what stands in the array afterwards
-front_of : (n : ℕ) (text piece after : List ℕ) → n ≡ min (length text) 4096 → piece ≡ take n text → take n (piece ++ after) ≡ kept_bytes text
+front_of : (n : ℕ) (text piece after : List ℕ) → n ≡ min (length text) 4096 → piece ≡ take n text
+    → take n (piece ++ after) ≡ kept_bytes text
 front_of n text piece after e p =
     let len : length piece ≡ n = ap length p ∙ length-take-le n text (omega arith) in
     take_at piece after n len ∙ p ∙ rw (e, min_comm) (take_min 4096 text)

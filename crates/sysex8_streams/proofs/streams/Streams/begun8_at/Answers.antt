@@ -11,7 +11,9 @@ returns-in-Some c =
     let key = key_of c.args.group c.args.stream in
     let slots = c.self.inside.slots.items in
     let place : c.slot_of.result ≡ position (is_of key) c.args.self.now.slots = search rules in
-    c.start.ensures ∙ start-found key c.self.inside.room c.args.self.now slots c.in-Some.index c.index.result.now c.self.view_is (sym place ∙ c.in-Some.is) c.index.ensures
+    c.start.ensures
+    ∙ start-found key c.self.inside.room c.args.self.now slots c.in-Some.index c.index.result.now c.self.view_is (sym place ∙ c.in-Some.is)
+    c.index.ensures
 
 pub returns-in-None : goal.returns-in-None
 returns-in-None c =

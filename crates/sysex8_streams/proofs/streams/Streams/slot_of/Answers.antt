@@ -8,7 +8,8 @@ use Rattle.sysex8_streams.proofs.streams.Streams.slot_of.Goals as goal
 
 pub returns : goal.returns
 returns c =
-    let found : c.find_stream.result ≡ position (λ slot. is_of (key_of c.args.group c.args.stream) (slot8_of slot)) c.deref.result.now = search rules in
+    let found : c.find_stream.result ≡ position (λ slot. is_of (key_of c.args.group c.args.stream) (slot8_of slot)) c.deref.result.now =
+    search rules in
     found
     ∙ ap (position (λ slot. is_of (key_of c.args.group c.args.stream) (slot8_of slot))) c.deref.ensures.value
     ∙ position-map (is_of (key_of c.args.group c.args.stream)) c.self.inside.slots.items

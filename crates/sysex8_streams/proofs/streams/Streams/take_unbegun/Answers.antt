@@ -12,7 +12,9 @@ returns-in-Complete c =
     let part : Part = part_of c.args.part.now c.args.offset in (
       (refl, (λ _. tt), c.self.view_is ∙ table-unbegun now part c.requires form.Complete c.in-Complete.is (idle_slot now.slots) refl),
       record {
-        answer = ap whole8 (c.as_slice.ensures.value ∙ c.copied-self-inside.ensures) ∙ answer-unbegun now part c.requires form.Complete c.in-Complete.is (idle_slot now.slots) refl;
+        answer =
+            ap whole8 (c.as_slice.ensures.value ∙ c.copied-self-inside.ensures)
+            ∙ answer-unbegun now part c.requires form.Complete c.in-Complete.is (idle_slot now.slots) refl;
         after = tt;
       },
     )
@@ -21,8 +23,14 @@ pub returns-in-Some : goal.returns-in-Some
 returns-in-Some c =
     let now : Table8 = c.args.self.now in
     let part : Part = part_of c.args.part.now c.args.offset in
-    let idle : idle_slot now.slots ≡ Some c.in-Some.index = sym (ap (λ table. idle_slot table.slots) c.self.view_is) ∙ sym c.idle_slot.ensures ∙ c.in-Some.is in (
-      (refl, (λ _. tt), table-put c.self.inside.room now c.self.inside.slots.items c.in-Some.index c.begin.new.self part c.self.view_is c.requires c.in-Start.is idle (ap (λ state. state.slot) c.begin.ensures)),
+    let idle : idle_slot now.slots ≡ Some c.in-Some.index =
+    sym (ap (λ table. idle_slot table.slots) c.self.view_is) ∙ sym c.idle_slot.ensures ∙ c.in-Some.is in (
+      (
+        refl,
+        (λ _. tt),
+        table-put c.self.inside.room now c.self.inside.slots.items c.in-Some.index c.begin.new.self part c.self.view_is c.requires
+            c.in-Start.is idle (ap (λ state. state.slot) c.begin.ensures),
+      ),
       record { answer = answer-unbegun now part c.requires form.Start c.in-Start.is (Some c.in-Some.index) idle; after = tt },
     )
 
@@ -30,7 +38,8 @@ pub returns-in-None : goal.returns-in-None
 returns-in-None c =
     let now : Table8 = c.args.self.now in
     let part : Part = part_of c.args.part.now c.args.offset in
-    let idle : idle_slot now.slots ≡ None = sym (ap (λ table. idle_slot table.slots) c.self.view_is) ∙ sym c.idle_slot.ensures ∙ c.in-None.is in (
+    let idle : idle_slot now.slots ≡ None =
+    sym (ap (λ table. idle_slot table.slots) c.self.view_is) ∙ sym c.idle_slot.ensures ∙ c.in-None.is in (
       (refl, (λ _. tt), c.self.view_is ∙ table-unbegun now part c.requires form.Start c.in-Start.is None idle),
       record { answer = answer-unbegun now part c.requires form.Start c.in-Start.is None idle; after = tt },
     )

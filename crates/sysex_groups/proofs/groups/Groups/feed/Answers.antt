@@ -12,6 +12,18 @@ returns c =
     let within : index < length buffers = omega (arith, c.get-index.ensures.value, c.get-index.ensures.below, c.self.invariant.0) in
     let found = c.index_mut-buffer.ensures.value in
     let rooms : buffer.room ≡ c.self.inside.room = ap (λ b. b.room) found ∙ c.self.invariant.1 index buffer within in (
-      (refl, (λ _. tt), table_found c.self.inside.room c.args.self.now buffers index buffer c.feed.follows.lender-at-none part c.self.view_is c.get-index.ensures.value within found rooms c.feed.follows.holds-at-none),
-      record { answer = c.feed.ensures.answer ∙ answer_found c.self.inside.room c.args.self.now buffers index buffer part c.self.view_is c.get-index.ensures.value within found rooms; data_bytes = c.feed.ensures.data_bytes; after = tt },
+      (
+        refl,
+        (λ _. tt),
+        table_found c.self.inside.room c.args.self.now buffers index buffer c.feed.follows.lender-at-none part c.self.view_is
+            c.get-index.ensures.value within found rooms c.feed.follows.holds-at-none,
+      ),
+      record {
+        answer =
+            c.feed.ensures.answer
+            ∙ answer_found c.self.inside.room c.args.self.now buffers index buffer part c.self.view_is c.get-index.ensures.value within
+            found rooms;
+        data_bytes = c.feed.ensures.data_bytes;
+        after = tt;
+      },
     )

@@ -7,7 +7,8 @@ use Rattle.ump_endpoint.proofs.endpoint.Endpoint.packet.Goals as goal
 pub returns-in-Exclusive-clause-taken : goal.returns-in-Exclusive-clause-taken
 returns-in-Exclusive-clause-taken c =
     let inside = c.self.inside in
-    let held : EndpointState = record { setup = inside.setup; protocol = inside.config.protocol; exclusives = inside.groups; responder = inside.responder } in
+    let held : EndpointState =
+    record { setup = inside.setup; protocol = inside.config.protocol; exclusives = inside.groups; responder = inside.responder } in
     let V : EndpointValue → Type 0 = λ value. c.take_part.result ≡ taken_in value.held c.args.offset c.args.packet.now in
     let P : Packet → Type 0 = λ packet. c.take_part.result ≡ taken_in held c.args.offset packet in
     let B : List ℕ → Type 0 = λ bytes. P (Exclusive c.in-Exclusive.group c.in-Exclusive.form bytes) in

@@ -1,6 +1,6 @@
 use Rattle.std.proofs.Common.{refl}
 use Rattle.bit_scaling.specs.Scaling.{up}
-use Rattle.voice_state.specs.Messages.{as_they_come, raised}
+use Rattle.midi_meaning.specs.Messages.{as_they_come, raised}
 use Rattle.voice_state.proofs.channel.Channel.new.Goals as goal
 
 pub returns-clause-midi1 : goal.returns-clause-midi1

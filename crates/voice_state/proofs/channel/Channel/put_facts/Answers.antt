@@ -4,7 +4,7 @@ use Rattle.voice_messages.specs.declared.voice2.ParamKind.TheVariants.{Registere
 use Rattle.voice_state.specs.declared.fact.Fact.{Fact}
 use Rattle.voice_state.specs.declared.fact.Fact.TheVariants as fact
 use Rattle.voice_state.specs.Facts.{act_fact, in_order, params_in_order, value_facts}
-use Rattle.voice_state.proofs.Told.{added}
+use Rattle.voice_state.proofs.ToldFacts.{added}
 use Rattle.voice_state.proofs.channel.Channel.put_facts.Goals as goal
 
 pub returns : goal.returns

@@ -9,5 +9,8 @@ returns c = λ scale state message keeps.
     record {
       channels = kept.channels;
       commons = kept.commons;
-      real_times = c.saturating_add-self-inside.ensures ∙ ap (λ n. min (n + 1) (2 ^ 64 - 1)) kept.real_times ∙ sym (count_more state.real_times message);
+      real_times =
+          c.saturating_add-self-inside.ensures
+          ∙ ap (λ n. min (n + 1) (2 ^ 64 - 1)) kept.real_times
+          ∙ sym (count_more state.real_times message);
     }

@@ -1,6 +1,6 @@
 use Rattle.std.proofs.Common.{◌≡◌, length, All}
+use Rattle.midi_meaning.specs.Messages.{as_they_come, raised, start_channel}
 use Rattle.voice_state.specs.Kept.{KeepsChannel}
-use Rattle.voice_state.specs.Messages.{as_they_come, raised, start_channel}
 use Rattle.voice_state.proofs.group.Group.new.Given as goal
 
 abbrev pub invariant-loop : goal.invariant-loop

@@ -1,9 +1,9 @@
 use Rattle.std.proofs.Common.{◌≡◌, ◌∙◌, ◌<◌, sym, subst, false, arith, length, slice_set}
 use Rattle.std.proofs.lemmas.Result.{on_ok_weaker}
+use Rattle.midi_meaning.specs.Messages.{raised}
+use Rattle.midi_meaning.specs.Packets.{channel2, voice2_at}
+use Rattle.midi_meaning.specs.State.{at_channel}
 use Rattle.voice_state.specs.Kept.{KeepsChannel, KeepsGroup, KeptGroup}
-use Rattle.voice_state.specs.Messages.{raised}
-use Rattle.voice_state.specs.Packets.{channel2, voice2_at}
-use Rattle.voice_state.specs.State.{at_channel}
 use Rattle.voice_state.proofs.KeptGroups.{channel_kept}
 use Rattle.voice_state.proofs.group.Group.voice2.Goals as goal
 
@@ -15,12 +15,19 @@ returns-clause-step c =
     let is : channel ≡ channel2 message = c.get.ensures.value ∙ c.channel2.ensures in
     let below : channel < 16 = omega (arith, c.get.ensures.value, c.get.ensures.below) in
     let within : channel < length c.self.inside.channels.items = omega (arith, below, c.self.invariant) in
-    let old : KeptGroup = record { channels = c.self.inside.channels.items; commons = c.self.inside.commons; real_times = c.self.inside.real_times } in
-    let new : KeptGroup = record { channels = slice_set c.self.inside.channels.items channel c.voice2.new.self; commons = c.self.inside.commons; real_times = c.self.inside.real_times } in
+    let old : KeptGroup =
+    record { channels = c.self.inside.channels.items; commons = c.self.inside.commons; real_times = c.self.inside.real_times } in
+    let new : KeptGroup = record {
+      channels = slice_set c.self.inside.channels.items channel c.voice2.new.self;
+      commons = c.self.inside.commons;
+      real_times = c.self.inside.real_times;
+    } in
     on_ok_weaker c.voice2.result
     (λ step state keeps.
     let kept : KeepsGroup scale old state = subst (λ group. KeepsGroup scale group state) (sym c.self.view_is) keeps in
-    let found = subst (λ at. KeepsChannel scale at (state.channels channel)) (sym c.index_mut-channel.ensures.value) (kept.channels channel c.index_mut-channel.result.now below) in
+    let found =
+    subst (λ at. KeepsChannel scale at (state.channels channel)) (sym c.index_mut-channel.ensures.value)
+    (kept.channels channel c.index_mut-channel.result.now below) in
     subst (λ at. KeepsGroup scale new (at_channel at (voice2_at false message) state)) is
     (channel_kept scale old state channel c.voice2.new.self (voice2_at false message) within kept (step (state.channels channel) found)))
     c.voice2.ensures.step

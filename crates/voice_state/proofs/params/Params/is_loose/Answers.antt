@@ -3,7 +3,9 @@ use Rattle.voice_state.proofs.KeptParams.{loose_read}
 use Rattle.voice_state.proofs.params.Params.is_loose.Goals as goal
 
 pub returns-in-Some : goal.returns-in-Some
-returns-in-Some c = λ state keeps. loose_read c.args.self.now c.args.param.now state _ c.get.ensures.in_range (sym c.in-Some.is ∙ c.get.ensures.state) keeps
+returns-in-Some c =
+    λ state keeps. loose_read c.args.self.now c.args.param.now state _ c.get.ensures.in_range (sym c.in-Some.is ∙ c.get.ensures.state) keeps
 
 pub returns-in-None : goal.returns-in-None
-returns-in-None c = λ state keeps. loose_read c.args.self.now c.args.param.now state _ c.get.ensures.in_range (sym c.in-None.is ∙ c.get.ensures.state) keeps
+returns-in-None c =
+    λ state keeps. loose_read c.args.self.now c.args.param.now state _ c.get.ensures.in_range (sym c.in-None.is ∙ c.get.ensures.state) keeps

@@ -1,7 +1,7 @@
 use Rattle.std.proofs.Common.{sym, subst, None}
 use Rattle.std.proofs.lemmas.Result.{on_ok_weaker}
+use Rattle.midi_meaning.specs.Messages.{raised}
 use Rattle.voice_state.specs.Kept.{Keeps}
-use Rattle.voice_state.specs.Messages.{raised}
 use Rattle.voice_state.specs.States.{after_packet}
 use Rattle.voice_state.proofs.KeptGroups.{system_kept}
 use Rattle.voice_state.proofs.running.VoiceState.apply2.Goals as goal
@@ -16,11 +16,13 @@ returns-in-System-clause-step c = λ states keeps.
 pub returns-in-Voice1-clause-step : goal.returns-in-Voice1-clause-step
 returns-in-Voice1-clause-step c =
     on_ok_weaker c.voice1.result
-    (λ step states keeps. subst (λ packet. Keeps raised c.voice1.new.self (after_packet packet None states)) (sym c.in-Voice1.is) (step states keeps))
+    (λ step states keeps. subst (λ packet. Keeps raised c.voice1.new.self (after_packet packet None states)) (sym c.in-Voice1.is)
+    (step states keeps))
     c.voice1.ensures.step
 
 pub returns-in-Voice2-clause-step : goal.returns-in-Voice2-clause-step
 returns-in-Voice2-clause-step c =
     on_ok_weaker c.voice2.result
-    (λ step states keeps. subst (λ packet. Keeps raised c.voice2.new.self (after_packet packet None states)) (sym c.in-Voice2.is) (step states keeps))
+    (λ step states keeps. subst (λ packet. Keeps raised c.voice2.new.self (after_packet packet None states)) (sym c.in-Voice2.is)
+    (step states keeps))
     c.voice2.ensures.step

@@ -1,6 +1,6 @@
 use Rattle.std.proofs.Common.{◌<◌, sym, subst, arith, length, slice_set}
+use Rattle.midi_meaning.specs.State.{with_common}
 use Rattle.voice_state.specs.Kept.{Keeps, KeepsGroup}
-use Rattle.voice_state.specs.State.{with_common}
 use Rattle.voice_state.specs.States.{at_group}
 use Rattle.voice_state.proofs.KeptGroups.{group_kept}
 use Rattle.voice_state.proofs.running.VoiceState.count_common.Goals as goal
@@ -13,6 +13,9 @@ returns c = λ scale states message keeps.
     let below : group < 16 = omega (arith, c.get.ensures.value, c.get.ensures.below) in
     let within : group < length old = omega (arith, below, c.self.invariant) in
     let kept : Keeps scale old states = subst (λ groups. Keeps scale groups states) (sym c.self.view_is) keeps in
-    let found = subst (λ at. KeepsGroup scale at (states group)) (sym c.index_mut-group.ensures.value) (kept group c.index_mut-group.result.now below) in
+    let found =
+    subst (λ at. KeepsGroup scale at (states group)) (sym c.index_mut-group.ensures.value)
+    (kept group c.index_mut-group.result.now below) in
     subst (λ at. Keeps scale (slice_set old group c.count_common.new.self) (at_group at change states)) c.get.ensures.value
-    (group_kept scale old states group c.count_common.new.self change within kept (c.count_common.ensures scale (states group) message found))
+    (group_kept scale old states group c.count_common.new.self change within kept
+    (c.count_common.ensures scale (states group) message found))

@@ -2,7 +2,7 @@ use Rattle.std.proofs.Common.{◌∙◌, ◌++◌, ◌<◌, ap, sym, subst, arit
 use Rattle.voice_state.specs.declared.fact.Fact.{Fact}
 use Rattle.voice_state.specs.Facts.{group_facts}
 use Rattle.voice_state.specs.Kept.{Keeps, KeepsGroup}
-use Rattle.voice_state.proofs.Told.{more, none_first}
+use Rattle.voice_state.proofs.ToldFacts.{more, none_first}
 use Rattle.voice_state.proofs.running.VoiceState.facts.Goals as goal
 
 pub loop-index-init : goal.loop-index-init

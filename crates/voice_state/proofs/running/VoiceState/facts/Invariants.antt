@@ -1,9 +1,10 @@
 use Rattle.std.proofs.Common.{◌≡◌}
+use Rattle.midi_meaning.specs.Messages.{Scale}
 use Rattle.voice_state.specs.Facts.{facts_of_groups}
 use Rattle.voice_state.specs.Kept.{Keeps}
-use Rattle.voice_state.specs.Messages.{Scale}
 use Rattle.voice_state.specs.States.{States}
 use Rattle.voice_state.proofs.running.VoiceState.facts.Given as goal
 
 abbrev pub invariant-loop-index : goal.invariant-loop-index
-invariant-loop-index l = (scale : Scale) (states : States) → Keeps scale l.self states → l.facts.items ≡ facts_of_groups l.index scale states
+invariant-loop-index l =
+    (scale : Scale) (states : States) → Keeps scale l.self states → l.facts.items ≡ facts_of_groups l.index scale states

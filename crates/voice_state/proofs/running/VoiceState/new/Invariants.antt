@@ -1,6 +1,6 @@
 use Rattle.std.proofs.Common.{◌≡◌, length, All}
+use Rattle.midi_meaning.specs.Messages.{as_they_come, raised, start}
 use Rattle.voice_state.specs.Kept.{KeepsGroup}
-use Rattle.voice_state.specs.Messages.{as_they_come, raised, start}
 use Rattle.voice_state.proofs.running.VoiceState.new.Given as goal
 
 abbrev pub invariant-loop : goal.invariant-loop

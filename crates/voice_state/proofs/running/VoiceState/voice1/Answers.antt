@@ -17,7 +17,9 @@ returns-clause-step c =
     on_ok_weaker c.voice1.result
     (λ step states keeps.
     let kept : Keeps scale old states = subst (λ groups. Keeps scale groups states) (sym c.self.view_is) keeps in
-    let found = subst (λ at. KeepsGroup scale at (states group)) (sym c.index_mut-group.ensures.value) (kept group c.index_mut-group.result.now below) in
+    let found =
+    subst (λ at. KeepsGroup scale at (states group)) (sym c.index_mut-group.ensures.value)
+    (kept group c.index_mut-group.result.now below) in
     subst (λ at. Keeps scale (slice_set old group c.voice1.new.self) (at_group at change states)) c.get.ensures.value
     (group_kept scale old states group c.voice1.new.self change within kept (step (states group) found)))
     c.voice1.ensures.step

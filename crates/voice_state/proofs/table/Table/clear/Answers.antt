@@ -1,6 +1,6 @@
 use Rattle.std.proofs.Common.{◌∙◌, ap, rules}
 use Rattle.voice_state.specs.Tables.{at}
-use Rattle.voice_state.proofs.Told.{none_at}
+use Rattle.voice_state.proofs.ToldFacts.{none_at}
 use Rattle.voice_state.proofs.table.Table.clear.Goals as goal
 
 pub returns : goal.returns

@@ -2,7 +2,7 @@ use Rattle.std.proofs.Common.{◌≡◌, ◌∙◌, ◌++◌, ap, sym, arith, ap
 use Rattle.std.specs.Option.{option_to_list}
 use Rattle.voice_state.specs.Facts.{told_below}
 use Rattle.voice_state.specs.Tables.{at, table_fact}
-use Rattle.voice_state.proofs.Told.{told_last, told_same}
+use Rattle.voice_state.proofs.ToldFacts.{told_last, told_same}
 use Rattle.voice_state.proofs.table.Table.put_facts.Goals as goal
 
 pub loop-index-preserved : goal.loop-index-preserved
@@ -12,7 +12,8 @@ loop-index-preserved c =
     c.in_ok-put.ensures
     ∙ ap (λ ys. ys ++ option_to_list c.fact.result) c.loop-index.invariant
     ∙ append_assoc c.args.facts.now.items before (option_to_list c.fact.result)
-    ∙ ap (λ ys. c.args.facts.now.items ++ ys) (ap (λ told. before ++ option_to_list told) c.fact.ensures ∙ sym (told_last fact_of (at c.args.self.now) c.loop-index.index))
+    ∙ ap (λ ys. c.args.facts.now.items ++ ys)
+    (ap (λ told. before ++ option_to_list told) c.fact.ensures ∙ sym (told_last fact_of (at c.args.self.now) c.loop-index.index))
 
 pub returns : goal.returns
 returns c = λ map same.

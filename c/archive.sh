@@ -1,0 +1,50 @@
+#!/usr/bin/env bash
+# archive.sh [TARGET FILE]: makes the proved archive of crates/larboardyuzu_c anew where its sources changed; with two words, the archive
+# FILE of the same crate, proved for another TARGET.
+#
+# rt lib proves each library below anew that has no stamp, as none has after rt ci in a fresh clone. Where none has one, this builds the
+# crate alone over the libraries that are there, with the words with which rt itself would call the compiler.
+set -euo pipefail
+name=larboardyuzu_c
+folder=$(cd "$(dirname "${BASH_SOURCE[0]}")/../crates/$name" && pwd)
+archive=$folder/out/lib$name.a
+target=${1:-} file=${2:-$archive}
+cd "$folder"
+
+if ! command -v rt >/dev/null; then
+    [ -f "$file" ] && exit 0
+    echo "archive: there is neither the kit nor $file (docs/c-library.md)" >&2
+    exit 1
+fi
+keeps=False
+if compgen -G "../*/out/rlib/stamp" >/dev/null || ! compgen -G "../*/out/rlib" >/dev/null; then
+    rt lib
+    keeps=True
+    [ -n "$target" ] || exit 0
+fi
+if [ -n "$target" ] && [ "$file" -nt "$archive" ]; then
+    exit 0
+fi
+kit=$(dirname "$(dirname "$(readlink -f "$(command -v rt)")")")
+mapfile -t words < <(python3 - "$kit/bin" $keeps <<'END'
+import contextlib
+import os
+import sys
+
+sys.path.insert(0, sys.argv[1])
+sys.dont_write_bytecode = True
+import rtlib
+
+with contextlib.redirect_stdout(sys.stderr):
+    crate = rtlib.Crate(os.getcwd(), rtlib.root_above(os.getcwd()), {})
+    words = crate.words(["--jobs", str(os.cpu_count())], keeps=sys.argv[2] == "True")
+print(*words, sep="\n")
+END
+)
+mkdir -p "$(dirname "$file")"
+if [ -n "$target" ]; then
+    words+=(--target "$target")
+else
+    words+=(--backend llvm)
+fi
+"$kit/bin/rattle" build "${words[@]}" --toolchain "$kit/toolchain" -o "$file"

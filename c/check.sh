@@ -1,0 +1,152 @@
+#!/bin/sh
+# check.sh: what `make check` runs: the interface, the examples, the tests, and the comparison with the program. A part whose tool is missing is
+# skipped with a line; anything else that fails ends it.
+set -eu
+here=$(cd "$(dirname "$0")" && pwd)
+top=$(dirname "$here")
+out=$here/out/check
+lib=$here/out/liblarboardyuzu.a
+CC=${CC:-cc} CXX=${CXX:-c++} RANDOM_SECONDS=${RANDOM_SECONDS:-4} PROGRAM=${PROGRAM:-$top/crates/midi_tool/out/midi_tool}
+STRICT=${STRICT:--Wall -Wextra -Wpedantic -Wconversion -Wshadow -Werror}
+flags="-O2 -g $STRICT -I$top/include -I$top/examples/c"
+rm -rf "$out"
+mkdir -p "$out"
+
+has() { # NAME: whether there is such a tool
+    command -v "$1" >/dev/null 2>&1
+}
+
+compares() { # WHAT FILE COMMAND..: runs it, and compares what it prints with the file
+    what=$1 file=$2
+    shift 2
+    "$@" >"$out/printed" || { echo "$what: it ends with $?"; exit 1; }
+    cmp "$out/printed" "$file" || { echo "$what: it prints"; cat "$out/printed"; exit 1; }
+    echo "$what: ok"
+}
+
+# ---- The header: the exports of the crate, and that it stands alone in each language.
+CRATES=${CRATES:-$top/crates}
+if ! has python3; then
+    echo "interface: skipped, there is no python3"
+elif [ ! -d "$CRATES/larboardyuzu_c" ]; then
+    echo "interface: skipped, there is no crate larboardyuzu_c"
+else
+    python3 "$here/interface.py" "$top/include/larboardyuzu.h" "$CRATES"
+fi
+for header in larboardyuzu.h larboardyuzu_heap.h; do
+    for language in c11 c99; do
+        "$CC" -std=$language $STRICT -fsyntax-only -x c "$top/include/$header"
+    done
+done
+echo "headers: ok"
+
+# ---- The archive: what it asks for, and what it gives.
+if has nm; then
+    asked=$(nm -u "$lib" | awk '$1 == "U" { print $2 }' | sort -u \
+        | grep -vxE 'memcpy|memmove|memset|malloc|realloc|free|rattle_(alloc|realloc|dealloc)|_GLOBAL_OFFSET_TABLE_' || true)
+    given=$(nm -g --defined-only "$lib" | awk 'NF == 3 { print $3 }' | sort -u \
+        | grep -vE '^(larboardyuzu_[a-z0-9_]+|rattle_(alloc|realloc|dealloc))$' || true)
+    [ -z "$asked$given" ] || { echo "archive: it asks for $asked and gives $given" | tr '\n' ' '; echo; exit 1; }
+    echo "archive: ok"
+else
+    echo "archive: skipped, there is no nm"
+fi
+
+# ---- The examples in C, as C11 and as C++17, and the one in C++.
+expected=$top/examples/c/expected
+for name in down block up endpoint; do
+    "$CC" -std=c11 $flags "$top/examples/c/$name.c" "$lib" -o "$out/$name"
+    compares "$name.c" "$expected/$name" "$out/$name"
+done
+"$CC" -std=c11 $flags "$top/examples/c/fixed_block.c" "$top/examples/c/own_heap.c" "$lib" -o "$out/fixed_block"
+compares fixed_block.c "$expected/fixed_block" "$out/fixed_block"
+if has "$CXX"; then
+    for name in down block up endpoint; do
+        "$CXX" -std=c++17 $flags -x c++ "$top/examples/c/$name.c" -x none "$lib" -o "$out/$name-cxx"
+        compares "$name.c in C++" "$expected/$name" "$out/$name-cxx"
+    done
+    "$CXX" -std=c++17 $flags -fno-exceptions "$top/examples/c/down.cpp" "$lib" -o "$out/down_cpp"
+    compares down.cpp "$expected/down_cpp" "$out/down_cpp"
+else
+    echo "C++: skipped, there is no compiler $CXX"
+fi
+
+# ---- The tests: statuses, calls of the heap, requests that are refused, threads.
+for name in translators readers endpoint pure blocks starved; do
+    "$CC" -std=c11 $flags "$here/tests/$name.c" "$lib" -o "$out/test-$name"
+    "$out/test-$name"
+done
+"$CC" -std=c11 $flags "$here/tests/memory.c" "$lib" -Wl,--wrap=malloc,--wrap=realloc,--wrap=free -o "$out/memory"
+"$out/memory"
+"$CC" -std=c11 $flags -pthread "$here/tests/threads.c" "$lib" -o "$out/threads"
+"$out/threads"
+
+# ---- A program with no C library.
+"$CC" -std=gnu11 -O2 -ffreestanding -fno-builtin -fno-stack-protector -Wall -Wextra -Werror "-I$top/include" "-I$top/examples/c" -static -nostdlib \
+    "$here/tests/bare.c" "$top/examples/c/own_heap.c" "$lib" -o "$out/bare"
+"$out/bare"
+
+# ---- The same under sanitizers and valgrind.
+if echo 'int main(void){return 0;}' | "$CC" -fsanitize=address,undefined -x c - -o "$out/sanitized" 2>/dev/null; then
+    for name in translators readers endpoint pure blocks starved; do
+        "$CC" -std=c11 $flags -fsanitize=address,undefined -fno-sanitize-recover=all "$here/tests/$name.c" "$lib" -o "$out/sanitized"
+        "$out/sanitized" >/dev/null
+    done
+    echo "sanitizers: ok"
+else
+    echo "sanitizers: skipped, $CC has none"
+fi
+if has valgrind; then
+    for name in translators readers endpoint pure blocks starved; do
+        valgrind -q --error-exitcode=1 --leak-check=full "$out/test-$name" >/dev/null
+    done
+    echo "valgrind: ok"
+else
+    echo "valgrind: skipped, there is none"
+fi
+
+# ---- Installed, as others find it.
+if has pkg-config; then
+    make -s -C "$here" install DESTDIR="$out/installed" PREFIX=/usr >/dev/null
+    found=$(PKG_CONFIG_SYSROOT_DIR="$out/installed" PKG_CONFIG_ALLOW_SYSTEM_CFLAGS=1 PKG_CONFIG_ALLOW_SYSTEM_LIBS=1 \
+        PKG_CONFIG_PATH="$out/installed/usr/lib/pkgconfig" pkg-config --cflags --libs larboardyuzu)
+    "$CC" -std=c11 "$top/examples/c/down.c" $found -o "$out/installed-down"
+    "$CC" -std=c11 "$here/tests/version.c" $found -o "$out/version"
+    PKG_CONFIG_PATH="$out/installed/usr/lib/pkgconfig" pkg-config --modversion larboardyuzu >"$out/modversion"
+    compares version "$out/modversion" env LD_LIBRARY_PATH="$out/installed/usr/lib" "$out/version"
+    compares installed "$expected/down" env LD_LIBRARY_PATH="$out/installed/usr/lib" "$out/installed-down"
+else
+    echo "installed: skipped, there is no pkg-config"
+fi
+if has cmake; then
+    cmake -S "$here/tests/cmake" -B "$out/cmake" -DLARBOARDYUZU_PROVED="$lib" >"$out/cmake.log" 2>&1 \
+        && cmake --build "$out/cmake" >>"$out/cmake.log" 2>&1 || { cat "$out/cmake.log"; exit 1; }
+    compares CMake "$expected/down" "$out/cmake/down"
+else
+    echo "CMake: skipped, there is no cmake"
+fi
+
+# ---- From other languages.
+if has rustc; then
+    rustc --edition 2021 -D warnings -L "native=$here/out" "$top/examples/rust/down.rs" -o "$out/down_rs"
+    compares down.rs "$expected/down" "$out/down_rs"
+else
+    echo "Rust: skipped, there is no rustc"
+fi
+if has python3; then
+    compares larboardyuzu.py "$top/examples/python/expected" env LARBOARDYUZU="$here/out/liblarboardyuzu.so" \
+        python3 "$top/examples/python/larboardyuzu.py"
+else
+    echo "Python: skipped, there is no python3"
+fi
+
+# ---- The same answers as the program.
+"$CC" -std=c11 $flags "$here"/tests/program/*.c "$lib" -o "$out/program"
+if ! has python3; then
+    echo "program: not compared, there is no python3"
+elif [ ! -x "$PROGRAM" ]; then
+    echo "program: not compared, there is none at $PROGRAM"
+else
+    LARBOARDYUZU="$here/out/liblarboardyuzu.so" python3 "$here/tests/compare.py" "$PROGRAM" "$out/program" \
+        --seconds "$RANDOM_SECONDS" --room "$out"
+fi

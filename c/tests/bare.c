@@ -1,0 +1,112 @@
+/* A program with no operating system's C library, as firmware is: it has memcpy, memmove and memset, the
+ * heap of the example over a fixed block, and nothing else. A note goes down and up again; what comes of
+ * it is written by a call of Linux, since that is where the test runs. It is linked with -nostdlib. */
+#include "larboardyuzu.h"
+#include "own_heap.h"
+
+enum {
+    ROOM = 64
+};
+
+void *memcpy(void *restrict to, const void *restrict from, size_t size);
+void *memmove(void *to, const void *from, size_t size);
+void *memset(void *to, int byte, size_t size);
+void bare_main(void);
+
+void *memcpy(void *restrict to, const void *restrict from, size_t size)
+{
+    for (size_t i = 0; i < size; i++)
+        ((unsigned char *)to)[i] = ((const unsigned char *)from)[i];
+    return to;
+}
+
+void *memmove(void *to, const void *from, size_t size)
+{
+    unsigned char *target = to;
+    const unsigned char *source = from;
+
+    if (target < source)
+        return memcpy(to, from, size);
+    while (size-- > 0)
+        target[size] = source[size];
+    return to;
+}
+
+void *memset(void *to, int byte, size_t size)
+{
+    for (size_t i = 0; i < size; i++)
+        ((unsigned char *)to)[i] = (unsigned char)byte;
+    return to;
+}
+
+/* Where the program starts: a function wants the stack as a call leaves it. */
+#if defined(__aarch64__)
+__asm__(".globl _start\n_start: bl bare_main\n");
+enum {
+    WRITE = 64,
+    EXIT = 93
+};
+static long system_call(long number, long first, const void *second, size_t third)
+{
+    register long x8 __asm__("x8") = number;
+    register long x0 __asm__("x0") = first;
+    register const void *x1 __asm__("x1") = second;
+    register size_t x2 __asm__("x2") = third;
+    __asm__ volatile("svc 0" : "+r"(x0) : "r"(x8), "r"(x1), "r"(x2) : "memory");
+    return x0;
+}
+#elif defined(__x86_64__)
+__asm__(".globl _start\n_start: call bare_main\n");
+enum {
+    WRITE = 1,
+    EXIT = 60
+};
+static long system_call(long number, long first, const void *second, size_t third)
+{
+    long answer;
+    __asm__ volatile("syscall"
+                     : "=a"(answer)
+                     : "a"(number), "D"(first), "S"(second), "d"(third)
+                     : "rcx", "r11", "memory");
+    return answer;
+}
+#endif
+
+static int translate(void)
+{
+    static const uint32_t note[] = { 0x40903C00, 0xC9240000 };
+    static uint8_t bytes[LARBOARDYUZU_DOWN_SIZE(ROOM)];
+    static uint32_t words[LARBOARDYUZU_UP_SIZE(ROOM)];
+    larboardyuzu_down down = LARBOARDYUZU_CLOSED;
+    larboardyuzu_up up = LARBOARDYUZU_CLOSED;
+    larboardyuzu_piece piece;
+    larboardyuzu_raised raised = { 0, { 0, 0 }, { 0, 0 } };
+
+    if (larboardyuzu_down_open(&down, ROOM, false, false) != LARBOARDYUZU_DONE
+        || larboardyuzu_up_open(&up, 0, ROOM, false) != LARBOARDYUZU_DONE
+        || larboardyuzu_down_packet(&down, note, 2, 0, bytes, sizeof bytes, &piece) != LARBOARDYUZU_DONE)
+        return 1;
+    if (piece.length != 3 || bytes[0] != 0x90 || bytes[1] != 0x3C || bytes[2] != 0x64)
+        return 2;
+    for (size_t i = 0; i < piece.length; i++)
+        if (larboardyuzu_up_byte(&up, bytes[i], i, words, LARBOARDYUZU_UP_SIZE(ROOM), &raised)
+            != LARBOARDYUZU_DONE)
+            return 3;
+    if (raised.words != 2 || words[0] != note[0] || words[1] != note[1])
+        return 4;
+    larboardyuzu_down_close(&down);
+    larboardyuzu_up_close(&up);
+    return own_heap_used() == 0 ? 0 : 5;
+}
+
+void bare_main(void)
+{
+    static const char text[] = "bare: the note is the same\n";
+    int code = translate();
+
+    if (code == 0)
+        system_call(WRITE, 1, text, sizeof text - 1);
+    system_call(EXIT, code, text, 0);
+    for (;;)
+        continue;
+}

@@ -1,0 +1,166 @@
+/* Each request for memory of each open call is refused in turn, by three functions of this test's own: the
+ * call answers NO_MEMORY, the handle stays closed, and what was given before is given back. The same for
+ * the calls of the running state, which leave it as it was. */
+#include "check.h"
+#include "larboardyuzu.h"
+#include "larboardyuzu_heap.h"
+#include "setup.h"
+
+enum {
+    ROOM = 64
+};
+
+static long left = -1; /* how many more requests are granted; below 0: all */
+static long blocks;
+static char nothing;
+
+static bool is_granted(void)
+{
+    if (left == 0)
+        return false;
+    left -= left > 0;
+    return true;
+}
+
+static larboardyuzu_given given(void *at)
+{
+    larboardyuzu_given it = { at != NULL, at != NULL ? at : &nothing };
+    return it;
+}
+
+larboardyuzu_given rattle_alloc(size_t size, size_t align)
+{
+    (void)align;
+    if (!is_granted())
+        return given(NULL);
+    blocks++;
+    return given(malloc(size != 0 ? size : 1));
+}
+
+larboardyuzu_given rattle_realloc(void *at, size_t kept, size_t size, size_t align)
+{
+    (void)kept;
+    (void)align;
+    return given(is_granted() ? realloc(at, size != 0 ? size : 1) : NULL);
+}
+
+void rattle_dealloc(void *at)
+{
+    blocks--;
+    free(at);
+}
+
+static larboardyuzu_down down = LARBOARDYUZU_CLOSED;
+static larboardyuzu_up up = LARBOARDYUZU_CLOSED;
+static larboardyuzu_parser parser = LARBOARDYUZU_CLOSED;
+static larboardyuzu_endpoint endpoint = LARBOARDYUZU_CLOSED;
+static larboardyuzu_state state = LARBOARDYUZU_CLOSED;
+static larboardyuzu_sysex8 sysex8 = LARBOARDYUZU_CLOSED;
+static larboardyuzu_usb usb = LARBOARDYUZU_CLOSED;
+
+static uint32_t open_down(void)
+{
+    return larboardyuzu_down_open(&down, ROOM, true, true);
+}
+
+static uint32_t open_up(void)
+{
+    return larboardyuzu_up_open(&up, 0, ROOM, true);
+}
+
+static uint32_t open_parser(void)
+{
+    return larboardyuzu_parser_open(&parser, ROOM);
+}
+
+static uint32_t open_endpoint(void)
+{
+    uint8_t rule;
+    return larboardyuzu_endpoint_open(&endpoint, (const uint8_t *)setup, sizeof setup - 1, ROOM, &rule);
+}
+
+static uint32_t open_state(void)
+{
+    return larboardyuzu_state_open(&state, ROOM, false);
+}
+
+static uint32_t open_sysex8(void)
+{
+    return larboardyuzu_sysex8_open(&sysex8, 3, ROOM);
+}
+
+static uint32_t open_usb(void)
+{
+    return larboardyuzu_usb_open(&usb, 0, ROOM);
+}
+
+/* Opens with one more request granted each time, until there is enough. */
+static void starve(const char *name, uint32_t (*open)(void), const bool *is_open)
+{
+    long requests = 0;
+
+    for (;; requests++) {
+        uint32_t status;
+        left = requests;
+        status = open();
+        if (status == LARBOARDYUZU_DONE)
+            break;
+        CHECK(status == LARBOARDYUZU_NO_MEMORY && !*is_open && blocks == 0);
+    }
+    CHECK(requests > 0 && *is_open && left == 0);
+    left = -1;
+    printf("starved: %s, %ld requests\n", name, requests);
+}
+
+static bool is_same(const larboardyuzu_fact *a, const larboardyuzu_fact *b)
+{
+    return a->kind == b->kind && a->group == b->group && a->channel == b->channel && a->number == b->number
+           && a->value == b->value && a->count == b->count;
+}
+
+/* Keeps notes until a request is refused, and then sees that the state is as it was. */
+static void starve_state(void)
+{
+    static larboardyuzu_fact before[4096], after[4096];
+    static const uint32_t note[] = { 0x40903C00, 0xC9240000 };
+    size_t length_before, length_after;
+    uint32_t status = LARBOARDYUZU_DONE;
+
+    for (int refused = 0; refused < 5;) {
+        CHECK(larboardyuzu_state_facts(&state, before, COUNT(before), &length_before) == LARBOARDYUZU_DONE);
+        left = 0;
+        status = larboardyuzu_state_packet(&state, note, 2);
+        left = -1;
+        CHECK(larboardyuzu_state_facts(&state, after, COUNT(after), &length_after) == LARBOARDYUZU_DONE);
+        if (status == LARBOARDYUZU_NO_MEMORY) {
+            refused++;
+            CHECK(length_after == length_before);
+            for (size_t i = 0; i < length_before; i++)
+                CHECK(is_same(&before[i], &after[i]));
+            CHECK(larboardyuzu_state_packet(&state, note, 2) == LARBOARDYUZU_DONE);
+        } else {
+            CHECK(status == LARBOARDYUZU_DONE && length_after == length_before + 1);
+        }
+    }
+}
+
+int main(void)
+{
+    starve("down", open_down, &down.is_open);
+    larboardyuzu_down_close(&down);
+    starve("up", open_up, &up.is_open);
+    larboardyuzu_up_close(&up);
+    starve("parser", open_parser, &parser.is_open);
+    larboardyuzu_parser_close(&parser);
+    starve("endpoint", open_endpoint, &endpoint.is_open);
+    larboardyuzu_endpoint_close(&endpoint);
+    starve("sysex8", open_sysex8, &sysex8.is_open);
+    larboardyuzu_sysex8_close(&sysex8);
+    starve("usb", open_usb, &usb.is_open);
+    larboardyuzu_usb_close(&usb);
+    starve("state", open_state, &state.is_open);
+    starve_state();
+    larboardyuzu_state_close(&state);
+    CHECK(blocks == 0);
+    return 0;
+}

@@ -1,0 +1,16 @@
+//! What the calls of the library for C answer: statuses, lines of the
+//! listing, and what is written to a buffer of the caller's.
+#![tactic(auto)]
+
+pub mod front;
+pub mod kinds;
+pub mod laws;
+pub mod line;
+pub mod status;
+pub mod whole;
+
+pub use crate::front::{put_bytes, put_words};
+pub use crate::kinds::kind_number;
+pub use crate::line::ListingLine;
+pub use crate::status::Status;
+pub use crate::whole::framed;

@@ -1,0 +1,104 @@
+// What a call answers.
+ghost use Rattle.std.specs.Prelude.{◌≡◌};
+ghost use Rattle.c_answers.specs.Numbers.{number_of};
+ghost use Rattle.c_answers.specs.Refusals.{status_of_bad, status_of_step};
+
+use midi_meaning::BadStep;
+use ump_grammar::Bad;
+
+/// What a call answers: that it is done, or why it isn't.
+#[derive(Clone, Copy, Debug)]
+pub enum Status {
+    /// It is done.
+    Done,
+    /// There isn't enough memory.
+    NoMemory,
+    /// The handle is closed.
+    HandleClosed,
+    /// The handle is open.
+    AlreadyOpen,
+    /// The limit of an exclusive is out of range.
+    BadRoom,
+    /// The words aren't as many as the message type of the first one has.
+    BadWordCount,
+    /// A buffer has fewer places than the call may have to write; nothing was taken.
+    SmallBuffer,
+    /// A packet of an exclusive counts more than six bytes.
+    BadCount,
+    /// A data byte has its high bit set.
+    HighBit,
+    /// A control change 96, data increment.
+    DataIncrement,
+    /// A control change 97, data decrement.
+    DataDecrement,
+    /// An exclusive has more bytes than the limit.
+    ExclusiveTooLong,
+    /// A group or a cable isn't 0 to 15.
+    BadGroup,
+    /// There is none.
+    Nothing,
+    /// The handle is open, and holds something else.
+    OtherKind,
+    /// The number of streams isn't 1 to 64.
+    BadStreams,
+    /// The text of a setup isn't in the syntax of setups.
+    SetupSyntax,
+    /// A setup breaks a rule.
+    SetupRule,
+    /// There is no scaling between these widths.
+    BadBits,
+    /// A value has more bits than its width.
+    BadValue,
+}
+
+impl Status {
+    /// The number that the header gives it.
+    #[inline(always)]
+    pub fn number(self) -> u32
+        ensures { result ≡ number_of self }
+    {
+        match self {
+            Status::Done => 0,
+            Status::NoMemory => 1,
+            Status::HandleClosed => 2,
+            Status::AlreadyOpen => 3,
+            Status::BadRoom => 4,
+            Status::BadWordCount => 5,
+            Status::SmallBuffer => 6,
+            Status::BadCount => 7,
+            Status::HighBit => 8,
+            Status::DataIncrement => 9,
+            Status::DataDecrement => 10,
+            Status::ExclusiveTooLong => 11,
+            Status::BadGroup => 12,
+            Status::Nothing => 13,
+            Status::OtherKind => 14,
+            Status::BadStreams => 15,
+            Status::SetupSyntax => 16,
+            Status::SetupRule => 17,
+            Status::BadBits => 18,
+            Status::BadValue => 19,
+        }
+    }
+
+    /// That of words which no packet has.
+    pub fn of_bad(bad: Bad) -> Status
+        ensures { result ≡ status_of_bad bad }
+    {
+        match bad {
+            Bad::BadCount => Status::BadCount,
+            Bad::HighBit => Status::HighBit,
+        }
+    }
+
+    /// That of a packet or a byte which is refused.
+    pub fn of_step(bad: BadStep) -> Status
+        ensures { result ≡ status_of_step bad }
+    {
+        match bad {
+            BadStep::DataIncrement => Status::DataIncrement,
+            BadStep::DataDecrement => Status::DataDecrement,
+            BadStep::ExclusiveTooLong => Status::ExclusiveTooLong,
+        }
+    }
+}

@@ -1,0 +1,23 @@
+// The words of a packet, as a caller gives them.
+ghost use Rattle.std.specs.Prelude.{◌≡◌, MatchOption, true, false};
+ghost use Rattle.ump_words.specs.Cut.{IsWhole};
+ghost use Rattle.c_answers.specs.Whole.{is_whole};
+
+use ump_words::words::words_in_packet;
+use ump_words::{Framed, Words};
+
+/// The words as those of one packet, where they are as many as the
+/// message type of the first one has (M2-104-UM).
+#[inline(always)]
+pub fn framed(words: &[u32], offset: u64) -> Option<Framed>
+    ensures { MatchOption result (is_whole words.now ≡ false) (λ framed. (framed.words ≡ words.now)
+        × (framed.offset ≡ offset) × (is_whole words.now ≡ true) × IsWhole framed.words) }
+{
+    if words.is_empty() || words_in_packet(words[0]) != words.len() {
+        return None;
+    }
+    Some(Framed {
+        offset,
+        words: Words::from_slice(words),
+    })
+}

@@ -1,0 +1,5 @@
+pub mod Asked
+pub mod Numbers
+pub mod Opening
+pub mod Packets
+pub mod Profiles

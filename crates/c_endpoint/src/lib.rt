@@ -1,0 +1,14 @@
+//! The endpoint of the library for C as a safe type: packets of a peer in, and the words of the replies in a
+//! buffer of the caller's out.
+#![tactic(auto)]
+
+pub mod endpoint;
+pub mod heard;
+pub mod profile;
+pub mod replies;
+
+pub use crate::endpoint::AnsweringEndpoint;
+pub use crate::heard::heard_number;
+pub use crate::profile::EndpointProfile;
+pub use crate::replies::PacketReplies;
+pub use ump_endpoint::MOST_REPLY_WORDS;

@@ -1,0 +1,65 @@
+// What comes of one packet.
+ghost use Rattle.std.specs.Prelude.{◌≡◌};
+ghost use Rattle.c_endpoint.specs.Packets.{group_number, no_replies, replies_of};
+
+use crate::heard::heard_number;
+use c_answers::ListingLine;
+use ump_endpoint::Taken;
+use ump_grammar::Packet;
+
+/// What comes of one packet.
+#[repr(C)]
+#[derive(Clone, Copy)]
+pub struct PacketReplies {
+    /// How many words of replies were written, packet after packet; where
+    /// the buffer is too small, how many it would have to have.
+    pub words: usize,
+    /// The offset of the line of the listing: where the exclusive began
+    /// that is cut off, or that of the packet that is stray.
+    pub offset: u64,
+    /// What became of the message that the packet ended; 0 where it ended none.
+    pub heard: u8,
+    /// The group of a packet of an exclusive, 0 to 15; 255 for all other packets.
+    pub group: u8,
+    /// The number of the kind of the line; 0 where there is no line.
+    pub kind: u8,
+}
+
+// The group of a packet of an exclusive; 255 for all other packets.
+fn group_number(packet: &Packet) -> u8
+    ensures { result ≡ group_number packet.now }
+{
+    match packet {
+        Packet::Exclusive { group, .. } => group.get(),
+        _ => 255,
+    }
+}
+
+impl PacketReplies {
+    /// There are no replies, and a buffer would have to have this size.
+    pub fn none(size: usize) -> PacketReplies
+        ensures { result ≡ no_replies size }
+    {
+        PacketReplies {
+            words: size,
+            offset: 0,
+            heard: 0,
+            group: 255,
+            kind: 0,
+        }
+    }
+
+    /// What was done with a packet, and how many words of replies were written.
+    pub fn of(packet: &Packet, taken: &Taken, words: usize) -> PacketReplies
+        ensures { result ≡ replies_of packet.now taken.now words }
+    {
+        let line = ListingLine::listed(taken.listed);
+        PacketReplies {
+            words,
+            offset: line.offset,
+            heard: heard_number(taken.outcome),
+            group: group_number(packet),
+            kind: line.kind,
+        }
+    }
+}

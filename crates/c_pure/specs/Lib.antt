@@ -1,0 +1,3 @@
+pub mod Scaling
+pub mod Sysex8
+pub mod Texts

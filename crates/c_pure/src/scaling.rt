@@ -1,0 +1,59 @@
+// Values between widths.
+ghost use Rattle.std.specs.Prelude.{◌≡◌, ◌<◌, ◌^◌};
+ghost use Rattle.bit_scaling.specs.Scaling.{IsScaling};
+ghost use Rattle.c_answers.specs.Numbers.{number_of};
+ghost use Rattle.c_pure.specs.Scaling.{IsLowered, IsRaised, raises_value};
+
+use bit_scaling::up;
+use c_answers::Status;
+
+// Raises a value, where it has no more bits than its width.
+fn raise(value: u32, narrow: u32, wide: u32, scaled: &mut u32) -> Status
+    requires { IsScaling narrow wide }
+    ensures { raises_value value narrow wide scaled.old (number_of result) scaled.new }
+{
+    if value >= 1 << narrow {
+        return Status::BadValue;
+    }
+    *scaled = up(value, narrow, wide);
+    Status::Done
+}
+
+/// A value of 7 bits as one of 16 or of 32, or one of 14 as one of 32: the least, the centre and the greatest
+/// stay the least, the centre and the greatest (M2-115-U, min-centre-max). `BadBits` where the widths are
+/// others, and `BadValue` where the value has more bits than its width; nothing is written then.
+pub fn scale_up(value: u32, narrow: u8, wide: u8, scaled: &mut u32) -> Status
+    ensures { IsRaised value narrow wide scaled.old (number_of result) scaled.new }
+{
+    match (narrow, wide) {
+        (7, 16) => raise(value, 7, 16, scaled),
+        (7, 32) => raise(value, 7, 32, scaled),
+        (14, 32) => raise(value, 14, 32, scaled),
+        _ => Status::BadBits,
+    }
+}
+
+/// The upper 7 of 16 bits, or the upper 7 or 14 of 32 (M2-115-U, downscaling). `BadBits` where the widths are
+/// others, and `BadValue` where the value has more bits than its width; nothing is written then.
+pub fn scale_down(value: u32, wide: u8, narrow: u8, scaled: &mut u32) -> Status
+    ensures { IsLowered value wide narrow scaled.old (number_of result) scaled.new }
+{
+    match (wide, narrow) {
+        (16, 7) => {
+            if value >= 1 << 16 {
+                return Status::BadValue;
+            }
+            *scaled = value >> 9;
+            Status::Done
+        }
+        (32, 7) => {
+            *scaled = value >> 25;
+            Status::Done
+        }
+        (32, 14) => {
+            *scaled = value >> 18;
+            Status::Done
+        }
+        _ => Status::BadBits,
+    }
+}

@@ -1,0 +1,5 @@
+pub mod BlockLaws
+pub mod EndedLaws
+pub mod FrontLaws
+pub mod PackedLaws
+pub mod SpokenLaws

@@ -1,0 +1,60 @@
+-- What a running state answers a caller.
+use Rattle.std.specs.Prelude.{◌≡◌, ◌==◌, ℕ, Bool, true, false, List, [], ◌∷◌, length, Option, Some, None, ◌⊎◌}
+use Rattle.ump_grammar.specs.Reason.{reason}
+use Rattle.ump_grammar.specs.Spelling.{Spells}
+use Rattle.ump_grammar.specs.declared.packet.Bad.{Bad}
+use Rattle.ump_grammar.specs.declared.packet.Packet.{Packet}
+use Rattle.ump_grammar.specs.declared.packet.Packet.TheVariants as packets
+use Rattle.sysex_groups.specs.Exclusives.{Answer, Part, whole, restarted_whole, too_long}
+use Rattle.sysex_groups.specs.Table.{Table, answer_to, with_part}
+use Rattle.midi1_bytes.specs.Messages.{Message}
+use Rattle.midi_meaning.specs.Messages.{Scale, raised}
+use Rattle.midi_meaning.specs.State.{with_common}
+use Rattle.voice_state.specs.Kept.{KeptGroup, Keeps}
+use Rattle.voice_state.specs.States.{States, after_packet, at_group}
+use Rattle.c_answers.specs.Numbers.{number_of}
+use Rattle.c_answers.specs.Whole.{is_whole}
+use Rattle.c_answers.specs.Refusals.{status_of_bad}
+use Rattle.c_answers.specs.declared.status.Status.TheVariants as statuses
+
+-- what is kept of the groups, and the exclusives that they have open
+pub record StateKept : Type 0 where
+  pub kept : List KeptGroup
+  pub exclusives : Table
+
+-- Where it is done, what is kept stands for the changed states if it stood for the states before; where there isn't enough memory,
+-- nothing has changed.
+pub record Changes (scale : Scale) (change : States → States) (old : List KeptGroup) (status : ℕ) (new : List KeptGroup) : Type 0 where
+  pub done : status ≡ number_of statuses.Done → (states : States) → Keeps scale old states → Keeps scale new (change states)
+  pub unchanged : status ≡ number_of statuses.NoMemory → new ≡ old
+  pub either : (status ≡ number_of statuses.Done) ⊎ (status ≡ number_of statuses.NoMemory)
+
+-- a whole exclusive of a group is counted
+abbrev pub IsCounted : ℕ → List KeptGroup → ℕ → List KeptGroup → Type 0
+IsCounted group old status new =
+    (status ≡ number_of statuses.Done)
+    × ((states : States) (message : Message) → Keeps raised old states → Keeps raised new (at_group group (with_common message) states))
+
+-- a part of an exclusive, by what it does
+abbrev pub takes_part : Answer → ℕ → List KeptGroup → ℕ → List KeptGroup → Type 0
+takes_part (whole bytes) group old status new = IsCounted group old status new
+takes_part (restarted_whole at bytes) group old status new = IsCounted group old status new
+takes_part too_long group old status new = (status ≡ number_of statuses.ExclusiveTooLong) × (new ≡ old)
+takes_part _ group old status new = (status ≡ number_of statuses.Done) × (new ≡ old)
+
+abbrev pub IsTaken : StateKept → Packet → ℕ → StateKept → Type 0
+IsTaken old (packets.Exclusive group form bytes) status new =
+    let part : Part = record { group = group; form = form; bytes = bytes; offset = 0 } in
+    (new.exclusives ≡ with_part part old.exclusives) × takes_part (answer_to old.exclusives part) group old.kept status new.kept
+IsTaken old packet status new = (new.exclusives ≡ old.exclusives) × Changes raised (after_packet packet None) old.kept status new.kept
+
+-- ---- words
+
+-- by whether the words are as many as their type has, and why no packet has them
+abbrev pub takes : Bool → Option Bad → StateKept → List ℕ → ℕ → StateKept → Type 0
+takes false bad old words status new = (status ≡ number_of statuses.BadWordCount) × (new ≡ old)
+takes true (Some bad) old words status new = (status ≡ number_of (status_of_bad bad)) × (new ≡ old)
+takes true None old words status new = (packet : Packet) × Spells packet words × IsTaken old packet status new
+
+abbrev pub IsPacketTaken : StateKept → List ℕ → ℕ → StateKept → Type 0
+IsPacketTaken old words status new = takes (is_whole words) (reason words) old words status new

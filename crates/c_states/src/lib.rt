@@ -1,0 +1,11 @@
+//! The running state for callers in C: what packets, or the bytes of a stream, leave in a receiver, told by
+//! numbers.
+#![tactic(auto)]
+
+pub mod bytes;
+pub mod fact_numbers;
+pub mod state;
+
+pub use crate::bytes::ByteState;
+pub use crate::fact_numbers::FactNumbers;
+pub use crate::state::PacketState;

@@ -1,0 +1,9 @@
+pub mod BlockLaws
+pub mod ByteBlockLaws
+pub mod DownLaws
+pub mod EncodedLaws
+pub mod ExclusiveLaws
+pub mod FrontLaws
+pub mod DirectLaws
+pub mod PieceFits
+pub mod UpLaws

@@ -1,0 +1,7 @@
+pub mod Blocks
+pub mod ByteBlocks
+pub mod Down
+pub mod Encoded
+pub mod Exclusives
+pub mod Pieces
+pub mod Up

@@ -1,0 +1,65 @@
+// The packets of an exclusive.
+ghost use Rattle.std.specs.Prelude.{◌≡◌, ◌≤◌, length};
+ghost use Rattle.sysex_groups.specs.Cut.{part_at};
+ghost use Rattle.ump_grammar.specs.Ranges.{IsPacket};
+ghost use Rattle.ump_grammar.specs.Reading.{Encodes};
+ghost use Rattle.ump_grammar.specs.Reason.{has_high};
+ghost use Rattle.ump_grammar.specs.declared.packet.Packet.TheVariants as packet;
+ghost use Rattle.c_answers.specs.Numbers.{number_of};
+ghost use Rattle.c_translators.specs.Exclusives.{IsCut, cuts};
+
+use c_answers::{Status, put_words};
+use midi_edge::{ShortList, U4};
+use sysex_groups::part;
+use ump_grammar::{Packet, encode};
+use voice_messages::Form;
+
+// Whether a byte of these is 128 or more.
+fn has_high(bytes: &[u8]) -> bool
+    ensures { result ≡ has_high bytes.now }
+{
+    bytes.iter().any(|byte| *byte >= 128)
+}
+
+/// The two words of a packet of an exclusive.
+#[tactic(auto, using(crate::proofs::ExclusiveLaws::two_words))]
+pub fn exclusive_words(group: U4, form: Form, bytes: ShortList<u8, 6>) -> [u32; 2]
+    requires { IsPacket (packet.Exclusive group form bytes) }
+    ensures { Encodes (packet.Exclusive group form bytes) result }
+{
+    let spelled = encode(&Packet::Exclusive { group, form, bytes });
+    let words = spelled.as_slice();
+    [words[0], words[1]]
+}
+
+// Writes the words of packet `index` of an exclusive with these bytes between F0 and F7, if there is one.
+fn put_part(group: U4, payload: &[u8], index: usize, words: &mut [u32]) -> Status
+    requires { 2 ≤ length words.old }
+    ensures { cuts (part_at payload.now index) group words.old (number_of result) words.new }
+{
+    let Some((form, bytes)) = part(payload, index) else {
+        return Status::Nothing;
+    };
+    if has_high(bytes.as_slice()) {
+        return Status::HighBit;
+    }
+    put_words(&exclusive_words(group, form, bytes), words);
+    Status::Done
+}
+
+/// The words of a packet, counted from 0, of an exclusive with these bytes between F0 and F7 (M2-104-UM,
+/// system exclusive 7-bit messages), at the front of the buffer. Nothing is written in these cases, of which
+/// the first that holds is answered: `BadGroup`, where the group isn't 0 to 15; `SmallBuffer`, where the
+/// buffer has fewer than two places; `Nothing`, where the exclusive has no such packet; `HighBit`, where one
+/// of the packet's bytes is 128 or more.
+pub fn exclusive_packet(group: u8, payload: &[u8], index: usize, words: &mut [u32]) -> Status
+    ensures { IsCut group payload.now index words.old (number_of result) words.new }
+{
+    let Some(group) = U4::new(group) else {
+        return Status::BadGroup;
+    };
+    if words.len() < 2 {
+        return Status::SmallBuffer;
+    }
+    put_part(group, payload, index, words)
+}

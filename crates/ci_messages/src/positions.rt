@@ -1,0 +1,66 @@
+// Parts of a message by their places.
+ghost use Rattle.std.specs.Prelude.{◌≡◌, ◌<◌, ◌≤◌, ◌+◌, length};
+ghost use Rattle.ci_messages.specs.Positions.{byte_at, part_at, number2_at, number4_at};
+ghost use Rattle.ci_messages.specs.Fields.{IsData};
+
+use crate::view::ProfileId;
+use voice_messages::U7;
+
+/// This many bytes from a place on.
+pub fn part(bytes: &[u8], at: usize, size: usize) -> &[u8]
+    requires { at + size ≤ length bytes.now }
+    ensures { result.now ≡ part_at bytes.now at size }
+{
+    &bytes[at..at + size]
+}
+
+/// `N` bytes from a place on.
+pub fn array<const N: usize>(bytes: &[u8], at: usize) -> [u8; N]
+    requires { at + N ≤ length bytes.now }
+    ensures { result ≡ part_at bytes.now at N }
+{
+    *bytes[at..].first_chunk().unwrap()
+}
+
+/// A number of two bytes from a place on, seven bits each, the lowest first.
+pub fn number_of_two(bytes: &[u8], at: usize) -> u32
+    requires { at + 2 ≤ length bytes.now }
+    ensures value { result ≡ number2_at bytes.now at }
+    ensures below { result ≤ 32895 }
+{
+    u32::from(bytes[at]) + 128 * u32::from(bytes[at + 1])
+}
+
+/// A number of four bytes.
+pub fn number_of_four(bytes: &[u8], at: usize) -> u32
+    requires { at + 4 ≤ length bytes.now }
+    ensures { result ≡ number4_at bytes.now at }
+{
+    number_of_two(bytes, at) + 16384 * number_of_two(bytes, at + 2)
+}
+
+/// The data byte at a place.
+fn data_byte(bytes: &[u8], at: usize) -> U7
+    requires within { at < length bytes.now }
+    requires data_bytes { IsData bytes.now }
+    ensures { result ≡ byte_at bytes.now at }
+{
+    U7::low_bits(u32::from(bytes[at]))
+}
+
+/// A profile's id from a place on.
+pub fn profile_id(bytes: &[u8], at: usize) -> ProfileId
+    requires within { at + 5 ≤ length bytes.now }
+    requires data_bytes { IsData bytes.now }
+    ensures { result.bytes ≡ part_at bytes.now at 5 }
+{
+    ProfileId {
+        bytes: [
+            data_byte(bytes, at),
+            data_byte(bytes, at + 1),
+            data_byte(bytes, at + 2),
+            data_byte(bytes, at + 3),
+            data_byte(bytes, at + 4),
+        ],
+    }
+}

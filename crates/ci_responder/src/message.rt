@@ -1,0 +1,52 @@
+// Messages that are sent.
+ghost use Rattle.std.specs.Prelude.{◌≡◌, ◌<◌, ◌≤◌, length};
+ghost use Rattle.ci_messages.specs.Writing.{IsView};
+ghost use Rattle.ci_responder.specs.Replies.{IsMessage, message_of_payload, payload_of};
+
+use ci_messages::laws::written_messages_are_read_again;
+use ci_messages::{CiView, write};
+use midi_edge::ShortList;
+use std::marker::Model;
+
+/// A message of MIDI-CI from F0 to F7 (M2-101-UM), of at most 344 bytes, that `ci_messages::read` takes. To a
+/// contract it is its bytes.
+#[derive(Debug, Drop)]
+pub struct CiMessage {
+    bytes: ShortList<u8, 512>,
+}
+
+impl Model for CiMessage {
+    ghost use Rattle.std.specs.Prelude.{ℕ, List};
+    ghost use Rattle.ci_responder.specs.Replies.{IsMessage};
+
+    ghost Value = { List ℕ };
+
+    ghost view = { λ m. m.bytes };
+
+    ghost invariant = { λ m. IsMessage m.bytes };
+}
+
+impl CiMessage {
+    /// Writes a message of version 01 or above, whose source is below
+    /// 0FFFFF00, of at most 342 bytes between F0 and F7.
+    pub fn new(view: &CiView<'_>) -> CiMessage
+        requires view { IsView view.now }
+        requires version { 1 ≤ view.now.version }
+        requires source { view.now.source < 0x0FFFFF00 }
+        requires fits { length (payload_of view.now) ≤ 342 }
+        ensures { result ≡ message_of_payload (payload_of view.now) }
+    {
+        written_messages_are_read_again();
+        let mut bytes = ShortList::new();
+        write(view, &mut bytes);
+        CiMessage { bytes }
+    }
+
+    /// Its bytes, from F0 to F7.
+    pub fn as_slice(&self) -> &[u8]
+        ensures value { result.now ≡ self.now }
+        ensures message { IsMessage result.now }
+    {
+        self.bytes.as_slice()
+    }
+}

@@ -1,0 +1,16 @@
+// Who a message is for.
+ghost use Rattle.std.specs.Prelude.{◌<◌};
+
+use midi_edge::U4;
+
+/// The function block that a message is for, with its MUID in force, and the group on which it replies.
+#[derive(Clone, Copy, Debug, PartialEq, Eq)]
+pub(crate) struct Owner {
+    pub(crate) group: U4,
+    /// The number of the block, 0 to 31.
+    pub(crate) block: u8,
+    /// Its MUID, below 0FFFFF00.
+    pub(crate) muid: u32,
+    ghost few_blocks: { block < 32 },
+    ghost not_reserved: { muid < 0x0FFFFF00 },
+}

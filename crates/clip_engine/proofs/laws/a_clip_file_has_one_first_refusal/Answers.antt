@@ -1,7 +1,0 @@
-use Rattle.midi_pass.specs.FirstRefusal.{one_refusal}
-use Rattle.clip_engine.specs.Clipping.{clipping}
-use Rattle.clip_engine.specs.Cutting.{clip_cutting}
-use Rattle.clip_engine.proofs.laws.a_clip_file_has_one_first_refusal.Goals as goal
-
-pub returns : goal.returns
-returns c = one_refusal clip_cutting clipping c.clip_files_are_cut_once.ensures

@@ -1,0 +1,7 @@
+// The words of `clip` (own rules).
+use crate::subcommand::Subcommand;
+
+pub const WORDS: Subcommand<'static> = Subcommand {
+    name: "clip",
+    arguments: &[],
+};

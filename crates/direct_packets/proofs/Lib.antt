@@ -1,0 +1,3 @@
+pub mod EncodedLaws
+pub mod PartLaws
+pub mod DirectLaws

@@ -1,0 +1,11 @@
+//! Packets as the words that encode them: a packet is read once, and
+//! taken apart only by those that ask for its fields.
+#![tactic(auto)]
+
+pub mod direct_message;
+pub mod encoded;
+pub mod exclusive_part;
+
+pub use crate::direct_message::DirectMessage;
+pub use crate::encoded::EncodedPacket;
+pub use crate::exclusive_part::ExclusivePart;

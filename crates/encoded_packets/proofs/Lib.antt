@@ -1,3 +1,0 @@
-pub mod EncodedLaws
-pub mod PartLaws
-pub mod ValueLaws

@@ -1,0 +1,276 @@
+// The endpoint that a peer finds: its replies to stream messages and to MIDI-CI, and its lines.
+ghost use Rattle.std.specs.Prelude.{◌≡◌, ◌≤◌, [], ◌∷◌, ◌++◌, IfOk};
+ghost use Rattle.ci_responder.specs.Held.{muid_in};
+ghost use Rattle.ci_responder.specs.Keys.{state_in};
+ghost use Rattle.midi_lines.specs.EndpointLines.{protocol_text};
+ghost use Rattle.pass_loop.specs.Each.{for_each};
+ghost use Rattle.pass_loop.specs.PassEnds.{PassEnds};
+ghost use Rattle.pass_loop.specs.Pass.{seen};
+ghost use Rattle.pass_loop.specs.Places.{Puts};
+ghost use Rattle.pass_loop.specs.Put.{in_notes};
+ghost use Rattle.ump_grammar.specs.Ranges.{IsPacket};
+ghost use Rattle.ump_endpoint.specs.Held.{after_packet};
+ghost use Rattle.packet_input.specs.Packets.{packet_cutting};
+ghost use Rattle.endpoint_pass.specs.Answering.{answering, block_line_of};
+ghost use Rattle.endpoint_pass.specs.AnsweringMeans.{answers_last_named, answers_named};
+ghost use Rattle.endpoint_pass.specs.Held.{
+  HoldsEndpoint,
+  IsReadyEndpoint,
+  answers_nothing,
+  held_closing,
+  endpoint_options,
+  setup_lines,
+};
+ghost use Rattle.endpoint_pass.specs.Taking.{TakesPacket};
+
+use crate::lines::put_taken;
+use crate::replies::put_replies;
+use ci_output::{LinePlace, ProfileStates, put_profiles};
+use function_blocks::{Block, Setup};
+use listing_notes::refused;
+use midi_edge::{Lanes, NoMemory, Sink, Source, U4};
+use midi_lines::{Line, block_line, protocol_line};
+use packet_input::{PacketReader, packets_are_cut_once};
+use packet_output::{OpenExclusives, list_open};
+use pass_loop::{Engine, Outputs, RunEnd, drive};
+use std::alloc::Global;
+use std::marker::Model;
+use ump_endpoint::{Endpoint, Key, answers_are_those_of_the_history};
+use ump_grammar::Packet;
+use ump_words::{Framed, Order};
+
+/// An endpoint that is ready to answer, with all its memory. A contract sees its options.
+#[derive(Drop)]
+pub struct EndpointRun {
+    endpoint: Endpoint,
+    order: Order,
+}
+
+impl Model for EndpointRun {
+    ghost use Rattle.std.specs.Prelude.{◌≡◌, ◌≤◌, true};
+    ghost use Rattle.function_blocks.specs.Profiles.{profiles_are_distinct};
+    ghost use Rattle.ump_endpoint.specs.Held.{new_endpoint};
+    ghost use Rattle.endpoint_pass.specs.Options.{EndpointOptions};
+
+    ghost Value = { EndpointOptions };
+
+    ghost view = { λ r. record {
+      setup = r.endpoint.held.setup;
+      order = r.order;
+      room = r.endpoint.held.exclusives.room;
+    } };
+
+    ghost invariant = { λ r. (6 ≤ r.endpoint.held.exclusives.room)
+        × (profiles_are_distinct r.endpoint.held.setup.profiles ≡ true)
+        × (r.endpoint.held ≡ new_endpoint r.endpoint.held.setup r.endpoint.held.exclusives.room) };
+}
+
+impl EndpointRun {
+    /// An endpoint of this setup; the words that it reads and writes have this order. `room` is the most
+    /// bytes of an exclusive between F0 and F7, 6 to 1,048,576, for which each group reserves memory;
+    /// `NoMemory` when there isn't that much. No other call takes any.
+    pub fn new(
+        alloc: Global,
+        setup: Setup,
+        order: Order,
+        room: u32,
+    ) -> Result<EndpointRun, NoMemory>
+        requires least { 6 ≤ room }
+        requires most { room ≤ 1048576 }
+        ensures { IfOk result (λ run. run ≡ record { setup = setup; order = order; room = room }) }
+    {
+        let endpoint = Endpoint::new(alloc, setup, room)?;
+        Ok(EndpointRun { endpoint, order })
+    }
+}
+
+// Puts the words of the replies to each packet in the output and its lines in the notes, at the end the lines
+// of what is open, of the protocol in force, and of the blocks and profiles.
+#[derive(Drop)]
+struct EndpointEngine {
+    endpoint: Endpoint,
+    order: Order,
+    line: Line,
+}
+
+impl OpenExclusives for EndpointEngine {
+    ghost table = { λ engine. engine.endpoint.held.exclusives };
+
+    fn begun_at(&self, group: U4) -> Option<u64> {
+        self.endpoint.begun_at(group)
+    }
+}
+
+impl ProfileStates for EndpointEngine {
+    ghost states = { λ engine. state_in engine.endpoint.held.responder.states };
+
+    fn profile_is_on(&self, key: &Key) -> Option<bool> {
+        self.endpoint.profile_is_on(key)
+    }
+}
+
+impl Engine<Framed, Packet> for EndpointEngine {
+    ghost work = { λ first. answering (endpoint_options first) };
+
+    ghost IsReady = { λ first. IsReadyEndpoint first };
+
+    ghost UsesLanes = { ⊥ };
+
+    ghost Holds = { λ first now past. HoldsEndpoint first now past };
+
+    ghost Asks = { λ item. IsPacket item.1 };
+
+    ghost AsksAfter = { λ past item. Unit {0} };
+
+    fn step<O: Outputs>(
+        &mut self,
+        at: &Framed,
+        item: &Packet,
+        outputs: &mut O,
+    ) -> Result<(), RunEnd> {
+        answers_are_those_of_the_history();
+        self.take_packet(at.offset, item, outputs)
+    }
+
+    fn close<O: Outputs>(&self, outputs: &mut O) -> Result<(), RunEnd> {
+        answers_are_those_of_the_history();
+        self.put_closing(outputs)
+    }
+
+    ghost puts_are_named = { λ first past item puts put.
+        answers_named (endpoint_options first) past item puts put };
+
+    ghost last_puts_are_named = { λ first past puts put.
+        answers_last_named (endpoint_options first) past puts put };
+
+    ghost starts = { λ first ready. answers_nothing first ready };
+
+    ghost means = { λ first now past puts holds accepted put. tt };
+}
+
+// Puts the line of the protocol in force in the notes.
+fn put_protocol<O: Outputs>(protocol: u8, outputs: &mut O) -> Result<(), RunEnd>
+    ensures { Puts (in_notes (protocol_text protocol) ∷ [])
+        (O.places outputs.old) (O.places outputs.new) result }
+{
+    let line = protocol_line(protocol);
+    outputs.put_notes(line.as_slice())
+}
+
+// Puts the line of a block, if it has MIDI-CI.
+fn put_block<O: Outputs>(
+    endpoint: &Endpoint,
+    number: u8,
+    block: &Block,
+    outputs: &mut O,
+) -> Result<(), RunEnd>
+    ensures { Puts (block_line_of (muid_in endpoint.now.held.responder.blocks) number block.now)
+        (O.places outputs.old) (O.places outputs.new) result }
+{
+    if !block.has_ci() {
+        return Ok(());
+    }
+    let line = block_line(number, endpoint.muid(number));
+    outputs.put_notes(line.as_slice())
+}
+
+// Puts the line of each block that has MIDI-CI, with the MUID in force.
+fn put_blocks<O: Outputs>(setup: &Setup, endpoint: &Endpoint, outputs: &mut O) -> Result<(), RunEnd>
+    ensures { Puts (for_each (block_line_of (muid_in endpoint.now.held.responder.blocks)) 0
+        setup.now.blocks) (O.places outputs.old) (O.places outputs.new) result }
+{
+    for number in 0..setup.block_count() {
+        match setup.block(number) {
+            Some(block) => put_block(endpoint, number, block, outputs)?,
+            None => unreachable!(),
+        }
+    }
+    Ok(())
+}
+
+impl EndpointEngine {
+    // Takes one more packet: puts the words of the replies to it in the output, and its lines in the notes.
+    fn take_packet<O: Outputs>(
+        &mut self,
+        offset: u64,
+        packet: &Packet,
+        outputs: &mut O,
+    ) -> Result<(), RunEnd>
+        requires packet { IsPacket packet.now }
+        ensures order { self.new.order ≡ self.old.order }
+        ensures held { self.new.endpoint.held ≡ after_packet offset packet.now self.old.endpoint.held }
+        ensures takes { TakesPacket self.old.order self.old.endpoint.held offset packet.now
+            (O.places outputs.old) (O.places outputs.new) result }
+    {
+        match self.endpoint.packet(packet, offset) {
+            Ok(taken) => {
+                put_replies(self.endpoint.replies(), self.order, outputs)?;
+                put_taken(&mut self.line, offset, packet, &taken, outputs)
+            }
+            Err(bad) => Err(refused(bad, offset)),
+        }
+    }
+
+    // Puts the lines of the blocks and of the profiles.
+    fn put_setup<O: Outputs>(&self, outputs: &mut O) -> Result<(), RunEnd>
+        ensures { Puts (setup_lines self.now.endpoint.held)
+            (O.places outputs.old) (O.places outputs.new) result }
+    {
+        let setup = self.endpoint.setup();
+        put_blocks(setup, &self.endpoint, outputs)?;
+        put_profiles(setup, self, LinePlace::Notes, outputs)
+    }
+
+    // Puts the line of the protocol in force, and those of the blocks and profiles.
+    fn put_state<O: Outputs>(&self, outputs: &mut O) -> Result<(), RunEnd>
+        ensures { Puts (in_notes (protocol_text self.now.endpoint.held.protocol) ∷ []
+            ++ setup_lines self.now.endpoint.held) (O.places outputs.old) (O.places outputs.new) result }
+    {
+        put_protocol(self.endpoint.protocol(), outputs)?;
+        self.put_setup(outputs)
+    }
+
+    // Puts the lines of the exclusives that are open, of the protocol
+    // in force, and of the blocks and profiles.
+    fn put_closing<O: Outputs>(&self, outputs: &mut O) -> Result<(), RunEnd>
+        ensures { Puts (held_closing self.now.endpoint.held)
+            (O.places outputs.old) (O.places outputs.new) result }
+    {
+        list_open(self, outputs)?;
+        self.put_state(outputs)
+    }
+}
+
+/// Answers the packets of a peer as an endpoint, to the end of the recording or to the first packet that is
+/// refused (M2-104-UM, UMP stream messages; M2-101-UM; the lines are own rule). Puts the words of the replies
+/// to each stream packet, and to each MIDI-CI message that a packet ends, in the output, each packet by one
+/// put, and then the lines of that packet in the notes; at the end the lines of the exclusives that are open,
+/// of the protocol in force, and of the blocks with MIDI-CI and the profiles. Packets of other kinds have no
+/// reply and no line. Takes no memory.
+///
+/// `Refused` comes for `Truncated`, `InputTooLong`, `BadCount`, `HighBit` and `ExclusiveTooLong`, with the
+/// number of bytes before what is refused. `ReadFault`, `OutputFault` and `NoteFault` come only where the
+/// count of that object rose. The lanes stay as they are.
+// Never inlined, so that the loops of the other passes keep their registers.
+#[inline(never)]
+pub fn run_endpoint<S: Source, L: Lanes, W: Sink, N: Sink>(
+    engine: EndpointRun,
+    input: &mut S,
+    lanes: &mut L,
+    output: &mut W,
+    notes: &mut N,
+) -> RunEnd
+    ensures { PassEnds (packet_cutting engine.order) (answering engine)
+        (seen S.Source L.Lanes W.Sink N.Sink input.old lanes.old output.old notes.old)
+        (seen S.Source L.Lanes W.Sink N.Sink input.new lanes.new output.new notes.new) result }
+{
+    packets_are_cut_once();
+    let EndpointRun { endpoint, order } = engine;
+    let engine = EndpointEngine {
+        endpoint,
+        order,
+        line: Line::new(),
+    };
+    let reader = PacketReader::new(order);
+    drive(reader, engine, input, lanes, output, notes)
+}

@@ -1,0 +1,26 @@
+// The replies of an endpoint in the output.
+ghost use Rattle.std.specs.Prelude.{List, []};
+ghost use Rattle.ump_grammar.specs.Replies.{AddsPackets};
+ghost use Rattle.ump_grammar.specs.declared.packet.Packet.{Packet};
+ghost use Rattle.endpoint_pass.specs.Taking.{PutsPackets};
+
+use packet_output::put_encoded;
+use pass_loop::{Outputs, RunEnd};
+use ump_endpoint::ReplyPackets;
+use ump_words::Order;
+
+/// Puts the words of the packets in the output, each packet by one put.
+pub(crate) fn put_replies<O: Outputs>(
+    replies: ReplyPackets<'_>,
+    order: Order,
+    outputs: &mut O,
+) -> Result<(), RunEnd>
+    ensures { (packets : List Packet) → AddsPackets packets [] replies.entry →
+        PutsPackets order packets (O.places outputs.old) (O.places outputs.new) result }
+{
+    let mut rest = replies;
+    while let Some(packet) = rest.next() {
+        put_encoded(packet, order, outputs)?;
+    }
+    Ok(())
+}

@@ -1,0 +1,125 @@
+// The calls of the translator down.
+ghost use Rattle.std.specs.Prelude.{◌≡◌, None};
+ghost use Rattle.larboardyuzu_c.specs.DownCalls.{AreAnswered, HasBegun, IsOpened, IsAnswered};
+
+use c_answers::Status;
+use c_handles::{Engine, Handle};
+use c_translators::{Block, Piece, SizedDown};
+use down_translator::Style;
+use std::alloc::Global;
+
+/// Opens a handle: a translator down in plain style or in compact style, with paired controllers or without.
+/// `room` is the limit of an exclusive. All the memory that it ever needs is taken here.
+#[unsafe(no_mangle)]
+pub extern "C" fn larboardyuzu_down_open(
+    alloc: Global,
+    down: &mut Handle,
+    room: u32,
+    is_compact: bool,
+    is_paired: bool,
+) -> u32
+    ensures { IsOpened down.old.holds room is_compact is_paired result down.new.holds }
+{
+    if room < 6 || room > 1_048_576 {
+        return Status::BadRoom.number();
+    }
+    if let Some(held) = down.take(alloc) {
+        down.put(alloc, held);
+        return Status::AlreadyOpen.number();
+    }
+    let style = if is_compact {
+        Style::Compact
+    } else {
+        Style::Plain
+    };
+    match SizedDown::new(alloc, room, style, is_paired) {
+        Ok(made) => down.fill(alloc, Engine::Down(made)).number(),
+        Err(_) => Status::NoMemory.number(),
+    }
+}
+
+/// Takes one packet down.
+#[unsafe(no_mangle)]
+pub extern "C" fn larboardyuzu_down_packet(
+    alloc: Global,
+    down: &mut Handle,
+    words: &[u32],
+    offset: u64,
+    bytes: &mut [u8],
+    piece: &mut Piece,
+) -> u32
+    ensures { IsAnswered down.old.holds offset words.now bytes.old result piece.new bytes.new down.new.holds }
+{
+    let Some(mut held) = down.take(alloc) else {
+        *piece = Piece::empty();
+        return Status::HandleClosed.number();
+    };
+    let status = match &mut *held {
+        Engine::Down(engine) => engine.packet(words, offset, bytes, piece),
+        _ => {
+            *piece = Piece::empty();
+            Status::OtherKind
+        }
+    };
+    down.put(alloc, held);
+    status.number()
+}
+
+/// Takes packets that follow one another down.
+#[unsafe(no_mangle)]
+pub extern "C" fn larboardyuzu_down_packets(
+    alloc: Global,
+    down: &mut Handle,
+    words: &[u32],
+    offset: u64,
+    bytes: &mut [u8],
+    pieces: &mut [Piece],
+    block: &mut Block,
+) -> u32
+    ensures { AreAnswered down.old.holds offset words.now bytes.old pieces.old
+        result block.new bytes.new pieces.new down.new.holds }
+{
+    let Some(mut held) = down.take(alloc) else {
+        *block = Block::nothing();
+        return Status::HandleClosed.number();
+    };
+    let status = match &mut *held {
+        Engine::Down(engine) => engine.packets(words, offset, bytes, pieces, block),
+        _ => {
+            *block = Block::nothing();
+            Status::OtherKind
+        }
+    };
+    down.put(alloc, held);
+    status.number()
+}
+
+/// Where the exclusive began that a group has open.
+#[unsafe(no_mangle)]
+pub extern "C" fn larboardyuzu_down_begun(
+    alloc: Global,
+    down: &mut Handle,
+    group: u8,
+    offset: &mut u64,
+) -> u32
+    ensures same { down.new.holds ≡ down.old.holds }
+    ensures answer { HasBegun down.old.holds group offset.old result offset.new }
+{
+    let Some(held) = down.take(alloc) else {
+        return Status::HandleClosed.number();
+    };
+    let status = match &*held {
+        Engine::Down(engine) => engine.begun(group, offset),
+        _ => Status::OtherKind,
+    };
+    down.put(alloc, held);
+    status.number()
+}
+
+/// Closes a handle, and gives its memory back. A handle that is closed stays closed.
+#[unsafe(no_mangle)]
+pub extern "C" fn larboardyuzu_down_close(alloc: Global, down: &mut Handle)
+    ensures { down.new.holds ≡ None }
+{
+    let _held = down.take(alloc);
+}

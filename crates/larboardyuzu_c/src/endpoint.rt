@@ -1,0 +1,182 @@
+// The calls of the endpoint.
+ghost use Rattle.std.specs.Prelude.{◌≡◌, ◌≤◌, None};
+ghost use Rattle.function_blocks.specs.Setups.{setup_of};
+ghost use Rattle.c_answers.specs.Numbers.{number_of};
+ghost use Rattle.larboardyuzu_c.specs.EndpointCalls.{HasBegun, HasMuid, HasProfile, HasProtocol, IsOpened, IsTaken, Makes};
+
+use c_answers::Status;
+use c_endpoint::{AnsweringEndpoint, EndpointProfile, PacketReplies};
+use c_handles::{Engine, Handle};
+use std::alloc::Global;
+
+// Puts an endpoint of the setup in a text in a handle that is closed.
+#[tactic(auto, using(crate::proofs::EndpointLaws::opened_fails))]
+fn fill_endpoint(
+    alloc: Global,
+    endpoint: &mut Handle,
+    text: &[u8],
+    room: u32,
+    rule: &mut u8,
+) -> Status
+    requires closed { endpoint.old.holds ≡ None }
+    requires least { 6 ≤ room }
+    requires most { room ≤ 1048576 }
+    ensures { Makes (setup_of text.now) room (number_of result) rule.old rule.new endpoint.new.holds }
+{
+    match AnsweringEndpoint::opened(alloc, text, room, rule) {
+        Ok(made) => return endpoint.fill(alloc, Engine::Endpoint(made)),
+        Err(why) => return why,
+    }
+}
+
+/// Opens a handle: an endpoint of the setup in a text, which is TOML. `room` is the limit of an exclusive, 6
+/// to 1,048,576. All the memory that it ever needs is taken here.
+#[unsafe(no_mangle)]
+pub extern "C" fn larboardyuzu_endpoint_open(
+    alloc: Global,
+    endpoint: &mut Handle,
+    text: &[u8],
+    room: u32,
+    rule: &mut u8,
+) -> u32
+    ensures { IsOpened endpoint.old.holds text.now room result rule.old rule.new endpoint.new.holds }
+{
+    if room < 6 || room > 1_048_576 {
+        return Status::BadRoom.number();
+    }
+    if let Some(held) = endpoint.take(alloc) {
+        endpoint.put(alloc, held);
+        return Status::AlreadyOpen.number();
+    }
+    fill_endpoint(alloc, endpoint, text, room, rule).number()
+}
+
+/// Takes one packet of the peer, and writes the words of the replies to it.
+#[unsafe(no_mangle)]
+pub extern "C" fn larboardyuzu_endpoint_packet(
+    alloc: Global,
+    endpoint: &mut Handle,
+    words: &[u32],
+    offset: u64,
+    reply: &mut [u32],
+    replies: &mut PacketReplies,
+) -> u32
+    ensures { IsTaken endpoint.old.holds words.now offset reply.old
+        result replies.new reply.new endpoint.new.holds }
+{
+    let Some(mut held) = endpoint.take(alloc) else {
+        *replies = PacketReplies::none(0);
+        return Status::HandleClosed.number();
+    };
+    let status = match &mut *held {
+        Engine::Endpoint(engine) => engine.packet(words, offset, reply, replies),
+        _ => {
+            *replies = PacketReplies::none(0);
+            Status::OtherKind
+        }
+    };
+    endpoint.put(alloc, held);
+    status.number()
+}
+
+/// The protocol in force: 1 for MIDI 1.0, 2 for MIDI 2.0.
+#[unsafe(no_mangle)]
+pub extern "C" fn larboardyuzu_endpoint_protocol(
+    alloc: Global,
+    endpoint: &mut Handle,
+    protocol: &mut u8,
+) -> u32
+    ensures same { endpoint.new.holds ≡ endpoint.old.holds }
+    ensures answer { HasProtocol endpoint.old.holds result protocol.old protocol.new }
+{
+    let Some(held) = endpoint.take(alloc) else {
+        return Status::HandleClosed.number();
+    };
+    let status = match &*held {
+        Engine::Endpoint(engine) => {
+            *protocol = engine.protocol();
+            Status::Done
+        }
+        _ => Status::OtherKind,
+    };
+    endpoint.put(alloc, held);
+    status.number()
+}
+
+/// The MUID in force of a function block, counted from 0.
+#[unsafe(no_mangle)]
+pub extern "C" fn larboardyuzu_endpoint_muid(
+    alloc: Global,
+    endpoint: &mut Handle,
+    block: u8,
+    muid: &mut u32,
+) -> u32
+    ensures same { endpoint.new.holds ≡ endpoint.old.holds }
+    ensures answer { HasMuid endpoint.old.holds block result muid.old muid.new }
+{
+    let Some(held) = endpoint.take(alloc) else {
+        return Status::HandleClosed.number();
+    };
+    let status = match &*held {
+        Engine::Endpoint(engine) => engine.muid(block, muid),
+        _ => Status::OtherKind,
+    };
+    endpoint.put(alloc, held);
+    status.number()
+}
+
+/// A profile, counted from 0 in the order of the setup, and whether it is on.
+#[unsafe(no_mangle)]
+pub extern "C" fn larboardyuzu_endpoint_profile(
+    alloc: Global,
+    endpoint: &mut Handle,
+    index: usize,
+    profile: &mut EndpointProfile,
+) -> u32
+    ensures same { endpoint.new.holds ≡ endpoint.old.holds }
+    ensures answer { HasProfile endpoint.old.holds index result profile.new }
+{
+    let Some(held) = endpoint.take(alloc) else {
+        *profile = EndpointProfile::none();
+        return Status::HandleClosed.number();
+    };
+    let status = match &*held {
+        Engine::Endpoint(engine) => engine.profile(index, profile),
+        _ => {
+            *profile = EndpointProfile::none();
+            Status::OtherKind
+        }
+    };
+    endpoint.put(alloc, held);
+    status.number()
+}
+
+/// Where the exclusive began that a group has open.
+#[unsafe(no_mangle)]
+pub extern "C" fn larboardyuzu_endpoint_begun(
+    alloc: Global,
+    endpoint: &mut Handle,
+    group: u8,
+    offset: &mut u64,
+) -> u32
+    ensures same { endpoint.new.holds ≡ endpoint.old.holds }
+    ensures answer { HasBegun endpoint.old.holds group result offset.old offset.new }
+{
+    let Some(held) = endpoint.take(alloc) else {
+        return Status::HandleClosed.number();
+    };
+    let status = match &*held {
+        Engine::Endpoint(engine) => engine.begun(group, offset),
+        _ => Status::OtherKind,
+    };
+    endpoint.put(alloc, held);
+    status.number()
+}
+
+/// Closes a handle, and gives its memory back. A handle that is closed stays closed.
+#[unsafe(no_mangle)]
+pub extern "C" fn larboardyuzu_endpoint_close(alloc: Global, endpoint: &mut Handle)
+    ensures { endpoint.new.holds ≡ None }
+{
+    let _held = endpoint.take(alloc);
+}

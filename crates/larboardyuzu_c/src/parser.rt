@@ -1,0 +1,112 @@
+// The calls of the parser of MIDI 1.0 bytes.
+ghost use Rattle.std.specs.Prelude.{◌≡◌, None};
+ghost use Rattle.larboardyuzu_c.specs.ParserCalls.{AreBytesTaken, HasEnd, IsByteTaken, IsOpened};
+
+use c_answers::{ListingLine, Status};
+use c_handles::{Engine, Handle};
+use c_readers::{ByteOutcome, MessageParser};
+use std::alloc::Global;
+
+/// Opens a handle: a parser with nothing open and no running status. `room` is the limit of an exclusive, 6
+/// to 1,048,576. All the memory that it ever needs is taken here.
+#[unsafe(no_mangle)]
+pub extern "C" fn larboardyuzu_parser_open(alloc: Global, parser: &mut Handle, room: u32) -> u32
+    ensures { IsOpened parser.old.holds room result parser.new.holds }
+{
+    if room < 6 || room > 1_048_576 {
+        return Status::BadRoom.number();
+    }
+    if let Some(held) = parser.take(alloc) {
+        parser.put(alloc, held);
+        return Status::AlreadyOpen.number();
+    }
+    match MessageParser::new(alloc, room) {
+        Ok(made) => parser.fill(alloc, Engine::Parser(made)).number(),
+        Err(_) => Status::NoMemory.number(),
+    }
+}
+
+/// Takes one byte.
+#[unsafe(no_mangle)]
+pub extern "C" fn larboardyuzu_parser_byte(
+    alloc: Global,
+    parser: &mut Handle,
+    byte: u8,
+    offset: u64,
+    message: &mut [u8],
+    outcome: &mut ByteOutcome,
+) -> u32
+    ensures { IsByteTaken parser.old.holds byte offset message.old
+        result outcome.new message.new parser.new.holds }
+{
+    let Some(mut held) = parser.take(alloc) else {
+        *outcome = ByteOutcome::asking(0);
+        return Status::HandleClosed.number();
+    };
+    let status = match &mut *held {
+        Engine::Parser(engine) => engine.byte(byte, offset, message, outcome),
+        _ => {
+            *outcome = ByteOutcome::asking(0);
+            Status::OtherKind
+        }
+    };
+    parser.put(alloc, held);
+    status.number()
+}
+
+/// Takes bytes from the front of these.
+#[unsafe(no_mangle)]
+pub extern "C" fn larboardyuzu_parser_bytes(
+    alloc: Global,
+    parser: &mut Handle,
+    bytes: &[u8],
+    offset: u64,
+    messages: &mut [u8],
+    outcome: &mut ByteOutcome,
+) -> u32
+    ensures { AreBytesTaken parser.old.holds bytes.now offset messages.old
+        result outcome.new messages.new parser.new.holds }
+{
+    let Some(mut held) = parser.take(alloc) else {
+        *outcome = ByteOutcome::asking(0);
+        return Status::HandleClosed.number();
+    };
+    let status = match &mut *held {
+        Engine::Parser(engine) => engine.bytes(bytes, offset, messages, outcome),
+        _ => {
+            *outcome = ByteOutcome::asking(0);
+            Status::OtherKind
+        }
+    };
+    parser.put(alloc, held);
+    status.number()
+}
+
+/// The line of what is open at the end of the stream.
+#[unsafe(no_mangle)]
+pub extern "C" fn larboardyuzu_parser_end(
+    alloc: Global,
+    parser: &mut Handle,
+    line: &mut ListingLine,
+) -> u32
+    ensures same { parser.new.holds ≡ parser.old.holds }
+    ensures answer { HasEnd parser.old.holds result line.old line.new }
+{
+    let Some(held) = parser.take(alloc) else {
+        return Status::HandleClosed.number();
+    };
+    let status = match &*held {
+        Engine::Parser(engine) => engine.end(line),
+        _ => Status::OtherKind,
+    };
+    parser.put(alloc, held);
+    status.number()
+}
+
+/// Closes a handle, and gives its memory back. A handle that is closed stays closed.
+#[unsafe(no_mangle)]
+pub extern "C" fn larboardyuzu_parser_close(alloc: Global, parser: &mut Handle)
+    ensures { parser.new.holds ≡ None }
+{
+    let _held = parser.take(alloc);
+}

@@ -1,0 +1,66 @@
+// The calls that hold nothing.
+ghost use Rattle.std.specs.Prelude.{◌≡◌};
+ghost use Rattle.c_pure.specs.Scaling.{IsLowered, IsRaised};
+ghost use Rattle.c_pure.specs.Texts.{IsTold};
+ghost use Rattle.c_translators.specs.Exclusives.{IsCut};
+ghost use Rattle.ump_words.specs.Cut.{words_asked};
+
+use ump_words::words::words_in_packet;
+
+/// The version of the library: the major number times 65,536, the minor one times 256, and the patch.
+#[unsafe(no_mangle)]
+pub extern "C" fn larboardyuzu_version() -> u32
+    ensures { result ≡ 256 }
+{
+    0x000100
+}
+
+/// How many words the packet has that begins with this one, 1 to 4.
+#[unsafe(no_mangle)]
+pub extern "C" fn larboardyuzu_words_in_packet(first: u32) -> u32
+    ensures { result ≡ words_asked first }
+{
+    words_in_packet(first) as u32
+}
+
+/// The words of a packet, counted from 0, of an exclusive with these bytes between F0 and F7.
+#[unsafe(no_mangle)]
+pub extern "C" fn larboardyuzu_exclusive_packet(
+    group: u8,
+    payload: &[u8],
+    index: usize,
+    words: &mut [u32],
+) -> u32
+    ensures { IsCut group payload.now index words.old result words.new }
+{
+    c_translators::exclusive_packet(group, payload, index, words).number()
+}
+
+/// The line of a packet, with its line feed, and how many bytes it has.
+#[unsafe(no_mangle)]
+pub extern "C" fn larboardyuzu_packet_line(
+    words: &[u32],
+    offset: u64,
+    text: &mut [u8],
+    length: &mut usize,
+) -> u32
+    ensures { IsTold words.now offset text.old result text.new length.new }
+{
+    c_pure::packet_text(words, offset, text, length).number()
+}
+
+/// A value of 7 bits as one of 16 or of 32, or one of 14 as one of 32.
+#[unsafe(no_mangle)]
+pub extern "C" fn larboardyuzu_scale_up(value: u32, narrow: u8, wide: u8, scaled: &mut u32) -> u32
+    ensures { IsRaised value narrow wide scaled.old result scaled.new }
+{
+    c_pure::scale_up(value, narrow, wide, scaled).number()
+}
+
+/// The upper 7 of 16 bits, or the upper 7 or 14 of 32.
+#[unsafe(no_mangle)]
+pub extern "C" fn larboardyuzu_scale_down(value: u32, wide: u8, narrow: u8, scaled: &mut u32) -> u32
+    ensures { IsLowered value wide narrow scaled.old result scaled.new }
+{
+    c_pure::scale_down(value, wide, narrow, scaled).number()
+}

@@ -1,0 +1,108 @@
+// The calls of the join of 8-bit exclusives, and of their packets.
+ghost use Rattle.std.specs.Prelude.{◌≡◌, None};
+ghost use Rattle.c_pure.specs.Sysex8.{IsCut};
+ghost use Rattle.larboardyuzu_c.specs.Sysex8Calls.{HasBegun, IsOpened, IsTaken};
+
+use c_answers::Status;
+use c_handles::{Engine, Handle};
+use c_readers::{JoinedPart, Sysex8Joiner};
+use std::alloc::Global;
+
+/// Opens a handle: a join of the 8-bit exclusives of so many streams at once, 1 to 64. `room` is the limit of
+/// an exclusive, 13 to 1,048,576. All the memory that it ever needs is taken here.
+#[unsafe(no_mangle)]
+pub extern "C" fn larboardyuzu_sysex8_open(
+    alloc: Global,
+    sysex8: &mut Handle,
+    streams: u8,
+    room: u32,
+) -> u32
+    ensures { IsOpened sysex8.old.holds streams room result sysex8.new.holds }
+{
+    if room < 13 || room > 1_048_576 {
+        return Status::BadRoom.number();
+    }
+    if streams < 1 || streams > 64 {
+        return Status::BadStreams.number();
+    }
+    if let Some(held) = sysex8.take(alloc) {
+        sysex8.put(alloc, held);
+        return Status::AlreadyOpen.number();
+    }
+    match Sysex8Joiner::new(alloc, streams, room) {
+        Ok(made) => sysex8.fill(alloc, Engine::Sysex8(made)).number(),
+        Err(_) => Status::NoMemory.number(),
+    }
+}
+
+/// Takes one packet.
+#[unsafe(no_mangle)]
+pub extern "C" fn larboardyuzu_sysex8_packet(
+    alloc: Global,
+    sysex8: &mut Handle,
+    words: &[u32],
+    offset: u64,
+    bytes: &mut [u8],
+    part: &mut JoinedPart,
+) -> u32
+    ensures { IsTaken sysex8.old.holds words.now offset bytes.old result part.new bytes.new sysex8.new.holds }
+{
+    let Some(mut held) = sysex8.take(alloc) else {
+        *part = JoinedPart::none(0);
+        return Status::HandleClosed.number();
+    };
+    let status = match &mut *held {
+        Engine::Sysex8(engine) => engine.packet(words, offset, bytes, part),
+        _ => {
+            *part = JoinedPart::none(0);
+            Status::OtherKind
+        }
+    };
+    sysex8.put(alloc, held);
+    status.number()
+}
+
+/// Where the exclusive began that a stream has open.
+#[unsafe(no_mangle)]
+pub extern "C" fn larboardyuzu_sysex8_begun(
+    alloc: Global,
+    sysex8: &mut Handle,
+    group: u8,
+    stream: u8,
+    offset: &mut u64,
+) -> u32
+    ensures same { sysex8.new.holds ≡ sysex8.old.holds }
+    ensures answer { HasBegun sysex8.old.holds group stream result offset.old offset.new }
+{
+    let Some(held) = sysex8.take(alloc) else {
+        return Status::HandleClosed.number();
+    };
+    let status = match &*held {
+        Engine::Sysex8(engine) => engine.begun(group, stream, offset),
+        _ => Status::OtherKind,
+    };
+    sysex8.put(alloc, held);
+    status.number()
+}
+
+/// Closes a handle, and gives its memory back. A handle that is closed stays closed.
+#[unsafe(no_mangle)]
+pub extern "C" fn larboardyuzu_sysex8_close(alloc: Global, sysex8: &mut Handle)
+    ensures { sysex8.new.holds ≡ None }
+{
+    let _held = sysex8.take(alloc);
+}
+
+/// The words of a packet, counted from 0, of an 8-bit exclusive with these bytes.
+#[unsafe(no_mangle)]
+pub extern "C" fn larboardyuzu_sysex8_cut(
+    group: u8,
+    stream: u8,
+    payload: &[u8],
+    index: usize,
+    words: &mut [u32],
+) -> u32
+    ensures { IsCut group stream payload.now index words.old result words.new }
+{
+    c_pure::sysex8_cut(group, stream, payload, index, words).number()
+}

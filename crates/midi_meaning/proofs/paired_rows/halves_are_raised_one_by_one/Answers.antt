@@ -1,0 +1,9 @@
+use Rattle.std.proofs.Common.{refl}
+use Rattle.bit_scaling.specs.Scaling.{up, down7, down14}
+use Rattle.midi1_bytes.specs.Sorts.{sort_of}
+use Rattle.midi_meaning.specs.Controllers.{role_of}
+use Rattle.midi_meaning.proofs.paired_rows.halves_are_raised_one_by_one.Goals as goal
+
+pub returns : goal.returns
+unfolding sort_of role_of up down7 down14
+returns c = record { packets = refl; back = refl; alone = refl; alone_back = refl }

@@ -1,0 +1,76 @@
+// Which control changes are direct.
+ghost use Rattle.std.specs.Prelude.{◌≡◌, ◌<◌, ℕ, None, Some, false, slice_index_or};
+ghost use Rattle.midi_meaning.specs.Controllers.{is_direct_in};
+
+use crate::role::ControlRole;
+use std::marker::Model;
+use voice_messages::U7;
+
+/// Which control changes are direct, by their index: a table, so that nothing need be guessed where one
+/// comes. A contract sees whether controllers are paired, or that none is marked.
+#[derive(Drop)]
+pub struct DirectControls {
+    paired: Option<bool>,
+    marked: [bool; 128],
+}
+
+impl Model for DirectControls {
+    ghost use Rattle.std.specs.Prelude.{◌≡◌, ◌<◌, ℕ, false, slice_index_or, Bool, Option};
+    ghost use Rattle.midi_meaning.specs.Controllers.{is_direct_in};
+
+    ghost Value = { Option Bool };
+
+    ghost view = { λ direct. direct.paired };
+
+    ghost invariant = { λ direct. (index : ℕ) → index < 128 →
+        slice_index_or direct.marked index false ≡ is_direct_in direct.paired index };
+}
+
+// Whether the control change with this index is direct.
+fn is_direct(paired: bool, index: U7) -> bool
+    ensures { result ≡ is_direct_in (Some paired) index }
+{
+    ControlRole::of(index).pairing(paired).is_direct()
+}
+
+// The marks of all indexes.
+fn marks(paired: bool) -> [bool; 128]
+    ensures { (index : ℕ) → index < 128 →
+        slice_index_or result index false ≡ is_direct_in (Some paired) index }
+{
+    let mut marked = [false; 128];
+    for index in 0..128u8 {
+        marked[index as usize] = is_direct(paired, U7::low_bits(index as u32));
+    }
+    marked
+}
+
+impl DirectControls {
+    /// Marks those that are direct where controllers are paired, or where they aren't (own rule).
+    pub fn new(paired: bool) -> DirectControls
+        ensures { result ≡ Some paired }
+    {
+        DirectControls {
+            paired: Some(paired),
+            marked: marks(paired),
+        }
+    }
+
+    /// Marks none.
+    pub fn none() -> DirectControls
+        ensures { result ≡ None }
+    {
+        DirectControls {
+            paired: None,
+            marked: [false; 128],
+        }
+    }
+
+    /// Whether the control change with this index, 0 to 127, is marked.
+    #[inline(always)]
+    pub fn has(&self, index: U7) -> bool
+        ensures { result ≡ is_direct_in self.now index }
+    {
+        self.marked[index.get() as usize]
+    }
+}

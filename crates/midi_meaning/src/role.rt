@@ -1,0 +1,90 @@
+// What a control change is by its index.
+ghost use Rattle.std.specs.Prelude.{◌≡◌, ℕ};
+ghost use Rattle.midi_meaning.specs.Controllers.{is_direct, pairing, role_of};
+ghost use Rattle.midi_meaning.specs.Indexes.{HasIndex, HasIndexIn};
+ghost use Rattle.midi_meaning.specs.Roles.{role_in};
+
+use voice_messages::{ParamKind, U7};
+
+/// What a control change is by its index (MIDI 1.0 Detailed Specification, the table of controller numbers).
+/// This is the only place where the indexes are told apart.
+#[derive(Clone, Copy, Debug, PartialEq, Eq)]
+pub enum ControlRole {
+    /// 0: bank select, MSB.
+    BankMsb,
+    /// 32: bank select, LSB.
+    BankLsb,
+    /// 6: data entry, MSB.
+    DataMsb,
+    /// 38: data entry, LSB.
+    DataLsb,
+    /// 96: data increment.
+    DataIncrement,
+    /// 97: data decrement.
+    DataDecrement,
+    /// The MSB of a parameter's number: 101 of a registered one, 99 of an assignable (non-registered) one.
+    NumberMsb(ParamKind),
+    /// The LSB of a parameter's number: 100 of a registered one, 98 of an assignable (non-registered) one.
+    NumberLsb(ParamKind),
+    /// 121: reset all controllers, which is a channel mode message too (RP-015).
+    ResetAll,
+    /// 120, and 122 to 127: the other channel mode messages.
+    ChannelMode,
+    /// 1 to 31, except for 6: the MSB of a controller.
+    Coarse,
+    /// 33 to 63, except for 38: the LSB of the controller whose index is lower by 32.
+    Fine,
+    /// All other indexes: a controller that has a value.
+    Plain,
+}
+
+impl ControlRole {
+    /// The role of the control change with this index.
+    #[tactic(auto, unfolding(crate::specs::Controllers::role_of))]
+    #[inline(always)]
+    pub fn of(index: U7) -> ControlRole
+        ensures role { role_in result ≡ role_of index }
+        ensures index { HasIndex (role_in result) index }
+    {
+        match index.get() {
+            0 => ControlRole::BankMsb,
+            32 => ControlRole::BankLsb,
+            6 => ControlRole::DataMsb,
+            38 => ControlRole::DataLsb,
+            96 => ControlRole::DataIncrement,
+            97 => ControlRole::DataDecrement,
+            98 => ControlRole::NumberLsb(ParamKind::Assignable),
+            99 => ControlRole::NumberMsb(ParamKind::Assignable),
+            100 => ControlRole::NumberLsb(ParamKind::Registered),
+            101 => ControlRole::NumberMsb(ParamKind::Registered),
+            121 => ControlRole::ResetAll,
+            120..=127 => ControlRole::ChannelMode,
+            1..=31 => ControlRole::Coarse,
+            33..=63 => ControlRole::Fine,
+            _ => ControlRole::Plain,
+        }
+    }
+
+    /// The role where controllers are paired or aren't: without pairs an
+    /// MSB or LSB is a controller like all others (own rule).
+    #[inline(always)]
+    pub fn pairing(self, paired: bool) -> ControlRole
+        ensures role { role_in result ≡ pairing paired (role_in self) }
+        ensures index { (index : ℕ) → HasIndex (role_in self) index →
+            HasIndexIn paired (role_in result) index }
+    {
+        match self {
+            ControlRole::Coarse | ControlRole::Fine if !paired => ControlRole::Plain,
+            role => role,
+        }
+    }
+
+    /// Whether nothing is selected, entered or reset by such a control change, and no other one is a half of
+    /// it: it gives a controller its value, or is a channel mode message other than Reset All Controllers.
+    #[inline(always)]
+    pub fn is_direct(self) -> bool
+        ensures { result ≡ is_direct (role_in self) }
+    {
+        matches!(self, ControlRole::ChannelMode | ControlRole::Plain)
+    }
+}

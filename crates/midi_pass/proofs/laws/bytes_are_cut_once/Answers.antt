@@ -1,6 +1,0 @@
-use Rattle.item_reader.specs.ByteReader.{each_byte}
-use Rattle.midi_pass.specs.Bytes.{placed_at}
-use Rattle.midi_pass.proofs.laws.bytes_are_cut_once.Goals as goal
-
-pub returns : goal.returns
-returns c = c.items_are_cut_once.ensures each_byte placed_at

@@ -1,5 +1,0 @@
-use Rattle.midi_pass.proofs.CutLaws.{items_once}
-use Rattle.midi_pass.proofs.laws.items_are_cut_once.Goals as goal
-
-pub returns : goal.returns
-returns g c = λ how item_of. items_once (g.H.Cut.asked how) item_of (c.streams_are_cut_once.ensures how)

@@ -1,5 +1,0 @@
-use Rattle.midi_pass.proofs.ItemLaws.{taken_in_order}
-use Rattle.midi_pass.proofs.laws.items_are_taken_in_order.Goals as goal
-
-pub returns : goal.returns
-returns g c = λ item_of. taken_in_order g.H.Cut.asked item_of (c.items_are_read_in_order.ensures item_of)

@@ -1,5 +1,0 @@
-use Rattle.midi_pass.specs.PutLaws.{notes_fails}
-use Rattle.midi_pass.proofs.outputs.BorrowedOutputs.put_notes.Goals as goal
-
-pub returns-in-Err : goal.returns-in-Err
-returns-in-Err g c = notes_fails _ c.args.text.now _ _ c.in-Err.ensures.bytes c.in-Err.ensures.cause.rose

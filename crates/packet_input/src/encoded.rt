@@ -1,0 +1,92 @@
+// The packets of a recording, one by one, as the words that encode them.
+ghost use Rattle.std.specs.Prelude.{◌≡◌, ◌≤◌, ◌-◌, ℕ, List, Option, None};
+ghost use Rattle.item_reader.specs.SoFar.{Given, given};
+ghost use Rattle.midi_edge.specs.Outside.{ahead};
+ghost use Rattle.pass_loop.specs.Items.{limit};
+ghost use Rattle.pass_loop.specs.Next.{ComesNearer, GivesNext, NextCause};
+ghost use Rattle.ump_grammar.specs.Ranges.{IsPacket};
+ghost use Rattle.ump_grammar.specs.declared.packet.Packet.{Packet};
+ghost use Rattle.ump_words.specs.declared.words.Framed.{Framed};
+ghost use Rattle.ump_words.specs.declared.words.Order.{Order};
+ghost use Rattle.packet_input.specs.Packets.{GivenSoFar, GivesNextPacket, new_words, packet_cutting};
+ghost use Rattle.packet_input.specs.Starting.{none_given};
+
+use crate::endings::{refused, stopped};
+use direct_packets::EncodedPacket;
+use item_reader::items_are_read_in_order;
+use midi_edge::Source;
+use pass_loop::{Items, LIMIT, Next};
+use ump_words::{Framed, Order, WordReader};
+
+/// The next packet, as its words (M2-104-UM, message types), of an input in which `before` bytes stand before
+/// the first word. They count in each offset and in the limit of the whole input, 4,294,967,296 bytes (own
+/// rule): so the reader is one that `WordReader::new(order, LIMIT - before)` gave, from which only this call
+/// has read, and which has not ended. After `Next::Failed` no byte is lost, and a later call goes on from
+/// there.
+#[inline(always)]
+pub fn next_encoded<S: Source>(
+    words: &mut WordReader,
+    before: u64,
+    input: &mut S,
+) -> Next<Framed, EncodedPacket>
+    requires { before ≤ limit }
+    ensures { GivesNextPacket S.Source before words.old words.new input.old input.new result }
+{
+    items_are_read_in_order::<Order, Framed>();
+    match words.next(input) {
+        Ok(Some(mut framed)) => {
+            // Both are within the limit, so that the sum is never cut.
+            framed.offset = framed.offset.wrapping_add(before);
+            match EncodedPacket::new(&framed) {
+                Ok(packet) => Next::Item {
+                    at: framed,
+                    item: packet,
+                },
+                Err(bad) => refused(bad, framed.offset),
+            }
+        }
+        Ok(None) => Next::End,
+        Err(stop) => stopped(stop, before),
+    }
+}
+
+/// Gives out the packets of a recording, as their words.
+#[derive(Drop)]
+pub struct EncodedReader {
+    words: WordReader,
+}
+
+impl EncodedReader {
+    /// A reader of words in this order (M2-104-UM, message types).
+    pub fn new(order: Order) -> EncodedReader
+        ensures { result.words ≡ new_words order }
+    {
+        EncodedReader {
+            words: WordReader::new(order, LIMIT),
+        }
+    }
+}
+
+impl Items<Framed, EncodedPacket> for EncodedReader {
+    ghost IsCut = { λ first. packet_cutting first.words.how };
+
+    ghost IsNew = { λ first. first.words ≡ new_words first.words.how };
+
+    ghost HasGiven = { λ first now so_far. GivenSoFar first.words.how now.words so_far };
+
+    ghost Promises = { λ past item. IsPacket item.1 };
+
+    ghost to_go = { λ reader. reader.words.limit - reader.words.offset };
+
+    #[inline(always)]
+    fn next<S: Source>(&mut self, input: &mut S) -> Next<Framed, EncodedPacket> {
+        next_encoded(&mut self.words, 0, input)
+    }
+
+    #[inline(always)]
+    fn needs_input(&self) -> bool {
+        self.words.needs_input()
+    }
+
+    ghost starts = { λ first all new. none_given first.words first.words.how 0 all new };
+}

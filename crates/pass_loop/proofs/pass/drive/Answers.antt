@@ -1,0 +1,10 @@
+use Rattle.std.proofs.Common.{rules}
+use Rattle.pass_loop.specs.Borrowed.{ends_as, ends_keep}
+use Rattle.pass_loop.specs.PassEnds.{pass_ends}
+use Rattle.pass_loop.proofs.pass.drive.Goals as goal
+
+pub returns : goal.returns
+returns g c =
+    let kept = ends_keep (g.R.Items.IsCut c.args.reader) (g.E.Engine.work c.args.engine) _ _ c.drive_into.result c.drive_into.ensures in
+    pass_ends (g.R.Items.IsCut c.args.reader) (g.E.Engine.work c.args.engine) c.requires.cuts _ _ c.drive_into.result
+    (ends_as (g.R.Items.IsCut c.args.reader) (g.E.Engine.work c.args.engine) _ _ c.drive_into.result _ (search rules) c.drive_into.ensures)

@@ -1,0 +1,17 @@
+//! One pass over an input, said and proved once: what is read, what
+//! is put where, and what stands at each end.
+#![tactic(auto)]
+
+pub mod bytes;
+pub mod each_items;
+pub mod ends;
+pub mod laws;
+pub mod outputs;
+pub mod pass;
+pub mod places;
+
+pub use crate::bytes::LIMIT;
+pub use crate::each_items::EachItems;
+pub use crate::ends::{Reason, RunEnd};
+pub use crate::outputs::{Borrowed, Outputs};
+pub use crate::pass::{Engine, Items, Next, drive, next_of, write_out};

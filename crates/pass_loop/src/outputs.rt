@@ -1,0 +1,83 @@
+// The places that a pass writes to, as one value.
+ghost use Rattle.std.specs.Prelude.{◌≡◌, ◌<◌, ◌∷◌, [], true, length};
+ghost use Rattle.pass_loop.specs.Places.{Places, Puts, borrowed, places};
+ghost use Rattle.pass_loop.specs.Put.{in_lane, in_notes, in_output};
+
+use crate::ends::RunEnd;
+use midi_edge::{Lanes, Sink, U4};
+
+/// Where a pass puts what it puts: lanes, an output and notes.
+pub trait Outputs {
+    /// What they tell and count.
+    ghost places: { Self → Places };
+
+    /// Puts a piece, which isn't empty, in a lane, once the lanes are begun. At an `Err`, which comes only
+    /// where the count of the lanes' faults rose and is `LaneFault`, the lane gained nothing, or a front of
+    /// the piece that is neither empty nor all of it.
+    fn put_lane(&mut self, lane: U4, piece: &[u8]) -> Result<(), RunEnd>
+        requires begun { (places self.old).begun ≡ true }
+        requires piece { 0 < length piece.now }
+        ensures { Puts (in_lane lane piece.now ∷ []) (places self.old) (places self.new) result };
+
+    /// Puts text, which isn't empty, in the output. At an `Err`, which comes only where the count of the
+    /// output's faults rose and is `OutputFault`, the output gained at most a front of the text that isn't
+    /// all of it.
+    fn put_output(&mut self, text: &[u8]) -> Result<(), RunEnd>
+        requires { 0 < length text.now }
+        ensures { Puts (in_output text.now ∷ []) (places self.old) (places self.new) result };
+
+    /// Puts text, which isn't empty, in the notes. At an `Err`, which comes only where the count of the
+    /// notes' faults rose and is `NoteFault`, the notes gained at most a front of the text that isn't all of
+    /// it.
+    fn put_notes(&mut self, text: &[u8]) -> Result<(), RunEnd>
+        requires { 0 < length text.now }
+        ensures { Puts (in_notes text.now ∷ []) (places self.old) (places self.new) result };
+
+    /// Tries to write out what the lanes, the output and the notes have gathered, before the input is waited
+    /// for. It tells no fault: what it leaves stays gathered, and the next put that has to write tries again.
+    fn write_out(&mut self)
+        ensures { places self.new ≡ places self.old };
+}
+
+/// Three objects that are borrowed for a pass.
+#[derive(Drop)]
+pub struct Borrowed<'l, 'o, 'n, L, W, N> {
+    pub lanes: &'l mut L,
+    pub output: &'o mut W,
+    pub notes: &'n mut N,
+}
+
+impl<'l, 'o, 'n, L: Lanes, W: Sink, N: Sink> Outputs for Borrowed<'l, 'o, 'n, L, W, N> {
+    ghost places = { λ o. borrowed (o.lanes.ghost_name, o.output.ghost_name, o.notes.ghost_name)
+        (places L.Lanes W.Sink N.Sink o.lanes.now o.output.now o.notes.now) };
+
+    #[inline(always)]
+    fn put_lane(&mut self, lane: U4, piece: &[u8]) -> Result<(), RunEnd> {
+        match self.lanes.put(lane, piece) {
+            Ok(()) => Ok(()),
+            Err(_) => Err(RunEnd::LaneFault),
+        }
+    }
+
+    #[inline(always)]
+    fn put_output(&mut self, text: &[u8]) -> Result<(), RunEnd> {
+        match self.output.put(text) {
+            Ok(()) => Ok(()),
+            Err(_) => Err(RunEnd::OutputFault),
+        }
+    }
+
+    #[inline(always)]
+    fn put_notes(&mut self, text: &[u8]) -> Result<(), RunEnd> {
+        match self.notes.put(text) {
+            Ok(()) => Ok(()),
+            Err(_) => Err(RunEnd::NoteFault),
+        }
+    }
+
+    fn write_out(&mut self) {
+        self.lanes.write_out();
+        self.output.write_out();
+        self.notes.write_out();
+    }
+}

@@ -1,6 +1,0 @@
-use Rattle.rehearsal_engine.specs.EventBytes.{each_event}
-use Rattle.rehearsal_engine.specs.Events.{placed_at}
-use Rattle.rehearsal_engine.proofs.laws.events_are_cut_once.Goals as goal
-
-pub returns : goal.returns
-returns c = c.items_are_cut_once.ensures each_event placed_at

@@ -1,0 +1,43 @@
+// Events as they stand in an input.
+ghost use Rattle.std.specs.Prelude.{◌≡◌, ◌≤◌, ◌^◌, length};
+ghost use Rattle.rehearsal_pass.specs.EventBytes.{event_at, event_length, three_bytes};
+
+use item_reader::Cut;
+
+/// An event of a rehearsal as its three bytes say it (own rule).
+#[derive(Clone, Copy, Debug, PartialEq, Eq)]
+pub struct CalledEvent {
+    /// The first byte.
+    pub kind: u8,
+    /// The other two, the high byte first.
+    pub number: u16,
+}
+
+/// Each three bytes are an event.
+#[derive(Clone, Copy, Debug, PartialEq, Eq)]
+pub struct EachEvent;
+
+impl Cut for EachEvent {
+    type Item = (CalledEvent, u64);
+
+    ghost asked = { λ _. three_bytes };
+
+    ghost item_of = { λ _. event_at };
+
+    #[inline(always)]
+    fn asked(&self, bytes: &[u8]) -> usize {
+        3
+    }
+
+    #[inline(always)]
+    fn item(&self, offset: u64, bytes: &[u8]) -> (CalledEvent, u64) {
+        let number = 256 * u16::from(bytes[1]) + u16::from(bytes[2]);
+        let event = CalledEvent {
+            kind: bytes[0],
+            number,
+        };
+        (event, offset)
+    }
+
+    ghost lengths = { λ _. event_length };
+}

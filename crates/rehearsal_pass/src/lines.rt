@@ -1,0 +1,78 @@
+// The lines of a rehearsal.
+ghost use Rattle.std.specs.Prelude.{◌≡◌, ◌<◌, ◌≤◌, length};
+ghost use Rattle.rehearsal_pass.specs.Rehearse.{
+  held_text,
+  held_word,
+  noted_word,
+  told_text,
+  told_word,
+};
+
+use ci_initiator::{Noted, Told};
+use ci_output::name_of_heard;
+use midi_lines::{Line, put_decimal, put_text, word_of};
+
+// What the line says of a message that the initiator heard.
+fn word_of_noted(noted: Noted) -> &'static str
+    ensures word { result.now ≡ noted_word noted }
+    ensures size { length result.now ≤ 13 }
+{
+    match noted {
+        Noted::Other => "other",
+        Noted::Peer => "peer",
+        Noted::Gone => "gone",
+        Noted::Told(_) => "told",
+        Noted::Inventory => "inventory",
+    }
+}
+
+// What the line of an event says.
+fn word_of_told(told: Told) -> &'static str
+    ensures word { result.now ≡ told_word told }
+    ensures size { length result.now ≤ 13 }
+{
+    match told {
+        Told::Asked => "asked",
+        Told::Heard(heard) => word_of(name_of_heard(heard)),
+        Told::Noted(noted) => word_of_noted(noted),
+    }
+}
+
+/// The line of an event: its offset, and what came of it (own rule).
+pub(crate) fn told_line(offset: u64, told: Told) -> Line
+    ensures text { result ≡ told_text offset told }
+    ensures some { 0 < length result }
+{
+    let mut line = Line::new();
+    put_decimal(&mut line, offset);
+    put_text(&mut line, " ");
+    put_text(&mut line, word_of_told(told));
+    put_text(&mut line, "\n");
+    line
+}
+
+// What is held, as a word.
+fn word_of_held(held: Option<bool>) -> &'static str
+    ensures word { result.now ≡ held_word held }
+    ensures size { length result.now ≤ 7 }
+{
+    match held {
+        Some(true) => "on",
+        Some(false) => "off",
+        None => "unknown",
+    }
+}
+
+/// The line of what is held of a watch, by its number (own rule).
+pub(crate) fn held_line(number: usize, held: Option<bool>) -> Line
+    ensures text { result ≡ held_text number held }
+    ensures some { 0 < length result }
+{
+    let mut line = Line::new();
+    put_text(&mut line, "held ");
+    put_decimal(&mut line, number as u64);
+    put_text(&mut line, " ");
+    put_text(&mut line, word_of_held(held));
+    put_text(&mut line, "\n");
+    line
+}

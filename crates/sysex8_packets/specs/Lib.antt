@@ -1,0 +1,2 @@
+pub mod Cut8
+pub mod Laws

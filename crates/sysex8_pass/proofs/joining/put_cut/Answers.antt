@@ -1,0 +1,21 @@
+use Rattle.std.proofs.Common.{length}
+use Rattle.std.proofs.lemmas.Result.{err_from_is_err_and}
+use Rattle.pass_loop.specs.PutLaws.{stops_more, then_puts}
+use Rattle.sysex8_pass.specs.Joining.{cut_lines, piece_puts}
+use Rattle.sysex8_pass.proofs.joining.put_cut.Goals as goal
+
+pub returns : goal.returns
+returns g c =
+    then_puts (piece_puts c.args.place.group c.args.bytes.now)
+    (cut_lines c.args.cut_at c.args.place.offset c.args.place.group c.args.place.stream (length c.args.bytes.now))
+    (g.O.Outputs.places c.args.outputs.now)
+    (g.O.Outputs.places c.put_piece.new.outputs) _ _ c.in_ok-put_piece.ensures c.put_cut_lines.ensures
+
+pub returns-in_err-put_piece : goal.returns-in_err-put_piece
+returns-in_err-put_piece g c =
+    let end = c.in_err-put_piece.field-0.0 in
+    let p = err_from_is_err_and c.from_residual.result c.from_residual.ensures.1 in
+    rw (p.1, p.2) (stops_more (piece_puts c.args.place.group c.args.bytes.now)
+    (cut_lines c.args.cut_at c.args.place.offset c.args.place.group c.args.place.stream (length c.args.bytes.now)) end
+    (g.O.Outputs.places c.args.outputs.now)
+    (g.O.Outputs.places c.put_piece.new.outputs) c.in_err-put_piece.ensures)

@@ -1,0 +1,7 @@
+use Rattle.pass_loop.specs.FirstRefusal.{one_refusal}
+use Rattle.packet_input.specs.Packets.{packet_cutting}
+use Rattle.sysex8_pass.specs.Joining.{joining}
+use Rattle.sysex8_pass.proofs.laws.a_join_has_one_first_refusal.Goals as goal
+
+pub returns : goal.returns
+returns c = λ options. one_refusal (packet_cutting options.order) (joining options) (c.packets_are_cut_once.ensures options.order 0)

@@ -1,0 +1,67 @@
+// The lines of 8-bit exclusives.
+ghost use Rattle.std.specs.Prelude.{◌≡◌, ◌<◌, length};
+ghost use Rattle.sysex8_pass.specs.Lines.{kind_text, whole_text, word8};
+
+use midi_edge::U4;
+use midi_lines::{Line, put_decimal, put_text};
+
+/// What is listed of a type 5 packet.
+#[derive(Clone, Copy)]
+pub enum Kind8 {
+    /// It has no part of an 8-bit exclusive.
+    Other,
+    /// Its part continues or ends an exclusive, and none is begun.
+    Stray,
+    /// The exclusive that it began was cut off.
+    Cut,
+    /// It begins an exclusive, and all slots are taken.
+    Full,
+    /// The exclusive that it began is open at the end.
+    Open,
+}
+
+// The word of a kind (own rule).
+fn word(kind: Kind8) -> &'static str
+    ensures { result.now ≡ word8 kind }
+{
+    match kind {
+        Kind8::Other => "other-data8",
+        Kind8::Stray => "stray-sysex8",
+        Kind8::Cut => "cut-sysex8",
+        Kind8::Full => "full-sysex8",
+        Kind8::Open => "open-sysex8",
+    }
+}
+
+/// The line of what is listed: an offset in decimal digits, the group, and the kind (own rule).
+pub fn kind_line(kind: Kind8, offset: u64, group: U4) -> Line
+    ensures text { result ≡ kind_text kind offset group }
+    ensures some { 0 < length result }
+{
+    let mut line = Line::new();
+    put_decimal(&mut line, offset);
+    put_text(&mut line, " ");
+    put_decimal(&mut line, u64::from(group.get()));
+    put_text(&mut line, " ");
+    put_text(&mut line, word(kind));
+    put_text(&mut line, "\n");
+    line
+}
+
+/// The line of an exclusive that is whole: the offset of its last packet, the group, the stream id, and how
+/// many bytes it has (own rule).
+pub fn whole_line(offset: u64, group: U4, stream: u8, size: usize) -> Line
+    ensures text { result ≡ whole_text offset group stream size }
+    ensures some { 0 < length result }
+{
+    let mut line = Line::new();
+    put_decimal(&mut line, offset);
+    put_text(&mut line, " ");
+    put_decimal(&mut line, u64::from(group.get()));
+    put_text(&mut line, " sysex8 ");
+    put_decimal(&mut line, u64::from(stream));
+    put_text(&mut line, " ");
+    put_decimal(&mut line, size as u64);
+    put_text(&mut line, "\n");
+    line
+}

@@ -1,0 +1,29 @@
+-- The words of a packet are put as a packet is written.
+use Rattle.std.proofs.Common.{◌≡◌, ℕ, List, [], ◌∷◌, length, refl, slice_index, arith}
+use Rattle.std.specs.List.{flat_map}
+use Rattle.ump_words.specs.Cut.{word_bytes}
+use Rattle.ump_words.specs.declared.words.Order.{Order}
+use Rattle.ump_grammar.specs.Reading.{Encodes}
+use Rattle.ump_grammar.specs.declared.packet.Packet.{Packet}
+use Rattle.std.specs.Prelude.{Result, Ok, Err}
+use Rattle.pass_loop.specs.Places.{Places, Puts}
+use Rattle.pass_loop.specs.Put.{in_output}
+use Rattle.pass_loop.specs.declared.ends.RunEnd.{RunEnd}
+use Rattle.translation_passes.specs.Raised.{CarriesOut}
+use Rattle.packet_output.specs.Written.{IsWritten}
+
+pub words_carry_out : {Held : Type 0} (from : Held) (order : Order) (packet : Packet) (words : List ℕ) → Encodes packet words
+    → (old new : Places) (result : Result (Unit {0}) RunEnd)
+    → Puts (in_output (flat_map (word_bytes order) words) ∷ []) old new result
+    → CarriesOut (λ to puts. (to ≡ from) × IsWritten order packet puts) from old new result
+words_carry_out from order packet words encodes old new (Ok done) put =
+    (in_output (flat_map (word_bytes order) words) ∷ [], (refl, (words, encodes, refl)), put)
+words_carry_out from order packet words encodes old new (Err end) put =
+    (from, in_output (flat_map (word_bytes order) words) ∷ [], (refl, (words, encodes, refl)), put)
+
+-- two words are their list
+pub two_words : (words : List ℕ) → length words ≡ 2 → slice_index words 0 ∷ slice_index words 1 ∷ [] ≡ words
+two_words [] two = absurd (omega (arith, two))
+two_words (first ∷ []) two = absurd (omega (arith, two))
+two_words (first ∷ second ∷ []) two = refl
+two_words (first ∷ second ∷ third ∷ rest) two = absurd (omega (arith, two))

@@ -1,0 +1,69 @@
+-- For proofs alone: no contract of a public call rests on what stands here.
+-- What is put for raised bytes means what they mean.
+use Rattle.std.proofs.Common.{◌≡◌, ℕ, List, [], ◌∷◌, ◌++◌, refl, ap, sym, ◌∙◌, subst}
+use Rattle.std.specs.Prelude.{Some}
+use Rattle.ump_words.specs.declared.words.Order.{Order}
+use Rattle.ump_grammar.specs.declared.packet.Packet.{Packet}
+use Rattle.midi_meaning.specs.declared.listed.Listed.{Listed}
+use Rattle.midi_meaning.specs.Raising.{packets_at, packets_up}
+use Rattle.midi_meaning.specs.StepListing.{lines_at}
+use Rattle.up_translator.specs.Held.{UpState}
+use Rattle.pass_loop.specs.Bytes.{bytes_read}
+use Rattle.pass_loop.specs.Named.{AreNamed, named-then}
+use Rattle.pass_loop.specs.Pass.{ArePut}
+use Rattle.pass_loop.specs.Put.{Put}
+use Rattle.listing_notes.specs.LineLaws.{lines_named}
+use Rattle.listing_notes.specs.Lines.{line_puts}
+use Rattle.packet_output.specs.WrittenLaws.{written-then, written_named}
+use Rattle.translation_passes.specs.Options.{UpOptions}
+use Rattle.translation_passes.specs.Raised.{output_puts}
+use Rattle.packet_output.specs.Written.{AreWritten, output_and_notes}
+use Rattle.translation_passes.specs.RaisedMeans.{output-listed, output-then}
+use Rattle.translation_passes.specs.Up.{HoldsRaised, raising}
+
+-- ---- written packets
+
+pub raises_named : (options : UpOptions) (past : List (ℕ × ℕ)) (item : ℕ × ℕ) (puts : List Put) →
+    (raising options).IsPut past item puts → AreNamed output_and_notes puts
+raises_named options past item puts put =
+    let A : List Put → Type 0 = λ ps. AreNamed output_and_notes ps in
+    let packets : List Packet = packets_at options.paired (Some options.room) options.group (bytes_read past) item.1 in
+    let lines : List Listed = lines_at options.paired (Some options.room) options.group (bytes_read past) item.1 in
+    subst A (sym put.2)
+    (named-then output_and_notes put.0 (line_puts lines) (written_named options.order packets put.0 put.1)
+    (lines_named output_and_notes refl lines))
+
+output-written : (order : Order) (packets : List Packet) (puts : List Put) → AreWritten order packets puts →
+    output_puts puts ≡ puts
+output-written order [] puts written = ap output_puts written ∙ sym written
+output-written order (packet ∷ packets) puts written =
+    let one : output_puts written.0 ≡ written.0 = ap output_puts written.2.2 ∙ sym written.2.2 in
+    ap output_puts written.4
+    ∙ output-then written.0 written.1
+    ∙ ap (λ xs. xs ++ output_puts written.1) one
+    ∙ ap (λ xs. written.0 ++ xs) (output-written order packets written.1 written.3)
+    ∙ sym written.4
+
+written-all : (options : UpOptions) (past : List (ℕ × ℕ)) (puts : List Put) →
+    ArePut (raising options) past puts
+    → AreWritten options.order (packets_up options.paired (Some options.room) options.group (bytes_read past))
+    (output_puts puts)
+written-all options [] puts put = ap output_puts put
+written-all options (item ∷ past) puts put =
+    let bytes : List ℕ = bytes_read past in
+    let packets : List Packet = packets_at options.paired (Some options.room) options.group bytes item.1 in
+    let lines : List Listed = lines_at options.paired (Some options.room) options.group bytes item.1 in
+    let W : List Put → Type 0 =
+    λ xs. AreWritten options.order (packets_up options.paired (Some options.room) options.group bytes ++ packets) xs in
+    let now : output_puts put.1 ≡ put.3.0 =
+    output-listed put.3.0 put.1 lines put.3.2 ∙ output-written options.order packets put.3.0 put.3.1 in
+    let all : output_puts puts ≡ output_puts put.0 ++ put.3.0 =
+    ap output_puts put.4 ∙ output-then put.0 put.1 ∙ ap (λ xs. output_puts put.0 ++ xs) now in
+    subst W (sym all)
+    (written-then options.order (packets_up options.paired (Some options.room) options.group bytes) packets
+    (output_puts put.0) put.3.0 (written-all options past put.0 put.2) put.3.1)
+
+pub raised_means : (options : UpOptions) (up : UpState) (past : List (ℕ × ℕ)) (puts : List Put) →
+    HoldsRaised options up past → ArePut (raising options) past puts → (raising options).Means past puts
+raised_means options up past puts holds put =
+    (written-all options past puts put, holds.law (bytes_read past) holds.accepted)

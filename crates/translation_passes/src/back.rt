@@ -1,0 +1,217 @@
+// From a stream of MIDI 1.0 bytes to packets, and from these to MIDI 1.0 bytes again.
+ghost use Rattle.std.specs.Prelude.{◌≡◌, ◌<◌, ◌≤◌, [], ◌∷◌, false, IfOk, MatchOption, length};
+ghost use Rattle.down_translator.specs.Lowered.{IsDirectStep, lowered_bytes, goes_direct};
+ghost use Rattle.pass_loop.specs.Put.{in_output};
+ghost use Rattle.pass_loop.specs.Bytes.{byte_cutting};
+ghost use Rattle.pass_loop.specs.PassEnds.{PassEnds};
+ghost use Rattle.pass_loop.specs.Pass.{seen};
+ghost use Rattle.pass_loop.specs.Places.{Puts};
+ghost use Rattle.translation_passes.specs.Back.{HoldsBack, ComesDown, back_options, piece_puts, PutsDown, returning};
+ghost use Rattle.translation_passes.specs.Raised.{CarriesOut};
+ghost use Rattle.translation_passes.specs.BackMeans.{returned_means, returns_named};
+ghost use Rattle.translation_passes.specs.RaisedMeans.{last_named};
+
+use crate::raised::{PacketWork, put_byte, put_open};
+use down_translator::laws::what_is_held_is_the_definition;
+use down_translator::{Down, LoweredMessage, Style};
+use item_reader::ByteReader;
+use midi_edge::{Lanes, NoMemory, Sink, Source, U4};
+use midi_meaning::up_laws::{
+    bytes_that_come_back_mean_the_same, raised_packets_are_in_range,
+    raised_packets_come_back_in_silence, rooms_that_are_not_reached_do_not_matter_in_bytes,
+};
+use midi1_bytes::laws::parsed_bytes_are_the_definition;
+use pass_loop::laws::bytes_are_cut_once;
+use pass_loop::{Engine, LIMIT, Outputs, RunEnd, drive};
+use std::alloc::Global;
+use std::marker::Model;
+use up_translator::laws::raised_bytes_are_the_definition;
+use up_translator::{RaisedPacket, Up};
+
+/// A translation up and down again that is ready to begin, with all its memory. A contract sees its options.
+#[derive(Drop)]
+pub struct BackRun {
+    up: Up,
+    down: Down,
+}
+
+impl Model for BackRun {
+    ghost use Rattle.std.specs.Prelude.{◌≡◌, ◌<◌, ◌≤◌, []};
+    ghost use Rattle.up_translator.specs.Recording.{HoldsUp};
+    ghost use Rattle.down_translator.specs.Held.{new_down};
+    ghost use Rattle.midi_meaning.specs.Styles.{plain_style};
+    ghost use Rattle.translation_passes.specs.Back.{back_options};
+    ghost use Rattle.translation_passes.specs.Options.{BackOptions};
+
+    ghost Value = { BackOptions };
+
+    ghost view = { λ r. back_options r.up };
+
+    ghost invariant = { λ r. HoldsUp r.up.holding.paired r.up.parsing.room r.up.group [] r.up
+        × (r.down ≡ new_down r.up.holding.paired plain_style r.up.parsing.room)
+        × (6 ≤ r.up.parsing.room) × (r.up.group < 16) };
+}
+
+impl BackRun {
+    /// A translation into this group and down again in plain style, with paired controllers or without (own
+    /// rule). `room` is the most bytes of an exclusive between F0 and F7, 6 to 1,048,576, for which both ways
+    /// reserve memory; `NoMemory` where there isn't so much. No other call takes any.
+    pub fn new(alloc: Global, group: U4, room: u32, paired: bool) -> Result<BackRun, NoMemory>
+        requires least { 6 ≤ room }
+        requires most { room ≤ 1048576 }
+        ensures { IfOk result (λ run. run ≡ record { paired = paired; group = group; room = room }) }
+    {
+        let up = Up::new(alloc, group, room, paired)?;
+        let down = Down::new(alloc, room, Style::Plain, paired)?;
+        Ok(BackRun { up, down })
+    }
+}
+
+// Puts a piece in the output, unless it is empty.
+fn put_piece<O: Outputs>(piece: &[u8], outputs: &mut O) -> Result<(), RunEnd>
+    ensures { Puts (piece_puts piece.now) (O.places outputs.old) (O.places outputs.new) result }
+{
+    if piece.is_empty() {
+        Ok(())
+    } else {
+        outputs.put_output(piece)
+    }
+}
+
+// Puts a message that alone carries a packet in the output.
+#[inline(always)]
+fn put_message<O: Outputs>(message: &LoweredMessage, outputs: &mut O) -> Result<(), RunEnd>
+    ensures { Puts (in_output (lowered_bytes message.now) ∷ [])
+        (O.places outputs.old) (O.places outputs.new) result }
+{
+    let LoweredMessage {
+        status,
+        first,
+        second,
+        ..
+    } = *message;
+    let first = first.get();
+    match second {
+        Some(second) => outputs.put_output(&[status, first, second.get()]),
+        None => outputs.put_output(&[status, first]),
+    }
+}
+
+// The message that alone carries a packet, where one does.
+#[inline(always)]
+fn lowered_in(down: &Down, packet: &RaisedPacket) -> Option<LoweredMessage>
+    ensures { MatchOption result (goes_direct down.now packet.now ≡ false)
+        (λ message. IsDirectStep down.now packet.now message) }
+{
+    let message = packet.direct_message()?;
+    down.lowered_message(&message)
+}
+
+// Takes packets down, and puts their pieces. What bytes are raised to is neither refused nor listed there.
+impl PacketWork for Down {
+    ghost Accepts = { λ from packet. ComesDown from packet };
+
+    ghost IsDone = { λ offset. PutsDown offset };
+
+    #[tactic(auto, using(crate::proofs::BackLaws::lowered_comes_down))]
+    #[inline(always)]
+    fn put<O: Outputs>(
+        &mut self,
+        packet: &RaisedPacket,
+        offset: u64,
+        outputs: &mut O,
+    ) -> Result<(), RunEnd> {
+        match lowered_in(self, packet) {
+            Some(message) => put_message(&message, outputs),
+            None => match self.packet(&packet.packet(), offset) {
+                Ok(carried) => put_piece(carried.piece, outputs),
+                // The packet comes down (`Accepts`), and what comes down isn't refused.
+                Err(_) => unreachable!(),
+            },
+        }
+    }
+}
+
+// Puts the pieces of the packets of each byte in the output and its lines
+// in the notes, at the end the line of what is still open.
+#[derive(Drop)]
+struct BackEngine {
+    up: Up,
+    down: Down,
+}
+
+impl Engine<u64, u8> for BackEngine {
+    ghost work = { λ first. returning (back_options first.up) };
+
+    ghost IsReady = { λ first. HoldsBack (back_options first.up) first.up first.down [] };
+
+    ghost UsesLanes = { ⊥ };
+
+    ghost Holds = { λ first now past. HoldsBack (back_options first.up) now.up now.down past };
+
+    ghost Asks = { λ item. Unit {0} };
+
+    ghost AsksAfter = { λ past item. item.0 ≡ length past };
+
+    #[inline(always)]
+    fn step<O: Outputs>(&mut self, at: &u64, item: &u8, outputs: &mut O) -> Result<(), RunEnd> {
+        parsed_bytes_are_the_definition();
+        raised_bytes_are_the_definition();
+        raised_packets_are_in_range();
+        raised_packets_come_back_in_silence();
+        rooms_that_are_not_reached_do_not_matter_in_bytes();
+        what_is_held_is_the_definition();
+        put_byte(&mut self.up, &mut self.down, *item, *at, outputs)
+    }
+
+    fn close<O: Outputs>(&self, outputs: &mut O) -> Result<(), RunEnd> {
+        raised_bytes_are_the_definition();
+        put_open(&self.up, outputs)
+    }
+
+    ghost puts_are_named = { λ first past item puts put.
+        returns_named (back_options first.up) past item puts put };
+
+    ghost last_puts_are_named = { λ first past puts put.
+        last_named first.up.parsing.room first.up.group past puts put };
+
+    ghost starts = { λ first ready. ready };
+
+    ghost means = { λ first now past puts holds accepted put.
+        returned_means (back_options first.up) now.up now.down past puts holds put };
+}
+
+/// Translates a stream up, and each packet down again in plain style, to its end or to the first byte that is
+/// refused (M2-104-UM, translation from MIDI 1.0 and default translation): puts the piece of each packet that
+/// has one in the output, and after those of a byte its lines in the notes, at the end the line of what is
+/// still open. Takes no memory.
+///
+/// `Refused` comes for `InputTooLong`, `DataIncrement`, `DataDecrement` and `ExclusiveTooLong`, with the
+/// number of bytes before what is refused. `ReadFault`, `OutputFault` and `NoteFault` come only where the
+/// count of that object rose. The lanes stay as they are.
+// Never inlined, so that the loops of the other passes keep their registers.
+#[inline(never)]
+pub fn run_back<S: Source, L: Lanes, W: Sink, N: Sink>(
+    engine: BackRun,
+    input: &mut S,
+    lanes: &mut L,
+    output: &mut W,
+    notes: &mut N,
+) -> RunEnd
+    ensures { PassEnds byte_cutting (returning engine)
+        (seen S.Source L.Lanes W.Sink N.Sink input.old lanes.old output.old notes.old)
+        (seen S.Source L.Lanes W.Sink N.Sink input.new lanes.new output.new notes.new) result }
+{
+    bytes_are_cut_once();
+    bytes_that_come_back_mean_the_same();
+    rooms_that_are_not_reached_do_not_matter_in_bytes();
+    let BackRun { up, down } = engine;
+    drive(
+        ByteReader::new(LIMIT),
+        BackEngine { up, down },
+        input,
+        lanes,
+        output,
+        notes,
+    )
+}

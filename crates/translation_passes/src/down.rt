@@ -1,0 +1,308 @@
+// From packets to MIDI 1.0 bytes.
+ghost use Rattle.std.specs.Prelude.{◌≡◌, ◌<◌, ◌≤◌, ◌∷◌, [], IfOk, true};
+ghost use Rattle.std.specs.Option.{option_map, option_to_list};
+ghost use Rattle.sysex_groups.specs.Table.{Table, begun_in};
+ghost use Rattle.ump_grammar.specs.declared.packet.Packet.{Packet};
+ghost use Rattle.ump_grammar.specs.Ranges.{IsPacket};
+ghost use Rattle.down_translator.specs.Held.{down_after};
+ghost use Rattle.down_translator.specs.KeptLanes.{style_in};
+ghost use Rattle.pass_loop.specs.PassEnds.{PassEnds};
+ghost use Rattle.pass_loop.specs.Pass.{seen};
+ghost use Rattle.pass_loop.specs.Places.{Puts};
+ghost use Rattle.pass_loop.specs.Put.{in_lane};
+ghost use Rattle.midi_meaning.specs.Listing.{groups};
+ghost use Rattle.down_translator.specs.Lowered.{attribute_line, lowered_bytes};
+ghost use Rattle.down_translator.specs.Recording.{pair_put};
+ghost use Rattle.listing_notes.specs.Lines.{line_puts};
+ghost use Rattle.translation_passes.specs.Down.{Carries, HoldsDown, IsReadyDown, carrying, lowered_puts, down_options, pair_puts, puts_for};
+ghost use Rattle.packet_output.specs.Open.{open_line, open_puts};
+ghost use Rattle.translation_passes.specs.DownMeans.{carries_named, carries_nothing, carries_means, ends_named};
+ghost use Rattle.packet_input.specs.Packets.{packet_cutting};
+
+use direct_packets::EncodedPacket;
+use down_translator::laws::{
+    one_more_accepted_packet_adds_its_pair_and_line, spelled_packets_are_in_range,
+    what_is_held_is_the_definition,
+};
+use down_translator::{Carried, Down, Kind, Listed, LoweredMessage, Style};
+use listing_notes::{put_line, put_listed, refused};
+use midi_edge::{Lanes, NoMemory, Sink, Source, U4};
+use midi_meaning::style_laws::styled_pairs_are_a_translation;
+use packet_input::{EncodedReader, packets_are_cut_once};
+use packet_output::{OpenExclusives, list_open};
+use pass_loop::{Engine, Outputs, RunEnd, drive};
+use std::alloc::Global;
+use std::marker::Model;
+use ump_words::{Framed, Order};
+
+/// A translation down that is ready to begin, with all its memory. A contract sees its options.
+#[derive(Drop)]
+pub struct DownRun {
+    down: Down,
+    order: Order,
+}
+
+impl Model for DownRun {
+    ghost use Rattle.std.specs.Prelude.{◌≡◌, ◌≤◌};
+    ghost use Rattle.down_translator.specs.Held.{limit_of, new_down, paired_of, style_of};
+    ghost use Rattle.translation_passes.specs.Options.{DownOptions};
+
+    ghost Value = { DownOptions };
+
+    ghost view = { λ r. record {
+      paired = paired_of r.down;
+      style = style_of r.down;
+      order = r.order;
+      room = limit_of r.down;
+    } };
+
+    ghost invariant = { λ r. (r.down ≡ new_down (paired_of r.down) (style_of r.down) (limit_of r.down))
+        × (6 ≤ limit_of r.down) };
+}
+
+impl DownRun {
+    /// A translation in this style of a recording whose words have this order, with paired controllers or
+    /// without (own rule). `room` is the most bytes of an exclusive between F0 and F7, 6 to 1,048,576, for
+    /// which each group reserves memory; `NoMemory` where there isn't so much. No other call takes any.
+    pub fn new(
+        alloc: Global,
+        style: Style,
+        order: Order,
+        room: u32,
+        paired: bool,
+    ) -> Result<DownRun, NoMemory>
+        requires least { 6 ≤ room }
+        requires most { room ≤ 1048576 }
+        ensures { IfOk result (λ engine. engine
+            ≡ record { paired = paired; style = style_in style; order = order; room = room }) }
+    {
+        let down = Down::new(alloc, room, style, paired)?;
+        Ok(DownRun { down, order })
+    }
+}
+
+// Puts the piece of each packet that is carried into the lane of its group, and in the notes the line of each
+// packet that is listed, at the end those of the exclusives that are still open.
+#[derive(Drop)]
+struct DownEngine {
+    down: Down,
+}
+
+impl OpenExclusives for DownEngine {
+    ghost table = { λ engine. engine.down.exclusives };
+
+    fn begun_at(&self, group: U4) -> Option<u64> {
+        self.down.begun_at(group)
+    }
+}
+
+impl Engine<Framed, EncodedPacket> for DownEngine {
+    ghost work = { λ first. carrying (down_options first.down) };
+
+    ghost IsReady = { λ first. IsReadyDown first.down };
+
+    ghost UsesLanes = { Unit {0} };
+
+    ghost Holds = { λ first now past. HoldsDown first.down now.down past };
+
+    ghost Asks = { λ item. IsPacket item.1 };
+
+    ghost AsksAfter = { λ past item. Unit {0} };
+
+    fn step<O: Outputs>(
+        &mut self,
+        at: &Framed,
+        item: &EncodedPacket,
+        outputs: &mut O,
+    ) -> Result<(), RunEnd> {
+        what_is_held_is_the_definition();
+        one_more_accepted_packet_adds_its_pair_and_line();
+        spelled_packets_are_in_range();
+        carry(&mut self.down, item, at.offset, outputs)
+    }
+
+    fn close<O: Outputs>(&self, outputs: &mut O) -> Result<(), RunEnd> {
+        what_is_held_is_the_definition();
+        list_open(self, outputs)
+    }
+
+    ghost puts_are_named = { λ first past item puts put.
+        carries_named (down_options first.down) past item puts put };
+
+    ghost last_puts_are_named = { λ first past puts put. ends_named (down_options first.down) past puts put };
+
+    ghost starts = { λ first ready. carries_nothing first.down ready };
+
+    ghost means = { λ first now past puts holds accepted put.
+        carries_means first.down now.down past puts holds put };
+}
+
+/// Translates a recording down, to its end or to the first packet that is refused (M2-104-UM, default
+/// translation; what that leaves out is listed by own rule): puts the piece of each packet that is carried,
+/// in the style of the translation, into the lane of its group, and in the notes the line of each packet that
+/// is listed, at the end those of the exclusives that are still open. Takes no memory.
+///
+/// `Refused` comes for `Truncated`, `InputTooLong`, `BadCount`, `HighBit`, `DataIncrement`, `DataDecrement`
+/// and `ExclusiveTooLong`, with the number of bytes before what is refused. `ReadFault`, `LaneFault` and
+/// `NoteFault` come only where the count of that object rose. The output stays as it is.
+// Never inlined, so that the loops of the other passes keep their registers.
+#[inline(never)]
+pub fn run_down<S: Source, L: Lanes, W: Sink, N: Sink>(
+    engine: DownRun,
+    input: &mut S,
+    lanes: &mut L,
+    output: &mut W,
+    notes: &mut N,
+) -> RunEnd
+    requires begun { L.begun lanes.old ≡ true }
+    ensures { PassEnds (packet_cutting engine.order) (carrying engine)
+        (seen S.Source L.Lanes W.Sink N.Sink input.old lanes.old output.old notes.old)
+        (seen S.Source L.Lanes W.Sink N.Sink input.new lanes.new output.new notes.new) result }
+{
+    styled_pairs_are_a_translation();
+    packets_are_cut_once();
+    let DownRun { down, order } = engine;
+    let reader = EncodedReader::new(order);
+    drive(reader, DownEngine { down }, input, lanes, output, notes)
+}
+
+// Puts a piece into its lane, unless it is empty.
+fn put_piece<O: Outputs>(carried: &Carried<'_>, outputs: &mut O) -> Result<(), RunEnd>
+    requires begun { (O.places outputs.old).begun ≡ true }
+    ensures { Puts (pair_puts (pair_put carried.now)) (O.places outputs.old) (O.places outputs.new) result }
+{
+    if carried.piece.is_empty() {
+        Ok(())
+    } else {
+        outputs.put_lane(carried.lane(), carried.piece)
+    }
+}
+
+// Puts a piece into its lane, unless it is empty, and then its line of the listing, if there is one.
+fn put_carried<O: Outputs>(carried: &Carried<'_>, outputs: &mut O) -> Result<(), RunEnd>
+    requires begun { (O.places outputs.old).begun ≡ true }
+    ensures { Puts (puts_for carried.now) (O.places outputs.old) (O.places outputs.new) result }
+{
+    put_piece(carried, outputs)?;
+    put_listed(carried.listed(), outputs)
+}
+
+// Takes one packet down that isn't carried by one message: puts its piece
+// into the lane of its group, and its line into the notes.
+fn carry_encoded<O: Outputs>(
+    down: &mut Down,
+    packet: &EncodedPacket,
+    offset: u64,
+    outputs: &mut O,
+) -> Result<(), RunEnd>
+    requires packet { IsPacket packet.now }
+    requires begun { (O.places outputs.old).begun ≡ true }
+    ensures behind { down.new ≡ down_after offset packet.now down.old }
+    ensures carries { Carries down.old offset packet.now
+        (O.places outputs.old) (O.places outputs.new) result }
+{
+    match down.encoded(packet, offset) {
+        Ok(carried) => put_carried(&carried, outputs),
+        Err(bad) => Err(refused(bad, offset)),
+    }
+}
+
+// Puts a message of two bytes. Each of these arrays has a function of
+// its own, since it is cleared where its function begins.
+#[inline(always)]
+fn put_two<O: Outputs>(lane: U4, status: u8, first: u8, outputs: &mut O) -> Result<(), RunEnd>
+    requires begun { (O.places outputs.old).begun ≡ true }
+    ensures { Puts (in_lane lane (status ∷ first ∷ []) ∷ [])
+        (O.places outputs.old) (O.places outputs.new) result }
+{
+    outputs.put_lane(lane, &[status, first])
+}
+
+// Puts a message of three bytes.
+#[inline(always)]
+fn put_three<O: Outputs>(
+    lane: U4,
+    status: u8,
+    first: u8,
+    second: u8,
+    outputs: &mut O,
+) -> Result<(), RunEnd>
+    requires begun { (O.places outputs.old).begun ≡ true }
+    ensures { Puts (in_lane lane (status ∷ first ∷ second ∷ []) ∷ [])
+        (O.places outputs.old) (O.places outputs.new) result }
+{
+    outputs.put_lane(lane, &[status, first, second])
+}
+
+// Puts a message that alone carries a packet into its lane.
+#[inline(always)]
+fn put_message<O: Outputs>(message: &LoweredMessage, outputs: &mut O) -> Result<(), RunEnd>
+    requires begun { (O.places outputs.old).begun ≡ true }
+    ensures { Puts (in_lane message.now.lane (lowered_bytes message.now) ∷ [])
+        (O.places outputs.old) (O.places outputs.new) result }
+{
+    let LoweredMessage {
+        lane,
+        status,
+        first,
+        second,
+        ..
+    } = *message;
+    let first = first.get();
+    match second {
+        Some(second) => put_three(lane, status, first, second.get(), outputs),
+        None => put_two(lane, status, first, outputs),
+    }
+}
+
+// Puts the line of an attribute that is left out.
+#[inline(always)]
+fn put_attribute<O: Outputs>(group: U4, offset: u64, outputs: &mut O) -> Result<(), RunEnd>
+    ensures { Puts (line_puts (option_to_list (attribute_line offset group true)))
+        (O.places outputs.old) (O.places outputs.new) result }
+{
+    let listed = Listed {
+        offset,
+        group: Some(group),
+        kind: Kind::NoteAttribute,
+    };
+    put_line(&listed, outputs)
+}
+
+// Puts a message that alone carries a packet into its lane, and then the
+// line of the attribute that it leaves out, if it does.
+#[inline(always)]
+fn put_lowered<O: Outputs>(
+    message: &LoweredMessage,
+    offset: u64,
+    outputs: &mut O,
+) -> Result<(), RunEnd>
+    requires begun { (O.places outputs.old).begun ≡ true }
+    ensures { Puts (lowered_puts offset message.now) (O.places outputs.old) (O.places outputs.new) result }
+{
+    put_message(message, outputs)?;
+    if message.has_attribute {
+        put_attribute(message.lane, offset, outputs)
+    } else {
+        Ok(())
+    }
+}
+
+// Takes one packet down: puts its piece into the lane of its group, and its line into the notes.
+fn carry<O: Outputs>(
+    down: &mut Down,
+    packet: &EncodedPacket,
+    offset: u64,
+    outputs: &mut O,
+) -> Result<(), RunEnd>
+    requires packet { IsPacket packet.now }
+    requires begun { (O.places outputs.old).begun ≡ true }
+    ensures behind { down.new ≡ down_after offset packet.now down.old }
+    ensures carries { Carries down.old offset packet.now
+        (O.places outputs.old) (O.places outputs.new) result }
+{
+    match down.lowered(packet) {
+        Some(message) => put_lowered(&message, offset, outputs),
+        None => carry_encoded(down, packet, offset, outputs),
+    }
+}

@@ -1,0 +1,133 @@
+// What is done with the packets to which a byte is raised, and with its lines.
+ghost use Rattle.std.specs.Prelude.{◌≡◌, ◌++◌, ℕ, List, Ok};
+ghost use Rattle.ump_grammar.specs.declared.packet.Packet.{Packet};
+ghost use Rattle.midi_meaning.specs.Raising.{exclusive_packets};
+ghost use Rattle.up_translator.specs.declared.raised.Raised.{Raised};
+ghost use Rattle.up_translator.specs.Held.{KeepsAfter, step_in, up_after};
+ghost use Rattle.up_translator.specs.Raised.{IsApart, packets_in};
+ghost use Rattle.up_translator.specs.Step.{Raises};
+ghost use Rattle.pass_loop.specs.Places.{Puts};
+ghost use Rattle.translation_passes.specs.Raised.{Answers, AreDone, AreTaken, ByteIsDone, CanBeDone, CarriesOut, Doing, byte_task, open_puts};
+
+use listing_notes::{put_lines, put_listed, refused};
+use midi_edge::U4;
+use pass_loop::{Outputs, RunEnd};
+use sysex_groups::part;
+use up_translator::{Raised, RaisedPacket, Up};
+
+/// What is done with each of the packets to which a byte is raised.
+pub(crate) trait PacketWork {
+    /// A packet that it accepts.
+    ghost Accepts: { Self → Packet → Type 0 };
+
+    /// What it does with a packet of the byte at this offset: what it then is, and what is put.
+    ghost IsDone: { ℕ → Doing Self };
+
+    /// Does it.
+    fn put<O: Outputs>(
+        &mut self,
+        packet: &RaisedPacket,
+        offset: u64,
+        outputs: &mut O,
+    ) -> Result<(), RunEnd>
+        requires { Accepts self.old packet.now }
+        ensures { CarriesOut (IsDone offset self.old packet.now) self.new
+            (O.places outputs.old) (O.places outputs.new) result };
+}
+
+// Does the work on the packets of an exclusive with these bytes between F0 and F7.
+fn put_payload<P: PacketWork, O: Outputs>(
+    group: U4,
+    payload: &[u8],
+    offset: u64,
+    work: &mut P,
+    outputs: &mut O,
+) -> Result<(), RunEnd>
+    requires taken { AreTaken P.Accepts (P.IsDone offset) work.old (exclusive_packets group payload.now) }
+    requires done { CanBeDone P.Accepts (P.IsDone offset) }
+    ensures { CarriesOut (AreDone (P.IsDone offset) work.old (exclusive_packets group payload.now)) work.new
+        (O.places outputs.old) (O.places outputs.new) result }
+{
+    let mut k = 0;
+    loop {
+        match part(payload, k) {
+            Some((form, bytes)) => {
+                let packet = RaisedPacket::of_exclusive(group, form, bytes);
+                work.put(&packet, offset, outputs)?;
+                k += 1;
+            }
+            None => return Ok(()),
+        }
+    }
+}
+
+// Does the work on the packets of a byte.
+#[inline(always)]
+fn put_packets<P: PacketWork, O: Outputs>(
+    raised: &Raised<'_>,
+    offset: u64,
+    work: &mut P,
+    outputs: &mut O,
+) -> Result<(), RunEnd>
+    requires apart { IsApart raised.now }
+    requires taken { AreTaken P.Accepts (P.IsDone offset) work.old (packets_in raised.now) }
+    requires done { CanBeDone P.Accepts (P.IsDone offset) }
+    ensures { CarriesOut (AreDone (P.IsDone offset) work.old (packets_in raised.now)) work.new
+        (O.places outputs.old) (O.places outputs.new) result }
+{
+    match raised.packet {
+        Some(packet) => work.put(packet, offset, outputs),
+        None => match raised.payload {
+            Some(payload) => { put_payload(raised.group(), payload, offset, work, outputs) }
+            None => Ok(()),
+        },
+    }
+}
+
+// Does the work on the packets of a byte, and then puts its lines. Of
+// most bytes nothing comes, since they are only held.
+#[inline(always)]
+fn put_raised<P: PacketWork, O: Outputs>(
+    raised: &Raised<'_>,
+    offset: u64,
+    work: &mut P,
+    outputs: &mut O,
+) -> Result<(), RunEnd>
+    requires apart { IsApart raised.now }
+    requires taken { AreTaken P.Accepts (P.IsDone offset) work.old (packets_in raised.now) }
+    requires done { CanBeDone P.Accepts (P.IsDone offset) }
+    ensures { CarriesOut (ByteIsDone (P.IsDone offset) work.old raised.now) work.new
+        (O.places outputs.old) (O.places outputs.new) result }
+{
+    put_packets(raised, offset, work, outputs)?;
+    put_lines(&raised.lines, outputs)
+}
+
+/// Takes one more byte up, does the work on its packets, and puts its lines in the notes.
+pub(crate) fn put_byte<P: PacketWork, O: Outputs>(
+    up: &mut Up,
+    work: &mut P,
+    byte: u8,
+    offset: u64,
+    outputs: &mut O,
+) -> Result<(), RunEnd>
+    requires taken { (raised : Raised) → Raises up.old offset byte (Ok raised) →
+        AreTaken P.Accepts (P.IsDone offset) work.old (packets_in raised) }
+    requires done { CanBeDone P.Accepts (P.IsDone offset) }
+    ensures answer { Answers (byte_task (P.IsDone offset) up.old (offset, byte) work.old) work.new
+        (O.places outputs.old) (O.places outputs.new) result }
+    ensures kept { KeepsAfter up.old.holding (step_in up.old offset byte) }
+    ensures after { up.new ≡ up_after up.old offset byte }
+{
+    match up.byte(byte, offset) {
+        Ok(raised) => put_raised(&raised, offset, work, outputs),
+        Err(bad) => Err(refused(bad, offset)),
+    }
+}
+
+/// Puts the line of what is still open at the end, if anything is.
+pub(crate) fn put_open<O: Outputs>(up: &Up, outputs: &mut O) -> Result<(), RunEnd>
+    ensures { Puts (open_puts up.now) (O.places outputs.old) (O.places outputs.new) result }
+{
+    put_listed(up.end(), outputs)
+}

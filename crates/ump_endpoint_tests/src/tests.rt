@@ -1,0 +1,191 @@
+// Packets by hand from the tables of M2-104-UM and M2-101-UM, taken by
+// an endpoint of one block with two MUIDs and one profile.
+ghost use Rattle.std.specs.Prelude.{◌≤◌};
+ghost use Rattle.std.specs.Option.{IfSome};
+ghost use Rattle.ump_grammar.specs.Ranges.{IsPacket};
+
+use endpoint_fixtures::{DEMO_SETUP, profile_id};
+use function_blocks::Setup;
+use midi_edge::U4;
+use std::alloc::Global;
+use std::test::Fail;
+use ump_endpoint::{
+    BadStep, CiFault, Endpoint, Heard, Key, Kind, Listed, MOST_REPLY_WORDS, Outcome, Place, Taken,
+};
+use ump_grammar::{Packet, decode};
+use ump_words::words::words_in_packet;
+use ump_words::{Framed, Words};
+
+// A packet that neither ended a message nor lost anything.
+const NOTHING: Taken = Taken {
+    outcome: None,
+    listed: None,
+};
+
+// The only profile of the setup.
+fn demo_profile() -> Key {
+    Key {
+        block: 0,
+        place: Place::Channel(U4::low_bits(0), U4::low_bits(2)),
+        id: profile_id(),
+    }
+}
+
+fn opened(alloc: Global, room: u32) -> Result<Endpoint, Fail>
+    requires least { 6 ≤ room }
+    requires most { room ≤ 1048576 }
+{
+    let setup = Setup::read(alloc, DEMO_SETUP.as_bytes())?;
+    Ok(Endpoint::new(alloc, setup, room)?)
+}
+
+// The packet of the words; `None` where there is none.
+fn packet_of(words: &[u32]) -> Option<Packet>
+    ensures { IfSome result IsPacket }
+{
+    if words.is_empty() || words.len() > 4 || words_in_packet(words[0]) != words.len() {
+        return None;
+    }
+    let framed = Framed {
+        offset: 0,
+        words: Words::from_slice(words),
+    };
+    decode(&framed).ok()
+}
+
+// What the endpoint did with a packet at an offset; `None` where the words are no packet.
+fn taken(endpoint: &mut Endpoint, words: &[u32], offset: u64) -> Option<Result<Taken, BadStep>> {
+    let packet = packet_of(words)?;
+    Some(endpoint.packet(&packet, offset))
+}
+
+// A packet that ended a message of which this became, and lost nothing.
+fn ended(outcome: Outcome) -> Option<Result<Taken, BadStep>> {
+    Some(Ok(Taken {
+        outcome: Some(outcome),
+        listed: None,
+    }))
+}
+
+// A packet that lost this, and ended a message of which this became, if it ended one.
+fn lost(outcome: Option<Outcome>, offset: u64, kind: Kind) -> Option<Result<Taken, BadStep>> {
+    let listed = Listed {
+        offset,
+        group: Some(U4::low_bits(2)),
+        kind,
+    };
+    Some(Ok(Taken {
+        outcome,
+        listed: Some(listed),
+    }))
+}
+
+#[test]
+fn a_discovery_is_answered_packet_by_packet(rt: HostRuntime) -> Result<(), Fail> {
+    let alloc = rt.alloc();
+    let mut endpoint = opened(alloc, 6)?;
+    let discovery = [0xF0000101u32, 0x0000001F, 0, 0];
+    let result = taken(&mut endpoint, &discovery, 0);
+    assert_eq!(rt; result, ended(Outcome::Answered));
+    let mut replies = endpoint.replies();
+    assert!(rt; replies.words().len() <= MOST_REPLY_WORDS);
+    for expected in [
+        [0xF0010101u32, 0x81000300, 0, 0],
+        [0xF0020000, 0x007D0000, 0x01000200, 0x01000000],
+        [0xF4034465, 0x6D6F2045, 0x6E64706F, 0x696E7420],
+        [0xFC035800, 0, 0, 0],
+        [0xF004534E, 0x2D303030, 0x31000000, 0],
+        [0xF0060200, 0, 0, 0],
+    ] {
+        match replies.next() {
+            Some(words) => assert_eq!(rt; words, expected.as_slice()),
+            None => assert!(rt; false, "a reply is missing"),
+        }
+    }
+    assert!(rt; replies.is_empty());
+    assert!(rt; replies.next().is_none());
+    Ok(())
+}
+
+#[test]
+fn a_request_puts_its_protocol_in_force(rt: HostRuntime) -> Result<(), Fail> {
+    let alloc = rt.alloc();
+    let mut endpoint = opened(alloc, 6)?;
+    assert_eq!(rt; endpoint.protocol(), 2);
+    let result = taken(&mut endpoint, &[0xF0050100, 0, 0, 0], 0);
+    assert_eq!(rt; result, ended(Outcome::Answered));
+    assert_eq!(rt; endpoint.protocol(), 1);
+    assert_eq!(rt;
+        endpoint.replies().words(),
+        [0xF0060100u32, 0, 0, 0].as_slice()
+    );
+    let result = taken(&mut endpoint, &[0xF4000101, 0x0000001F, 0, 0], 0);
+    assert_eq!(rt; result, ended(Outcome::BadFormat));
+    assert!(rt; endpoint.replies().is_empty());
+    let note = taken(&mut endpoint, &[0x40903C00, 0xC9240000], 0);
+    assert_eq!(rt; note, Some(Ok(NOTHING)));
+    assert_eq!(rt; endpoint.setup().block_count(), 1);
+    Ok(())
+}
+
+#[test]
+fn a_profile_is_switched_on(rt: HostRuntime) -> Result<(), Fail> {
+    let alloc = rt.alloc();
+    let mut endpoint = opened(alloc, 64)?;
+    assert_eq!(rt; endpoint.muid(0), Some(19088743));
+    assert_eq!(rt; endpoint.profile_is_on(&demo_profile()), Some(false));
+    for words in [
+        [0x30167E02u32, 0x0D220205],
+        [0x30260000, 0x00670A0D],
+        [0x3026097E, 0x00010100],
+    ] {
+        assert_eq!(rt; taken(&mut endpoint, &words, 0), Some(Ok(NOTHING)));
+    }
+    let result = taken(&mut endpoint, &[0x30320100, 0], 24);
+    assert_eq!(rt; result, ended(Outcome::Heard(Heard::Answered)));
+    assert_eq!(rt; endpoint.profile_is_on(&demo_profile()), Some(true));
+    let mut replies = endpoint.replies();
+    for expected in [
+        [0x30167E02u32, 0x0D240267],
+        [0x30260A0D, 0x097F7F7F],
+        [0x30267F7E, 0x00010100],
+        [0x30320100, 0],
+    ] {
+        match replies.next() {
+            Some(words) => assert_eq!(rt; words, expected.as_slice()),
+            None => assert!(rt; false, "a reply is missing"),
+        }
+    }
+    assert!(rt; replies.is_empty());
+    Ok(())
+}
+
+#[test]
+fn an_exclusive_that_is_lost_is_listed(rt: HostRuntime) -> Result<(), Fail> {
+    let alloc = rt.alloc();
+    let mut endpoint = opened(alloc, 6)?;
+    let stray = taken(&mut endpoint, &[0x32210100, 0], 0);
+    assert_eq!(rt; stray, lost(None, 0, Kind::StrayExclusive));
+    let begun = taken(&mut endpoint, &[0x32110100, 0], 8);
+    assert_eq!(rt; begun, Some(Ok(NOTHING)));
+    let both = taken(&mut endpoint, &[0x32010100, 0], 16);
+    let unread = Outcome::Unread(CiFault::NotCi);
+    assert_eq!(rt; both, lost(Some(unread), 8, Kind::CutExclusive));
+    Ok(())
+}
+
+#[test]
+fn an_exclusive_past_the_room_is_refused(rt: HostRuntime) -> Result<(), Fail> {
+    let alloc = rt.alloc();
+    let mut endpoint = opened(alloc, 6)?;
+    let begun = [0x30160102u32, 0x03040506];
+    let result = taken(&mut endpoint, &begun, 0);
+    assert_eq!(rt; result, Some(Ok(NOTHING)));
+    assert_eq!(rt; endpoint.begun_at(U4::low_bits(0)), Some(0));
+    let past = taken(&mut endpoint, &[0x30210700, 0], 0);
+    assert_eq!(rt; past, Some(Err(BadStep::ExclusiveTooLong)));
+    assert!(rt; endpoint.begun_at(U4::low_bits(0)).is_none());
+    let result = taken(&mut endpoint, &[0xF0050100, 0, 0, 0], 0);
+    assert_eq!(rt; result, ended(Outcome::Answered));
+    Ok(())
+}

@@ -1,5 +1,0 @@
-use Rattle.usb_engines.proofs.InputLaws.{packs_the_input}
-use Rattle.usb_engines.proofs.laws.a_packing_that_is_done_is_that_of_the_input.Goals as goal
-
-pub returns : goal.returns
-returns c = packs_the_input

@@ -1,5 +1,0 @@
-use Rattle.voice_state.proofs.CompactRows.{notes_across_a_reset_pieces, sets_across_a_reset_pieces}
-use Rattle.voice_state.proofs.compact_rows.nothing_is_relied_on_across_a_reset.Goals as goal
-
-pub returns : goal.returns
-returns c = record { notes = notes_across_a_reset_pieces; sets = sets_across_a_reset_pieces }

@@ -1,5 +1,0 @@
-use Rattle.voice_state.proofs.Recording.{carried_has_piece}
-use Rattle.voice_state.proofs.laws.carried_packets_have_a_piece.Goals as goal
-
-pub returns : goal.returns
-returns c = λ paired. carried_has_piece paired

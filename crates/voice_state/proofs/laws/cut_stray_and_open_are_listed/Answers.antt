@@ -1,5 +1,0 @@
-use Rattle.voice_state.proofs.Rows.{cut_pairs, cut_listing}
-use Rattle.voice_state.proofs.laws.cut_stray_and_open_are_listed.Goals as goal
-
-pub returns : goal.returns
-returns c = record { pairs = cut_pairs; listing = cut_listing }

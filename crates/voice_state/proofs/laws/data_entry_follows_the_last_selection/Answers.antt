@@ -1,5 +1,0 @@
-use Rattle.voice_state.proofs.Rows.{mixed_pairs, set_by_entry, never_set}
-use Rattle.voice_state.proofs.laws.data_entry_follows_the_last_selection.Goals as goal
-
-pub returns : goal.returns
-returns c = record { pairs = mixed_pairs; entered = set_by_entry; never_set = never_set }

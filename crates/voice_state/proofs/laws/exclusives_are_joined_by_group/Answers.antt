@@ -1,5 +1,0 @@
-use Rattle.voice_state.proofs.Rows.{joined_by_group}
-use Rattle.voice_state.proofs.laws.exclusives_are_joined_by_group.Goals as goal
-
-pub returns : goal.returns
-returns c = joined_by_group

@@ -1,5 +1,0 @@
-use Rattle.voice_state.proofs.Joined.{joined_without_offsets}
-use Rattle.voice_state.proofs.laws.joined_bytes_know_no_offsets.Goals as goal
-
-pub returns : goal.returns
-returns c = joined_without_offsets

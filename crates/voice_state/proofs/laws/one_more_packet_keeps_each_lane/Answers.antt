@@ -1,5 +1,0 @@
-use Rattle.voice_state.proofs.Induction.{one_more}
-use Rattle.voice_state.proofs.laws.one_more_packet_keeps_each_lane.Goals as goal
-
-pub returns : goal.returns
-returns c = λ paired. one_more paired c.written_messages_are_read_again.ensures

@@ -1,5 +1,0 @@
-use Rattle.voice_state.proofs.Recording.{plain_pairs-more}
-use Rattle.voice_state.proofs.laws.pairs_come_packet_by_packet.Goals as goal
-
-pub returns : goal.returns
-returns c = λ paired. plain_pairs-more paired

@@ -1,5 +1,0 @@
-use Rattle.voice_state.proofs.Recording.{recording_agrees}
-use Rattle.voice_state.proofs.laws.plain_pairs_mean_the_packets.Goals as goal
-
-pub returns : goal.returns
-returns c = λ paired. recording_agrees paired c.written_messages_are_read_again.ensures

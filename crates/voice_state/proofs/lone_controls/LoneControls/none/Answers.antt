@@ -1,6 +1,0 @@
-use Rattle.std.proofs.Common.{false}
-use Rattle.std.proofs.lemmas.List.{get_or-replicate}
-use Rattle.voice_state.proofs.lone_controls.LoneControls.none.Goals as goal
-
-pub invariant_of-result : goal.invariant_of-result
-invariant_of-result c = λ index below. get_or-replicate 128 index false false below

@@ -1,9 +1,0 @@
-use Rattle.std.proofs.Common.{refl}
-use Rattle.bit_scaling.specs.Scaling.{up, down14}
-use Rattle.midi1_bytes.specs.Sorts.{sort_of}
-use Rattle.voice_state.specs.Controllers.{role_of}
-use Rattle.voice_state.proofs.meaning_rows.bytes_reset_all_controllers.Goals as goal
-
-pub returns : goal.returns
-unfolding sort_of role_of up down14
-returns c = record { expression = refl; modulation = refl; pedals = refl; others = refl; bend = refl; pressure = refl; poly_pressure = refl; registers = refl; selection = refl; parameter = refl; mode = refl }

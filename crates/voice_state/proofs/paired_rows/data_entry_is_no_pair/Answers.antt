@@ -1,9 +1,0 @@
-use Rattle.std.proofs.Common.{refl}
-use Rattle.bit_scaling.specs.Scaling.{up, down7, down14}
-use Rattle.midi1_bytes.specs.Sorts.{sort_of}
-use Rattle.voice_state.specs.Controllers.{role_of}
-use Rattle.voice_state.proofs.paired_rows.data_entry_is_no_pair.Goals as goal
-
-pub returns : goal.returns
-unfolding sort_of role_of up down7 down14
-returns c = record { packets = refl; controllers = refl }

@@ -1,5 +1,0 @@
-use Rattle.voice_state.proofs.Styles.{styled_is_translation}
-use Rattle.voice_state.proofs.style_laws.styled_pairs_are_a_translation.Goals as goal
-
-pub returns : goal.returns
-returns c = λ paired. styled_is_translation paired c.statuses_that_run_can_be_left_out.ensures c.written_messages_are_read_again.ensures

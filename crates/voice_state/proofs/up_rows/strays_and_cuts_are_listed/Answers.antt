@@ -1,5 +1,0 @@
-use Rattle.voice_state.proofs.UpRows.{cuts_up, cut_lines}
-use Rattle.voice_state.proofs.up_rows.strays_and_cuts_are_listed.Goals as goal
-
-pub returns : goal.returns
-returns c = record { packets = cuts_up; listing = cut_lines }
