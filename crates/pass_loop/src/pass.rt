@@ -53,6 +53,20 @@ pub trait Items<A, I> {
     /// Whether no whole item is held, so that `next` reads, unless the input has ended. No clause says it.
     fn needs_input(&self) -> bool;
 
+    /// The same as `next`, for calls where no whole item is held, which are few: a reader whose items are
+    /// many and large has it out of line, so that the loop of a pass has the reading of an item once.
+    #[inline(always)]
+    fn next_read<S: Source>(&mut self, input: &mut S) -> Next<A, I>
+        ensures answer { (first : Self) (all : Option (List ℕ)) (items : List (A × I)) →
+            HasGiven first self.old (given all (S.left input.old) items) →
+            GivesNext (IsCut first) Promises (HasGiven first self.new)
+            (given all (S.left input.new) items) result }
+        ensures nearer { ComesNearer (to_go self.old) (to_go self.new) result }
+        ensures cause { NextCause (S.faults input.old) (S.faults input.new) result }
+    {
+        self.next(input)
+    }
+
     /// A new reader has given nothing.
     ghost starts: { (first : Self) (all : Option (List ℕ)) → IsNew first →
         HasGiven first first (given all all []) };
@@ -151,7 +165,7 @@ pub fn next_of<A, I, R: Items<A, I>, S: Source, O: Outputs>(
 {
     if reader.needs_input() {
         write_out(input, outputs);
-        return reader.next(input);
+        return reader.next_read(input);
     }
     reader.next(input)
 }
