@@ -25,27 +25,23 @@ pub struct LoweredMessage {
     pub has_attribute: bool,
 }
 
-// The first data byte: the value of a channel pressure, the low seven
-// bits of a bend's, or else the note or the index.
+// The data bytes, by the opcode: the note or the index, and the value; of a bend the low and the high seven
+// bits of its value, of a channel pressure the value alone. They are chosen with no branch on the kind.
 #[inline(always)]
-fn first_byte(opcode: u8, message: &DirectMessage) -> U7
-    ensures { result ≡ first_by opcode message.now }
+fn data_bytes(opcode: u8, message: &DirectMessage) -> (U7, Option<U7>)
+    ensures first { result.0 ≡ first_by opcode message.now }
+    ensures second { result.1 ≡ second_by opcode message.now }
 {
     let upper = down7(message.value);
-    let middle = U7::low_bits(u32::from(down14(message.value).get()));
-    let first = if opcode == 0xE { middle } else { message.index };
-    if opcode == 0xD { upper } else { first }
-}
-
-// The second data byte: the value, of a bend its high seven bits.
-#[inline(always)]
-fn second_byte(opcode: u8, message: &DirectMessage) -> Option<U7>
-    ensures { result ≡ second_by opcode message.now }
-{
-    let upper = down7(message.value);
+    let lower = U7::low_bits(u32::from(down14(message.value).get()));
     let velocity = velocity_down((message.value >> 16) as u16);
+    let first = if opcode == 0xE { lower } else { message.index };
     let second = if opcode == 0x9 { velocity } else { upper };
-    if opcode == 0xD { None } else { Some(second) }
+    if opcode == 0xD {
+        (upper, None)
+    } else {
+        (first, Some(second))
+    }
 }
 
 /// The message that carries a direct message (M2-104-UM, default translation; M2-115-U).
@@ -58,11 +54,12 @@ pub fn lowered(message: &DirectMessage) -> LoweredMessage
     ensures attribute { result.has_attribute ≡ has_attribute message.now }
 {
     let opcode = message.status / 16;
+    let (first, second) = data_bytes(opcode, message);
     LoweredMessage {
         lane: message.group,
         status: message.status,
-        first: first_byte(opcode, message),
-        second: second_byte(opcode, message),
+        first,
+        second,
         has_attribute: (opcode < 0xA) & (message.attribute_type != 0),
     }
 }
