@@ -3,13 +3,13 @@
 
 mod kind;
 pub mod laws;
+pub mod muid;
 mod positions;
 pub mod reading;
 pub mod view;
 pub mod writing;
 
+pub use crate::muid::{BROADCAST, Muid};
 pub use crate::reading::read;
-pub use crate::view::{
-    Address, BROADCAST, Body, CiFault, CiView, NO_BLOCK, PROFILE_CONFIGURATION, ProfileId,
-};
+pub use crate::view::{Address, Body, CiFault, CiView, NO_BLOCK, PROFILE_CONFIGURATION, ProfileId};
 pub use crate::writing::write;

@@ -30,12 +30,10 @@ ghost use Rattle.ci_messages.specs.Reading.{
 };
 
 use crate::kind::{Format, Kind};
+use crate::muid::is_reserved;
 use crate::positions::{array, number_of_four, number_of_two, part, profile_id};
 use crate::view::{Address, Body, CiFault, CiView, NO_BLOCK, ProfileId};
 use voice_messages::U4;
-
-/// The first of the MUIDs that no device may have as its own.
-const FIRST_RESERVED_MUID: u32 = 0x0FFF_FF00;
 
 /// Where the body begins.
 const BODY: usize = 14;
@@ -329,7 +327,7 @@ pub fn read<'a>(message: &'a [u8]) -> Result<CiView<'a>, CiFault>
         return Err(CiFault::BadAddress);
     };
     let source = number_of_four(message, 6);
-    if source >= FIRST_RESERVED_MUID {
+    if is_reserved(source) {
         return Err(CiFault::ReservedMuid);
     }
     Ok(CiView {

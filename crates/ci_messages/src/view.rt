@@ -1,9 +1,7 @@
 // What a message says.
+use crate::muid::{BROADCAST, Muid};
 use thiserror::Error;
 use voice_messages::{U4, U7};
-
-/// The destination of a message that is for all (M2-101-UM, MUID).
-pub const BROADCAST: u32 = 0x0FFF_FFFF;
 
 /// The number that stands for no function block (M2-101-UM, Reply to Discovery).
 pub const NO_BLOCK: u8 = 0x7F;
@@ -85,6 +83,24 @@ pub struct CiView<'a> {
     /// The receiver's MUID, of 28 bits; 0FFFFFFF is broadcast.
     pub destination: u32,
     pub body: Body<'a>,
+}
+
+impl<'a> CiView<'a> {
+    ghost use Rattle.std.specs.Prelude.{◌≡◌, ◌==◌, ◌||◌};
+
+    /// Whether the device of this MUID sends it.
+    pub fn is_from(&self, muid: Muid) -> bool
+        ensures { result ≡ (self.now.source == muid) }
+    {
+        self.source == muid.get()
+    }
+
+    /// Whether it is for the device of this MUID: for that one alone, or for all.
+    pub fn is_for(&self, muid: Muid) -> bool
+        ensures { result ≡ (self.now.destination == muid || self.now.destination == 0x0FFFFFFF) }
+    {
+        self.destination == muid.get() || self.destination == BROADCAST
+    }
 }
 
 /// What is between the destination and F7, by sub-id. A message of

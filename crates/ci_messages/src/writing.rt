@@ -97,27 +97,29 @@ fn put_path_and_block(format: Format, path: u8, block: u8, into: &mut Message)
     }
 }
 
-// The fields of a NAK, where they have a place.
-fn put_nak(
-    format: Format,
+// What a NAK says of the message that it refuses.
+#[derive(Clone, Copy, Debug, PartialEq, Eq)]
+struct Refusal {
     original: u8,
     code: u8,
     value: u8,
-    details: &[u8; 5],
-    text: &[u8],
-    into: &mut Message,
-)
+}
+
+// The fields of a NAK, where they have a place.
+fn put_nak(format: Format, refusal: Refusal, details: &[u8; 5], text: &[u8], into: &mut Message)
     requires { length into.old + length (bytes_of_fields (fields_of format kind.Nak)
-        (number original ∷ number code ∷ number value ∷ list details.now ∷ list text.now ∷ [])) ≤ 512 }
+        (number refusal.original ∷ number refusal.code ∷ number refusal.value
+        ∷ list details.now ∷ list text.now ∷ [])) ≤ 512 }
     ensures { into.new ≡ into.old ++ bytes_of_fields (fields_of format kind.Nak)
-        (number original ∷ number code ∷ number value ∷ list details.now ∷ list text.now ∷ []) }
+        (number refusal.original ∷ number refusal.code ∷ number refusal.value
+        ∷ list details.now ∷ list text.now ∷ []) }
 {
     match format {
         Format::Short => {}
         Format::Full => {
-            into.push(original);
-            into.push(code);
-            into.push(value);
+            into.push(refusal.original);
+            into.push(refusal.code);
+            into.push(refusal.value);
             into.extend(details);
             put_counted(text, 1, into);
         }
@@ -200,7 +202,14 @@ fn put_body(format: Format, body: &Body<'_>, into: &mut Message)
             value,
             details,
             text,
-        } => put_nak(format, *original, *code, *value, details, text, into),
+        } => {
+            let refusal = Refusal {
+                original: *original,
+                code: *code,
+                value: *value,
+            };
+            put_nak(format, refusal, details, text, into);
+        }
         Body::ProfileInquiry => {}
         Body::ProfileReply { on, off } => {
             put_counted(on, 5, into);

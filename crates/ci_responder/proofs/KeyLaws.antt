@@ -1,13 +1,18 @@
 -- The profiles that keys name.
 use Rattle.std.proofs.Common.{subst, arith, ◌≡◌, ◌<◌, ◌+◌, ◌∙◌, ap, sym, refl, ℕ, zero, suc, Bool, true, false, cond, not}
-use Rattle.std.proofs.Common.{◌||◌, List, [], ◌∷◌, ◌++◌, length, take, get_or, slice_get, is_some, None, Some, true≢false}
+use Rattle.std.proofs.Common.{◌||◌, List, [], ◌∷◌, ◌++◌, length, take, get_or, slice_get, map, nat_lt, None, Some, true≢false}
+use Rattle.std.proofs.Common.{unwrap_or, Option}
+use Rattle.std.specs.Prelude.{IfSome}
+use Rattle.std.proofs.lemmas.Bool.{ltb-true}
 use Rattle.std.proofs.lemmas.List.{flat_map_more, map-append}
-use Rattle.std.specs.List.{list_any}
+use Rattle.std.specs.List.{list_any, position, position_or_len}
+use Rattle.indexmap.specs.Layout.{set_value_at}
 use Rattle.std.specs.Map.{set_value}
 use Rattle.function_blocks.specs.declared.setup.Place.{Place}
 use Rattle.function_blocks.specs.declared.setup.Profile.{Profile}
 use Rattle.function_blocks.specs.Profiles.{is_same_profile, profiles_are_distinct}
 use Rattle.ci_responder.specs.declared.keys.Key.{Key}
+use Rattle.ci_responder.specs.Actions.{IsFirstOf}
 use Rattle.ci_responder.specs.Keys.{first_states, key_of, same_key, state_in}
 use Rattle.ci_responder.specs.Replies.{ids_of, listed}
 use Rattle.ci_responder.specs.SameKeys.{key-is, key-itself, left, right}
@@ -80,12 +85,58 @@ pub ids-more : (on : Bool) (block : ℕ) (place : Place) (es : List (Key × Bool
 ids-more on block place es k e is =
     ap (ids_of on block place) (take-next es k e is) ∙ sym (flat_map_more (listed on block place) [] (take k es) e)
 
--- a key that isn't named switches nothing
-pub unnamed : (es : List (Key × Bool)) (key : Key) (on : Bool) → state_in es key ≡ None → set_value (same_key key) es on ≡ es
-unnamed [] key on none = refl
-unnamed (e ∷ es) key on none = by (same_key key e.0) none (unnamed es key on)
+-- the first profile of a key
+pub first_of : (key : Key) (es : List (Key × Bool)) (n : ℕ) → position (same_key key) (map (λ e. e.0) es) ≡ Some n → IsFirstOf key es n
+first_of key es n is =
+    by (nat_lt at (length (map (λ e. e.0) es))) refl is
   where
-    by : (b : Bool) → cond b (Some e.1) (state_in es key) ≡ None → (state_in es key ≡ None → set_value (same_key key) es on ≡ es)
-        → cond b ((e.0, on) ∷ es) (e ∷ set_value (same_key key) es on) ≡ e ∷ es
-    by true none rest = absurd (true≢false (ap is_some none))
-    by false none rest = ap (λ others. e ∷ others) (rest none)
+    at : ℕ
+    at = position_or_len (same_key key) (map (λ e. e.0) es)
+
+    there : (ks : List (Key × Bool)) → position_or_len (same_key key) (map (λ e. e.0) ks) < length (map (λ e. e.0) ks) →
+        IsFirstOf key ks (position_or_len (same_key key) (map (λ e. e.0) ks))
+    there [] less = absurd (omega (arith, less))
+    there (k ∷ ks) less = here (same_key key k.0) refl less (there ks)
+      where
+        here : (b : Bool) → same_key key k.0 ≡ b →
+            cond (not b) (1 + position_or_len (same_key key) (map (λ e. e.0) ks)) 0 < length (map (λ e. e.0) (k ∷ ks)) →
+            (position_or_len (same_key key) (map (λ e. e.0) ks) < length (map (λ e. e.0) ks) →
+            IsFirstOf key ks (position_or_len (same_key key) (map (λ e. e.0) ks))) →
+            IsFirstOf key (k ∷ ks) (cond (not b) (1 + position_or_len (same_key key) (map (λ e. e.0) ks)) 0)
+        here true is below rest = is
+        here false isnt below rest =
+            let next : suc (position_or_len (same_key key) (map (λ e. e.0) ks)) ≡ 1 + position_or_len (same_key key) (map (λ e. e.0) ks) =
+            omega arith in
+            let P : ℕ → Type 0 = IsFirstOf key (k ∷ ks) in
+            subst P next (isnt, rest (omega (arith, below)))
+
+    by : (b : Bool) → nat_lt at (length (map (λ e. e.0) es)) ≡ b → cond b (Some at) None ≡ Some n → IsFirstOf key es n
+    by false past none = let e : None ≡ Some n = none in cc
+    by true in_list some =
+        let same : at ≡ n = ap (λ o. unwrap_or o n) some in
+        let P : ℕ → Type 0 = IsFirstOf key es in
+        subst P same (there es (ltb-true at (length (map (λ e. e.0) es)) in_list))
+
+pub first_within : (key : Key) (es : List (Key × Bool)) (n : ℕ) → IsFirstOf key es n → n < length es
+first_within key [] n first = absurd first
+first_within key (e ∷ es) zero first = omega arith
+first_within key (e ∷ es) (suc n) first = omega (arith, first_within key es n first.1)
+
+-- the value at the number of the first profile of a key is that of the key
+pub first_is_set : (key : Key) (es : List (Key × Bool)) (n : ℕ) (on : Bool) → IsFirstOf key es n
+    → set_value_at es n on ≡ set_value (same_key key) es on
+first_is_set key [] n on first = refl
+first_is_set key (e ∷ es) zero on first = ap (λ b. cond b ((e.0, on) ∷ es) (e ∷ set_value (same_key key) es on)) (sym first)
+first_is_set key (e ∷ es) (suc n) on first =
+    ap (λ rest. e ∷ rest) (first_is_set key es n on first.1)
+    ∙ ap (λ b. cond b ((e.0, on) ∷ es) (e ∷ set_value (same_key key) es on)) (sym first.0)
+
+pub length_set : (es : List (Key × Bool)) (n : ℕ) (on : Bool) → length (set_value_at es n on) ≡ length es
+length_set [] n on = refl
+length_set (e ∷ es) zero on = refl
+length_set (e ∷ es) (suc n) on = ap suc (length_set es n on)
+
+pub first_if : (key : Key) (es : List (Key × Bool)) (found : Option ℕ) → found ≡ position (same_key key) (map (λ e. e.0) es)
+    → IfSome found (IsFirstOf key es)
+first_if key es None is = tt
+first_if key es (Some n) is = first_of key es n (sym is)

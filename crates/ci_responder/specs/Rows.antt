@@ -44,19 +44,25 @@ is_answered named profiles = true
 is_answered named (switch id on) = named
 is_answered named _ = false
 
--- the row of a message for a block in which this MUID is in force
-abbrev pub heard_row : ℕ → Bool → Message → Heard
-heard_row muid named message =
-    if message.source == muid then heard.Collision
-    else if message.version == 0 then heard.OldVersion
-    else if not (is_for muid message.destination) then heard.NotOurs
-    else if is_of_another muid message.said then heard.NotOurs
+-- the row of a message for a block in which this MUID is in force, where it is for that block, from another device, and not of
+-- version 00
+abbrev pub row_of_ours : ℕ → Bool → Message → Heard
+row_of_ours muid named message =
+    if is_of_another muid message.said then heard.NotOurs
     else if is_invalidate message.said then heard.Moved
     else if is_report message.sub then heard.Report
     else if message.destination == broadcast && not (is_discovery message.said) then heard.Broadcast
     else if is_answered named message.said then heard.Answered
     else if is_property message.sub then heard.Passed
     else heard.Nak
+
+-- the row of any message
+abbrev pub heard_row : ℕ → Bool → Message → Heard
+heard_row muid named message =
+    if message.source == muid then heard.Collision
+    else if message.version == 0 then heard.OldVersion
+    else if not (is_for muid message.destination) then heard.NotOurs
+    else row_of_ours muid named message
 
 -- the same by the MUID in force, if there is one
 abbrev pub heard_by : Option ℕ → Bool → Message → Heard

@@ -14,6 +14,7 @@ ghost use Rattle.ci_responder.specs.Held.{
 ghost use Rattle.ci_responder.specs.History.{kept};
 
 use crate::kept::CiBlock;
+use ci_messages::Muid;
 use function_blocks::Block;
 use midi_edge::{ShortList, U4};
 
@@ -52,7 +53,8 @@ pub(crate) fn block_of(blocks: &[CiBlock], group: U4) -> Option<usize>
     blocks.iter().position(|block| has_group(block, number))
 }
 
-fn muid_in_force(block: &CiBlock) -> Option<u32>
+// The MUID that a block has taken last, if it has MIDI-CI and isn't silent.
+fn muid_in_force(block: &CiBlock) -> Option<Muid>
     requires { IsCiBlock block.now }
     ensures value { result ≡ muid_of_block block.now }
     ensures fits { IfSome result (λ muid. muid < 0x0FFFFF00) }
@@ -60,11 +62,12 @@ fn muid_in_force(block: &CiBlock) -> Option<u32>
     if !block.has_ci {
         return None;
     }
-    block.muids.as_slice().get(block.spent).copied()
+    let number = *block.muids.as_slice().get(block.spent)?;
+    Muid::new(number)
 }
 
 /// The MUID in force of the block of a number, if it has MIDI-CI and isn't silent.
-pub(crate) fn muid_of(blocks: &[CiBlock], number: usize) -> Option<u32>
+pub(crate) fn muid_of(blocks: &[CiBlock], number: usize) -> Option<Muid>
     requires { All IsCiBlock blocks.now }
     ensures value { result ≡ muid_in blocks.now number }
     ensures fits { IfSome result (λ muid. muid < 0x0FFFFF00) }

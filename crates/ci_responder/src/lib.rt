@@ -1,6 +1,7 @@
 //! A responder of MIDI-CI for the function blocks of a setup: MUIDs, discovery and profiles.
 #![tactic(auto)]
 
+mod action;
 mod blocks;
 pub mod heard;
 mod kept;

@@ -1,6 +1,7 @@
 // Who a message is for.
 ghost use Rattle.std.specs.Prelude.{◌<◌};
 
+use ci_messages::Muid;
 use midi_edge::U4;
 
 /// The function block that a message is for, with its MUID in force, and the group on which it replies.
@@ -9,8 +10,8 @@ pub(crate) struct Owner {
     pub(crate) group: U4,
     /// The number of the block, 0 to 31.
     pub(crate) block: u8,
-    /// Its MUID, below 0FFFFF00.
-    pub(crate) muid: u32,
+    /// Its MUID, which isn't reserved.
+    pub(crate) muid: Muid,
     ghost few_blocks: { block < 32 },
     ghost not_reserved: { muid < 0x0FFFFF00 },
 }

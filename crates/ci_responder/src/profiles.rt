@@ -1,8 +1,10 @@
 // The profiles, by their keys.
-ghost use Rattle.std.specs.Prelude.{◌≡◌, ◌≤◌, ◌+◌, ◌*◌, ◌%◌, ◌==◌, ◌&&◌, ◌++◌, length, true, false};
+ghost use Rattle.std.specs.Prelude.{◌≡◌, ◌≤◌, ◌+◌, ◌*◌, ◌%◌, ◌==◌, ◌&&◌, ◌++◌, length, true, false, is_some, IfSome};
 ghost use Rattle.std.specs.Map.{set_value};
 ghost use Rattle.ci_messages.specs.Fields.{IsData};
 ghost use Rattle.function_blocks.specs.Profiles.{same_place};
+ghost use Rattle.ci_responder.specs.declared.keys.Key.{Key};
+ghost use Rattle.ci_responder.specs.Actions.{IsFirstOf};
 ghost use Rattle.ci_responder.specs.Keys.{same_key, state_in};
 ghost use Rattle.ci_responder.specs.Messages.{place_at};
 ghost use Rattle.ci_responder.specs.Replies.{ids_of, listed};
@@ -32,15 +34,22 @@ pub(crate) fn state(states: &IndexMap<Key, bool>, key: &Key) -> Option<bool>
     states.get(key).copied()
 }
 
-/// Switches a profile, where it is named. All others stay.
-pub(crate) fn switch(states: &mut IndexMap<Key, bool>, key: &Key, on: bool)
-    ensures value { states.new.entries ≡ set_value (same_key key.now) states.old.entries on }
+/// The number of the first profile of a key; `None` exactly where it isn't named.
+pub(crate) fn number_of(states: &IndexMap<Key, bool>, key: &Key) -> Option<usize>
+    ensures named { is_some result ≡ is_some (state_in states.now.entries key.now) }
+    ensures first { IfSome result (λ number. IsFirstOf key.now states.now.entries number) }
+{
+    states.get_index_of(key)
+}
+
+/// Switches the profile of a number. All others stay.
+pub(crate) fn set(states: &mut IndexMap<Key, bool>, number: usize, on: bool)
+    requires { (key : Key) × IsFirstOf key states.old.entries number }
+    ensures value { (key : Key) → IsFirstOf key states.old.entries number →
+        states.new.entries ≡ set_value (same_key key) states.old.entries on }
     ensures count { length states.new.entries ≡ length states.old.entries }
 {
-    match states.get_mut(key) {
-        Some(state) => *state = on,
-        None => {}
-    }
+    states[number] = on;
 }
 
 // Whether a profile stands at this place of this block.

@@ -1,5 +1,5 @@
 // The replies, by the row of the message.
-ghost use Rattle.std.specs.Prelude.{◌≡◌, ◌<◌, ◌≤◌, ◌==◌, ℕ, Some, false, if◌then◌else◌};
+ghost use Rattle.std.specs.Prelude.{◌≡◌, ◌<◌, ◌≤◌, ◌==◌, Some, false, if◌then◌else◌};
 ghost use Rattle.ci_messages.specs.declared.view.Body.TheVariants as body;
 ghost use Rattle.ci_messages.specs.Fields.{FitsField, byte, bytes_of_field, number};
 ghost use Rattle.ci_messages.specs.Messages.{channels_in, format_of, full_only};
@@ -10,7 +10,6 @@ ghost use Rattle.ci_responder.specs.Messages.{
   endpoint,
   viewed_message,
   profiles,
-  said_in,
   switch,
   received_of,
 };
@@ -20,11 +19,9 @@ ghost use Rattle.ci_responder.specs.Replies.{
   message_of_payload,
   message_of_reply,
   refusal,
-  reply_to,
   reply_version as reply_version_of,
 };
 
-use crate::heard::Heard;
 use crate::message::CiMessage;
 use crate::owner::Owner;
 use crate::profiles::{ids_at, place_of};
@@ -73,38 +70,27 @@ fn report_of(id: ProfileId, channels: u16, on: bool) -> Body<'static>
 }
 
 impl Responder {
-    /// The reply of a block to a message that is heard so; `None` where there is none.
-    pub(crate) fn reply(&self, owner: &Owner, heard: Heard, view: &CiView<'_>) -> Option<CiMessage>
-        requires { IsView view.now }
-        ensures { result ≡ message_of_reply
-            (reply_to (sender_of self.now owner.now.block owner.now.muid) heard
-            (received_of owner.now.group view.now)) }
-    {
-        match heard {
-            Heard::Collision => Some(self.invalidate(owner, view)),
-            Heard::Answered => self.answer(owner, view),
-            Heard::Nak => Some(self.refuse(owner, view)),
-            _ => None,
-        }
-    }
-
-    fn invalidate(&self, owner: &Owner, view: &CiView<'_>) -> CiMessage
+    /// That its MUID is invalid, for all.
+    pub(crate) fn invalidate(&self, owner: &Owner, view: &CiView<'_>) -> CiMessage
         ensures { result ≡ message_of_payload
             (invalidation (sender_of self.now owner.now.block owner.now.muid) (viewed_message view.now)) }
     {
         let version = reply_version(view);
-        let body = Body::Invalidate { target: owner.muid };
+        let body = Body::Invalidate {
+            target: owner.muid.get(),
+        };
         CiMessage::new(&CiView {
             address: Address::Block,
             sub: body.sub(),
             version,
-            source: owner.muid,
+            source: owner.muid.get(),
             destination: BROADCAST,
             body,
         })
     }
 
-    fn refuse(&self, owner: &Owner, view: &CiView<'_>) -> CiMessage
+    /// A NAK.
+    pub(crate) fn refuse(&self, owner: &Owner, view: &CiView<'_>) -> CiMessage
         requires { IsView view.now }
         ensures { result ≡ message_of_payload
             (refusal (sender_of self.now owner.now.block owner.now.muid) (viewed_message view.now)) }
@@ -122,29 +108,14 @@ impl Responder {
             address: view.address,
             sub: body.sub(),
             version,
-            source: owner.muid,
+            source: owner.muid.get(),
             destination: view.source,
             body,
         })
     }
 
-    fn answer(&self, owner: &Owner, view: &CiView<'_>) -> Option<CiMessage>
-        requires { IsView view.now }
-        ensures { result ≡ message_of_reply
-            (reply_row (sender_of self.now owner.now.block owner.now.muid)
-            (received_of owner.now.group view.now) (said_in view.now.body)) }
-    {
-        match &view.body {
-            Body::Discovery { path, .. } => Some(self.tell_device(owner, view, *path)),
-            Body::EndpointInquiry { .. } => Some(self.tell_product_id(owner, view)),
-            Body::ProfileInquiry => Some(self.tell_profiles(owner, view)),
-            Body::SetOn { id, .. } => Some(self.report(owner, view, *id, true)),
-            Body::SetOff { id } => Some(self.report(owner, view, *id, false)),
-            _ => None,
-        }
-    }
-
-    fn tell_device(&self, owner: &Owner, view: &CiView<'_>, path: u8) -> CiMessage
+    /// The reply to a Discovery.
+    pub(crate) fn tell_device(&self, owner: &Owner, view: &CiView<'_>, path: u8) -> CiMessage
         requires view { IsView view.now }
         requires path { path < 128 }
         ensures { Some result ≡ message_of_reply
@@ -174,19 +145,19 @@ impl Responder {
             address: Address::Block,
             sub: body.sub(),
             version,
-            source: owner.muid,
+            source: owner.muid.get(),
             destination: view.source,
             body,
         })
     }
 
-    // Version 01 has no such reply.
-    fn tell_product_id(&self, owner: &Owner, view: &CiView<'_>) -> CiMessage
+    /// The reply to an inquiry of the endpoint, which version 01 doesn't have.
+    pub(crate) fn tell_product_id(&self, owner: &Owner, view: &CiView<'_>) -> CiMessage
         requires view { IsView view.now }
         requires version { (view.now.version == 1) ≡ false }
-        ensures { (status : ℕ) → Some result ≡ message_of_reply
+        ensures { Some result ≡ message_of_reply
             (reply_row (sender_of self.now owner.now.block owner.now.muid)
-            (received_of owner.now.group view.now) (endpoint status)) }
+            (received_of owner.now.group view.now) (endpoint 0)) }
     {
         let version = reply_version(view);
         let body = Body::EndpointReply {
@@ -197,13 +168,14 @@ impl Responder {
             address: view.address,
             sub: body.sub(),
             version,
-            source: owner.muid,
+            source: owner.muid.get(),
             destination: view.source,
             body,
         })
     }
 
-    fn tell_profiles(&self, owner: &Owner, view: &CiView<'_>) -> CiMessage
+    /// The reply to an inquiry of profiles.
+    pub(crate) fn tell_profiles(&self, owner: &Owner, view: &CiView<'_>) -> CiMessage
         requires { IsView view.now }
         ensures { Some result ≡ message_of_reply
             (reply_row (sender_of self.now owner.now.block owner.now.muid)
@@ -220,14 +192,20 @@ impl Responder {
             address: view.address,
             sub: body.sub(),
             version,
-            source: owner.muid,
+            source: owner.muid.get(),
             destination: view.source,
             body,
         })
     }
 
-    // Reports for all that a profile is on, or that it is off.
-    fn report(&self, owner: &Owner, view: &CiView<'_>, id: ProfileId, on: bool) -> CiMessage
+    /// A report for all that a profile is on, or that it is off.
+    pub(crate) fn report(
+        &self,
+        owner: &Owner,
+        view: &CiView<'_>,
+        id: ProfileId,
+        on: bool,
+    ) -> CiMessage
         requires { IsView view.now }
         ensures { Some result ≡ message_of_reply
             (reply_row (sender_of self.now owner.now.block owner.now.muid)
@@ -242,7 +220,7 @@ impl Responder {
             address: view.address,
             sub: body.sub(),
             version,
-            source: owner.muid,
+            source: owner.muid.get(),
             destination: BROADCAST,
             body,
         })

@@ -2,13 +2,25 @@
 ghost use Rattle.std.specs.Prelude.{◌≡◌, ◌<◌, ◌≤◌, [], true, length, is_some, IfOk, IfSome};
 ghost use Rattle.ump_grammar.specs.Replies.{AddsPackets};
 ghost use Rattle.ci_messages.specs.Writing.{IsView};
-ghost use Rattle.ci_responder.specs.declared.heard.Heard.TheVariants as heard;
-ghost use Rattle.ci_responder.specs.Held.{after, blocks_by, heard_in, message_in, muid_in, replies_in, states_by};
+ghost use Rattle.ci_responder.specs.Actions.{Suits, heard_of};
+ghost use Rattle.ci_responder.specs.Held.{
+  after,
+  blocks_by,
+  change_at,
+  heard_in,
+  message_in,
+  muid_in,
+  next,
+  replies_in,
+  sender_of,
+  states_by,
+};
 ghost use Rattle.ci_responder.specs.History.{responder_at};
 ghost use Rattle.ci_responder.specs.Keys.{state_in};
-ghost use Rattle.ci_responder.specs.Messages.{key_at as key_at_place, said_in, received_of};
-ghost use Rattle.ci_responder.specs.Rows.{loses_muid, names};
+ghost use Rattle.ci_responder.specs.Messages.{said_in, received_of};
+ghost use Rattle.ci_responder.specs.Replies.{message_of_reply, reply_to};
 
+use crate::action::Action;
 use crate::blocks::{block_of, muid_of, spend};
 use crate::heard::Heard;
 use crate::kept::CiBlock;
@@ -17,9 +29,8 @@ use crate::message::CiMessage;
 use crate::opening::{first_states, kept_blocks};
 use crate::owner::Owner;
 use crate::packets::push_message;
-use crate::profiles::{place_of, state, switch};
-use crate::rows::heard_row;
-use ci_messages::{Body, CiView, ProfileId};
+use crate::profiles::{set, state};
+use ci_messages::CiView;
 use function_blocks::{Identity, Setup};
 use indexmap::IndexMap;
 use midi_edge::{NoMemory, ShortList, U4};
@@ -60,17 +71,6 @@ impl Model for Responder {
     }) };
 }
 
-// The key of the profile with this id at a message's place in a block.
-fn key_at(owner: &Owner, view: &CiView<'_>, id: ProfileId) -> Key
-    ensures { result ≡ key_at_place owner.now.block (received_of owner.now.group view.now) id }
-{
-    Key {
-        block: owner.block,
-        place: place_of(view.address, owner.group),
-        id,
-    }
-}
-
 impl Responder {
     /// A responder that has used up no MUID, with its profiles as the setup has them. `room` is the most
     /// bytes of a System Exclusive message that it tells to take, 6 to 1,048,576. Takes all memory that it
@@ -99,7 +99,10 @@ impl Responder {
         ensures value { result ≡ muid_in self.now.blocks block }
         ensures fits { IfSome result (λ muid. muid < 0x0FFFFF00) }
     {
-        muid_of(self.blocks.as_slice(), block as usize)
+        match muid_of(self.blocks.as_slice(), block as usize) {
+            Some(muid) => Some(muid.get()),
+            None => None,
+        }
     }
 
     /// Whether a profile is on; `None` exactly where the setup doesn't name it.
@@ -146,62 +149,60 @@ impl Responder {
             block: number as u8,
             muid,
         };
-        let heard = heard_row(muid, self.is_named(&owner, view), view);
-        let reply = self.reply(&owner, heard, view);
-        self.change(&owner, heard, view);
-        (heard, reply)
+        let action = self.action(&owner, view);
+        self.act(&owner, view, action)
     }
 
-    // Whether a message switches a profile that the setup names at its place in the block.
-    fn is_named(&self, owner: &Owner, view: &CiView<'_>) -> bool
-        ensures { result ≡ names self.now.states owner.now.block (received_of owner.now.group view.now)
-            (said_in view.now.body) }
+    // The block takes the next MUID of its list, or becomes silent.
+    fn take_next_muid(&mut self, owner: &Owner)
+        requires { is_some (muid_in self.old.blocks owner.now.block) ≡ true }
+        ensures { self.new ≡ record self.old { blocks = change_at next owner.now.block self.old.blocks } }
     {
-        match &view.body {
-            Body::SetOn { id, .. } => self.has(key_at(owner, view, *id)),
-            Body::SetOff { id } => self.has(key_at(owner, view, *id)),
-            _ => false,
-        }
+        spend(self.blocks.as_mut_slice(), owner.block as usize);
     }
 
-    fn has(&self, key: Key) -> bool
-        ensures { result ≡ is_some (state_in self.now.states key) }
-    {
-        state(&self.states, &key).is_some()
-    }
-
-    // What a message that is heard so does to its block and to the profiles.
-    fn change(&mut self, owner: &Owner, heard: Heard, view: &CiView<'_>)
-        requires { loses_muid heard ≡ true → is_some (muid_in self.old.blocks owner.now.block) ≡ true }
-        ensures { self.new ≡ record self.old {
-          blocks = blocks_by heard owner.now.block self.old.blocks;
-          states = states_by heard (said_in view.now.body) owner.now.block
+    // Does what is to be done with a message: what it is heard as, and the reply to it.
+    fn act(
+        &mut self,
+        owner: &Owner,
+        view: &CiView<'_>,
+        action: Action,
+    ) -> (Heard, Option<CiMessage>)
+        requires view { IsView view.now }
+        requires in_force { is_some (muid_in self.old.blocks owner.now.block) ≡ true }
+        requires suits { Suits self.old.states owner.now.block (received_of owner.now.group view.now) action }
+        ensures heard { result.0 ≡ heard_of action }
+        ensures after { self.new ≡ record self.old {
+          blocks = blocks_by (heard_of action) owner.now.block self.old.blocks;
+          states = states_by (heard_of action) (said_in view.now.body) owner.now.block
               (received_of owner.now.group view.now) self.old.states;
         } }
+        ensures reply { result.1 ≡ message_of_reply
+            (reply_to (sender_of self.old owner.now.block owner.now.muid) (heard_of action)
+            (received_of owner.now.group view.now)) }
     {
-        match heard {
-            Heard::Collision => spend(self.blocks.as_mut_slice(), owner.block as usize),
-            Heard::Moved => spend(self.blocks.as_mut_slice(), owner.block as usize),
-            Heard::Answered => self.switch(owner, view),
-            _ => {}
-        }
-    }
-
-    // Switches the profile that a message names, if any.
-    fn switch(&mut self, owner: &Owner, view: &CiView<'_>)
-        ensures { self.new ≡ record self.old {
-          states = states_by heard.Answered (said_in view.now.body) owner.now.block
-              (received_of owner.now.group view.now) self.old.states;
-        } }
-    {
-        match &view.body {
-            Body::SetOn { id, .. } => {
-                switch(&mut self.states, &key_at(owner, view, *id), true);
+        match action {
+            Action::Pass(heard) => (heard, None),
+            Action::Invalidate => {
+                let reply = self.invalidate(owner, view);
+                self.take_next_muid(owner);
+                (Heard::Collision, Some(reply))
             }
-            Body::SetOff { id } => {
-                switch(&mut self.states, &key_at(owner, view, *id), false);
+            Action::Move => {
+                self.take_next_muid(owner);
+                (Heard::Moved, None)
             }
-            _ => {}
+            Action::TellDevice { path } => {
+                (Heard::Answered, Some(self.tell_device(owner, view, path)))
+            }
+            Action::TellProductId => (Heard::Answered, Some(self.tell_product_id(owner, view))),
+            Action::TellProfiles => (Heard::Answered, Some(self.tell_profiles(owner, view))),
+            Action::Switch(switch) => {
+                let reply = self.report(owner, view, switch.id, switch.on);
+                set(&mut self.states, switch.number, switch.on);
+                (Heard::Answered, Some(reply))
+            }
+            Action::Refuse => (Heard::Nak, Some(self.refuse(owner, view))),
         }
     }
 }

@@ -1,19 +1,25 @@
-// The row of a message.
-ghost use Rattle.std.specs.Prelude.{◌≡◌};
-ghost use Rattle.ci_responder.specs.Messages.{viewed_message, said_in};
+// What is done with a message, by its row.
+ghost use Rattle.std.specs.Prelude.{◌≡◌, ◌==◌, false, if◌then◌else◌};
+ghost use Rattle.ci_messages.specs.Writing.{IsView};
+ghost use Rattle.ci_responder.specs.declared.action.Action.TheVariants as action;
+ghost use Rattle.ci_responder.specs.declared.heard.Heard.TheVariants as heard;
+ghost use Rattle.ci_responder.specs.Actions.{IsSwitchOf, Suits, heard_of};
+ghost use Rattle.ci_responder.specs.Messages.{key_at, said_in, received_of, viewed_message};
 ghost use Rattle.ci_responder.specs.Rows.{
-  is_answered as is_answered_of,
-  is_discovery as is_discovery_of,
-  is_for as is_for_block,
-  is_invalidate as is_invalidate_of,
-  is_of_another as is_of_another_muid,
-  is_property as is_property_of,
-  is_report as is_report_of,
+  broadcast,
   heard_row,
+  is_report as is_report_of,
+  names,
+  row_of_ours,
 };
 
+use crate::action::{Action, Switch};
 use crate::heard::Heard;
-use ci_messages::{BROADCAST, Body, CiView};
+use crate::keys::Key;
+use crate::owner::Owner;
+use crate::profiles::{number_of, place_of};
+use crate::responder::Responder;
+use ci_messages::{BROADCAST, Body, CiView, ProfileId};
 
 // Whether this is the sub-id of a reply, a report, an ACK or a NAK,
 // Process Inquiry's replies apart (own rule).
@@ -23,78 +29,84 @@ fn is_report(sub: u8) -> bool
     matches!(sub, 0x71 | 0x73 | 0x21 | 0x24..=0x27 | 0x29 | 0x7D | 0x7F)
 }
 
-// Whether this is a sub-id of Property Exchange.
-fn is_property(sub: u8) -> bool
-    ensures { result ≡ is_property_of sub }
+// What is done with a message, if it isn't for all.
+fn unless_to_all(view: &CiView<'_>, otherwise: Action) -> Action
+    ensures { result ≡ (if view.now.destination == broadcast then action.Pass heard.Broadcast else otherwise) }
 {
-    matches!(sub, 0x30..=0x3F)
-}
-
-fn is_for(muid: u32, destination: u32) -> bool
-    ensures { result ≡ is_for_block muid destination }
-{
-    destination == muid || destination == BROADCAST
-}
-
-// Whether another MUID than this is invalidated.
-fn is_of_another(muid: u32, body: &Body<'_>) -> bool
-    ensures { result ≡ is_of_another_muid muid (said_in body.now) }
-{
-    match body {
-        Body::Invalidate { target } => *target != muid,
-        _ => false,
-    }
-}
-
-fn is_invalidate(body: &Body<'_>) -> bool
-    ensures { result ≡ is_invalidate_of (said_in body.now) }
-{
-    matches!(body, Body::Invalidate { .. })
-}
-
-fn is_discovery(body: &Body<'_>) -> bool
-    ensures { result ≡ is_discovery_of (said_in body.now) }
-{
-    matches!(body, Body::Discovery { .. })
-}
-
-// Whether it is answered; a switch is, where its profile is named.
-fn is_answered(is_named: bool, body: &Body<'_>) -> bool
-    ensures { result ≡ is_answered_of is_named (said_in body.now) }
-{
-    match body {
-        Body::Discovery { .. } => true,
-        Body::EndpointInquiry { status } => *status == 0,
-        Body::ProfileInquiry => true,
-        Body::SetOn { .. } => is_named,
-        Body::SetOff { .. } => is_named,
-        _ => false,
-    }
-}
-
-/// The row of a message for a block in which this MUID is in force. `is_named` tells whether it switches a
-/// profile that the setup names.
-pub(crate) fn heard_row(muid: u32, is_named: bool, view: &CiView<'_>) -> Heard
-    ensures { result ≡ heard_row muid is_named (viewed_message view.now) }
-{
-    let is_to_all = view.destination == BROADCAST;
-    if view.source == muid {
-        Heard::Collision
-    } else if view.version == 0 {
-        Heard::OldVersion
-    } else if !is_for(muid, view.destination) || is_of_another(muid, &view.body) {
-        Heard::NotOurs
-    } else if is_invalidate(&view.body) {
-        Heard::Moved
-    } else if is_report(view.sub) {
-        Heard::Report
-    } else if is_to_all && !is_discovery(&view.body) {
-        Heard::Broadcast
-    } else if is_answered(is_named, &view.body) {
-        Heard::Answered
-    } else if is_property(view.sub) {
-        Heard::Passed
+    if view.destination == BROADCAST {
+        Action::Pass(Heard::Broadcast)
     } else {
-        Heard::Nak
+        otherwise
+    }
+}
+
+impl Responder {
+    /// What a block does with a message.
+    pub(crate) fn action(&self, owner: &Owner, view: &CiView<'_>) -> Action
+        requires { IsView view.now }
+        ensures heard { heard_of result ≡ heard_row owner.now.muid
+            (names self.now.states owner.now.block (received_of owner.now.group view.now)
+            (said_in view.now.body)) (viewed_message view.now) }
+        ensures suits { Suits self.now.states owner.now.block (received_of owner.now.group view.now) result }
+    {
+        if view.is_from(owner.muid) {
+            Action::Invalidate
+        } else if view.version == 0 {
+            Action::Pass(Heard::OldVersion)
+        } else if !view.is_for(owner.muid) {
+            Action::Pass(Heard::NotOurs)
+        } else {
+            self.action_by_body(owner, view)
+        }
+    }
+
+    // What a block does with a message that is for it, and not of version 00.
+    fn action_by_body(&self, owner: &Owner, view: &CiView<'_>) -> Action
+        requires view { IsView view.now }
+        requires version { (view.now.version == 0) ≡ false }
+        ensures heard { heard_of result ≡ row_of_ours owner.now.muid
+            (names self.now.states owner.now.block (received_of owner.now.group view.now)
+            (said_in view.now.body)) (viewed_message view.now) }
+        ensures suits { Suits self.now.states owner.now.block (received_of owner.now.group view.now) result }
+    {
+        match &view.body {
+            Body::Discovery { path, .. } => Action::TellDevice { path: *path },
+            Body::EndpointInquiry { status: 0 } => unless_to_all(view, Action::TellProductId),
+            Body::EndpointInquiry { .. } => unless_to_all(view, Action::Refuse),
+            Body::Invalidate { target } if *target == owner.muid.get() => Action::Move,
+            Body::Invalidate { .. } => Action::Pass(Heard::NotOurs),
+            Body::ProfileInquiry => unless_to_all(view, Action::TellProfiles),
+            Body::SetOn { id, .. } => unless_to_all(view, self.switch_of(owner, view, id, true)),
+            Body::SetOff { id } => unless_to_all(view, self.switch_of(owner, view, id, false)),
+            Body::DiscoveryReply { .. } => Action::Pass(Heard::Report),
+            Body::EndpointReply { .. } => Action::Pass(Heard::Report),
+            Body::Nak { .. } => Action::Pass(Heard::Report),
+            Body::ProfileReply { .. } => Action::Pass(Heard::Report),
+            Body::EnabledReport { .. } => Action::Pass(Heard::Report),
+            Body::DisabledReport { .. } => Action::Pass(Heard::Report),
+            Body::Property(_) => unless_to_all(view, Action::Pass(Heard::Passed)),
+            Body::Other(_) if is_report(view.sub) => Action::Pass(Heard::Report),
+            Body::Other(_) => unless_to_all(view, Action::Refuse),
+        }
+    }
+
+    // The switch of the profile with this id at a message's place in the block; a NAK where it isn't named.
+    fn switch_of(&self, owner: &Owner, view: &CiView<'_>, id: &ProfileId, on: bool) -> Action
+        ensures { IsSwitchOf self.now.states
+            (key_at owner.now.block (received_of owner.now.group view.now) id.now) on result }
+    {
+        let key = Key {
+            block: owner.block,
+            place: place_of(view.address, owner.group),
+            id: *id,
+        };
+        match number_of(&self.states, &key) {
+            Some(number) => Action::Switch(Switch {
+                number,
+                id: *id,
+                on,
+            }),
+            None => Action::Refuse,
+        }
     }
 }

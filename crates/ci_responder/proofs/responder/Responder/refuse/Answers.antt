@@ -15,15 +15,15 @@ zeros form =
 pub returns : goal.returns
 returns c =
     let view = c.args.view.now in
-    let P : ℕ → ℕ → List ℕ → Type 0 = λ sub version first. c.new.result ≡ message_of_payload
-    (payload_with view.address sub version c.args.owner.now.muid view.source (first ++ zeros (format_of version))) in
-    let nak : P 0x7F c.reply_version-version.result
-    (bytes_of_field (nak_byte_in (format_of c.reply_version-version.result)) (number c.placed-original.result)) =
-    subst (λ sub. P sub c.reply_version-version.result
-    (bytes_of_field (nak_byte_in (format_of c.reply_version-version.result)) (number c.placed-original.result)))
-    c.sub.ensures.value c.new.ensures in
-    let received : P 0x7F c.reply_version-version.result
+    let P : ℕ → ℕ → ℕ → List ℕ → Type 0 = λ muid sub version first. c.new.result ≡ message_of_payload
+    (payload_with view.address sub version muid view.source (first ++ zeros (format_of version))) in
+    let told : List ℕ = bytes_of_field (nak_byte_in (format_of c.reply_version-version.result)) (number c.placed-original.result) in
+    let own : P c.args.owner.now.muid c.sub.result c.reply_version-version.result told =
+    subst (λ muid. P muid c.sub.result c.reply_version-version.result told) c.get.ensures.value c.new.ensures in
+    let nak : P c.args.owner.now.muid 0x7F c.reply_version-version.result told =
+    subst (λ sub. P c.args.owner.now.muid sub c.reply_version-version.result told) c.sub.ensures.value own in
+    let received : P c.args.owner.now.muid 0x7F c.reply_version-version.result
     (bytes_of_field (nak_byte_in (format_of c.reply_version-version.result)) (number view.sub)) =
-    subst (P 0x7F c.reply_version-version.result) c.placed-original.ensures.bytes nak in
-    subst (λ version. P 0x7F version (bytes_of_field (nak_byte_in (format_of version)) (number view.sub)))
+    subst (P c.args.owner.now.muid 0x7F c.reply_version-version.result) c.placed-original.ensures.bytes nak in
+    subst (λ version. P c.args.owner.now.muid 0x7F version (bytes_of_field (nak_byte_in (format_of version)) (number view.sub)))
     c.reply_version-version.ensures.value received
