@@ -130,11 +130,11 @@ listed-all : (paired : Bool) (room group : ℕ) (past : List (ℕ × ℕ)) (byte
     → notes_in (puts ++ last) ≡ flat_map listing_text (listing_of_bytes paired (Some room) group bytes)
 listed-all paired room group past bytes puts last turned notes is =
     let before : List Listed = lines_up paired (Some room) group (bytes_read past) in
-    let open : List Listed = map (line_up group) (kinds_at_end (open_pair (Some room) (bytes_read past))) in
+    let begun : List Listed = map (line_up group) (kinds_at_end (open_pair (Some room) (bytes_read past))) in
     flat_map-append notes_of puts last
     ∙ ap (λ xs. xs ++ notes_in last) notes
-    ∙ ap (λ xs. flat_map listing_text before ++ xs) (ap notes_in is ∙ notes-lines open)
-    ∙ sym (flat_map-append listing_text before open)
+    ∙ ap (λ xs. flat_map listing_text before ++ xs) (ap notes_in is ∙ notes-lines begun)
+    ∙ sym (flat_map-append listing_text before begun)
     ∙ ap (λ xs. flat_map listing_text (lines_up_to_end paired (Some room) group xs)) turned
 
 -- at the end nothing more comes in the output
