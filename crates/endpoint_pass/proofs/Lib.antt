@@ -1,3 +1,4 @@
 pub mod ClosingLaws
+pub mod InputLaws
 pub mod ReplyLaws
 pub mod TakingLaws

@@ -21,11 +21,11 @@ use Rattle.midi_lines.specs.declared.endpoint.OutcomeName.{OutcomeName}
 use Rattle.midi_lines.specs.declared.endpoint.OutcomeName.TheVariants as names
 use Rattle.pass_loop.specs.Each.{for_each}
 use Rattle.pass_loop.specs.Pass.{Work}
-use Rattle.pass_loop.specs.Put.{Put, in_notes}
+use Rattle.pass_loop.specs.Put.{Put, in_notes, notes_in, output_in}
 use Rattle.listing_notes.specs.Lines.{line_puts}
 use Rattle.listing_notes.specs.Refusal.{refusal_by}
 use Rattle.packet_output.specs.Packets.{all_placed, placed_of}
-use Rattle.packet_output.specs.Written.{AreWrittenAndListed, output_and_notes}
+use Rattle.packet_output.specs.Written.{AreWritten, AreWrittenAndListed, output_and_notes}
 use Rattle.ump_endpoint.specs.Answers.{in_force, packet_listed, packet_outcome, packet_replies, received_in_packets}
 use Rattle.ump_endpoint.specs.declared.taken.Outcome.{Outcome}
 use Rattle.ump_endpoint.specs.declared.taken.Outcome.TheVariants as outcomes
@@ -59,6 +59,18 @@ packet_lines setup room past placed =
     outcome_lines placed.offset placed.packet (packet_outcome setup room past placed)
     ++ line_puts (option_to_list (packet_listed room past placed))
 
+-- ---- all packets
+
+-- the replies to all packets, in the order in which they came
+abbrev pub replies_over : SetupData → ℕ → List Placed → List Packet
+replies_over setup room [] = []
+replies_over setup room (placed ∷ past) = replies_over setup room past ++ packet_replies setup room past placed
+
+-- the bytes of their lines
+abbrev pub packet_lines_over : SetupData → ℕ → List Placed → List ℕ
+packet_lines_over setup room [] = []
+packet_lines_over setup room (placed ∷ past) = packet_lines_over setup room past ++ notes_in (packet_lines setup room past placed)
+
 -- ---- the end
 
 -- the line of a block that has MIDI-CI, with the MUID in force
@@ -76,8 +88,13 @@ closing_lines setup room past =
 
 -- ---- a recording
 
+-- these bytes are the words of the packets, one packet after the other
+abbrev pub AreBytesOf : EndpointOptions → List Packet → List ℕ → Type 0
+AreBytesOf options packets bytes = (written : List Put) × AreWritten options.order packets written × (bytes ≡ output_in written)
+
 -- What is done with the packets of a peer: the words of the replies to each are put in the output, each packet by one put, and
--- then its lines in the notes. A packet is refused where it makes its exclusive too long.
+-- then its lines in the notes. A packet is refused where it makes its exclusive too long. What is put in the output is the words of
+-- the replies to all packets, and what is put in the notes all their lines.
 abbrev pub answering : EndpointOptions → Work (Framed × Packet)
 answering options =
     record {
@@ -89,5 +106,7 @@ answering options =
           (packet_lines options.setup options.room (all_placed past) (placed_of item)) puts;
       refusal_at_end = λ past. None;
       IsPutAtEnd = λ past puts. puts ≡ closing_lines options.setup options.room (all_placed past);
-      Means = λ past puts. Unit {0};
+      Means =
+          λ past puts. AreBytesOf options (replies_over options.setup options.room (all_placed past)) (output_in puts)
+          × (notes_in puts ≡ packet_lines_over options.setup options.room (all_placed past));
     }

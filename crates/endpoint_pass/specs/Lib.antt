@@ -1,5 +1,6 @@
 pub mod Answering
 pub mod AnsweringMeans
 pub mod Held
+pub mod Laws
 pub mod Options
 pub mod Taking

@@ -12,7 +12,7 @@ ghost use Rattle.ump_grammar.specs.Ranges.{IsPacket};
 ghost use Rattle.ump_endpoint.specs.Held.{after_packet};
 ghost use Rattle.packet_input.specs.Packets.{packet_cutting};
 ghost use Rattle.endpoint_pass.specs.Answering.{answering, block_line_of};
-ghost use Rattle.endpoint_pass.specs.AnsweringMeans.{answers_last_named, answers_named};
+ghost use Rattle.endpoint_pass.specs.AnsweringMeans.{answers_last_named, answers_mean, answers_named};
 ghost use Rattle.endpoint_pass.specs.Held.{
   HoldsEndpoint,
   IsReadyEndpoint,
@@ -145,7 +145,8 @@ impl Engine<Framed, Packet> for EndpointEngine {
 
     ghost starts = { λ first ready. answers_nothing first ready };
 
-    ghost means = { λ first now past puts holds accepted put. tt };
+    ghost means = { λ first now past puts holds accepted put.
+        answers_mean (endpoint_options first) past puts put };
 }
 
 // Puts the line of the protocol in force in the notes.

@@ -25,7 +25,11 @@ use Rattle.clip_pass.specs.Clipping.{clipping}
 use Rattle.clip_pass.specs.Cutting.{clip_cutting}
 use Rattle.translation_passes.specs.Back.{returning}
 use Rattle.translation_passes.specs.Down.{carrying}
+use Rattle.translation_passes.specs.Options.{BackOptions as BackPassOptions, ByteLineOptions as ByteLinePassOptions}
+use Rattle.translation_passes.specs.Options.{DownOptions as DownPassOptions, PacketLineOptions as PacketLinePassOptions}
+use Rattle.translation_passes.specs.Options.{UpOptions as UpPassOptions}
 use Rattle.endpoint_pass.specs.Answering.{answering}
+use Rattle.endpoint_pass.specs.Options.{EndpointOptions as EndpointPassOptions}
 use Rattle.packet_input.specs.Packets.{packet_cutting}
 use Rattle.translation_passes.specs.ShowBytes.{showing_bytes}
 use Rattle.translation_passes.specs.ShowPackets.{showing}
@@ -34,8 +38,10 @@ use Rattle.rehearsal_pass.specs.declared.event.CalledEvent.{CalledEvent}
 use Rattle.rehearsal_pass.specs.Events.{called_cutting}
 use Rattle.rehearsal_pass.specs.Rehearse.{rehearsing}
 use Rattle.sysex8_pass.specs.Joining.{joining}
+use Rattle.sysex8_pass.specs.Options.{Sysex8Options as Sysex8PassOptions}
 use Rattle.usb_midi1.specs.declared.event.Event.{Event}
 use Rattle.usb_passes.specs.Events.{event_cutting}
+use Rattle.usb_passes.specs.Options.{PackOptions as PackPassOptions}
 use Rattle.usb_passes.specs.Pack.{packing}
 use Rattle.usb_passes.specs.Split.{splitting}
 use Rattle.midi_commands.specs.SelfTest.{self_test_text}
@@ -55,41 +61,61 @@ byte_pass work = record { Item = ℕ × ℕ; IsCut = byte_cutting; work = work }
 abbrev pub event_pass : Work (ℕ × Event) → Pass
 event_pass work = record { Item = ℕ × Event; IsCut = event_cutting; work = work }
 
+-- the options of a pass, by those of its command
+abbrev pub down_pass_options : DownOptions → DownPassOptions
+down_pass_options options = record {
+  paired = options.paired;
+  style = style_in (style_of options.style);
+  order = options.order;
+  room = options.room;
+}
+
+abbrev pub up_pass_options : UpOptions → UpPassOptions
+up_pass_options options = record { paired = options.paired; group = options.group; order = options.order; room = options.room }
+
+abbrev pub back_pass_options : BackOptions → BackPassOptions
+back_pass_options options = record { paired = options.paired; group = options.group; room = options.room }
+
+abbrev pub show_pass_options : PacketLineOptions → PacketLinePassOptions
+show_pass_options options = record { state = options.state; order = options.order; room = options.room }
+
+abbrev pub show_bytes_pass_options : ByteLineOptions → ByteLinePassOptions
+show_bytes_pass_options options = record { state = options.state; room = options.room }
+
+abbrev pub endpoint_pass_options : EndpointOptions → SetupData → EndpointPassOptions
+endpoint_pass_options options setup = record { setup = setup; order = options.order; room = options.room }
+
+abbrev pub pack_pass_options : PackOptions → PackPassOptions
+pack_pass_options options = record { cable = options.cable; room = options.room }
+
+abbrev pub sysex8_pass_options : Sysex8Options → Sysex8PassOptions
+sysex8_pass_options options = record { slots = options.streams; order = options.order; room = options.room }
+
 -- the pass for the options of each command
 abbrev pub down_pass : DownOptions → Pass
-down_pass options =
-    packet_pass options.order (carrying (record {
-      paired = options.paired;
-      style = style_in (style_of options.style);
-      order = options.order;
-      room = options.room;
-    }))
+down_pass options = packet_pass options.order (carrying (down_pass_options options))
 
 abbrev pub up_pass : UpOptions → Pass
-up_pass options =
-    byte_pass (raising (record { paired = options.paired; group = options.group; order = options.order; room = options.room }))
+up_pass options = byte_pass (raising (up_pass_options options))
 
 abbrev pub back_pass : BackOptions → Pass
-back_pass options = byte_pass (returning (record { paired = options.paired; group = options.group; room = options.room }))
+back_pass options = byte_pass (returning (back_pass_options options))
 
 abbrev pub show_pass : PacketLineOptions → Pass
-show_pass options =
-    packet_pass options.order (showing (record { state = options.state; order = options.order; room = options.room }))
+show_pass options = packet_pass options.order (showing (show_pass_options options))
 
 abbrev pub show_bytes_pass : ByteLineOptions → Pass
-show_bytes_pass options = byte_pass (showing_bytes (record { state = options.state; room = options.room }))
+show_bytes_pass options = byte_pass (showing_bytes (show_bytes_pass_options options))
 
 -- of `endpoint` with a setup
 abbrev pub endpoint_pass : EndpointOptions → SetupData → Pass
-endpoint_pass options setup =
-    packet_pass options.order (answering (record { setup = setup; order = options.order; room = options.room }))
+endpoint_pass options setup = packet_pass options.order (answering (endpoint_pass_options options setup))
 
 abbrev pub pack_pass : PackOptions → Pass
-pack_pass options = byte_pass (packing (record { cable = options.cable; room = options.room }))
+pack_pass options = byte_pass (packing (pack_pass_options options))
 
 abbrev pub sysex8_pass : Sysex8Options → Pass
-sysex8_pass options =
-    packet_pass options.order (joining (record { slots = options.streams; order = options.order; room = options.room }))
+sysex8_pass options = packet_pass options.order (joining (sysex8_pass_options options))
 
 -- the pass over the events of a rehearsal with the responder of a setup
 abbrev pub called_event_pass : SetupData → Pass

@@ -4,3 +4,4 @@ pub mod ExitCode
 pub mod LastLine
 pub mod Run
 pub mod SelfTest
+pub mod WholeInput

@@ -1,5 +1,5 @@
 // The program over the objects that it is handed.
-ghost use Rattle.std.specs.Prelude.{◌≡◌, None, map, string_bytes};
+ghost use Rattle.std.specs.Prelude.{◌≡◌, None, OnOk, Some, map, string_bytes};
 ghost use Rattle.command_line.specs.Asked.{asked_of};
 ghost use Rattle.command_line.specs.Endpoint.{IsEndpoint};
 ghost use Rattle.command_line.specs.Rules.{IsInRange, command_of};
@@ -8,6 +8,7 @@ ghost use Rattle.command_line.specs.Sysex8.{IsSysex8};
 ghost use Rattle.command_line.specs.Translate.{IsBack, IsDown, IsUp};
 ghost use Rattle.command_line.specs.Usb.{IsPack};
 ghost use Rattle.usb_passes.specs.Split.{splitting};
+ghost use Rattle.midi_edge.specs.Outside.{Fetches, HasOpenCause, kept_bytes};
 ghost use Rattle.pass_loop.specs.Pass.{seen};
 ghost use Rattle.pass_loop.specs.Places.{places};
 ghost use Rattle.midi_commands.specs.Command.{
@@ -26,6 +27,7 @@ ghost use Rattle.midi_commands.specs.Command.{
   up_pass,
 };
 ghost use Rattle.midi_commands.specs.SelfTest.{self_test_text};
+ghost use Rattle.midi_commands.specs.WholeInput.{LeavesTheWhole};
 ghost use Rattle.midi_commands.specs.Run.{
   Does,
   FindsSetup,
@@ -46,6 +48,7 @@ ghost use Rattle.midi_commands.specs.Run.{
 };
 
 use crate::last_line::put_last;
+use crate::laws::a_command_that_is_done_leaves_the_whole;
 use crate::self_test_line::self_test_line;
 use crate::status::Status;
 use clip_pass::run_clip;
@@ -134,6 +137,12 @@ pub fn run<S: Source, L: Lanes, W: Sink, N: Sink, K: Shelf>(
         (objects S.Source L.Lanes W.Sink N.Sink K.Shelf input.new lanes.new output.new notes.new shelf.new)
         result }
 
+    // `Done` comes only where the words are a command. What stands then is exactly what the definitions tell of
+    // the whole input, each command by its own: `LeavesAll` has a line for each.
+    ensures whole { result ≡ Status.Done → LeavesTheWhole (command_of (map string_bytes words.now))
+        (objects S.Source L.Lanes W.Sink N.Sink K.Shelf input.old lanes.old output.old notes.old shelf.old)
+        (objects S.Source L.Lanes W.Sink N.Sink K.Shelf input.new lanes.new output.new notes.new shelf.new) }
+
     // Where nothing is refused and nothing fails it is done, unless there is no memory.
     ensures complete { IsDoneOrNoMemory (command_of (map string_bytes words.now))
         (objects S.Source L.Lanes W.Sink N.Sink K.Shelf input.old lanes.old output.old notes.old shelf.old)
@@ -142,6 +151,7 @@ pub fn run<S: Source, L: Lanes, W: Sink, N: Sink, K: Shelf>(
 {
     let status = answer(alloc, words, input, lanes, output, notes, shelf);
     put_last(status, lanes, output, notes);
+    a_command_that_is_done_leaves_the_whole();
     status
 }
 
@@ -406,13 +416,24 @@ fn put_byte_lines<S: Source, L: Lanes, W: Sink, N: Sink>(
 // have, so that a longer one is seen to be so.
 const SETUP_LIMIT: usize = MOST_BYTES + 1;
 
+// Fetches the text of a setup by its name, and of a longer one no more than its first 65,537 bytes.
+fn fetch_setup<K: Shelf>(name: &str, shelf: &mut K, text: &mut Vec<u8>) -> Result<(), OpenFault>
+    requires asked { K.asked shelf.old ≡ None }
+    ensures asked { K.asked shelf.new ≡ Some (kept_bytes name.now) }
+    ensures texts { K.texts shelf.new ≡ K.texts shelf.old }
+    ensures front { OnOk result (Fetches (K.texts shelf.old) name.now 65537 text.old.items text.new.items) }
+    ensures cause { HasOpenCause (K.faults shelf.old) (K.faults shelf.new) result }
+{
+    shelf.fetch(name, SETUP_LIMIT, text)
+}
+
 // The setup of the text that the shelf has by a name.
 fn setup_named<K: Shelf>(alloc: Global, name: &str, shelf: &mut K) -> Result<Setup, Status>
     requires asked { K.asked shelf.old ≡ None }
     ensures { FindsSetup name.now (shelf_seen K.Shelf shelf.old) (shelf_seen K.Shelf shelf.new) result }
 {
     let mut text = Vec::new(alloc);
-    match shelf.fetch(name, SETUP_LIMIT, &mut text) {
+    match fetch_setup(name, shelf, &mut text) {
         Ok(()) => match Setup::read(alloc, text.as_slice()) {
             Ok(setup) => Ok(setup),
             Err(SetupFault::Syntax) => Err(Status::SetupSyntax),

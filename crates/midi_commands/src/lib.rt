@@ -4,6 +4,7 @@
 
 mod commands;
 mod ending;
+pub mod laws;
 mod last_line;
 mod self_test_line;
 mod status;

@@ -1,6 +1,7 @@
 -- A stream of bytes whose packets come down again: the pieces of the packets of each byte, and its lines; at the end the line of what
 -- is open.
 use Rattle.std.specs.Prelude.{◌≡◌, ℕ, Bool, false, ◌<◌, ◌≤◌, List, [], ◌∷◌, ◌++◌, reverse, take, None, Some}
+use Rattle.std.specs.List.{flat_map}
 use Rattle.ump_grammar.specs.declared.packet.Packet.{Packet}
 use Rattle.ump_grammar.specs.Ranges.{IsPacket}
 use Rattle.midi_meaning.specs.Back.{SameState, back, back_of_bytes}
@@ -8,8 +9,10 @@ use Rattle.midi_meaning.specs.Messages.{mean1}
 use Rattle.midi_meaning.specs.Parts.{Placed, whole_of}
 use Rattle.midi_meaning.specs.Plain.{plain_piece}
 use Rattle.midi_meaning.specs.Raising.{packets_up}
+use Rattle.midi_meaning.specs.StepListing.{lines_up}
 use Rattle.midi_meaning.specs.Styles.{plain_style}
 use Rattle.midi_meaning.specs.UpRefusal.{AreAcceptedUp}
+use Rattle.midi_lines.specs.ListingLines.{listing_text}
 use Rattle.up_translator.specs.Held.{UpState}
 use Rattle.up_translator.specs.Recording.{HoldsUp}
 use Rattle.down_translator.specs.Held.{DownState, down_after, refusal_in}
@@ -17,7 +20,7 @@ use Rattle.down_translator.specs.Recording.{AreInRange, packets_of, state_of}
 use Rattle.down_translator.specs.Step.{piece_of}
 use Rattle.pass_loop.specs.Bytes.{bytes_read}
 use Rattle.pass_loop.specs.Pass.{Work}
-use Rattle.pass_loop.specs.Put.{Put, in_output, output_in}
+use Rattle.pass_loop.specs.Put.{Put, in_output, notes_in, output_in}
 use Rattle.translation_passes.specs.Options.{BackOptions}
 use Rattle.translation_passes.specs.Raised.{byte_lines, byte_packets, last_lines, refusal_at}
 use Rattle.packet_output.specs.Written.{output_and_notes}
@@ -58,7 +61,7 @@ module _ (paired : Bool) where
     pub down_is : down ≡ state_of paired plain_style room placed
 
 -- What is done with a stream whose packets come down again. What is put in the output is the plain pieces of all packets; after each
--- byte the pieces so far mean what the bytes so far mean.
+-- byte the pieces so far mean what the bytes so far mean. The lines that are put are those of the listing of the bytes.
 abbrev pub returning : BackOptions → Work (ℕ × ℕ)
 returning options =
     record {
@@ -73,7 +76,8 @@ returning options =
       IsPutAtEnd = λ past puts. puts ≡ last_lines options.room options.group past;
       Means =
           λ past puts. (output_in puts ≡ back options.paired (Some options.room) options.group (bytes_read past))
-          × ReturnedMean options.paired options.room options.group (bytes_read past);
+          × ReturnedMean options.paired options.room options.group (bytes_read past)
+          × (notes_in puts ≡ flat_map listing_text (lines_up options.paired (Some options.room) options.group (bytes_read past)));
     }
 
 -- ---- by what the translator down holds

@@ -2,6 +2,7 @@
 -- What is put for bytes that come back means what they mean.
 use Rattle.std.proofs.Common.{◌≡◌, ℕ, Bool, List, [], ◌∷◌, ◌++◌, refl, ap, sym, ◌∙◌, subst}
 use Rattle.std.specs.Prelude.{Some, reverse}
+use Rattle.std.specs.List.{flat_map}
 use Rattle.std.proofs.lemmas.List.{append-nil}
 use Rattle.std.proofs.lemmas.List.Concat.{flat_map-append}
 use Rattle.ump_grammar.specs.declared.packet.Packet.{Packet}
@@ -10,16 +11,16 @@ use Rattle.midi_meaning.specs.Back.{back, back_at, pieces_of}
 use Rattle.midi_meaning.specs.Parts.{whole_of}
 use Rattle.midi_meaning.specs.Plain.{plain_piece}
 use Rattle.midi_meaning.specs.Raising.{packets_up}
-use Rattle.midi_meaning.specs.StepListing.{lines_at}
+use Rattle.midi_meaning.specs.StepListing.{lines_at, lines_up}
+use Rattle.midi_lines.specs.ListingLines.{listing_text}
 use Rattle.up_translator.specs.Held.{UpState}
 use Rattle.down_translator.specs.Held.{DownState}
 use Rattle.pass_loop.specs.Bytes.{bytes_read}
 use Rattle.pass_loop.specs.Named.{AreNamed, named-then}
 use Rattle.pass_loop.specs.Pass.{ArePut}
-use Rattle.pass_loop.specs.Put.{Put, output_in, output_of}
-use Rattle.listing_notes.specs.LineLaws.{lines_named, output-lines}
+use Rattle.pass_loop.specs.Put.{Put, notes_in, notes_of, output_in, output_of}
+use Rattle.listing_notes.specs.LineLaws.{lines_named, notes-lines, output-lines}
 use Rattle.translation_passes.specs.Back.{HoldsBack, byte_pieces, piece_puts, plain_puts, returning}
-use Rattle.listing_notes.specs.LineLaws.{lines_named}
 use Rattle.listing_notes.specs.Lines.{line_puts}
 use Rattle.translation_passes.specs.Options.{BackOptions}
 use Rattle.translation_passes.specs.Raised.{byte_lines, byte_packets}
@@ -89,8 +90,44 @@ output-all options (item ∷ past) puts put =
     ∙ ap (λ xs. back options.paired (Some options.room) options.group (bytes_read past) ++ xs)
     (output-byte options past item put.1 put.3)
 
+-- ---- the lines
+
+notes-piece : (piece : List ℕ) → notes_in (piece_puts piece) ≡ []
+notes-piece [] = refl
+notes-piece (byte ∷ bytes) = refl
+
+notes-plain : (paired : Bool) (past packets : List Packet) → notes_in (plain_puts paired past packets) ≡ []
+notes-plain paired past [] = refl
+notes-plain paired past (packet ∷ packets) =
+    let piece : List ℕ = plain_piece paired (whole_of past packet) packet in
+    flat_map-append notes_of (piece_puts piece) (plain_puts paired (packet ∷ past) packets)
+    ∙ ap (λ xs. xs ++ notes_in (plain_puts paired (packet ∷ past) packets)) (notes-piece piece)
+    ∙ notes-plain paired (packet ∷ past) packets
+
+notes-all : (options : BackOptions) (past : List (ℕ × ℕ)) (puts : List Put) → ArePut (returning options) past puts
+    → notes_in puts ≡ flat_map listing_text (lines_up options.paired (Some options.room) options.group (bytes_read past))
+notes-all options [] puts put = ap notes_in put
+notes-all options (item ∷ past) puts put =
+    let bytes : List ℕ = bytes_read past in
+    let packets_before : List Packet = reverse (packets_up options.paired (Some options.room) options.group bytes) in
+    let packets : List Packet = byte_packets options.paired options.room options.group past item in
+    let pieces : List Put = byte_pieces options.paired options.room options.group past item in
+    let before : List Listed = lines_up options.paired (Some options.room) options.group bytes in
+    let now : List Listed = lines_at options.paired (Some options.room) options.group bytes item.1 in
+    ap notes_in put.4
+    ∙ flat_map-append notes_of put.0 put.1
+    ∙ ap (λ xs. xs ++ notes_in put.1) (notes-all options past put.0 put.2)
+    ∙ ap (λ xs. flat_map listing_text before ++ xs)
+    (ap notes_in put.3
+    ∙ flat_map-append notes_of pieces (line_puts now)
+    ∙ ap (λ xs. xs ++ notes_in (line_puts now)) (notes-plain options.paired packets_before packets)
+    ∙ notes-lines now)
+    ∙ sym (flat_map-append listing_text before now)
+
+-- ---- the meaning
+
 pub returned_means : (options : BackOptions) (up : UpState) (down : DownState) (past : List (ℕ × ℕ)) (puts : List Put)
     → HoldsBack options up down past → ArePut (returning options) past puts
     → (returning options).Means past puts
 returned_means options up down past puts holds put =
-    (output-all options past puts put, holds.law (bytes_read past) holds.accepted)
+    (output-all options past puts put, holds.law (bytes_read past) holds.accepted, notes-all options past puts put)

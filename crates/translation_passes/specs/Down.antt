@@ -1,11 +1,13 @@
 -- A recording that is carried down: the piece and the line of each packet, and at the end the lines of the exclusives that are
 -- still begun.
 use Rattle.std.specs.Prelude.{◌≡◌, ℕ, Bool, true, false, ◌≤◌, List, [], ◌∷◌, ◌++◌, map, reverse, None, Some, Result}
+use Rattle.std.specs.List.{flat_map}
 use Rattle.std.specs.Option.{option_to_list}
 use Rattle.ump_words.specs.declared.words.Framed.{Framed}
 use Rattle.ump_words.specs.declared.words.Order.TheVariants.{Big}
 use Rattle.ump_grammar.specs.declared.packet.Packet.{Packet}
-use Rattle.midi_meaning.specs.Listing.{end_lines, line_of}
+use Rattle.midi_lines.specs.ListingLines.{listing_text}
+use Rattle.midi_meaning.specs.Listing.{end_lines, line_of, lines_over}
 use Rattle.midi_meaning.specs.Parts.{Placed, parts_of}
 use Rattle.midi_meaning.specs.Refusal.{bad_step}
 use Rattle.midi_meaning.specs.StyleLaws.{StyledPairsAreATranslation}
@@ -20,7 +22,7 @@ use Rattle.down_translator.specs.Recording.{AreAccepted, AreInRange, packets_of,
 use Rattle.down_translator.specs.Step.{IsStep}
 use Rattle.pass_loop.specs.Pass.{Takes, Work}
 use Rattle.pass_loop.specs.Places.{Places}
-use Rattle.pass_loop.specs.Put.{Put, in_lane, pairs_in}
+use Rattle.pass_loop.specs.Put.{Put, in_lane, notes_in, pairs_in}
 use Rattle.pass_loop.specs.declared.ends.RunEnd.{RunEnd}
 use Rattle.listing_notes.specs.Lines.{line_puts}
 use Rattle.listing_notes.specs.Refusal.{refusal_by}
@@ -41,7 +43,8 @@ module _ (paired : Bool) where
       ++ line_puts (option_to_list (line_of paired (Some room) (parts_of past) placed))
 
 -- What is done with a recording that is carried down. The pairs that are put are the pairs of the packets in the style, and their
--- translation: after each packet the bytes so far of each lane mean what the packets so far of its group mean.
+-- translation: after each packet the bytes so far of each lane mean what the packets so far of its group mean. The lines that are put
+-- are those of the listing of the packets.
 abbrev pub carrying : DownOptions → Work (Framed × Packet)
 carrying options =
     record {
@@ -53,7 +56,8 @@ carrying options =
       IsPutAtEnd = λ past puts. puts ≡ line_puts (end_lines (Some options.room) (parts_of (all_placed past)));
       Means =
           λ past puts. (pairs_in puts ≡ styled_over options.paired options.style (packets_of (all_placed past)))
-          × IsTranslation options.paired (reverse (packets_of (all_placed past))) (pairs_in puts);
+          × IsTranslation options.paired (reverse (packets_of (all_placed past))) (pairs_in puts)
+          × (notes_in puts ≡ flat_map listing_text (lines_over options.paired (Some options.room) (all_placed past)));
     }
 
 -- ---- by what the translator holds

@@ -2,7 +2,7 @@
 -- What is put for packets means what they mean.
 use Rattle.std.proofs.Common.{◌≡◌, ℕ, Bool, List, [], ◌∷◌, ◌++◌, refl, ap, sym, ◌∙◌, subst}
 use Rattle.std.specs.Prelude.{reverse, Some, true, false}
-use Rattle.std.specs.List.{AllByRecursion}
+use Rattle.std.specs.List.{AllByRecursion, flat_map}
 use Rattle.std.specs.Option.{option_to_list}
 use Rattle.std.proofs.lemmas.List.{append-nil, reverse-append}
 use Rattle.std.proofs.lemmas.List.Concat.{flat_map-append}
@@ -10,7 +10,8 @@ use mathlib.Core.List.{reverse-cons}
 use Rattle.ump_words.specs.declared.words.Framed.{Framed}
 use Rattle.ump_grammar.specs.declared.packet.Packet.{Packet}
 use Rattle.midi_meaning.specs.declared.listed.Listed.{Listed}
-use Rattle.midi_meaning.specs.Listing.{end_lines, line_of}
+use Rattle.midi_lines.specs.ListingLines.{listing_text}
+use Rattle.midi_meaning.specs.Listing.{end_lines, line_of, lines_over}
 use Rattle.midi_meaning.specs.Packets.{IsInRange}
 use Rattle.midi_meaning.specs.Parts.{Placed, parts_of}
 use Rattle.midi_meaning.specs.Styles.{Style, styled_over, styled_pair}
@@ -19,8 +20,8 @@ use Rattle.down_translator.specs.Held.{DownState, paired_of, style_of}
 use Rattle.down_translator.specs.Recording.{AreInRange, packets_of}
 use Rattle.pass_loop.specs.Named.{AreNamed}
 use Rattle.pass_loop.specs.Pass.{ArePut}
-use Rattle.pass_loop.specs.Put.{Put, pair_of as pair_in, pairs_in}
-use Rattle.listing_notes.specs.LineLaws.{lines_named, pairs-lines}
+use Rattle.pass_loop.specs.Put.{Put, notes_in, notes_of, pair_of as pair_in, pairs_in}
+use Rattle.listing_notes.specs.LineLaws.{lines_named, notes-lines, pairs-lines}
 use Rattle.listing_notes.specs.Lines.{line_puts}
 use Rattle.translation_passes.specs.Down.{HoldsDown, IsReadyDown, carried_puts, carrying, down_options, pair_puts}
 use Rattle.translation_passes.specs.Options.{DownOptions}
@@ -75,6 +76,39 @@ pairs-put options (item ∷ past) puts put =
     ∙ ap (λ ps. styled_over options.paired options.style (packets_of (all_placed past)) ++ ps)
     (ap pairs_in put.3 ∙ pairs-carried options.paired options.style options.room (all_placed past) (placed_of item))
 
+-- ---- the lines
+
+notes-pairs : (pairs : List (ℕ × List ℕ)) → notes_in (pair_puts pairs) ≡ []
+notes-pairs [] = refl
+notes-pairs (pair ∷ pairs) = notes-pairs pairs
+
+notes-carried : (paired : Bool) (style : Style) (room : ℕ) (past : List Placed) (placed : Placed) →
+    notes_in (carried_puts paired style room past placed)
+    ≡ flat_map listing_text (option_to_list (line_of paired (Some room) (parts_of past) placed))
+notes-carried paired style room past placed =
+    let pairs : List (ℕ × List ℕ) = styled_pair paired style (styled_over paired style (packets_of past)) (packets_of past) placed.packet in
+    let lines : List Listed = option_to_list (line_of paired (Some room) (parts_of past) placed) in
+    flat_map-append notes_of (pair_puts pairs) (line_puts lines)
+    ∙ ap (λ xs. xs ++ notes_in (line_puts lines)) (notes-pairs pairs)
+    ∙ notes-lines lines
+
+notes-put : (options : DownOptions) (past : List (Framed × Packet)) (puts : List Put) →
+    ArePut (carrying options) past puts
+    → notes_in puts ≡ flat_map listing_text (lines_over options.paired (Some options.room) (all_placed past))
+notes-put options [] puts put = ap notes_in put
+notes-put options (item ∷ past) puts put =
+    let before : List Listed = lines_over options.paired (Some options.room) (all_placed past) in
+    let now : List Listed =
+    option_to_list (line_of options.paired (Some options.room) (parts_of (all_placed past)) (placed_of item)) in
+    ap notes_in put.4
+    ∙ flat_map-append notes_of put.0 put.1
+    ∙ ap (λ xs. xs ++ notes_in put.1) (notes-put options past put.0 put.2)
+    ∙ ap (λ xs. flat_map listing_text before ++ xs)
+    (ap notes_in put.3 ∙ notes-carried options.paired options.style options.room (all_placed past) (placed_of item))
+    ∙ sym (flat_map-append listing_text before now)
+
+-- ---- the meaning
+
 in_order : (past : List (Framed × Packet)) → AreInRange (all_placed past) →
     AllByRecursion IsInRange (packets_of (all_placed past))
 in_order [] range = tt
@@ -109,4 +143,5 @@ carries_means first now past puts holds put =
       pairs,
       subst T (ap (styled_over (paired_of first) (style_of first)) (twice packets) ∙ sym pairs)
           (holds.translates (style_of first) (reverse packets) (range-reverse packets (in_order past holds.range))),
+      notes-put (down_options first) past puts put,
     )

@@ -21,7 +21,8 @@ use Rattle.pass_loop.specs.Pass.{Work}
 use Rattle.listing_notes.specs.Refusal.{refusal_of}
 use Rattle.translation_passes.specs.KeptState.{Kept, StandsFor, state_named, state_puts}
 use Rattle.translation_passes.specs.Options.{ByteLineOptions}
-use Rattle.pass_loop.specs.Put.{Put, in_output}
+use Rattle.translation_passes.specs.ShownLines.{shown_items}
+use Rattle.pass_loop.specs.Put.{Put, in_output, output_in}
 
 -- a line of the listing for each of these kinds
 abbrev pub listing_puts : List (Kind × ℕ) → List Put
@@ -47,7 +48,7 @@ abbrev pub byte_line_options : Parsing → Kept → ByteLineOptions
 byte_line_options parsing kept = record { state = is_some kept; room = parsing.room }
 
 -- What is done with a stream that is shown. Keeping a state takes memory; what is told of it are the facts of what all bytes mean, in
--- group 0.
+-- group 0. What is put is the lines of all bytes.
 abbrev pub showing_bytes : ByteLineOptions → Work (ℕ × ℕ)
 showing_bytes options =
     record {
@@ -58,7 +59,7 @@ showing_bytes options =
       refusal_at_end = λ past. None;
       IsPutAtEnd = λ past puts. puts ≡ open_puts (open_at_end (Some options.room) (bytes_read past))
           ++ state_puts options.state (facts_of as_they_come (states_of_stream (meaning1 false (bytes_read past))));
-      Means = λ past puts. Unit {0};
+      Means = λ past puts. output_in puts ≡ shown_items options.room past;
     }
 
 lines_named : (kinds : List (Kind × ℕ)) (text : Option (List ℕ)) →

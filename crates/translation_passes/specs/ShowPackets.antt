@@ -18,11 +18,12 @@ use Rattle.down_translator.specs.Held.{bad_answer}
 use Rattle.down_translator.specs.Recording.{AreInRange, packets_of}
 use Rattle.pass_loop.specs.Named.{AreNamed}
 use Rattle.pass_loop.specs.Pass.{Work}
-use Rattle.pass_loop.specs.Put.{Put, in_output}
+use Rattle.pass_loop.specs.Put.{Put, in_output, output_in}
 use Rattle.listing_notes.specs.Refusal.{refusal_by}
 use Rattle.translation_passes.specs.KeptState.{Kept, StandsFor, state_named, state_puts}
 use Rattle.translation_passes.specs.Options.{PacketLineOptions}
 use Rattle.packet_output.specs.Packets.{all_placed}
+use Rattle.translation_passes.specs.ShownLines.{shown_packets}
 use Rattle.translation_passes.specs.Texts.{new_texts, text_line, text_puts, texts_of}
 use Rattle.translation_passes.specs.declared.texts.Texts.{Texts}
 
@@ -32,7 +33,7 @@ packet_puts past item =
     in_output (packet_text item.1 item.0.words item.0.offset) ∷ text_puts (text_line past item.1)
 
 -- What is done with a recording that is shown: a packet is refused only where it passes the room for its exclusive. Keeping a state
--- takes memory; what is told of it are the facts of what all packets mean, in each group.
+-- takes memory; what is told of it are the facts of what all packets mean, in each group. What is put is the lines of all packets.
 abbrev pub showing : PacketLineOptions → Work (Framed × Packet)
 showing options =
     record {
@@ -42,7 +43,7 @@ showing options =
       IsPut = λ past item puts. puts ≡ packet_puts (packets_of (all_placed past)) item;
       refusal_at_end = λ past. None;
       IsPutAtEnd = λ past puts. puts ≡ state_puts options.state (facts_of raised (meaning2 false (packets_of (all_placed past))));
-      Means = λ past puts. Unit {0};
+      Means = λ past puts. output_in puts ≡ shown_packets past;
     }
 
 -- the options of an engine: the order is that of its reader, and says nothing of the work

@@ -2,17 +2,20 @@
 -- What is put for raised bytes means what they mean.
 use Rattle.std.proofs.Common.{◌≡◌, ℕ, List, [], ◌∷◌, ◌++◌, refl, ap, sym, ◌∙◌, subst}
 use Rattle.std.specs.Prelude.{Some}
+use Rattle.std.specs.List.{flat_map}
+use Rattle.std.proofs.lemmas.List.Concat.{flat_map-append}
 use Rattle.ump_words.specs.declared.words.Order.{Order}
 use Rattle.ump_grammar.specs.declared.packet.Packet.{Packet}
 use Rattle.midi_meaning.specs.declared.listed.Listed.{Listed}
 use Rattle.midi_meaning.specs.Raising.{packets_at, packets_up}
-use Rattle.midi_meaning.specs.StepListing.{lines_at}
+use Rattle.midi_meaning.specs.StepListing.{lines_at, lines_up}
+use Rattle.midi_lines.specs.ListingLines.{listing_text}
 use Rattle.up_translator.specs.Held.{UpState}
 use Rattle.pass_loop.specs.Bytes.{bytes_read}
 use Rattle.pass_loop.specs.Named.{AreNamed, named-then}
 use Rattle.pass_loop.specs.Pass.{ArePut}
-use Rattle.pass_loop.specs.Put.{Put}
-use Rattle.listing_notes.specs.LineLaws.{lines_named}
+use Rattle.pass_loop.specs.Put.{Put, notes_in, notes_of}
+use Rattle.listing_notes.specs.LineLaws.{lines_named, notes-lines}
 use Rattle.listing_notes.specs.Lines.{line_puts}
 use Rattle.packet_output.specs.WrittenLaws.{written-then, written_named}
 use Rattle.translation_passes.specs.Options.{UpOptions}
@@ -63,7 +66,37 @@ written-all options (item ∷ past) puts put =
     (written-then options.order (packets_up options.paired (Some options.room) options.group bytes) packets
     (output_puts put.0) put.3.0 (written-all options past put.0 put.2) put.3.1)
 
+-- ---- the lines
+
+notes-written : (order : Order) (packets : List Packet) (puts : List Put) → AreWritten order packets puts → notes_in puts ≡ []
+notes-written order [] puts written = ap notes_in written
+notes-written order (packet ∷ packets) puts written =
+    ap notes_in written.4
+    ∙ flat_map-append notes_of written.0 written.1
+    ∙ ap (λ ps. notes_in ps ++ notes_in written.1) written.2.2
+    ∙ notes-written order packets written.1 written.3
+
+notes-all : (options : UpOptions) (past : List (ℕ × ℕ)) (puts : List Put) → ArePut (raising options) past puts
+    → notes_in puts ≡ flat_map listing_text (lines_up options.paired (Some options.room) options.group (bytes_read past))
+notes-all options [] puts put = ap notes_in put
+notes-all options (item ∷ past) puts put =
+    let bytes : List ℕ = bytes_read past in
+    let packets : List Packet = packets_at options.paired (Some options.room) options.group bytes item.1 in
+    let before : List Listed = lines_up options.paired (Some options.room) options.group bytes in
+    let now : List Listed = lines_at options.paired (Some options.room) options.group bytes item.1 in
+    ap notes_in put.4
+    ∙ flat_map-append notes_of put.0 put.1
+    ∙ ap (λ xs. xs ++ notes_in put.1) (notes-all options past put.0 put.2)
+    ∙ ap (λ xs. flat_map listing_text before ++ xs)
+    (ap notes_in put.3.2
+    ∙ flat_map-append notes_of put.3.0 (line_puts now)
+    ∙ ap (λ xs. xs ++ notes_in (line_puts now)) (notes-written options.order packets put.3.0 put.3.1)
+    ∙ notes-lines now)
+    ∙ sym (flat_map-append listing_text before now)
+
+-- ---- the meaning
+
 pub raised_means : (options : UpOptions) (up : UpState) (past : List (ℕ × ℕ)) (puts : List Put) →
     HoldsRaised options up past → ArePut (raising options) past puts → (raising options).Means past puts
 raised_means options up past puts holds put =
-    (written-all options past puts put, holds.law (bytes_read past) holds.accepted)
+    (written-all options past puts put, holds.law (bytes_read past) holds.accepted, notes-all options past puts put)

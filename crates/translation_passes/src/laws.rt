@@ -3,6 +3,13 @@ ghost use Rattle.pass_loop.specs.Bytes.{byte_cutting};
 ghost use Rattle.pass_loop.specs.FirstRefusal.{HasOneFirstRefusal};
 ghost use Rattle.translation_passes.specs.Back.{returning};
 ghost use Rattle.translation_passes.specs.Down.{carrying};
+ghost use Rattle.translation_passes.specs.Laws.{
+  DoneCarriesTheInput,
+  DoneRaisesTheInput,
+  DoneReturnsTheInput,
+  DoneShowsTheRecording,
+  DoneShowsTheStream,
+};
 ghost use Rattle.translation_passes.specs.Options.{BackOptions, ByteLineOptions, DownOptions, PacketLineOptions, UpOptions};
 ghost use Rattle.packet_input.specs.Packets.{packet_cutting};
 ghost use Rattle.translation_passes.specs.ShowBytes.{showing_bytes};
@@ -31,3 +38,37 @@ pub fn a_stream_has_one_first_refusal()
 {
     bytes_are_cut_once();
 }
+
+/// Where `translate down` is done, the pairs that were put are exactly those of the packets of the whole
+/// input in the style, which are a translation of them: after each packet the bytes so far of each lane mean
+/// what the packets so far of its group mean. The notes gained exactly the lines of the listing of the whole
+/// recording.
+pub fn a_recording_that_is_carried_is_that_of_the_input()
+    ensures { DoneCarriesTheInput }
+{}
+
+/// Where `translate up` is done, the output gained exactly the words of the packets to which the bytes of the
+/// whole input are raised: after each byte the packets so far mean what the bytes so far mean. The notes
+/// gained exactly the lines of the listing of the whole stream.
+pub fn a_stream_that_is_raised_is_that_of_the_input()
+    ensures { DoneRaisesTheInput }
+{}
+
+/// Where `translate back` is done, the output gained exactly the plain pieces of these packets: after each
+/// byte the pieces so far mean what the bytes so far mean. The notes gained exactly the lines of the listing
+/// of the whole stream.
+pub fn a_stream_that_comes_back_is_that_of_the_input()
+    ensures { DoneReturnsTheInput }
+{}
+
+/// Where `show` is done, the output gained exactly the lines of the packets of the whole input, in their
+/// order, and after them those of what the packets mean, where the state is asked for.
+pub fn a_recording_that_is_shown_is_that_of_the_input()
+    ensures { DoneShowsTheRecording }
+{}
+
+/// Where `show --bytes` is done, the output gained exactly the lines of the bytes of the whole input, in their
+/// order, then that of what is open at the end, and those of what the bytes mean, where the state is asked for.
+pub fn a_stream_that_is_shown_is_that_of_the_input()
+    ensures { DoneShowsTheStream }
+{}

@@ -13,6 +13,7 @@ ghost use Rattle.pass_loop.specs.Places.{Puts};
 ghost use Rattle.pass_loop.specs.Put.{in_output};
 ghost use Rattle.translation_passes.specs.KeptState.{KeepsStep, StandsFor, fact_puts};
 ghost use Rattle.listing_notes.specs.Refusal.{refusal_of};
+ghost use Rattle.translation_passes.specs.ShowMeans.{shown_bytes_mean};
 ghost use Rattle.translation_passes.specs.ShowBytes.{HoldsBytes, IsReadyBytes, open_puts, byte_line_options, puts_after, showing_bytes, shown_puts, shows_last_named, shows_named, shows_no_bytes};
 
 use crate::kept_state::{facts_of, keep_step, put_facts};
@@ -79,7 +80,8 @@ impl Engine<u64, u8> for ShowBytes {
 
     ghost starts = { λ first ready. shows_no_bytes first.parser first.state ready };
 
-    ghost means = { λ first now past puts holds accepted put. tt };
+    ghost means = { λ first now past puts holds accepted put.
+        shown_bytes_mean (byte_line_options first.parser first.state) past puts put };
 }
 
 impl ShowBytes {

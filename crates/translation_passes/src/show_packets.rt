@@ -14,6 +14,7 @@ ghost use Rattle.midi_lines.specs.PacketLines.{packet_text};
 ghost use Rattle.listing_notes.specs.Refusal.{refusal_by};
 ghost use Rattle.translation_passes.specs.KeptState.{KeepsPacket, StandsFor, ended_in};
 ghost use Rattle.packet_input.specs.Packets.{packet_cutting};
+ghost use Rattle.translation_passes.specs.ShowMeans.{shown_packets_mean};
 ghost use Rattle.translation_passes.specs.ShowPackets.{HoldsShow, IsReadyShow, bad_join, packet_line_options, showing, shows_last_named, shows_named, shows_nothing};
 ghost use Rattle.translation_passes.specs.Texts.{AreOfTheirKinds, line_of_text, text_of, text_puts, texts_after};
 
@@ -90,7 +91,8 @@ impl Engine<Framed, Packet> for ShowPackets {
 
     ghost starts = { λ first ready. shows_nothing first.groups first.texts first.state ready };
 
-    ghost means = { λ first now past puts holds accepted put. tt };
+    ghost means = { λ first now past puts holds accepted put.
+        shown_packets_mean (packet_line_options first.groups first.state) past puts put };
 }
 
 /// Puts the lines of a recording, whose words have this order, to its end or to the first packet that is

@@ -9,8 +9,8 @@ pub returns-in-Ok-read : goal.returns-in-Ok-read
 returns-in-Ok-read g c =
     let old = shelf_seen g.K.Shelf c.args.shelf.now in
     let read =
-    read_setup old c.args.name.now c.new-text.result.items c.fetch.new.into.items c.as_slice.result.now c.new-text.ensures.items
-    c.as_slice.ensures.value c.in-Ok.ensures.ok in (
+    read_setup old c.args.name.now c.new-text.result.items c.fetch_setup.new.text.items c.as_slice.result.now c.new-text.ensures.items
+    c.as_slice.ensures.value c.in-Ok.ensures.front in (
       read.0,
       read.1,
       read.2 ∙ c.in-Ok-read.ensures.setup,
@@ -21,8 +21,8 @@ pub returns-in-Err-Syntax : goal.returns-in-Err-Syntax
 returns-in-Err-Syntax g c =
     let old = shelf_seen g.K.Shelf c.args.shelf.now in
     let read =
-    read_setup old c.args.name.now c.new-text.result.items c.fetch.new.into.items c.as_slice.result.now c.new-text.ensures.items
-    c.as_slice.ensures.value c.in-Ok.ensures.ok in (
+    read_setup old c.args.name.now c.new-text.result.items c.fetch_setup.new.text.items c.as_slice.result.now c.new-text.ensures.items
+    c.as_slice.ensures.value c.in-Ok.ensures.front in (
       read.0,
       read.1,
       read.2
@@ -35,8 +35,8 @@ pub returns-in-Err-Field : goal.returns-in-Err-Field
 returns-in-Err-Field g c =
     let old = shelf_seen g.K.Shelf c.args.shelf.now in
     let read =
-    read_setup old c.args.name.now c.new-text.result.items c.fetch.new.into.items c.as_slice.result.now c.new-text.ensures.items
-    c.as_slice.ensures.value c.in-Ok.ensures.ok in (
+    read_setup old c.args.name.now c.new-text.result.items c.fetch_setup.new.text.items c.as_slice.result.now c.new-text.ensures.items
+    c.as_slice.ensures.value c.in-Ok.ensures.front in (
       read.0,
       read.1,
       read.2
