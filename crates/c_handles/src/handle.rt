@@ -91,12 +91,14 @@ impl Handle {
         std::mem::replace(self, Handle::closed()).into_box(alloc)
     }
 
-    /// Puts this in; what it held before is dropped.
+    /// Puts this in a handle that is closed.
     #[inline(always)]
-    pub fn put(&mut self, alloc: Global, value: Box<Engine>)
+    pub fn put(&mut self, value: Box<Engine>)
+        requires { self.old.holds ≡ None }
         ensures { self.new.holds ≡ Some value.value }
     {
-        let _old = std::mem::replace(self, Handle::of(Parted::of(value))).into_box(alloc);
+        // What is taken apart owns nothing, so there is nothing to free.
+        let Handle { at: _, is_open: _ } = std::mem::replace(self, Handle::of(Parted::of(value)));
     }
 
     /// Puts this in a handle that is closed. `NoMemory` where there
@@ -107,7 +109,7 @@ impl Handle {
     {
         match Box::new(alloc, engine) {
             Ok(held) => {
-                self.put(alloc, held);
+                self.put(held);
                 Status::Done
             }
             Err(_) => Status::NoMemory,

@@ -1,8 +1,9 @@
 -- What is written behind what was written before.
-use Rattle.std.proofs.Common.{◌≡◌, ◌≤◌, ◌+◌, ℕ, ◌-◌, List, [], ◌∷◌, ◌++◌, refl, length, take}
+use Rattle.std.proofs.Common.{◌≡◌, ◌≤◌, ◌<◌, ◌+◌, ℕ, ◌-◌, List, [], ◌∷◌, ◌++◌, refl, length, take}
 use Rattle.std.proofs.Common.{drop, ap, sym, ◌∙◌, append_assoc, arith, length-append, length-drop}
 use Rattle.std.proofs.Math.Seq.{take-append_seam, drop-append_seam}
 use Rattle.std.proofs.lemmas.List.{append-nil, drop-drop, drop_all, take-append-drop, take_all}
+use Rattle.std.specs.Prelude.{slice_set}
 use borrow.Rule.Slice.PartMut.{mid_of, put_mid}
 use Rattle.c_answers.specs.Fronts.{with_front}
 
@@ -23,6 +24,23 @@ then_front done more old =
     ap (λ front. front ++ with_front more (drop (length done) (with_front done old))) (take-append_seam done (drop (length done) old))
     ∙ ap (λ rest. done ++ (more ++ rest)) (rest_behind done more old)
     ∙ sym (append_assoc done more (drop (length (done ++ more)) old))
+
+-- the same of a buffer whose rest was written, from the place on up to which it was written before
+pub written_behind : {X : Type 0} (done more old buffer rest : List X) (n : ℕ) → n ≡ length done → buffer ≡ with_front done old
+    → rest ≡ with_front more (drop n buffer) → take n buffer ++ rest ≡ with_front (done ++ more) old
+written_behind done more old buffer rest n place front is =
+    ap (λ r. take n buffer ++ r) is
+    ∙ ap (λ k. take k buffer ++ with_front more (drop k buffer)) place
+    ∙ ap (λ b. take (length done) b ++ with_front more (drop (length done) b)) front
+    ∙ then_front done more old
+
+-- one item more at the front
+pub set_front : {X : Type 0} (xs old : List X) (x : X) → length xs < length old
+    → slice_set (with_front xs old) (length xs) x ≡ with_front (xs ++ x ∷ []) old
+set_front [] [] x short = absurd (omega (arith, short))
+set_front [] (o ∷ old) x short = refl
+set_front (y ∷ xs) [] x short = absurd (omega (arith, short))
+set_front (y ∷ xs) (o ∷ old) x short = ap (λ rest. y ∷ rest) (set_front xs old x (omega (arith, short)))
 
 -- ---- a buffer from a place on
 

@@ -1,5 +1,6 @@
 pub mod BlockLaws
 pub mod ByteBlockLaws
+pub mod PacketBlockLaws
 pub mod DownLaws
 pub mod EncodedLaws
 pub mod ExclusiveLaws

@@ -6,7 +6,7 @@ ghost use Rattle.down_translator.specs.KeptLanes.{style_in};
 ghost use Rattle.down_translator.specs.Lowered.{attribute_line, lowered_bytes};
 ghost use Rattle.c_answers.specs.Fronts.{with_front};
 ghost use Rattle.c_answers.specs.Numbers.{number_of};
-ghost use Rattle.c_translators.specs.Blocks.{AreTaken};
+ghost use Rattle.c_translators.specs.PacketBlocks.{AreTaken};
 ghost use Rattle.c_translators.specs.Down.{most_bytes, with_piece, HasBegun, IsAnswered, IsCarried, IsLone, IsRead, IsTakenOrRefused};
 ghost use Rattle.c_translators.specs.Pieces.{piece_shown};
 

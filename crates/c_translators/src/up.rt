@@ -33,6 +33,18 @@ const LEAST_SIZE: usize = 4;
 /// The most bytes of an exclusive that a packet carries.
 const PACKET_BYTES: usize = 6;
 
+// Writes two words, one by one, so that they don't go through memory, and returns how many they are.
+#[inline(always)]
+fn put_pair(pair: [u32; 2], words: &mut [u32]) -> usize
+    requires { 2 ≤ length words.old }
+    ensures count { result ≡ length pair }
+    ensures written { words.new ≡ with_front pair words.old }
+{
+    words[0] = pair[0];
+    words[1] = pair[1];
+    2
+}
+
 // Writes the words of a packet, and returns how many they are.
 #[inline(always)]
 fn put_packet(packet: &RaisedPacket, words: &mut [u32]) -> usize
@@ -41,7 +53,7 @@ fn put_packet(packet: &RaisedPacket, words: &mut [u32]) -> usize
     ensures { IsEncoded packet.now words.old result words.new }
 {
     match packet.pair() {
-        Some(pair) => put_words(&pair, words),
+        Some(pair) => put_pair(pair, words),
         None => {
             let spelled = packet.words();
             put_words(spelled.as_slice(), words)

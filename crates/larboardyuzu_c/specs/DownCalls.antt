@@ -8,7 +8,8 @@ use Rattle.c_answers.specs.declared.status.Status.TheVariants as statuses
 use Rattle.c_handles.specs.declared.engine.Engine.{Engine}
 use Rattle.c_handles.specs.declared.engine.Engine.TheVariants as engine
 use Rattle.c_translators.specs.Down as down
-use Rattle.c_translators.specs.Blocks.{AreTaken, nothing_taken}
+use Rattle.c_translators.specs.Blocks.{nothing_taken}
+use Rattle.c_translators.specs.PacketBlocks.{AreTaken}
 use Rattle.c_translators.specs.Pieces.{empty_piece}
 use Rattle.c_translators.specs.declared.block.Block.{Block}
 use Rattle.c_translators.specs.declared.piece.Piece.{Piece}

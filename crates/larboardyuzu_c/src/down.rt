@@ -24,7 +24,7 @@ pub extern "C" fn larboardyuzu_down_open(
         return Status::BadRoom.number();
     }
     if let Some(held) = down.take(alloc) {
-        down.put(alloc, held);
+        down.put(held);
         return Status::AlreadyOpen.number();
     }
     let style = if is_compact {
@@ -61,7 +61,7 @@ pub extern "C" fn larboardyuzu_down_packet(
             Status::OtherKind
         }
     };
-    down.put(alloc, held);
+    down.put(held);
     status.number()
 }
 
@@ -90,7 +90,7 @@ pub extern "C" fn larboardyuzu_down_packets(
             Status::OtherKind
         }
     };
-    down.put(alloc, held);
+    down.put(held);
     status.number()
 }
 
@@ -112,7 +112,7 @@ pub extern "C" fn larboardyuzu_down_begun(
         Engine::Down(engine) => engine.begun(group, offset),
         _ => Status::OtherKind,
     };
-    down.put(alloc, held);
+    down.put(held);
     status.number()
 }
 

@@ -45,7 +45,7 @@ pub extern "C" fn larboardyuzu_endpoint_open(
         return Status::BadRoom.number();
     }
     if let Some(held) = endpoint.take(alloc) {
-        endpoint.put(alloc, held);
+        endpoint.put(held);
         return Status::AlreadyOpen.number();
     }
     fill_endpoint(alloc, endpoint, text, room, rule).number()
@@ -75,7 +75,7 @@ pub extern "C" fn larboardyuzu_endpoint_packet(
             Status::OtherKind
         }
     };
-    endpoint.put(alloc, held);
+    endpoint.put(held);
     status.number()
 }
 
@@ -99,7 +99,7 @@ pub extern "C" fn larboardyuzu_endpoint_protocol(
         }
         _ => Status::OtherKind,
     };
-    endpoint.put(alloc, held);
+    endpoint.put(held);
     status.number()
 }
 
@@ -121,7 +121,7 @@ pub extern "C" fn larboardyuzu_endpoint_muid(
         Engine::Endpoint(engine) => engine.muid(block, muid),
         _ => Status::OtherKind,
     };
-    endpoint.put(alloc, held);
+    endpoint.put(held);
     status.number()
 }
 
@@ -147,7 +147,7 @@ pub extern "C" fn larboardyuzu_endpoint_profile(
             Status::OtherKind
         }
     };
-    endpoint.put(alloc, held);
+    endpoint.put(held);
     status.number()
 }
 
@@ -169,7 +169,7 @@ pub extern "C" fn larboardyuzu_endpoint_begun(
         Engine::Endpoint(engine) => engine.begun(group, offset),
         _ => Status::OtherKind,
     };
-    endpoint.put(alloc, held);
+    endpoint.put(held);
     status.number()
 }
 

@@ -17,7 +17,7 @@ pub extern "C" fn larboardyuzu_parser_open(alloc: Global, parser: &mut Handle, r
         return Status::BadRoom.number();
     }
     if let Some(held) = parser.take(alloc) {
-        parser.put(alloc, held);
+        parser.put(held);
         return Status::AlreadyOpen.number();
     }
     match MessageParser::new(alloc, room) {
@@ -50,7 +50,7 @@ pub extern "C" fn larboardyuzu_parser_byte(
             Status::OtherKind
         }
     };
-    parser.put(alloc, held);
+    parser.put(held);
     status.number()
 }
 
@@ -78,7 +78,7 @@ pub extern "C" fn larboardyuzu_parser_bytes(
             Status::OtherKind
         }
     };
-    parser.put(alloc, held);
+    parser.put(held);
     status.number()
 }
 
@@ -99,7 +99,7 @@ pub extern "C" fn larboardyuzu_parser_end(
         Engine::Parser(engine) => engine.end(line),
         _ => Status::OtherKind,
     };
-    parser.put(alloc, held);
+    parser.put(held);
     status.number()
 }
 

@@ -49,7 +49,7 @@ pub extern "C" fn larboardyuzu_state_open(
         return Status::BadRoom.number();
     }
     if let Some(held) = state.take(alloc) {
-        state.put(alloc, held);
+        state.put(held);
         return Status::AlreadyOpen.number();
     }
     if is_of_bytes {
@@ -71,7 +71,7 @@ pub extern "C" fn larboardyuzu_state_packet(alloc: Global, state: &mut Handle, w
         Engine::PacketState(engine) => engine.packet(words),
         _ => Status::OtherKind,
     };
-    state.put(alloc, held);
+    state.put(held);
     status.number()
 }
 
@@ -88,7 +88,7 @@ pub extern "C" fn larboardyuzu_state_byte(alloc: Global, state: &mut Handle, byt
         Engine::ByteState(engine) => engine.byte(byte),
         _ => Status::OtherKind,
     };
-    state.put(alloc, held);
+    state.put(held);
     status.number()
 }
 
@@ -111,7 +111,7 @@ pub extern "C" fn larboardyuzu_state_facts(
         Engine::ByteState(engine) => engine.facts(alloc, facts, length),
         _ => Status::OtherKind,
     };
-    state.put(alloc, held);
+    state.put(held);
     status.number()
 }
 

@@ -26,7 +26,7 @@ pub extern "C" fn larboardyuzu_sysex8_open(
         return Status::BadStreams.number();
     }
     if let Some(held) = sysex8.take(alloc) {
-        sysex8.put(alloc, held);
+        sysex8.put(held);
         return Status::AlreadyOpen.number();
     }
     match Sysex8Joiner::new(alloc, streams, room) {
@@ -58,7 +58,7 @@ pub extern "C" fn larboardyuzu_sysex8_packet(
             Status::OtherKind
         }
     };
-    sysex8.put(alloc, held);
+    sysex8.put(held);
     status.number()
 }
 
@@ -81,7 +81,7 @@ pub extern "C" fn larboardyuzu_sysex8_begun(
         Engine::Sysex8(engine) => engine.begun(group, stream, offset),
         _ => Status::OtherKind,
     };
-    sysex8.put(alloc, held);
+    sysex8.put(held);
     status.number()
 }
 

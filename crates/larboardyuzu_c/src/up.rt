@@ -27,7 +27,7 @@ pub extern "C" fn larboardyuzu_up_open(
         return Status::BadGroup.number();
     };
     if let Some(held) = up.take(alloc) {
-        up.put(alloc, held);
+        up.put(held);
         return Status::AlreadyOpen.number();
     }
     match SizedUp::new(alloc, group, room, is_paired) {
@@ -59,7 +59,7 @@ pub extern "C" fn larboardyuzu_up_byte(
             Status::OtherKind
         }
     };
-    up.put(alloc, held);
+    up.put(held);
     status.number()
 }
 
@@ -88,7 +88,7 @@ pub extern "C" fn larboardyuzu_up_bytes(
             Status::OtherKind
         }
     };
-    up.put(alloc, held);
+    up.put(held);
     status.number()
 }
 
@@ -105,7 +105,7 @@ pub extern "C" fn larboardyuzu_up_end(alloc: Global, up: &mut Handle, line: &mut
         Engine::Up(engine) => engine.end(line),
         _ => Status::OtherKind,
     };
-    up.put(alloc, held);
+    up.put(held);
     status.number()
 }
 

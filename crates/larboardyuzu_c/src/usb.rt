@@ -27,7 +27,7 @@ pub extern "C" fn larboardyuzu_usb_open(
         return Status::BadGroup.number();
     };
     if let Some(held) = usb.take(alloc) {
-        usb.put(alloc, held);
+        usb.put(held);
         return Status::AlreadyOpen.number();
     }
     match UsbPacker::new(alloc, cable, room) {
@@ -59,7 +59,7 @@ pub extern "C" fn larboardyuzu_usb_byte(
             Status::OtherKind
         }
     };
-    usb.put(alloc, held);
+    usb.put(held);
     status.number()
 }
 
@@ -80,7 +80,7 @@ pub extern "C" fn larboardyuzu_usb_end(
         Engine::Usb(engine) => engine.end(line),
         _ => Status::OtherKind,
     };
-    usb.put(alloc, held);
+    usb.put(held);
     status.number()
 }
 

@@ -1,7 +1,7 @@
 -- A payload that is cut is joined again.
 use Rattle.std.proofs.Common.{ℕ, ◌≡◌, ◌<◌, ◌≤◌, ◌+◌, ◌*◌, ◌∙◌, zero, suc, ap, sym, refl, List, ◌∷◌, ◌++◌, length, take}
 use Rattle.std.proofs.Common.{drop, Option, Some, None, true, cond, arith, ◌==◌, length-take, length-drop, inl, inr}
-use Rattle.std.proofs.lemmas.Bool.{le-leb, leb-true, eq-eqb, ne_eqb, cases_eq}
+use Rattle.std.proofs.lemmas.Bool.{eq-eqb, ne_eqb, cases_eq}
 use Rattle.std.proofs.lemmas.Grind.{div_ceil_times}
 use Rattle.std.proofs.lemmas.List.{take_all}
 use Rattle.std.specs.Fork.{slice_chunk}
@@ -13,12 +13,8 @@ use Rattle.sysex_groups.specs.Exclusives.{Part, Room, fits, of_group, ended, end
 use Rattle.sysex_groups.specs.Table.{Begun, begun_after}
 use Rattle.voice_messages.specs.Forms.{form_at}
 use Rattle.sysex8_packets.specs.Cut8.{part8_count, sent8_part, sent8}
+use Rattle.sysex_groups.proofs.CutLaws.{fits-less}
 use Rattle.sysex_groups.proofs.ExclusiveLaws.{begun_on, begun_on-more, joined-begun}
-
--- what is shorter than something that fits, fits
-fits-less : (room : Room) (less more : ℕ) → less ≤ more → fits room more ≡ true → fits room less ≡ true
-fits-less None less more within fitting = refl
-fits-less (Some room) less more within fitting = le-leb less room (omega (arith, leb-true more room fitting))
 
 chunk-fits : (room : Room) (payload : List ℕ) (k : ℕ) → fits room (length payload) ≡ true
     → fits room (length (slice_chunk payload 13 k)) ≡ true

@@ -1,6 +1,6 @@
 -- A payload cut into the packets of one 8-bit exclusive (M2-104-UM, system exclusive 8-bit messages): thirteen bytes in each but the last.
-use Rattle.std.specs.Prelude.{◌≡◌, ℕ, ◌-◌, max, nat_lt, if◌then◌else◌, List, ◌∷◌, length, drop, replicate, false, Option, Some, None}
-use Rattle.std.proofs.Common.{zero, suc}
+use Rattle.std.specs.Prelude.{◌≡◌, ℕ, zero, suc, ◌-◌, max, nat_lt, if◌then◌else◌}
+use Rattle.std.specs.Prelude.{List, ◌∷◌, length, drop, replicate, false, Option, Some, None}
 use Rattle.std.specs.Int.{div_ceil}
 use Rattle.std.specs.Fork.{slice_chunk}
 use Rattle.voice_messages.specs.Forms.{form_at}

@@ -9,12 +9,13 @@ use Rattle.down_translator.specs.Step.{piece_of}
 use Rattle.c_answers.specs.Fronts.{with_front}
 use Rattle.c_answers.specs.Numbers.{number_of}
 use Rattle.c_answers.specs.Whole.{is_whole}
-use Rattle.c_translators.specs.Blocks.{AreTaken, is_full}
+use Rattle.c_translators.specs.Blocks.{is_full}
+use Rattle.c_translators.specs.PacketBlocks.{AreTaken, packets}
 use Rattle.c_translators.specs.Down.{IsTaken, Refuses}
 use Rattle.c_translators.specs.declared.block.Block.{Block}
 use Rattle.c_translators.specs.declared.piece.Piece.{Piece}
-use Rattle.c_translators.proofs.BlockLaws.{AreSoFar, ends_cut, ends_full, ends_refused, full_bytes}
-use Rattle.c_translators.proofs.BlockLaws.{full_pieces, not_full, one_more, piece_length}
+use Rattle.c_translators.proofs.BlockLaws.{full_listed, full_written, not_full}
+use Rattle.c_translators.proofs.PacketBlockLaws.{AreSoFar, ends_cut, ends_full, ends_refused, one_more, piece_length}
 use Rattle.c_translators.proofs.DownLaws.{taken_keeps}
 use Rattle.c_translators.proofs.FrontLaws.{front_fits, rest_given_back, rest_lent, rest_unchanged}
 use Rattle.c_translators.proofs.down.take_all.Goals as goal
@@ -25,28 +26,28 @@ pub returns-then-buffer-block-clause-answer : goal.returns-then-buffer-block-cla
 returns-then-buffer-block-clause-answer c =
     let l = c.loop-block in
     let are = l.invariant in
-    let written : l.block.written ≡ length are.progress.bytes = ap (λ (b : Block). b.written) are.block_is in
-    let listed : l.block.listed ≡ length are.progress.pieces = ap (λ (b : Block). b.listed) are.block_is in
-    let full : is_full c.args.down.now c.args.buffer.now c.args.pieces.now are.progress ≡ true = elim c.then-buffer-block.branch [
+    let written : l.block.written ≡ length are.progress.written = ap (λ (b : Block). b.written) are.block_is in
+    let listed : l.block.listed ≡ length are.progress.listed = ap (λ (b : Block). b.listed) are.block_is in
+    let full : is_full packets c.args.down.now c.args.buffer.now c.args.pieces.now are.progress ≡ true = elim c.then-buffer-block.branch [
       | then-buffer-block-via-then-buffer-block w ↦
-          full_bytes c.args.down.now c.args.buffer.now c.args.pieces.now are.progress
-          (subst (λ n. length c.args.buffer.now - length are.progress.bytes < n) c.requires
+          full_written packets c.args.down.now c.args.buffer.now c.args.pieces.now are.progress
+          (subst (λ n. length c.args.buffer.now - length are.progress.written < n) c.requires
           (omega (arith, w.if-buffer-block.true, written)))
       | then-buffer-block-via-else-buffer-block+then-pieces-block-lt1 w ↦
-          full_pieces c.args.down.now c.args.buffer.now c.args.pieces.now are.progress (omega (arith, w.if-pieces-block-lt1.true, listed))
+          full_listed packets c.args.down.now c.args.buffer.now c.args.pieces.now are.progress (omega (arith, w.if-pieces-block-lt1.true, listed))
     ] in
     ends_full c.args.down.now c.args.offset c.args.words.now c.args.buffer.now c.args.pieces.now l.block l.next l.down l.buffer l.pieces are
     c.args.most_written
-    c.loop-block-test.true full (c.requires ∙ sym are.most)
+    c.loop-block-test.true full (c.requires ∙ sym are.keeps)
 
 pub returns-then-rest-count-clause-answer : goal.returns-then-rest-count-clause-answer
 returns-then-rest-count-clause-answer c =
     let l = c.loop-block in
     let are = l.invariant in
-    let written : l.block.written ≡ length are.progress.bytes = ap (λ (b : Block). b.written) are.block_is in
-    let listed : l.block.listed ≡ length are.progress.pieces = ap (λ (b : Block). b.listed) are.block_is in
-    let full = not_full c.args.down.now c.args.buffer.now c.args.pieces.now are.progress
-    (subst (λ n. n ≤ length c.args.buffer.now - length are.progress.bytes) c.requires (omega (arith, c.if-buffer-block.false, written)))
+    let written : l.block.written ≡ length are.progress.written = ap (λ (b : Block). b.written) are.block_is in
+    let listed : l.block.listed ≡ length are.progress.listed = ap (λ (b : Block). b.listed) are.block_is in
+    let full = not_full packets c.args.down.now c.args.buffer.now c.args.pieces.now are.progress
+    (subst (λ n. n ≤ length c.args.buffer.now - length are.progress.written) c.requires (omega (arith, c.if-buffer-block.false, written)))
     (omega (arith, c.if-pieces-block-lt1.false, listed)) in
     let rest : List ℕ = take (length c.args.words.now - l.block.taken) (drop l.block.taken c.args.words.now) in
     let rest_is : rest ≡ drop l.block.taken c.args.words.now =
@@ -73,8 +74,8 @@ loop-block-preserved c =
     let are = l.invariant in
     let count = c.words_in_packet-count.result in
     let packet = c.in-Ok.ensures.answer.0 in
-    let listed : l.block.listed ≡ length are.progress.pieces = ap (λ (b : Block). b.listed) are.block_is in
-    let room : length are.progress.pieces < length c.args.pieces.now = omega (arith, c.if-pieces-block-lt1.false, listed) in
+    let listed : l.block.listed ≡ length are.progress.listed = ap (λ (b : Block). b.listed) are.block_is in
+    let room : length are.progress.listed < length c.args.pieces.now = omega (arith, c.if-pieces-block-lt1.false, listed) in
     let rest : List ℕ = take (length c.args.words.now - l.block.taken) (drop l.block.taken c.args.words.now) in
     let rest_is : rest ≡ drop l.block.taken c.args.words.now =
     take_all (length c.args.words.now - l.block.taken) (drop l.block.taken c.args.words.now)
@@ -103,17 +104,17 @@ returns-in-Err-clause-most c =
     let rest : List ℕ = take (length c.args.words.now - l.block.taken) (drop l.block.taken c.args.words.now) in
     taken_keeps l.down l.next (take c.words_in_packet-count.result rest) _ (Err c.in-Err.why) c.take.new.buffer c.take.new.down
     c.in-Err.ensures.answer
-    ∙ l.invariant.most
+    ∙ l.invariant.keeps
 
 pub returns-in-Err-clause-answer : goal.returns-in-Err-clause-answer
 returns-in-Err-clause-answer c =
     let l = c.loop-block in
     let are = l.invariant in
     let count = c.words_in_packet-count.result in
-    let written : l.block.written ≡ length are.progress.bytes = ap (λ (b : Block). b.written) are.block_is in
-    let listed : l.block.listed ≡ length are.progress.pieces = ap (λ (b : Block). b.listed) are.block_is in
-    let full = not_full c.args.down.now c.args.buffer.now c.args.pieces.now are.progress
-    (subst (λ n. n ≤ length c.args.buffer.now - length are.progress.bytes) c.requires (omega (arith, c.if-buffer-block.false, written)))
+    let written : l.block.written ≡ length are.progress.written = ap (λ (b : Block). b.written) are.block_is in
+    let listed : l.block.listed ≡ length are.progress.listed = ap (λ (b : Block). b.listed) are.block_is in
+    let full = not_full packets c.args.down.now c.args.buffer.now c.args.pieces.now are.progress
+    (subst (λ n. n ≤ length c.args.buffer.now - length are.progress.written) c.requires (omega (arith, c.if-buffer-block.false, written)))
     (omega (arith, c.if-pieces-block-lt1.false, listed)) in
     let rest : List ℕ = take (length c.args.words.now - l.block.taken) (drop l.block.taken c.args.words.now) in
     let rest_is : rest ≡ drop l.block.taken c.args.words.now =

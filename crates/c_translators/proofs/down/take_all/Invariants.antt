@@ -1,5 +1,5 @@
 use Rattle.std.proofs.Common.{◌-◌, length}
-use Rattle.c_translators.proofs.BlockLaws.{AreSoFar}
+use Rattle.c_translators.proofs.PacketBlockLaws.{AreSoFar}
 use Rattle.c_translators.proofs.down.take_all.Given as goal
 
 abbrev pub invariant-loop-block : goal.invariant-loop-block
