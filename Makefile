@@ -3,7 +3,7 @@
 #
 #   make                  builds the program and the library for C, which proves them (64-bit ARM: make -C c arm64)
 #   make release          packs what is built; of a library that isn't, it says so
-#   make check-release    unpacks that in an empty folder and tries it there without the kit
+#   make check-release    packs it, unpacks it in an empty folder and tries it there without the kit
 #   make clean            removes what is packed
 VERSION := $(shell cat VERSION)
 name := larboardyuzu-$(VERSION)
@@ -49,7 +49,7 @@ endif
 	@rm -rf out/release && echo "release: $(archive)"
 
 check-release:
-	python3 examples/check_release.py $(archive)
+	python3 examples/check_release.py
 
 clean:
 	rm -rf out/release out/larboardyuzu-*.tar.gz

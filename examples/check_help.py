@@ -206,9 +206,11 @@ def check_version(top):
     version = read(f"{top}/VERSION").strip()
     digits = "".join(f"{int(it):02x}" for it in version.split("."))
     number, bytes_of_it = r"(\d+\.\d+\.\d+)", "([0-9a-f]{6})"
-    told = {"docs/larboardyuzu.1": f"describes version {number}", "CHANGELOG.md": rf"(?m)^## {number}", "README.md": f"[Vv]ersion {number}",
-            "include/larboardyuzu.h": f"LARBOARDYUZU_VERSION 0x{bytes_of_it}u", "examples/python/larboardyuzu.py": f"VERSION = 0x{bytes_of_it}"}
-    for page, where in told.items():
+    told = [("docs/larboardyuzu.1", f"describes version {number}"), ("CHANGELOG.md", rf"(?m)^## {number}"),
+            ("README.md", f"[Vv]ersion {number}"), ("README.md", rf"larboardyuzu-{number}\.tar"),
+            ("include/larboardyuzu.h", f"LARBOARDYUZU_VERSION 0x{bytes_of_it}u"),
+            ("examples/python/larboardyuzu.py", f"VERSION = 0x{bytes_of_it}")]
+    for page, where in told:
         found = re.search(where, read(f"{top}/{page}")) if os.path.isfile(f"{top}/{page}") else None
         if found is None or found[1] not in (version, digits):
             yield f"{page} tells {found[1] if found else 'no version'}, and VERSION {version}"
