@@ -17,12 +17,14 @@ import check
 
 TOP = check.TOP
 # A PATH without the kit, and none.
-WITHOUT_KIT = {"PATH": "/usr/local/bin:/usr/bin:/bin", "LC_ALL": "C.UTF-8"}
+KITLESS = [it for it in os.environ.get("PATH", "").split(":") if not os.path.exists(f"{it}/rt")]
+WITHOUT_KIT = {"PATH": ":".join([*KITLESS, "/usr/bin", "/bin"]), "LC_ALL": "C.UTF-8"}
 NO_PATH = {"PATH": ""}
 STRICT = ["-std=c11", "-O2", "-Wall", "-Wextra", "-Wpedantic", "-Werror"]
 MIXED = bytes.fromhex("40903C00C9240000")
-FILES = ["larboardyuzu", "libexec/larboardyuzu", "README.md", "CHANGELOG.md", "VERSION", "include/larboardyuzu.h", "include/larboardyuzu.hpp",
-         "man/man1/larboardyuzu.1", "completions/larboardyuzu.bash", "completions/_larboardyuzu", "docs/setup.md", "examples/endpoint.toml"]
+FILES = ["larboardyuzu", "libexec/larboardyuzu", "README.md", "CHANGELOG.md", "VERSION", "include/larboardyuzu.h",
+         "include/larboardyuzu.hpp", "man/man1/larboardyuzu.1", "completions/larboardyuzu.bash", "completions/_larboardyuzu",
+         "docs/setup.md", "examples/endpoint.toml"]
 
 
 def ran(words, given=b"", **how):
