@@ -154,6 +154,19 @@ def check_linked(release, compiler, how, linked, before=(), environment=None):
     print(f"release: {how}: examples in C {'linked' if before is None else 'run'}", flush=True)
 
 
+def check_readme(release, linked):
+    """The lines in C of README.md, whose comment says which bytes they write."""
+    lines = next(body for kind, body, _ in check.blocks_of(check.read("README.md")) if kind == "c")
+    wanted = re.search(r"/\* bytes: (.*) \*/", lines)[1]
+    with open(f"{release.at}/examples/c/readme.c", "w", encoding="utf-8") as it:
+        it.write(f'#include <stdio.h>\n#include "larboardyuzu.h"\nint main(void)\n{{\n{lines}'
+                 'for (size_t at = 0; at < piece.length; at++) printf(at ? " %02X" : "%02X", bytes[at]);\n'
+                 "larboardyuzu_down_close(&down);\nreturn 0;\n}\n")
+    program, failed = built("cc", release, "readme", *linked)
+    if failed or (got := ran([program], env=NO_PATH)) != (0, wanted.encode(), b""):
+        yield f"README.md, in C: {failed or got}"
+
+
 def check_x64(release):
     lib = f"{release.at}/lib"
     if not os.path.isfile(f"{lib}/liblarboardyuzu.a"):
@@ -164,6 +177,7 @@ def check_x64(release):
         return
     include = f"-I{release.at}/include"
     yield from check_linked(release, "cc", "C, the archive", [include, f"{lib}/liblarboardyuzu.a"])
+    yield from check_readme(release, [include, f"{lib}/liblarboardyuzu.a"])
     yield from check_linked(release, "cc", "C, the shared library", [include, f"-L{lib}", "-llarboardyuzu"],
                             environment={"PATH": "", "LD_LIBRARY_PATH": lib})
     if not shutil.which("pkg-config"):
