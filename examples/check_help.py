@@ -202,13 +202,18 @@ def check_man(page, shown):
 
 
 def check_version(top):
-    """Yields the pages that tell another version."""
+    """Yields the files that tell another version: pages by its three numbers, and the library for C by two digits for each."""
     version = read(f"{top}/VERSION").strip()
-    number = r"(\d+\.\d+\.\d+)"
-    for page, before in {"docs/larboardyuzu.1": "describes version ", "CHANGELOG.md": r"(?m)^## ", "README.md": "[Vv]ersion "}.items():
-        told = re.search(before + number, read(f"{top}/{page}")) if os.path.isfile(f"{top}/{page}") else None
-        if told is None or told[1] != version:
-            yield f"{page} tells {told[1] if told else 'no version'}, and VERSION {version}"
+    digits = "".join(f"{int(it):02x}" for it in version.split("."))
+    number, bytes_of_it = r"(\d+\.\d+\.\d+)", "([0-9a-f]{6})"
+    told = [("docs/larboardyuzu.1", f"describes version {number}"), ("CHANGELOG.md", rf"(?m)^## {number}"),
+            ("README.md", f"[Vv]ersion {number}"), ("README.md", rf"larboardyuzu-{number}\.tar"),
+            ("include/larboardyuzu.h", f"LARBOARDYUZU_VERSION 0x{bytes_of_it}u"),
+            ("examples/python/larboardyuzu.py", f"VERSION = 0x{bytes_of_it}")]
+    for page, where in told:
+        found = re.search(where, read(f"{top}/{page}")) if os.path.isfile(f"{top}/{page}") else None
+        if found is None or found[1] not in (version, digits):
+            yield f"{page} tells {found[1] if found else 'no version'}, and VERSION {version}"
 
 
 def check(make_room, program, top):

@@ -32,7 +32,7 @@ extern "C" {
 /* The version of this header: the major number times 65,536, the minor one times 256, and the patch.
  * Names, statuses, arguments and the sizes of the structs are the binary interface. It changes only with
  * the major number, and while that is 0 with the minor one. */
-#define LARBOARDYUZU_VERSION 0x000100u
+#define LARBOARDYUZU_VERSION 0x000200u
 
 /* The version of the library that is linked. */
 uint32_t larboardyuzu_version(void);

@@ -26,7 +26,7 @@ HEARD = (
     "- not-ci short bad-address reserved-muid no-block silent collision old-version not-ours moved report broadcast answered passed nak"
     " no-answer bad-format"
 ).split()
-VERSION = 0x000100
+VERSION = 0x000200
 MOST_REPLY_WORDS = 1024
 
 # A line of the listing: the offset, the group (None: it has none), and the word of its kind.

@@ -10,9 +10,9 @@ use ump_words::words::words_in_packet;
 /// The version of the library: the major number times 65,536, the minor one times 256, and the patch.
 #[unsafe(no_mangle)]
 pub extern "C" fn larboardyuzu_version() -> u32
-    ensures { result ≡ 256 }
+    ensures { result ≡ 512 }
 {
-    0x000100
+    0x000200
 }
 
 /// How many words the packet has that begins with this one, 1 to 4.

@@ -1,0 +1,228 @@
+#!/usr/bin/env python3
+"""check_release.py [ARCHIVE]: unpacks a release in an empty folder and tries it there, without the kit, the sources and, where the program
+alone is tried, without a PATH. With no ARCHIVE it has `make release` write one first.
+
+It runs the script and the program, the blocks of README.md and docs/examples.md, looks the man page up, and compiles examples in C against
+the libraries that were packed. What needs a tool or a library that isn't here is left out, with a line. The exit code is 1 where anything
+fails."""
+import os
+import re
+import shutil
+import subprocess
+import sys
+import tarfile
+import tempfile
+
+import check
+
+TOP = check.TOP
+# A PATH without the kit, and none.
+KITLESS = [it for it in os.environ.get("PATH", "").split(":") if not os.path.exists(f"{it}/rt")]
+WITHOUT_KIT = {"PATH": ":".join([*KITLESS, "/usr/bin", "/bin"]), "LC_ALL": "C.UTF-8"}
+NO_PATH = {"PATH": ""}
+STRICT = ["-std=c11", "-O2", "-Wall", "-Wextra", "-Wpedantic", "-Werror"]
+MIXED = bytes.fromhex("40903C00C9240000")
+FILES = ["larboardyuzu", "libexec/larboardyuzu", "README.md", "CHANGELOG.md", "VERSION", "include/larboardyuzu.h",
+         "include/larboardyuzu.hpp", "man/man1/larboardyuzu.1", "completions/larboardyuzu.bash", "completions/_larboardyuzu",
+         "docs/setup.md", "examples/endpoint.toml"]
+
+
+def ran(words, given=b"", **how):
+    """The exit code, output and errors of some words."""
+    done = subprocess.run(words, input=given, capture_output=True, check=False, timeout=300, **how)
+    return done.returncode, done.stdout, done.stderr
+
+
+def left_out(what, lacks):
+    print(f"release: {what}: left out, since there is no {lacks}", flush=True)
+
+
+class Unpacked:
+    """A release in a folder of its own, which check.py can run pages in."""
+
+    def __init__(self, archive):
+        self.room = tempfile.mkdtemp(prefix="larboardyuzu-release-")
+        self.log = tempfile.mkdtemp(prefix="larboardyuzu-release-")
+        with tarfile.open(archive) as it:
+            self.members = it.getmembers()
+            it.extractall(self.room, **({"filter": "data"} if hasattr(tarfile, "data_filter") else {}))
+        self.at = f"{self.room}/{self.members[0].name.split('/')[0]}"
+
+    def __enter__(self):
+        return self
+
+    def __exit__(self, *_):
+        shutil.rmtree(self.room, ignore_errors=True)
+        shutil.rmtree(self.log, ignore_errors=True)
+
+    run = check.Room.run
+    result = check.Room.result
+    read = check.Room.read
+
+
+def check_members(release):
+    """One folder with the version in its name, and no file of anyone's own, of the kit or of the sources in it."""
+    version = check.read("VERSION").strip()
+    folder = f"larboardyuzu-{version}"
+    for it in release.members:
+        if it.name.split("/")[0] != folder or ".." in it.name or not (it.isreg() or it.isdir() or it.issym()):
+            yield f"{it.name} doesn't belong in {folder}"
+        if (it.uid, it.gid) != (0, 0) or it.mode & 0o022 and not it.issym():
+            yield f"{it.name} has the owner {it.uid}:{it.gid} and the mode {it.mode:o}"
+        if it.issym() and not os.path.exists(f"{release.room}/{it.name}"):
+            yield f"{it.name} leads nowhere"
+    yield from (f"there is no {it}" for it in FILES if not os.path.isfile(f"{release.at}/{it}"))
+    told = ran([f"{release.at}/larboardyuzu", "--version"], env=WITHOUT_KIT)
+    if told != (0, f"larboardyuzu {version}\n".encode(), b""):
+        yield f"--version: {told}"
+
+
+def check_program(release):
+    """The script and the program itself, from another folder, with no PATH."""
+    script, program = f"{release.at}/larboardyuzu", f"{release.at}/libexec/larboardyuzu"
+    link = f"{release.room}/link"
+    os.symlink(script, link)
+    shown = b"0 40903C00 C9240000 note-on group=0 channel=0 note=60 velocity=51492 type=0 attribute=0\n"
+    setup = f"{release.at}/examples/endpoint.toml"
+    for at in (script, program, link):
+        for words, given, wanted in ((["show"], MIXED, shown), (["translate", "up"], bytes.fromhex("903C64"), MIXED)):
+            if (got := ran([at, *words], given, cwd=release.room, env=NO_PATH)) != (0, wanted, b""):
+                yield f"{at} {' '.join(words)}: {got}"
+        code, output, _ = ran([at, "endpoint", setup], bytes.fromhex("F00001010000001F0000000000000000"), cwd=release.room, env=NO_PATH)
+        if code or len(output) != 96:
+            yield f"{at} endpoint: exit code {code}, {len(output)} bytes"
+    for words, begins in ((["--help"], b"usage: "), (["help", "clip"], b""), (["--version"], b"larboardyuzu ")):
+        code, output, errors = ran([script, *words], cwd=release.room, env=NO_PATH)
+        if code or errors or not output.startswith(begins):
+            yield f"{script} {' '.join(words)}: exit code {code}, {output[:80]}, {errors}"
+    os.remove(link)
+
+
+def check_missing(release):
+    """A release whose program is gone says so, and builds nothing."""
+    os.rename(f"{release.at}/libexec", f"{release.at}/gone")
+    code, output, errors = ran([f"{release.at}/larboardyuzu", "selftest", "7"], env=NO_PATH)
+    os.rename(f"{release.at}/gone", f"{release.at}/libexec")
+    if (code, output) != (127, b"") or b"unpack it anew" not in errors:
+        yield f"without its program: exit code {code}, {errors}"
+
+
+def check_pages(release):
+    """The blocks of the pages, which run in the release as they do in a checkout."""
+    for page in ("README.md", "docs/examples.md"):
+        blocks = [it for it in check.blocks_of(check.read(page)) if it[0] == "sh" and not re.search(check.BUILDS, it[1])]
+        results = release.run([body for _, body, _ in blocks], **WITHOUT_KIT)
+        for (_, body, wanted), result in zip(blocks, results):
+            said, status, lacks = result or ("it wasn't reached", 1, set())
+            if check.lacked(said, lacks):
+                left_out(f"{page}: {check.head_of(body)}", ", ".join(sorted(check.lacked(said, lacks))))
+            elif said != wanted if wanted is not None else status:
+                yield f"{page}: the block that begins with: {check.head_of(body)}\n--- prints\n{said}--- and the page says\n{wanted}"
+        print(f"release: {page}: {len(blocks)} blocks run", flush=True)
+
+
+def check_man(release):
+    if not shutil.which("man"):
+        left_out("the man page", "man")
+        return
+    code, output, errors = ran(["man", "-M", f"{release.at}/man", "-w", "larboardyuzu"], env=WITHOUT_KIT)
+    found = os.path.realpath(output.decode().strip())
+    if code or found != os.path.realpath(f"{release.at}/docs/larboardyuzu.1"):
+        yield f"man doesn't find the page: exit code {code}, {output}, {errors}"
+
+
+def built(compiler, release, name, *linked):
+    """The program of an example in C, or what the compiler says."""
+    program = f"{release.room}/{name}"
+    code, output, errors = ran([compiler, *STRICT, f"{release.at}/examples/c/{name}.c", "-o", program, *linked], env=WITHOUT_KIT)
+    return (program, None) if code == 0 else (None, f"{compiler}, {name}.c: {(output + errors).decode()}")
+
+
+def check_linked(release, compiler, how, linked, before=(), environment=None):
+    """The examples in C with a library: what they print is what the repository says."""
+    for name in ("down", "up", "block", "endpoint"):
+        program, failed = built(compiler, release, name, *linked)
+        if failed:
+            yield f"{how}: {failed}"
+            continue
+        if before is None:
+            continue
+        with open(f"{TOP}/examples/c/expected/{name}", "rb") as it:
+            wanted = it.read()
+        if (got := ran([*before, program], env=environment or NO_PATH)) != (0, wanted, b""):
+            yield f"{how}: {name}: {got}"
+    print(f"release: {how}: examples in C {'linked' if before is None else 'run'}", flush=True)
+
+
+def check_readme(release, linked):
+    """The lines in C of README.md, whose comment says which bytes they write."""
+    lines = next(body for kind, body, _ in check.blocks_of(check.read("README.md")) if kind == "c")
+    wanted = re.search(r"/\* bytes: (.*) \*/", lines)[1]
+    with open(f"{release.at}/examples/c/readme.c", "w", encoding="utf-8") as it:
+        it.write(f'#include <stdio.h>\n#include "larboardyuzu.h"\nint main(void)\n{{\n{lines}'
+                 'for (size_t at = 0; at < piece.length; at++) printf(at ? " %02X" : "%02X", bytes[at]);\n'
+                 "larboardyuzu_down_close(&down);\nreturn 0;\n}\n")
+    program, failed = built("cc", release, "readme", *linked)
+    if failed or (got := ran([program], env=NO_PATH)) != (0, wanted.encode(), b""):
+        yield f"README.md, in C: {failed or got}"
+
+
+def check_x64(release):
+    lib = f"{release.at}/lib"
+    if not os.path.isfile(f"{lib}/liblarboardyuzu.a"):
+        left_out("C on x86-64", "library for it in the release")
+        return
+    if not shutil.which("cc"):
+        left_out("C on x86-64", "cc")
+        return
+    include = f"-I{release.at}/include"
+    yield from check_linked(release, "cc", "C, the archive", [include, f"{lib}/liblarboardyuzu.a"])
+    yield from check_readme(release, [include, f"{lib}/liblarboardyuzu.a"])
+    yield from check_linked(release, "cc", "C, the shared library", [include, f"-L{lib}", "-llarboardyuzu"],
+                            environment={"PATH": "", "LD_LIBRARY_PATH": lib})
+    if not shutil.which("pkg-config"):
+        left_out("C by pkg-config", "pkg-config")
+        return
+    found = ran(["pkg-config", "--cflags", "--libs", "larboardyuzu"], env={**WITHOUT_KIT, "PKG_CONFIG_PATH": f"{lib}/pkgconfig"})
+    told = ran(["pkg-config", "--modversion", "larboardyuzu"], env={**WITHOUT_KIT, "PKG_CONFIG_PATH": f"{lib}/pkgconfig"})
+    if found[0] or told[1].decode().strip() != check.read("VERSION").strip():
+        yield f"pkg-config: {found}, {told}"
+        return
+    yield from check_linked(release, "cc", "C by pkg-config", found[1].decode().split(), environment={"PATH": "", "LD_LIBRARY_PATH": lib})
+
+
+def check_arm64(release):
+    library, compiler = f"{release.at}/lib/aarch64-linux-gnu/liblarboardyuzu.a", "aarch64-linux-gnu-gcc"
+    if not os.path.isfile(library):
+        left_out("C on 64-bit ARM", "library for it in the release")
+        return
+    if not shutil.which(compiler):
+        left_out("C on 64-bit ARM", compiler)
+        return
+    runner = shutil.which("qemu-aarch64")
+    if not runner:
+        left_out("running C on 64-bit ARM", "qemu-aarch64")
+    linked = [f"-I{release.at}/include", library, "-static"]
+    yield from check_linked(release, compiler, "C on 64-bit ARM", linked, [runner] if runner else None)
+
+
+def packed():
+    """The archive that `make release` writes; one that was there before is gone."""
+    done = subprocess.run(["make", "-s", "-C", TOP, "release"], stdin=subprocess.DEVNULL, check=False)
+    return f"{TOP}/out/larboardyuzu-{check.read('VERSION').strip()}.tar.gz" if done.returncode == 0 else None
+
+
+def main(words):
+    archive = words[0] if words else packed()
+    if archive is None or not os.path.isfile(archive):
+        print(f"release: there is no {archive or 'archive'}")
+        return 1
+    parts = (check_members, check_program, check_missing, check_pages, check_man, check_x64, check_arm64)
+    with Unpacked(archive) as release:
+        failed = [why for part in parts for why in part(release)]
+    print(*failed, f"release: {len(failed)} failed" if failed else f"release: {os.path.basename(archive)} runs without the kit", sep="\n")
+    return 1 if failed else 0
+
+
+if __name__ == "__main__":
+    sys.exit(main(sys.argv[1:]))
