@@ -1,5 +1,5 @@
 // The messages that ask (M2-101-UM).
-ghost use Rattle.std.specs.Prelude.{◌≡◌, ◌<◌, ◌^◌};
+ghost use Rattle.std.specs.Prelude.{◌≡◌, ◌<◌};
 ghost use Rattle.ci_initiator.specs.Asks.{
   discovery as discovery_of,
   inquiry as inquiry_of,
@@ -8,7 +8,7 @@ ghost use Rattle.ci_initiator.specs.Asks.{
 };
 
 use crate::watch::Watch;
-use ci_messages::{Address, BROADCAST, Body, CiView, PROFILE_CONFIGURATION};
+use ci_messages::{Address, BROADCAST, Body, CiView, Muid, PROFILE_CONFIGURATION};
 use ci_responder::CiMessage;
 
 /// The version of the message format.
@@ -17,8 +17,19 @@ const VERSION: u8 = 2;
 /// The most bytes of a System Exclusive message that is taken.
 const MOST_BYTES: u32 = 512;
 
+/// Who asks whom of the profile of a watch.
+#[derive(Clone, Copy, Debug, PartialEq, Eq)]
+pub(crate) struct Question {
+    /// The MUID of the one that asks, which isn't reserved.
+    pub(crate) muid: Muid,
+    /// The MUID of the peer.
+    pub(crate) peer: Muid,
+    pub(crate) watch: Watch,
+    ghost not_reserved: { muid < 0x0FFFFF00 },
+}
+
 /// Discovery.
-pub(crate) fn discovery(muid: u32) -> CiMessage
+pub(crate) fn discovery(muid: Muid) -> CiMessage
     requires { muid < 0x0FFFFF00 }
     ensures { result ≡ discovery_of muid }
 {
@@ -35,18 +46,17 @@ pub(crate) fn discovery(muid: u32) -> CiMessage
         address: Address::Block,
         sub: body.sub(),
         version: VERSION,
-        source: muid,
+        source: muid.get(),
         destination: BROADCAST,
         body,
     })
 }
 
 /// A Profile Inquiry.
-pub(crate) fn inquiry(muid: u32, peer: u32, watch: &Watch) -> CiMessage
-    requires muid { muid < 0x0FFFFF00 }
-    requires peer { peer < 2 ^ 28 }
-    ensures { result ≡ inquiry_of muid peer watch.now }
+pub(crate) fn inquiry(question: &Question) -> CiMessage
+    ensures { result ≡ inquiry_of question.now.muid question.now.peer question.now.watch }
 {
+    let watch = &question.watch;
     // tells that the channel of the address is below 16
     watch.address.channels();
     let body = Body::ProfileInquiry;
@@ -54,18 +64,17 @@ pub(crate) fn inquiry(muid: u32, peer: u32, watch: &Watch) -> CiMessage
         address: watch.address,
         sub: body.sub(),
         version: VERSION,
-        source: muid,
-        destination: peer,
+        source: question.muid.get(),
+        destination: question.peer.get(),
         body,
     })
 }
 
 /// A Set Profile On.
-pub(crate) fn set_on(muid: u32, peer: u32, watch: &Watch) -> CiMessage
-    requires muid { muid < 0x0FFFFF00 }
-    requires peer { peer < 2 ^ 28 }
-    ensures { result ≡ set_on_of muid peer watch.now }
+pub(crate) fn set_on(question: &Question) -> CiMessage
+    ensures { result ≡ set_on_of question.now.muid question.now.peer question.now.watch }
 {
+    let watch = &question.watch;
     let id = watch.id;
     // tells that the id is five data bytes
     id.data_bytes();
@@ -75,18 +84,17 @@ pub(crate) fn set_on(muid: u32, peer: u32, watch: &Watch) -> CiMessage
         address: watch.address,
         sub: body.sub(),
         version: VERSION,
-        source: muid,
-        destination: peer,
+        source: question.muid.get(),
+        destination: question.peer.get(),
         body,
     })
 }
 
 /// A Set Profile Off.
-pub(crate) fn set_off(muid: u32, peer: u32, watch: &Watch) -> CiMessage
-    requires muid { muid < 0x0FFFFF00 }
-    requires peer { peer < 2 ^ 28 }
-    ensures { result ≡ set_off_of muid peer watch.now }
+pub(crate) fn set_off(question: &Question) -> CiMessage
+    ensures { result ≡ set_off_of question.now.muid question.now.peer question.now.watch }
 {
+    let watch = &question.watch;
     let id = watch.id;
     // tells that the id is five data bytes
     id.data_bytes();
@@ -97,8 +105,8 @@ pub(crate) fn set_off(muid: u32, peer: u32, watch: &Watch) -> CiMessage
         address: watch.address,
         sub: body.sub(),
         version: VERSION,
-        source: muid,
-        destination: peer,
+        source: question.muid.get(),
+        destination: question.peer.get(),
         body,
     })
 }

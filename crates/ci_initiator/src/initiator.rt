@@ -9,11 +9,11 @@ ghost use Rattle.ci_initiator.specs.Incoming.{incoming_of};
 ghost use Rattle.ci_initiator.specs.Known.{after, after_by, are_different, asked_by, known_at, noted_in, watches_of};
 
 use crate::ask::Ask;
-use crate::asking::{discovery, inquiry, set_off, set_on};
+use crate::asking::{Question, discovery, inquiry, set_off, set_on};
 use crate::noted::Noted;
 use crate::rows::{hold, noted_row};
 use crate::watch::{Watch, Watched};
-use ci_messages::CiView;
+use ci_messages::{CiView, Muid};
 use ci_responder::CiMessage;
 use midi_edge::{NoMemory, ShortList};
 use std::alloc::Global;
@@ -25,8 +25,8 @@ use voice_messages::U4;
 /// watch.
 #[derive(Drop)]
 pub struct Initiator {
-    pub(crate) muid: u32,
-    pub(crate) peer: Option<u32>,
+    pub(crate) muid: Muid,
+    pub(crate) peer: Option<Muid>,
     pub(crate) watched: Vec<Watched>,
 }
 
@@ -50,6 +50,10 @@ impl Initiator {
         requires different { are_different watches.now ≡ true }
         ensures { IfOk result (λ initiator. initiator ≡ known_at muid watches.now []) }
     {
+        let Some(muid) = Muid::new(muid) else {
+            // it is below 0FFFFF00
+            unreachable!();
+        };
         let Ok(mut watched) = Vec::with_capacity(alloc, watches.len()) else {
             return Err(NoMemory);
         };
@@ -72,22 +76,25 @@ impl Initiator {
     {
         match what {
             Ask::Discover => true,
-            Ask::Inquire(k) => self.peer_and_watch(k).is_some(),
-            Ask::On(k) => self.peer_and_watch(k).is_some(),
-            Ask::Off(k) => self.peer_and_watch(k).is_some(),
+            Ask::Inquire(k) => self.question(k).is_some(),
+            Ask::On(k) => self.question(k).is_some(),
+            Ask::Off(k) => self.question(k).is_some(),
         }
     }
 
-    // The peer that is asked about a watch, and the watch.
-    fn peer_and_watch(&self, k: usize) -> Option<(u32, Watch)>
-        ensures value { (write : ℕ → ℕ → Watch → List ℕ) →
+    // What the peer is asked about a watch.
+    fn question(&self, k: usize) -> Option<Question>
+        ensures { (write : ℕ → ℕ → Watch → List ℕ) →
             asked_with write self.now.muid self.now.peer (slice_get (watches_of self.now) k)
-            ≡ option_map (λ found. write self.now.muid found.0 found.1) result }
-        ensures peer { IfSome result (λ found. found.0 < 2 ^ 28) }
+            ≡ option_map (λ found. write found.muid found.peer found.watch) result }
     {
         let peer = self.peer?;
         let watched = self.watched.get(k)?;
-        Some((peer, watched.watch))
+        Some(Question {
+            muid: self.muid,
+            peer,
+            watch: watched.watch,
+        })
     }
 
     /// What is asked, as a message (M2-101-UM): Discovery to all at the function block, with an identity of
@@ -99,16 +106,16 @@ impl Initiator {
     {
         match what {
             Ask::Discover => Some(discovery(self.muid)),
-            Ask::Inquire(k) => match self.peer_and_watch(k) {
-                Some((peer, watch)) => Some(inquiry(self.muid, peer, &watch)),
+            Ask::Inquire(k) => match self.question(k) {
+                Some(question) => Some(inquiry(&question)),
                 None => None,
             },
-            Ask::On(k) => match self.peer_and_watch(k) {
-                Some((peer, watch)) => Some(set_on(self.muid, peer, &watch)),
+            Ask::On(k) => match self.question(k) {
+                Some(question) => Some(set_on(&question)),
                 None => None,
             },
-            Ask::Off(k) => match self.peer_and_watch(k) {
-                Some((peer, watch)) => Some(set_off(self.muid, peer, &watch)),
+            Ask::Off(k) => match self.question(k) {
+                Some(question) => Some(set_off(&question)),
                 None => None,
             },
         }
@@ -147,7 +154,7 @@ impl Initiator {
     {
         match noted {
             Noted::Other => {}
-            Noted::Peer => self.peer = Some(view.source),
+            Noted::Peer => self.peer = Muid::new(view.source),
             Noted::Gone => {
                 self.peer = None;
                 hold(self.watched.as_mut_slice(), noted, group, view);
@@ -201,6 +208,9 @@ impl Initiator {
         ensures value { result ≡ self.now.peer }
         ensures fits { IfSome result (λ muid. muid < 2 ^ 28) }
     {
-        self.peer
+        match self.peer {
+            Some(muid) => Some(muid.get()),
+            None => None,
+        }
     }
 }

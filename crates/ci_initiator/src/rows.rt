@@ -23,7 +23,7 @@ ghost use Rattle.ci_initiator.specs.Rows.{
 
 use crate::noted::Noted;
 use crate::watch::{Watch, Watched};
-use ci_messages::{BROADCAST, Body, CiView, ProfileId};
+use ci_messages::{Body, CiView, Muid, ProfileId};
 use voice_messages::U4;
 
 /// How many bytes the id of a profile has.
@@ -36,11 +36,14 @@ fn is_at(watch: &Watch, group: U4, view: &CiView<'_>) -> bool
     watch.group == group && watch.address == view.address
 }
 
-// Whether a MUID is the peer's.
-fn is_from(peer: Option<u32>, source: u32) -> bool
-    ensures { result ≡ is_from_peer peer source }
+// Whether this is the peer's MUID.
+fn is_from(peer: Option<Muid>, number: u32) -> bool
+    ensures { result ≡ is_from_peer peer number }
 {
-    peer == Some(source)
+    match peer {
+        Some(muid) => number == muid.get(),
+        None => false,
+    }
 }
 
 // Whether this id stands at a place of some bytes.
@@ -186,7 +189,7 @@ fn row_of_report(watched: &[Watched], id: &ProfileId, group: U4, view: &CiView<'
 }
 
 // The row of a message that is for the initiator.
-fn row_by_body(peer: Option<u32>, watched: &[Watched], group: U4, view: &CiView<'_>) -> Noted
+fn row_by_body(peer: Option<Muid>, watched: &[Watched], group: U4, view: &CiView<'_>) -> Noted
     ensures { result ≡ row_of_said peer (map (λ watched. watched.watch) watched.now)
         (incoming_of group view.now) (said_in view.now.body) }
 {
@@ -203,8 +206,8 @@ fn row_by_body(peer: Option<u32>, watched: &[Watched], group: U4, view: &CiView<
 
 /// The row of a message, for the initiator of a MUID that knows this peer.
 pub(crate) fn noted_row(
-    muid: u32,
-    peer: Option<u32>,
+    muid: Muid,
+    peer: Option<Muid>,
     watched: &[Watched],
     group: U4,
     view: &CiView<'_>,
@@ -212,8 +215,7 @@ pub(crate) fn noted_row(
     ensures { result ≡ noted_row muid peer (map (λ watched. watched.watch) watched.now)
         (incoming_of group view.now) }
 {
-    let is_for_us = view.destination == muid || view.destination == BROADCAST;
-    if view.source == muid || !is_for_us {
+    if view.is_from(muid) || !view.is_for(muid) {
         Noted::Other
     } else {
         row_by_body(peer, watched, group, view)

@@ -87,11 +87,8 @@ pub fn put_profiles<P: ProfileStates, O: Outputs>(
     ensures { Puts (profile_lines place (P.states known.now) setup.now.profiles)
         (O.places outputs.old) (O.places outputs.new) result }
 {
-    for k in 0..setup.profile_count() {
-        match setup.profile(k) {
-            Some(profile) => put_profile(known, profile, place, outputs)?,
-            None => unreachable!(),
-        }
+    for profile in setup.profiles() {
+        put_profile(known, profile, place, outputs)?;
     }
     Ok(())
 }

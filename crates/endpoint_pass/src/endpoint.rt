@@ -180,11 +180,9 @@ fn put_blocks<O: Outputs>(setup: &Setup, endpoint: &Endpoint, outputs: &mut O) -
     ensures { Puts (for_each (block_line_of (muid_in endpoint.now.held.responder.blocks)) 0
         setup.now.blocks) (O.places outputs.old) (O.places outputs.new) result }
 {
-    for number in 0..setup.block_count() {
-        match setup.block(number) {
-            Some(block) => put_block(endpoint, number, block, outputs)?,
-            None => unreachable!(),
-        }
+    let blocks = setup.blocks();
+    for (number, block) in blocks.iter().enumerate() {
+        put_block(endpoint, number as u8, block, outputs)?;
     }
     Ok(())
 }

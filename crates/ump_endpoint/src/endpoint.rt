@@ -10,7 +10,7 @@ ghost use Rattle.ump_grammar.specs.Replies.{AddsPackets};
 ghost use Rattle.ump_endpoint.specs.Answers.{protocol_after_packet, stream_outcome, stream_packet_replies};
 ghost use Rattle.ump_endpoint.specs.Held.{after_packet, new_endpoint, replies_in, taken_in};
 
-use crate::hearing::take_part;
+use crate::hearing::{PlacedPart, take_part};
 use crate::replies::ReplyPackets;
 use crate::taken::{Outcome, Taken};
 use ci_responder::{Key, Responder};
@@ -121,10 +121,12 @@ impl Endpoint {
                 &mut self.groups,
                 &mut self.responder,
                 &mut self.replies,
-                *group,
-                *form,
-                bytes.as_slice(),
-                offset,
+                PlacedPart {
+                    group: *group,
+                    form: *form,
+                    bytes: bytes.as_slice(),
+                    offset,
+                },
             ),
             Packet::Stream { .. } => Ok(Taken::ended(answer(
                 &self.setup,

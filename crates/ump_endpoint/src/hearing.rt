@@ -54,28 +54,41 @@ fn cut_off(group: U4, cut_at: u64) -> Listed
     }
 }
 
+/// A part of an exclusive: its group, its form, its bytes, and the offset of its packet.
+#[derive(Clone, Copy, Debug)]
+pub(crate) struct PlacedPart<'a> {
+    pub(crate) group: U4,
+    pub(crate) form: Form,
+    pub(crate) bytes: &'a [u8],
+    pub(crate) offset: u64,
+}
+
 /// Takes one more part of an exclusive of a group, and answers the message that it ends: adds its reply to
 /// the replies, which are empty. One that is too long is refused.
 pub(crate) fn take_part(
     groups: &mut Groups,
     responder: &mut Responder,
     replies: &mut Replies,
-    group: U4,
-    form: Form,
-    bytes: &[u8],
-    offset: u64,
+    part: PlacedPart<'_>,
 ) -> Result<Taken, BadStep>
-    requires few { length bytes.now ≤ 6 }
-    requires data_bytes { IsData bytes.now }
+    requires few { length part.bytes.now ≤ 6 }
+    requires data_bytes { IsData part.bytes.now }
     requires empty { replies.old ≡ [] }
-    ensures groups { groups.new ≡ with_part (placed_part group offset form bytes.now) groups.old }
-    ensures responder { responder.new ≡ after_part responder.old
-        (said_of group (answer_to groups.old (placed_part group offset form bytes.now))) }
-    ensures replies { AddsPackets (part_replies responder.old
-        (said_of group (answer_to groups.old (placed_part group offset form bytes.now)))) [] replies.new }
-    ensures taken { result ≡ part_taken responder.old group offset
-        (answer_to groups.old (placed_part group offset form bytes.now)) }
+    ensures groups { let p = part.entry in
+        groups.new ≡ with_part (placed_part p.group p.offset p.form p.bytes.now) groups.old }
+    ensures responder { let p = part.entry in responder.new ≡ after_part responder.old
+        (said_of p.group (answer_to groups.old (placed_part p.group p.offset p.form p.bytes.now))) }
+    ensures replies { let p = part.entry in AddsPackets (part_replies responder.old (said_of p.group
+        (answer_to groups.old (placed_part p.group p.offset p.form p.bytes.now)))) [] replies.new }
+    ensures taken { let p = part.entry in result ≡ part_taken responder.old p.group p.offset
+        (answer_to groups.old (placed_part p.group p.offset p.form p.bytes.now)) }
 {
+    let PlacedPart {
+        group,
+        form,
+        bytes,
+        offset,
+    } = part;
     match groups.feed(group, form, bytes, offset) {
         Fed::Held => Ok(Taken::nothing()),
         Fed::TooLong => Err(BadStep::ExclusiveTooLong),

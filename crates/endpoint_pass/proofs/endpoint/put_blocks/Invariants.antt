@@ -8,5 +8,4 @@ use Rattle.endpoint_pass.proofs.endpoint.put_blocks.Given as goal
 abbrev pub invariant-loop-number : goal.invariant-loop-number
 invariant-loop-number g l =
     g.O.Outputs.places l.outputs
-    ≡ over_puts (for_each (block_line_of (muid_in l.endpoint.held.responder.blocks)) 0 (take l.number l.setup.blocks))
-    (g.O.Outputs.places l.fn.outputs)
+    ≡ over_puts (for_each (block_line_of (muid_in l.endpoint.held.responder.blocks)) 0 (take l.number l.setup.blocks)) (g.O.Outputs.places l.fn.outputs)
