@@ -18,7 +18,7 @@ const NOTES: [u32; 6] = [
 #[test]
 fn packets_go_down(rt: HostRuntime) -> Result<(), Fail> {
     let mut down = SizedDown::new(rt.alloc(), 6, Style::Plain, false)?;
-    let (mut bytes, mut pieces, mut block) = ([0u8; 24], [Piece::empty(); 2], Block::nothing());
+    let (mut bytes, mut pieces, mut block) = ([0u8; 15], [Piece::empty(); 2], Block::nothing());
     let refused = down.packets(&NOTES, 0, &mut bytes, &mut pieces, &mut block);
     assert_eq!(rt;
         (refused.number(), block.taken, block.written, block.listed),
@@ -26,7 +26,12 @@ fn packets_go_down(rt: HostRuntime) -> Result<(), Fail> {
     );
     let status = down.packet(&NOTES[4..], 16, &mut bytes[3..], &mut pieces[1]);
     assert_eq!(rt; (status.number(), pieces[1].length), (0, 3));
-    assert!(rt; bytes.starts_with(&[0x90, 0x3C, 0x64, 0x91, 0x3E, 0x64]));
+    assert_eq!(rt;
+        bytes,
+        [
+            0x90, 0x3C, 0x64, 0x91, 0x3E, 0x64, 0, 0, 0, 0, 0, 0, 0, 0, 0
+        ]
+    );
     Ok(())
 }
 

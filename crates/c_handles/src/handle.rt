@@ -71,6 +71,15 @@ impl Handle {
         }
     }
 
+    // Lets go of a handle, which frees nothing, and tells whether it was open.
+    #[inline(always)]
+    fn let_go(self) -> bool
+        ensures { result ≡ self.is_open }
+    {
+        let Handle { at: _, is_open } = self;
+        is_open
+    }
+
     /// What it holds.
     #[inline(always)]
     pub fn into_box(self, alloc: Global) -> Option<Box<Engine>>
@@ -97,8 +106,7 @@ impl Handle {
         requires { self.old.holds ≡ None }
         ensures { self.new.holds ≡ Some value.value }
     {
-        // What is taken apart owns nothing, so there is nothing to free.
-        let Handle { at: _, is_open: _ } = std::mem::replace(self, Handle::of(Parted::of(value)));
+        let _was_open = std::mem::replace(self, Handle::of(Parted::of(value))).let_go();
     }
 
     /// Puts this in a handle that is closed. `NoMemory` where there
