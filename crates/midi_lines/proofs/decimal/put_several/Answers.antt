@@ -1,4 +1,4 @@
-use Rattle.std.proofs.Common.{◌≡◌, ℕ, ◌+◌, ◌/◌, ◌%◌, List, ◌++◌, decimal, length, ap, ◌∙◌, arith}
+use Rattle.std.proofs.Common.{◌≡◌, ℕ, ◌/◌, ◌%◌, List, ◌++◌, decimal, length, ap, ◌∙◌, arith}
 use lib.ListN.{length-append}
 use Rattle.midi_lines.specs.Digits.{two_digits}
 use Rattle.midi_lines.proofs.DecimalText.{four_behind, four_more, ten_digits, two_long}
