@@ -12,9 +12,10 @@ ghost use Rattle.clip_pass.specs.Cutting.{clip_cutting};
 ghost use Rattle.clip_pass.specs.Ends.{ClipEnds, with_header};
 
 use crate::laws::clip_files_are_cut_once;
-use crate::lines::{end_line, event_line, resolution_line};
+use crate::lines::{fill_end_line, fill_event_line, fill_resolution_line};
 use midi_clip::{Clip, ClipFault, ClipStep, HEADER_SIZE, clips_are_the_definition, header};
 use midi_edge::{Lanes, Sink, Source};
+use midi_lines::Line;
 use packet_input::next_packet;
 use pass_loop::{Borrowed, LIMIT, Next, Outputs, Reason, RunEnd, write_out};
 use ump_grammar::Packet;
@@ -91,12 +92,13 @@ fn show_packets<S: Source, O: Outputs>(
     clips_are_the_definition();
     // How many bytes there are up to here.
     let mut size = HEADER_SIZE;
+    let mut line = Line::new();
     loop {
         write_out_before(&words, input, outputs);
         match next_packet(&mut words, HEADER_SIZE, input) {
             Next::Item { at, item } => {
                 size = at.offset + 4 * at.words.as_slice().len() as u64;
-                match take_packet(&mut clip, &at, &item, outputs) {
+                match take_packet(&mut clip, &mut line, &at, &item, outputs) {
                     Ok(()) => {}
                     Err(end) => return end,
                 }
@@ -137,10 +139,11 @@ fn reason(fault: ClipFault) -> Reason
     }
 }
 
-// Takes one more packet, and puts what comes of it.
+// Takes one more packet, and puts what comes of it in a line that is made in the place of another one.
 #[inline(always)]
 fn take_packet<O: Outputs>(
     clip: &mut Clip,
+    line: &mut Line,
     framed: &Framed,
     packet: &Packet,
     outputs: &mut O,
@@ -152,7 +155,7 @@ fn take_packet<O: Outputs>(
         (O.places outputs.old) (O.places outputs.new) result }
 {
     match clip.packet(packet) {
-        Ok(step) => put_step(step, framed, packet, outputs),
+        Ok(step) => put_step(step, line, framed, packet, outputs),
         Err(fault) => Err(RunEnd::Refused {
             reason: reason(fault),
             offset: framed.offset,
@@ -160,9 +163,11 @@ fn take_packet<O: Outputs>(
     }
 }
 
-// Puts what comes of a packet.
+// Puts what comes of a packet in a line that is made in the place of another one.
+#[inline(always)]
 fn put_step<O: Outputs>(
     step: ClipStep,
+    line: &mut Line,
     framed: &Framed,
     packet: &Packet,
     outputs: &mut O,
@@ -173,15 +178,15 @@ fn put_step<O: Outputs>(
     match step {
         ClipStep::Before | ClipStep::Delta => Ok(()),
         ClipStep::Began(resolution) => {
-            let line = resolution_line(resolution);
+            fill_resolution_line(line, resolution);
             outputs.put_output(line.as_slice())
         }
         ClipStep::Event(ticks) => {
-            let line = event_line(ticks, framed, packet);
+            fill_event_line(line, ticks, framed, packet);
             outputs.put_output(line.as_slice())
         }
         ClipStep::Ended(ticks) => {
-            let line = end_line(ticks);
+            fill_end_line(line, ticks);
             outputs.put_output(line.as_slice())
         }
     }

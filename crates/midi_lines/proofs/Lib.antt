@@ -1,4 +1,4 @@
-pub mod Decimal
+pub mod DecimalText
 pub mod Numbers
 pub mod Overwriting
 pub mod Pairs

@@ -3,8 +3,9 @@ use Rattle.std.proofs.Common.{◌≡◌, ℕ, zero, suc, ◌+◌, ◌-◌, ◌*�
 use Rattle.std.proofs.Common.{[], ◌∷◌, length, take, get_or, refl, subst, inl, inr, arith, eq-zero-or-pos, eqb→eq}
 use lib.Ieee.Fits.{and_l, and_r}
 use Rattle.std.specs.Fmt.{decimal}
-use Rattle.midi_lines.proofs.Decimal.{decimal_one, decimal_two, decimal_three}
-use Rattle.midi_lines.specs.declared.put.TheConstants.{SMALL_NUMBERS}
+use Rattle.midi_lines.specs.Digits.{two_digits}
+use Rattle.midi_lines.proofs.DecimalText.{decimal_one, decimal_two, decimal_three}
+use Rattle.midi_lines.specs.declared.decimal.TheConstants.{DECIMAL_PAIRS, SMALL_NUMBERS}
 
 -- whether a test holds of each number below another one
 abbrev all_below : (ℕ → Bool) → ℕ → Bool
@@ -76,3 +77,14 @@ small_number n h =
         | inr g' ↦ hundreds n (omega arith) h
       ]
     ]
+
+-- the table of the two digits of each number below 100
+abbrev is_pair : ℕ → Bool
+is_pair n = eqb (get_or DECIMAL_PAIRS (n * 2) 0) (48 + n / 10) && eqb (get_or DECIMAL_PAIRS (n * 2 + 1) 0) (48 + n % 10)
+
+pub pair_in_table : (n : ℕ) → n < 100
+    → get_or DECIMAL_PAIRS (n * 2) 0 ∷ get_or DECIMAL_PAIRS (n * 2 + 1) 0 ∷ [] ≡ two_digits n
+pair_in_table n h =
+    let t =
+    both (get_or DECIMAL_PAIRS (n * 2) 0) (48 + n / 10) (get_or DECIMAL_PAIRS (n * 2 + 1) 0) (48 + n % 10) (each_below is_pair 100 n tt h) in
+    rw (t.0, t.1) refl

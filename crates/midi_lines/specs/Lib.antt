@@ -1,3 +1,4 @@
+pub mod Digits
 pub mod EndpointLines
 pub mod FactLines
 pub mod Fields

@@ -8,13 +8,17 @@ use Rattle.midi_lines.specs.declared.line.TheConstants.{CAPACITY}
 abbrev pub longest_number : ℕ
 longest_number = 20
 
+-- the digits of the largest number of 32 bits, as a value has
+abbrev pub longest_value : ℕ
+longest_value = 10
+
 -- ` attribute=`
 abbrev pub longest_label : ℕ
 longest_label = 11
 
--- a label and its number
+-- a label and its value
 abbrev pub longest_field : ℕ
-longest_field = longest_label + longest_number
+longest_field = longest_label + longest_value
 
 -- a word other than the kind of a message, as `misplaced-controller`, or a label with one, as ` kind=registered`
 abbrev pub longest_word : ℕ
@@ -44,9 +48,17 @@ longest_words = most_words * 9
 abbrev pub longest_text : ℕ
 longest_text = limit_of kinds.EndpointName
 
--- what stands before the kind of a message: the offset, the words and a space
+-- what stands before the line of a packet: nothing, or the ticks of an event and a space
+abbrev pub before_packet : ℕ
+before_packet = longest_number + 1
+
+-- what stands before the kind of a message: that, the offset, the words and a space
 abbrev pub before_kind : ℕ
-before_kind = longest_number + longest_words + 1
+before_kind = before_packet + longest_number + longest_words + 1
+
+-- what stands before the bytes of a text: `text`, a space and its kind
+abbrev pub before_text : ℕ
+before_text = 5 + longest_word
 
 -- what stands before its fields
 abbrev pub before_fields : ℕ

@@ -13,9 +13,10 @@ ghost use Rattle.midi_lines.specs.EndpointLines.{
 };
 ghost use Rattle.midi_lines.specs.Room.{AddsAtMost, HasRoom, before_kind, id_digits, longest_field, longest_name, longest_word};
 
+use crate::decimal::{put_decimal, put_number};
 use crate::line::Line;
 use crate::listing::put_group_or_hyphen;
-use crate::put::{put_decimal, put_hex, put_text};
+use crate::put::{put_hex, put_text};
 use function_blocks::{Place, Profile};
 use voice_messages::{U4, U7};
 
@@ -140,7 +141,7 @@ fn put_muid(line: &mut Line, muid: Option<u32>)
     match muid {
         Some(muid) => {
             put_text(line, "muid ");
-            put_decimal(line, muid as u64);
+            put_number(line, muid);
         }
         None => put_text(line, "silent"),
     }
@@ -156,13 +157,13 @@ fn put_place(line: &mut Line, place: Place)
         Place::Function => put_text(line, "function"),
         Place::Group(group) => {
             put_text(line, "group ");
-            put_decimal(line, group.get() as u64);
+            put_number(line, group.get() as u32);
         }
         Place::Channel(group, channel) => {
             put_text(line, "channel ");
-            put_decimal(line, group.get() as u64);
+            put_number(line, group.get() as u32);
             put_text(line, " ");
-            put_decimal(line, channel.get() as u64);
+            put_number(line, channel.get() as u32);
         }
     }
 }

@@ -1,10 +1,11 @@
 // The lines of what is told of a state.
 ghost use Rattle.std.specs.Prelude.{◌≡◌, ◌<◌, ◌≤◌, ◌+◌, ◌*◌, ◌++◌, length, codes};
 ghost use Rattle.midi_lines.specs.FactLines.{bank_words, fact_text, fact_words, loose_word, of_channel, of_group, param_words, spaced, two_numbers, value_word};
-ghost use Rattle.midi_lines.specs.Room.{AddsAtMost, HasRoom, HasRoomForEnd, before_kind, longest_field, longest_number, longest_word};
+ghost use Rattle.midi_lines.specs.Room.{AddsAtMost, HasRoom, HasRoomForEnd, before_kind, longest_field, longest_value, longest_word};
 
+use crate::decimal::{put_decimal, put_number};
 use crate::line::Line;
-use crate::put::{put_decimal, put_text};
+use crate::put::put_text;
 use voice_messages::{Bank, U4, U7};
 use voice_state::Fact;
 
@@ -30,6 +31,32 @@ pub fn fill_fact_line(line: &mut Line, f: &Fact)
     put_text(line, "\n");
 }
 
+// A channel in its group.
+#[derive(Clone, Copy)]
+struct ChannelAddress {
+    group: U4,
+    channel: U4,
+}
+
+impl ChannelAddress {
+    fn new(group: U4, channel: U4) -> Self
+        ensures group { result.group ≡ group }
+        ensures channel { result.channel ≡ channel }
+    {
+        ChannelAddress { group, channel }
+    }
+}
+
+// A parameter by the MSB (`bank`) and the LSB (`index`) of its number, with its value, where it was set, and
+// whether a relative change came since.
+#[derive(Clone, Copy)]
+struct ParamState {
+    bank: U7,
+    index: U7,
+    value: Option<u32>,
+    loose: bool,
+}
+
 // The words of a fact.
 fn put_fact(line: &mut Line, f: &Fact)
     requires { length line.old ≤ before_kind }
@@ -42,47 +69,82 @@ fn put_fact(line: &mut Line, f: &Fact)
             channel,
             note,
             velocity,
-        } => put_two_numbers(line, group, channel, " on", note, velocity as u32),
+        } => put_two_numbers(
+            line,
+            ChannelAddress::new(group, channel),
+            " on",
+            note,
+            velocity as u32,
+        ),
         Fact::Off {
             group,
             channel,
             note,
             velocity,
-        } => put_two_numbers(line, group, channel, " off", note, velocity as u32),
+        } => put_two_numbers(
+            line,
+            ChannelAddress::new(group, channel),
+            " off",
+            note,
+            velocity as u32,
+        ),
         Fact::Mode {
             group,
             channel,
             index,
             value,
-        } => put_two_numbers(line, group, channel, " mode", index, value),
+        } => put_two_numbers(
+            line,
+            ChannelAddress::new(group, channel),
+            " mode",
+            index,
+            value,
+        ),
         Fact::Poly {
             group,
             channel,
             note,
             value,
-        } => put_two_numbers(line, group, channel, " poly", note, value),
+        } => put_two_numbers(
+            line,
+            ChannelAddress::new(group, channel),
+            " poly",
+            note,
+            value,
+        ),
         Fact::Control {
             group,
             channel,
             index,
             value,
-        } => put_two_numbers(line, group, channel, " control", index, value),
+        } => put_two_numbers(
+            line,
+            ChannelAddress::new(group, channel),
+            " control",
+            index,
+            value,
+        ),
         Fact::Pressure {
             group,
             channel,
             value,
-        } => put_value(line, group, channel, " pressure", value),
+        } => put_value(
+            line,
+            ChannelAddress::new(group, channel),
+            " pressure",
+            value,
+        ),
         Fact::Bend {
             group,
             channel,
             value,
-        } => put_value(line, group, channel, " bend", value),
+        } => put_value(line, ChannelAddress::new(group, channel), " bend", value),
         Fact::Program {
             group,
             channel,
             program,
             bank,
-        } => put_program(line, group, channel, program, bank),
+        } => put_program(line, ChannelAddress::new(group, channel), program, bank),
         Fact::Registered {
             group,
             channel,
@@ -92,13 +154,14 @@ fn put_fact(line: &mut Line, f: &Fact)
             loose,
         } => put_param(
             line,
-            group,
-            channel,
+            ChannelAddress::new(group, channel),
             " registered",
-            bank,
-            index,
-            value,
-            loose,
+            ParamState {
+                bank,
+                index,
+                value,
+                loose,
+            },
         ),
         Fact::Assignable {
             group,
@@ -109,13 +172,14 @@ fn put_fact(line: &mut Line, f: &Fact)
             loose,
         } => put_param(
             line,
-            group,
-            channel,
+            ChannelAddress::new(group, channel),
             " assignable",
-            bank,
-            index,
-            value,
-            loose,
+            ParamState {
+                bank,
+                index,
+                value,
+                loose,
+            },
         ),
         Fact::System { group, count } => put_count(line, group, " system", count),
         Fact::RealTime { group, count } => put_count(line, group, " real-time", count),
@@ -124,13 +188,13 @@ fn put_fact(line: &mut Line, f: &Fact)
 
 // A number with a space before it.
 #[tactic(auto, unfolding(crate::specs::FactLines::spaced))]
-fn put_spaced(line: &mut Line, number: u64)
-    requires { HasRoom (1 + longest_number) line.old }
+fn put_spaced(line: &mut Line, number: u32)
+    requires { HasRoom (1 + longest_value) line.old }
     ensures text { line.new ≡ line.old ++ spaced number }
-    ensures room { AddsAtMost (1 + longest_number) line.old line.new }
+    ensures room { AddsAtMost (1 + longest_value) line.old line.new }
 {
     put_text(line, " ");
-    put_decimal(line, number);
+    put_number(line, number);
 }
 
 #[tactic(auto, unfolding(crate::specs::FactLines::of_group))]
@@ -140,53 +204,53 @@ fn put_group(line: &mut Line, group: U4)
     ensures room { AddsAtMost longest_field line.old line.new }
 {
     put_text(line, "state");
-    put_spaced(line, group.get() as u64);
+    put_spaced(line, group.get() as u32);
 }
 
 #[tactic(auto, unfolding(crate::specs::FactLines::of_channel))]
-fn put_channel(line: &mut Line, group: U4, channel: U4)
+fn put_channel(line: &mut Line, address: ChannelAddress)
     requires { HasRoom (2 * longest_field) line.old }
-    ensures text { line.new ≡ line.old ++ of_channel group channel }
+    ensures text { line.new ≡ line.old ++ of_channel address.group address.channel }
     ensures room { AddsAtMost (2 * longest_field) line.old line.new }
 {
-    put_group(line, group);
-    put_spaced(line, channel.get() as u64);
+    put_group(line, address.group);
+    put_spaced(line, address.channel.get() as u32);
 }
 
 // What has a note or an index, and a value.
-fn put_two_numbers(line: &mut Line, group: U4, channel: U4, name: &str, first: U7, second: u32)
+fn put_two_numbers(line: &mut Line, address: ChannelAddress, name: &str, first: U7, second: u32)
     requires old { length line.old ≤ before_kind }
     requires name { length name.now ≤ longest_word }
-    ensures text { line.new ≡ line.old ++ (of_channel group channel ++ two_numbers name.now first second) }
+    ensures text { line.new ≡ line.old ++ (of_channel address.group address.channel ++ two_numbers name.now first second) }
     ensures room { HasRoomForEnd line.new }
 {
-    put_channel(line, group, channel);
+    put_channel(line, address);
     put_text(line, name);
-    put_spaced(line, first.get() as u64);
-    put_spaced(line, second as u64);
+    put_spaced(line, first.get() as u32);
+    put_spaced(line, second);
 }
 
 // What has a value alone.
-fn put_value(line: &mut Line, group: U4, channel: U4, name: &str, value: u32)
+fn put_value(line: &mut Line, address: ChannelAddress, name: &str, value: u32)
     requires old { length line.old ≤ before_kind }
     requires name { length name.now ≤ longest_word }
-    ensures text { line.new ≡ line.old ++ (of_channel group channel ++ name.now ++ spaced value) }
+    ensures text { line.new ≡ line.old ++ (of_channel address.group address.channel ++ name.now ++ spaced value) }
     ensures room { HasRoomForEnd line.new }
 {
-    put_channel(line, group, channel);
+    put_channel(line, address);
     put_text(line, name);
-    put_spaced(line, value as u64);
+    put_spaced(line, value);
 }
 
-fn put_program(line: &mut Line, group: U4, channel: U4, program: U7, bank: Option<Bank>)
+fn put_program(line: &mut Line, address: ChannelAddress, program: U7, bank: Option<Bank>)
     requires { length line.old ≤ before_kind }
     ensures text { line.new ≡ line.old
-        ++ (of_channel group channel ++ codes " program" ++ spaced program ++ bank_words bank) }
+        ++ (of_channel address.group address.channel ++ codes " program" ++ spaced program ++ bank_words bank) }
     ensures room { HasRoomForEnd line.new }
 {
-    put_channel(line, group, channel);
+    put_channel(line, address);
     put_text(line, " program");
-    put_spaced(line, program.get() as u64);
+    put_spaced(line, program.get() as u32);
     put_bank(line, bank);
 }
 
@@ -201,36 +265,27 @@ fn put_bank(line: &mut Line, bank: Option<Bank>)
         None => put_text(line, " bank none"),
         Some(bank) => {
             put_text(line, " bank");
-            put_spaced(line, bank.msb.get() as u64);
+            put_spaced(line, bank.msb.get() as u32);
             put_text(line, "/");
-            put_decimal(line, bank.lsb.get() as u64);
+            put_number(line, bank.lsb.get() as u32);
         }
     }
 }
 
 // A parameter, whose value may never have been set, and which may be loose.
-fn put_param(
-    line: &mut Line,
-    group: U4,
-    channel: U4,
-    name: &str,
-    bank: U7,
-    index: U7,
-    value: Option<u32>,
-    loose: bool,
-)
+fn put_param(line: &mut Line, address: ChannelAddress, name: &str, param: ParamState)
     requires old { length line.old ≤ before_kind }
     requires name { length name.now ≤ longest_word }
-    ensures text { line.new ≡ line.old
-        ++ (of_channel group channel ++ param_words name.now bank index value loose) }
+    ensures text { line.new ≡ line.old ++ (of_channel address.group address.channel
+        ++ param_words name.now param.bank param.index param.value param.loose) }
     ensures room { HasRoomForEnd line.new }
 {
-    put_channel(line, group, channel);
+    put_channel(line, address);
     put_text(line, name);
-    put_spaced(line, bank.get() as u64);
-    put_spaced(line, index.get() as u64);
-    put_param_value(line, value);
-    put_looseness(line, loose);
+    put_spaced(line, param.bank.get() as u32);
+    put_spaced(line, param.index.get() as u32);
+    put_param_value(line, param.value);
+    put_looseness(line, param.loose);
 }
 
 #[tactic(auto, unfolding(crate::specs::FactLines::value_word))]
@@ -241,7 +296,7 @@ fn put_param_value(line: &mut Line, value: Option<u32>)
 {
     match value {
         None => put_text(line, " none"),
-        Some(value) => put_spaced(line, value as u64),
+        Some(value) => put_spaced(line, value),
     }
 }
 
@@ -257,6 +312,7 @@ fn put_looseness(line: &mut Line, loose: bool)
 }
 
 // How many messages came.
+#[tactic(auto, unfolding(crate::specs::FactLines::spaced))]
 fn put_count(line: &mut Line, group: U4, name: &str, count: u64)
     requires old { length line.old ≤ before_kind }
     requires name { length name.now ≤ longest_word }
@@ -265,5 +321,6 @@ fn put_count(line: &mut Line, group: U4, name: &str, count: u64)
 {
     put_group(line, group);
     put_text(line, name);
-    put_spaced(line, count);
+    put_text(line, " ");
+    put_decimal(line, count);
 }

@@ -1,6 +1,7 @@
 //! The lines of text that the program writes.
 #![tactic(auto)]
 
+mod decimal;
 mod endpoint;
 mod facts;
 mod line;
@@ -13,6 +14,7 @@ mod voice;
 mod voice1;
 mod voice2;
 
+pub use crate::decimal::put_decimal;
 pub use crate::endpoint::{
     OutcomeName, block_line, endpoint_line, fill_endpoint_line, profile_line, protocol_line,
     word_of,
@@ -20,7 +22,7 @@ pub use crate::endpoint::{
 pub use crate::facts::{fact_line, fill_fact_line};
 pub use crate::line::Line;
 pub use crate::listing::{byte_listing, fill_byte_listing, fill_listing_line, listing_line};
-pub use crate::packets::{fill_packet_line, packet_line};
-pub use crate::put::{put_decimal, put_text};
+pub use crate::packets::{fill_packet_line, packet_line, put_packet_line};
+pub use crate::put::put_text;
 pub use crate::steps::{fill_step_line, step_line};
 pub use crate::texts::{fill_text_line, text_line};

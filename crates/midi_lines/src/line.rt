@@ -49,7 +49,7 @@ impl Line {
 
     /// Takes all bytes away.
     #[inline(always)]
-    pub(crate) fn clear(&mut self)
+    pub fn clear(&mut self)
         ensures { self.new ≡ [] }
     {
         self.size = 0;

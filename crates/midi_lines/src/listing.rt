@@ -2,10 +2,11 @@
 ghost use Rattle.std.specs.Prelude.{◌≡◌, ◌<◌, ◌≤◌, ◌+◌, ◌++◌, length, codes};
 ghost use Rattle.midi_lines.specs.ListingLines.{group_text, listed_word, listing_text};
 ghost use Rattle.midi_lines.specs.StepLines.{byte_listing_text};
-ghost use Rattle.midi_lines.specs.Room.{AddsAtMost, before_kind, longest_number, longest_word};
+ghost use Rattle.midi_lines.specs.Room.{AddsAtMost, before_kind, longest_value, longest_word};
 
+use crate::decimal::{put_decimal, put_number};
 use crate::line::Line;
-use crate::put::{put_decimal, put_text};
+use crate::put::put_text;
 use midi_meaning::{Kind, Listed};
 use voice_messages::U4;
 
@@ -59,10 +60,10 @@ pub fn fill_byte_listing(line: &mut Line, kind: Kind, offset: u64)
 pub(crate) fn put_group_or_hyphen(line: &mut Line, group: Option<U4>)
     requires { length line.old ≤ before_kind }
     ensures text { line.new ≡ line.old ++ group_text group }
-    ensures room { AddsAtMost longest_number line.old line.new }
+    ensures room { AddsAtMost longest_value line.old line.new }
 {
     match group {
-        Some(group) => put_decimal(line, group.get() as u64),
+        Some(group) => put_number(line, group.get() as u32),
         None => put_text(line, "-"),
     }
 }

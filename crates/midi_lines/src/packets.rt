@@ -2,12 +2,11 @@
 ghost use Rattle.std.specs.Prelude.{◌≡◌, ◌<◌, ◌≤◌, ◌+◌, ◌*◌, ◌++◌, length, codes, decimal};
 ghost use Rattle.midi_lines.specs.Fields.{hex_words, field};
 ghost use Rattle.midi_lines.specs.PacketLines.{packet_fields, packet_text, form_word, utility, exclusive, stream};
-ghost use Rattle.midi_lines.specs.Room.{AddsAtMost, HasRoomForEnd, before_fields, before_kind, longest_number, longest_word, longest_words, most_words};
+ghost use Rattle.midi_lines.specs.Room.{AddsAtMost, HasRoomForEnd, before_fields, before_kind, before_packet, longest_number, longest_word, longest_words, most_words};
 
+use crate::decimal::put_decimal;
 use crate::line::Line;
-use crate::put::{
-    put_decimal, put_field, put_hex_bytes, put_hex_field, put_text, put_word, put_word_field,
-};
+use crate::put::{put_field, put_hex_bytes, put_hex_field, put_text, put_word, put_word_field};
 use crate::voice1::{put_system, put_voice1};
 use crate::voice2::put_voice2;
 use midi_edge::ShortList;
@@ -34,6 +33,17 @@ pub fn fill_packet_line(line: &mut Line, packet: &Packet, words: &[u32], offset:
     ensures some { 0 < length line.new }
 {
     line.clear();
+    put_packet_line(line, packet, words, offset);
+}
+
+/// Adds the line of a packet, as `packet_line` makes it, behind what the line has: nothing, or the ticks at
+/// which the packet stands and a space, at most 21 bytes (own rule).
+#[inline(always)]
+pub fn put_packet_line(line: &mut Line, packet: &Packet, words: &[u32], offset: u64)
+    requires few { length words.now ≤ most_words }
+    requires room { length line.old ≤ before_packet }
+    ensures { line.new ≡ line.old ++ packet_text packet.now words.now offset }
+{
     put_decimal(line, offset);
     put_words(line, words);
     put_text(line, " ");
@@ -44,7 +54,7 @@ pub fn fill_packet_line(line: &mut Line, packet: &Packet, words: &[u32], offset:
 // Each word with a space before it.
 fn put_words(line: &mut Line, words: &[u32])
     requires few { length words.now ≤ most_words }
-    requires room { length line.old ≤ longest_number }
+    requires room { length line.old ≤ before_packet + longest_number }
     ensures text { line.new ≡ line.old ++ hex_words words.now }
     ensures room { AddsAtMost longest_words line.old line.new }
 {

@@ -1,15 +1,17 @@
 // The lines of the messages of a stream of MIDI 1.0 bytes.
 ghost use Rattle.std.specs.Prelude.{◌≡◌, ◌<◌, ◌≤◌, ◌+◌, ◌++◌, length, codes, decimal, IfSome, Some, None, true, false, if◌then◌else◌};
 ghost use Rattle.midi1_bytes.specs.Answers.{step_view};
+ghost use Rattle.midi1_bytes.specs.Spoken.{voice_in};
 ghost use Rattle.midi_lines.specs.Fields.{field};
 ghost use Rattle.midi_lines.specs.StepLines.{HasBothEnds, step_text};
 ghost use Rattle.midi_lines.specs.Voice1Lines.{voice1_fields, system_fields};
 ghost use Rattle.midi_lines.specs.Room.{before_kind};
 
+use crate::decimal::put_decimal;
 use crate::line::Line;
-use crate::put::{put_decimal, put_text};
+use crate::put::put_text;
 use crate::voice1::{put_system, put_voice1};
-use midi1_bytes::{AfterCut, Step, System, Voice1};
+use midi1_bytes::{AfterCut, Step, System, VoiceBytes};
 
 /// The line of what a byte at this offset does, in a stream of MIDI 1.0 bytes, where it completes a message:
 /// the offset in decimal digits, the kind of the message and its fields; of an exclusive its length between
@@ -37,7 +39,7 @@ pub fn fill_step_line(line: &mut Line, step: &Step<'_>, offset: u64) -> bool
     ensures none { result ≡ false → line.new ≡ line.old }
 {
     match step {
-        Step::Voice(bytes) => fill_voice_line(line, &bytes.message(), offset),
+        Step::Voice(bytes) => fill_voice_line(line, bytes, offset),
         Step::Common(bytes) => fill_system_line(line, &bytes.message(), offset),
         Step::RealTime(byte) => fill_system_line(line, &byte.message(), offset),
         Step::Exclusive(bytes) => fill_exclusive_line(line, bytes.len() - 2, offset),
@@ -50,12 +52,13 @@ pub fn fill_step_line(line: &mut Line, step: &Step<'_>, offset: u64) -> bool
     true
 }
 
-fn fill_voice_line(line: &mut Line, message: &Voice1, offset: u64)
-    ensures text { line.new ≡ decimal offset ++ codes " " ++ voice1_fields None message.now ++ codes "\n" }
+fn fill_voice_line(line: &mut Line, bytes: &VoiceBytes, offset: u64)
+    ensures text { line.new
+        ≡ decimal offset ++ codes " " ++ voice1_fields None (voice_in bytes.now) ++ codes "\n" }
     ensures some { 0 < length line.new }
 {
     begin(line, offset);
-    put_voice1(line, None, message);
+    put_voice1(line, None, &bytes.message());
     put_text(line, "\n");
 }
 

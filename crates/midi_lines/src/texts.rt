@@ -2,7 +2,7 @@
 ghost use Rattle.std.specs.Prelude.{◌≡◌, ◌<◌, ◌≤◌, ◌+◌, ◌*◌, ◌++◌, length, codes, IfSome, Some, None, true, false, if◌then◌else◌};
 ghost use Rattle.system_stream.specs.Joined.{joined_view};
 ghost use Rattle.midi_lines.specs.TextLines.{IsWithinLimit, joined_text, spaced_bytes, text_kind_word};
-ghost use Rattle.midi_lines.specs.Room.{HasRoom, AddsAtMost, before_kind, longest_text, longest_word};
+ghost use Rattle.midi_lines.specs.Room.{HasRoom, AddsAtMost, before_text, longest_text, longest_word};
 
 use crate::line::Line;
 use crate::put::{put_hex_bytes, put_text};
@@ -61,7 +61,7 @@ fn fill_bad_text(line: &mut Line, kind: TextKind)
 // Makes the line the kind of a text, in the place of another one.
 fn begin(line: &mut Line, kind: TextKind)
     ensures text { line.new ≡ codes "text " ++ text_kind_word kind }
-    ensures room { length line.new ≤ before_kind }
+    ensures room { length line.new ≤ before_text }
 {
     line.clear();
     put_text(line, "text ");

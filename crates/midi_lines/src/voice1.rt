@@ -7,10 +7,13 @@ ghost use Rattle.midi_lines.specs.Room.{HasRoomForEnd, before_fields, before_kin
 
 use crate::line::Line;
 use crate::put::{put_field, put_hex_field, put_text};
-use crate::voice::{put_control, put_group_field, put_note_value, put_value, put_voice};
+use crate::voice::{
+    VoiceAddress, put_control, put_group_field, put_note_value, put_value, put_voice,
+};
 use voice_messages::{System, U4, U7, U14, Voice1};
 
 /// Adds the kind and the fields of a channel voice message.
+#[inline(always)]
 pub fn put_voice1(line: &mut Line, group: Option<U4>, message: &Voice1)
     requires { length line.old ≤ before_kind }
     ensures text { line.new ≡ line.old ++ voice1_fields group message.now }
@@ -21,12 +24,24 @@ pub fn put_voice1(line: &mut Line, group: Option<U4>, message: &Voice1)
             channel,
             note,
             velocity,
-        } => put_note(line, "m1-note-off", group, *channel, *note, *velocity),
+        } => put_note(
+            line,
+            "m1-note-off",
+            VoiceAddress::new(group, *channel),
+            *note,
+            *velocity,
+        ),
         Voice1::NoteOn {
             channel,
             note,
             velocity,
-        } => put_note(line, "m1-note-on", group, *channel, *note, *velocity),
+        } => put_note(
+            line,
+            "m1-note-on",
+            VoiceAddress::new(group, *channel),
+            *note,
+            *velocity,
+        ),
         Voice1::PolyPressure {
             channel,
             note,
@@ -43,12 +58,13 @@ pub fn put_voice1(line: &mut Line, group: Option<U4>, message: &Voice1)
     }
 }
 
-fn put_note(line: &mut Line, kind: &str, group: Option<U4>, channel: U4, note: U7, velocity: U7)
+#[inline(always)]
+fn put_note(line: &mut Line, kind: &str, address: VoiceAddress, note: U7, velocity: U7)
     requires { length line.old + length kind.now ≤ before_fields }
-    ensures text { line.new ≡ line.old ++ m1_note kind.now group channel note velocity }
+    ensures text { line.new ≡ line.old ++ m1_note kind.now address.group address.channel note velocity }
     ensures room { HasRoomForEnd line.new }
 {
-    put_voice(line, kind, group, channel);
+    put_voice(line, kind, address);
     put_field(line, " note=", note.get() as u32);
     put_field(line, " velocity=", velocity.get() as u32);
 }
@@ -59,7 +75,13 @@ fn put_poly_pressure(line: &mut Line, group: Option<U4>, channel: U4, note: U7, 
     ensures text { line.new ≡ line.old ++ note_value (codes "m1-poly") group channel note value }
     ensures room { HasRoomForEnd line.new }
 {
-    put_note_value(line, "m1-poly", group, channel, note, value.get() as u32);
+    put_note_value(
+        line,
+        "m1-poly",
+        VoiceAddress::new(group, channel),
+        note,
+        value.get() as u32,
+    );
 }
 
 #[inline(always)]
@@ -71,19 +93,19 @@ fn put_control_change(line: &mut Line, group: Option<U4>, channel: U4, index: U7
     put_control(
         line,
         "m1-control",
-        group,
-        channel,
+        VoiceAddress::new(group, channel),
         index,
         value.get() as u32,
     );
 }
 
+#[inline(always)]
 fn put_program(line: &mut Line, group: Option<U4>, channel: U4, program: U7)
     requires { length line.old ≤ before_kind }
     ensures text { line.new ≡ line.old ++ m1_program group channel program }
     ensures room { HasRoomForEnd line.new }
 {
-    put_voice(line, "m1-program", group, channel);
+    put_voice(line, "m1-program", VoiceAddress::new(group, channel));
     put_field(line, " program=", program.get() as u32);
 }
 
@@ -93,7 +115,12 @@ fn put_pressure(line: &mut Line, group: Option<U4>, channel: U4, value: U7)
     ensures text { line.new ≡ line.old ++ channel_value (codes "m1-pressure") group channel value }
     ensures room { HasRoomForEnd line.new }
 {
-    put_value(line, "m1-pressure", group, channel, value.get() as u32);
+    put_value(
+        line,
+        "m1-pressure",
+        VoiceAddress::new(group, channel),
+        value.get() as u32,
+    );
 }
 
 #[inline(always)]
@@ -102,7 +129,12 @@ fn put_bend(line: &mut Line, group: Option<U4>, channel: U4, value: U14)
     ensures text { line.new ≡ line.old ++ channel_value (codes "m1-bend") group channel value }
     ensures room { HasRoomForEnd line.new }
 {
-    put_value(line, "m1-bend", group, channel, value.get() as u32);
+    put_value(
+        line,
+        "m1-bend",
+        VoiceAddress::new(group, channel),
+        value.get() as u32,
+    );
 }
 
 /// Adds the kind and the fields of a system message.

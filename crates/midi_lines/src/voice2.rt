@@ -5,9 +5,10 @@ ghost use Rattle.midi_lines.specs.Fields.{field};
 ghost use Rattle.midi_lines.specs.Voice2Lines.{voice2_fields, kind_word, bank_field, param_fields, param_value, controller_fields, program, note_management};
 ghost use Rattle.midi_lines.specs.Room.{AddsAtMost, HasRoom, HasRoomForEnd, before_fields, before_kind, behind_channel, longest_field, longest_word};
 
+use crate::decimal::put_number;
 use crate::line::Line;
-use crate::put::{put_decimal, put_field, put_text, put_word_field};
-use crate::voice::{put_control, put_note_value, put_value, put_voice};
+use crate::put::{put_field, put_text, put_word_field};
+use crate::voice::{VoiceAddress, put_control, put_note_value, put_value, put_voice};
 use voice_messages::{Bank, Param, ParamKind, U4, U7, Voice2};
 
 /// Adds the kind and the fields of a channel voice message.
@@ -42,7 +43,7 @@ fn put_note_message(line: &mut Line, group: Option<U4>, message: &Voice2)
             attribute_type,
             attribute,
         } => {
-            put_voice(line, "note-off", group, *channel);
+            put_voice(line, "note-off", VoiceAddress::new(group, *channel));
             put_note(line, *note, *velocity, *attribute_type, *attribute);
         }
         Voice2::NoteOn {
@@ -52,7 +53,7 @@ fn put_note_message(line: &mut Line, group: Option<U4>, message: &Voice2)
             attribute_type,
             attribute,
         } => {
-            put_voice(line, "note-on", group, *channel);
+            put_voice(line, "note-on", VoiceAddress::new(group, *channel));
             put_note(line, *note, *velocity, *attribute_type, *attribute);
         }
         // Only a note off or a note on is told here.
@@ -73,7 +74,13 @@ fn put_per_note_message(line: &mut Line, group: Option<U4>, message: &Voice2)
             channel,
             note,
             value,
-        } => put_note_value(line, "poly", group, *channel, *note, *value),
+        } => put_note_value(
+            line,
+            "poly",
+            VoiceAddress::new(group, *channel),
+            *note,
+            *value,
+        ),
         Voice2::NoteController {
             channel,
             kind,
@@ -81,7 +88,7 @@ fn put_per_note_message(line: &mut Line, group: Option<U4>, message: &Voice2)
             index,
             value,
         } => {
-            put_voice(line, "note-controller", group, *channel);
+            put_voice(line, "note-controller", VoiceAddress::new(group, *channel));
             put_controller_fields(line, *kind, *note, *index);
             put_field(line, " value=", *value);
         }
@@ -89,12 +96,18 @@ fn put_per_note_message(line: &mut Line, group: Option<U4>, message: &Voice2)
             channel,
             note,
             value,
-        } => put_note_value(line, "note-bend", group, *channel, *note, *value),
+        } => put_note_value(
+            line,
+            "note-bend",
+            VoiceAddress::new(group, *channel),
+            *note,
+            *value,
+        ),
         Voice2::NoteManagement {
             channel,
             note,
             flags,
-        } => put_note_management(line, group, *channel, *note, *flags),
+        } => put_note_management(line, VoiceAddress::new(group, *channel), *note, *flags),
         // Only a message of one note that is neither a note off nor a note on is told here.
         _ => unreachable!(),
     }
@@ -113,30 +126,59 @@ fn put_channel_message(line: &mut Line, group: Option<U4>, message: &Voice2)
             channel,
             index,
             value,
-        } => put_control(line, "control", group, *channel, *index, *value),
+        } => put_control(
+            line,
+            "control",
+            VoiceAddress::new(group, *channel),
+            *index,
+            *value,
+        ),
         Voice2::Set {
             channel,
             param,
             value,
-        } => put_param(line, "parameter", group, *channel, *param, *value),
+        } => put_param(
+            line,
+            "parameter",
+            VoiceAddress::new(group, *channel),
+            *param,
+            *value,
+        ),
         Voice2::Shift {
             channel,
             param,
             value,
-        } => put_param(line, "relative", group, *channel, *param, *value),
+        } => put_param(
+            line,
+            "relative",
+            VoiceAddress::new(group, *channel),
+            *param,
+            *value,
+        ),
         Voice2::Program {
             channel,
             program,
             bank,
-        } => put_program(line, group, *channel, *program, bank),
-        Voice2::Pressure { channel, value } => put_value(line, "pressure", group, *channel, *value),
-        Voice2::Bend { channel, value } => put_value(line, "bend", group, *channel, *value),
+        } => put_program(line, VoiceAddress::new(group, *channel), *program, bank),
+        Voice2::Pressure { channel, value } => put_value(
+            line,
+            "pressure",
+            VoiceAddress::new(group, *channel),
+            *value,
+        ),
+        Voice2::Bend { channel, value } => put_value(
+            line,
+            "bend",
+            VoiceAddress::new(group, *channel),
+            *value,
+        ),
         // Only a message of the whole channel is told here.
         _ => unreachable!(),
     }
 }
 
 // The fields of a note off or note on behind its channel.
+#[inline(always)]
 fn put_note(line: &mut Line, note: U7, velocity: u16, attribute_type: u8, attribute: u16)
     requires { length line.old ≤ behind_channel }
     ensures text { line.new
@@ -174,22 +216,23 @@ fn put_param_fields(line: &mut Line, param: Param)
 }
 
 // A value of a parameter, or a change of its value.
-fn put_param(line: &mut Line, kind: &str, group: Option<U4>, channel: U4, param: Param, value: u32)
+#[inline(always)]
+fn put_param(line: &mut Line, kind: &str, address: VoiceAddress, param: Param, value: u32)
     requires { length line.old + length kind.now ≤ before_fields }
-    ensures text { line.new ≡ line.old ++ param_value kind.now group channel param value }
+    ensures text { line.new ≡ line.old ++ param_value kind.now address.group address.channel param value }
     ensures room { HasRoomForEnd line.new }
 {
-    put_voice(line, kind, group, channel);
+    put_voice(line, kind, address);
     put_param_fields(line, param);
     put_field(line, " value=", value);
 }
 
-fn put_program(line: &mut Line, group: Option<U4>, channel: U4, number: U7, bank: &Option<Bank>)
+fn put_program(line: &mut Line, address: VoiceAddress, number: U7, bank: &Option<Bank>)
     requires { length line.old ≤ before_kind }
-    ensures text { line.new ≡ line.old ++ program group channel number bank.now }
+    ensures text { line.new ≡ line.old ++ program address.group address.channel number bank.now }
     ensures room { HasRoomForEnd line.new }
 {
-    put_voice(line, "program", group, channel);
+    put_voice(line, "program", address);
     put_field(line, " program=", number.get() as u32);
     put_bank(line, bank);
 }
@@ -205,9 +248,9 @@ fn put_bank(line: &mut Line, bank: &Option<Bank>)
         None => put_text(line, " bank=none"),
         Some(bank) => {
             put_text(line, " bank=");
-            put_decimal(line, bank.msb.get() as u64);
+            put_number(line, bank.msb.get() as u32);
             put_text(line, "/");
-            put_decimal(line, bank.lsb.get() as u64);
+            put_number(line, bank.lsb.get() as u32);
         }
     }
 }
@@ -224,12 +267,12 @@ fn put_controller_fields(line: &mut Line, kind: ParamKind, note: U7, index: u8)
     put_field(line, " index=", index as u32);
 }
 
-fn put_note_management(line: &mut Line, group: Option<U4>, channel: U4, note: U7, flags: u8)
+fn put_note_management(line: &mut Line, address: VoiceAddress, note: U7, flags: u8)
     requires { length line.old ≤ before_kind }
-    ensures text { line.new ≡ line.old ++ note_management group channel note flags }
+    ensures text { line.new ≡ line.old ++ note_management address.group address.channel note flags }
     ensures room { HasRoomForEnd line.new }
 {
-    put_voice(line, "note-management", group, channel);
+    put_voice(line, "note-management", address);
     put_field(line, " note=", note.get() as u32);
     put_field(line, " flags=", flags as u32);
 }

@@ -1,8 +1,9 @@
 // A line of each kind.
 use function_blocks::{Place, Profile};
 use midi_lines::{
-    OutcomeName, block_line, byte_listing, endpoint_line, fact_line, fill_step_line,
-    fill_text_line, listing_line, packet_line, profile_line, protocol_line, step_line, text_line,
+    Line, OutcomeName, block_line, byte_listing, endpoint_line, fact_line, fill_step_line,
+    fill_text_line, listing_line, packet_line, profile_line, protocol_line, put_decimal, step_line,
+    text_line,
 };
 use midi_meaning::{Kind, Listed};
 use midi1_bytes::Parser;
@@ -28,6 +29,33 @@ fn is_shown(offset: u64, words: &[u32], text: &str) -> bool {
     match decode(&framed) {
         Ok(packet) => packet_line(&packet, words, offset).as_slice() == text.as_bytes(),
         Err(_) => false,
+    }
+}
+
+#[test]
+fn numbers_of_each_length(rt: HostRuntime) {
+    for (number, text) in [
+        (0, "0"),
+        (9, "9"),
+        (10, "10"),
+        (99, "99"),
+        (100, "100"),
+        (255, "255"),
+        (256, "256"),
+        (1_005, "1005"),
+        (9_999, "9999"),
+        (10_000, "10000"),
+        (1_000_070, "1000070"),
+        (99_999_999, "99999999"),
+        (100_000_000, "100000000"),
+        (4_200_000_301, "4200000301"),
+        (4_294_967_295, "4294967295"),
+        (4_294_967_296, "4294967296"),
+        (18_446_744_073_709_551_615, "18446744073709551615"),
+    ] {
+        let mut line = Line::new();
+        put_decimal(&mut line, number);
+        assert!(rt; line.as_slice() == text.as_bytes(), "{text}");
     }
 }
 
