@@ -6,10 +6,10 @@ use Rattle.std.proofs.lemmas.List.Concat.{flat_map-append}
 use Rattle.ump_words.specs.declared.words.Framed.{Framed}
 use Rattle.ump_grammar.specs.declared.packet.Packet.{Packet}
 use Rattle.pass_loop.specs.Places.{Places, with_more}
-use Rattle.pass_loop.specs.Put.{Put, notes_in, notes_of, output_in, output_of}
+use Rattle.pass_loop.specs.Put.{notes_in, notes_of, output_in, output_of}
 use Rattle.packet_input.specs.Packets.{packet_cutting}
 use Rattle.packet_output.specs.Packets.{all_placed}
-use Rattle.endpoint_pass.specs.Answering.{closing_lines, packet_lines_over}
+use Rattle.endpoint_pass.specs.Answering.{packet_lines_over}
 use Rattle.endpoint_pass.specs.AnsweringMeans.{closing_output}
 use Rattle.endpoint_pass.specs.Laws.{DoneAnswersTheInput}
 

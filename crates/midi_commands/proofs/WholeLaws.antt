@@ -1,6 +1,6 @@
 -- What a run that is done leaves is what the laws of the passes tell of the whole input.
 use Rattle.std.proofs.Common.{◌≡◌, ℕ, List, [], ◌∷◌, ◌++◌, Option, None, Some, refl, ap, sym, ◌∙◌, subst, inl, inr}
-use Rattle.std.specs.Prelude.{IfSome, Ok, Err, Result, ◌⊎◌}
+use Rattle.std.specs.Prelude.{IfSome, Ok, Err, Result}
 use Rattle.clip_pass.specs.Ends.{ClipEnds}
 use Rattle.clip_pass.specs.Laws.{DoneShowsTheClip}
 use Rattle.command_line.specs.Asked.{Asked, down, up, back, show, show_bytes, endpoint}
@@ -8,7 +8,7 @@ use Rattle.command_line.specs.Asked.{usb_split, usb_pack, sysex8, rehearse, clip
 use Rattle.endpoint_pass.specs.Laws.{DoneAnswersTheInput}
 use Rattle.function_blocks.specs.Setups.{SetupData}
 use Rattle.pass_loop.specs.Pass.{Ends, IsDone, Pass, Seen}
-use Rattle.pass_loop.specs.Places.{FailsAt, Places, Puts}
+use Rattle.pass_loop.specs.Places.{Places, Puts}
 use Rattle.pass_loop.specs.Put.{Put}
 use Rattle.pass_loop.specs.PutLaws.{over_puts-none}
 use Rattle.pass_loop.specs.declared.ends.RunEnd.{RunEnd}
@@ -19,11 +19,10 @@ use Rattle.translation_passes.specs.Laws.{DoneCarriesTheInput, DoneRaisesTheInpu
 use Rattle.translation_passes.specs.Laws.{DoneShowsTheRecording, DoneShowsTheStream}
 use Rattle.usb_passes.specs.Laws.{DonePacksTheInput, DoneSplitsTheInput}
 use Rattle.usb_passes.specs.Split.{splitting}
-use Rattle.midi_commands.specs.Command.{Plan, back_pass, back_pass_options, called_event_pass, down_pass, down_pass_options}
+use Rattle.midi_commands.specs.Command.{back_pass, back_pass_options, called_event_pass, down_pass, down_pass_options}
 use Rattle.midi_commands.specs.Command.{endpoint_pass, endpoint_pass_options, event_pass, pack_pass, pack_pass_options, plan_of}
 use Rattle.midi_commands.specs.Command.{show_bytes_pass, show_bytes_pass_options, show_pass, show_pass_options, sysex8_pass}
 use Rattle.midi_commands.specs.Command.{sysex8_pass_options, up_pass, up_pass_options}
-use Rattle.midi_commands.specs.LastLine.{last_puts}
 use Rattle.midi_commands.specs.Run.{Does, FindsSetup, HasLastLine, Objects, RunSays, Runs, RunsInto, RunsWith, ShelfSeen, ShowsClip}
 use Rattle.midi_commands.specs.Run.{opened, status_after}
 use Rattle.midi_commands.specs.WholeInput.{DoneLeavesTheWhole, LeavesAll, LeavesTheWhole}

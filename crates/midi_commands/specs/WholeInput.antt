@@ -11,13 +11,15 @@ use Rattle.translation_passes.specs.Laws.{CarriesTheInput, RaisesTheInput, Retur
 use Rattle.usb_passes.specs.Laws.{PacksTheInput, SplitsTheInput}
 use Rattle.midi_commands.specs.Command.{back_pass_options, show_bytes_pass_options, down_pass_options, endpoint_pass_options, pack_pass_options}
 use Rattle.midi_commands.specs.Command.{show_pass_options, plan_of, sysex8_pass_options, up_pass_options}
-use Rattle.midi_commands.specs.Run.{Does, FindsSetup, Objects, PutsLineAlone}
+use Rattle.midi_commands.specs.Run.{Does, FindsSetup, Objects, PutsLineAlone, opened}
 use Rattle.midi_commands.specs.SelfTest.{self_test_text}
 use Rattle.midi_commands.specs.declared.status.Status.TheVariants.{Done}
 
--- what each command leaves of an input of these bytes; a self test reads none, and leaves its line
+-- what each command leaves of an input of these bytes, in a folder once the lanes are opened there; a self test reads none, and leaves its
+-- line
 abbrev pub LeavesAll : Asked → List ℕ → Objects → Objects → Type 0
-LeavesAll (down folder options) bytes old new = CarriesTheInput (down_pass_options options) bytes old.seen new.seen
+LeavesAll (down folder options) bytes old new =
+    CarriesTheInput (down_pass_options options) bytes (opened folder old.seen) new.seen
 LeavesAll (up options) bytes old new = RaisesTheInput (up_pass_options options) bytes old.seen new.seen
 LeavesAll (back options) bytes old new = ReturnsTheInput (back_pass_options options) bytes old.seen new.seen
 LeavesAll (show options) bytes old new = ShowsTheRecording (show_pass_options options) bytes old.seen new.seen
@@ -25,9 +27,10 @@ LeavesAll (show_bytes options) bytes old new = ShowsTheStream (show_bytes_pass_o
 LeavesAll (endpoint name options) bytes old new =
     (setup : SetupData) × FindsSetup name old.shelf new.shelf (Ok setup)
     × AnswersTheInput (endpoint_pass_options options setup) bytes old.seen new.seen
-LeavesAll (usb_split folder) bytes old new = SplitsTheInput bytes old.seen new.seen
+LeavesAll (usb_split folder) bytes old new = SplitsTheInput bytes (opened folder old.seen) new.seen
 LeavesAll (usb_pack options) bytes old new = PacksTheInput (pack_pass_options options) bytes old.seen new.seen
-LeavesAll (sysex8 folder options) bytes old new = JoinsTheInput (sysex8_pass_options options) bytes old.seen new.seen
+LeavesAll (sysex8 folder options) bytes old new =
+    JoinsTheInput (sysex8_pass_options options) bytes (opened folder old.seen) new.seen
 LeavesAll (rehearse name) bytes old new =
     (setup : SetupData) × FindsSetup name old.shelf new.shelf (Ok setup)
     × RehearsesTheInput setup bytes old.seen new.seen

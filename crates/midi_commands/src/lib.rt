@@ -4,8 +4,8 @@
 
 mod commands;
 mod ending;
-pub mod laws;
 mod last_line;
+pub mod laws;
 mod self_test_line;
 mod status;
 
