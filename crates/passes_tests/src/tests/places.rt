@@ -13,7 +13,7 @@ pub(super) struct Places {
 }
 
 // Places in which nothing fails, with no room in the lanes.
-pub(super) fn places(alloc: Global) -> Result<Places, Fail>
+pub(super) fn begun_places(alloc: Global) -> Result<Places, Fail>
     ensures { IfOk result (λ places. places.lanes.begun ≡ true) }
 {
     let notes = MemSink::new(alloc, 512, Vec::new(alloc))?;

@@ -1,5 +1,5 @@
 // What is put is written out before an input that may wait is read, and not before a file is.
-use super::places::places;
+use super::places::begun_places;
 use clip_pass::run_clip;
 use midi_edge::{BufferedSource, U4, WriteSink};
 use std::alloc::Global;
@@ -13,7 +13,7 @@ const CLIP: &[u8] = b"SMF2CLIP\x00\x30\x00\x01\
 
 // What the output of a clip's lines has written out, and loses no more, at the end of the pass.
 fn written_of_clip(alloc: Global, mut input: BufferedSource<&[u8]>) -> Result<[u8; 24], Fail> {
-    let mut places = places(alloc)?;
+    let mut places = begun_places(alloc)?;
     let mut written = [0; 24];
     let mut output = WriteSink::new(written.as_mut_slice());
     let _end = run_clip(
@@ -27,7 +27,7 @@ fn written_of_clip(alloc: Global, mut input: BufferedSource<&[u8]>) -> Result<[u
 
 // The same of the events of a stream.
 fn written_of_events(alloc: Global, mut input: BufferedSource<&[u8]>) -> Result<[u8; 8], Fail> {
-    let mut places = places(alloc)?;
+    let mut places = begun_places(alloc)?;
     let mut written = [0; 8];
     let mut output = WriteSink::new(written.as_mut_slice());
     let engine = PackRun::new(alloc, U4::low_bits(2), 8)?;
