@@ -1,14 +1,14 @@
-// Messages by hand from the tables of M2-101-UM, and rehearsals with
-// a responder of one block and one profile.
+// Messages by hand from the tables of M2-101-UM, and the most messages of a rehearsal. The rows of
+// `midi_commands_tests` tell of other rehearsals.
 use ci_initiator::{Ask, EventFault, Initiator, Noted, Rehearsal, Told, Watch, watches_differ};
 use ci_messages::laws::views_that_are_read_fit;
 use ci_messages::{Address, ProfileId, read};
-use ci_responder::{Heard, Key};
+use ci_responder::Heard;
 use endpoint_fixtures::{
     BROADCAST, CiMessage, DEMO_SETUP, DISCOVERY_REPLY, Muid, OTHER_PROFILE, PROFILE, SECOND_MUID,
     profile_id,
 };
-use function_blocks::{Place, Setup};
+use function_blocks::Setup;
 use midi_edge::ShortList;
 use std::alloc::Global;
 use std::test::Fail;
@@ -17,106 +17,6 @@ use voice_messages::{U4, U7};
 fn opened(alloc: Global) -> Option<Rehearsal> {
     let setup = Setup::read(alloc, DEMO_SETUP.as_bytes()).ok()?;
     Rehearsal::new(alloc, &setup).ok()
-}
-
-fn profile_key() -> Key {
-    Key {
-        block: 0,
-        place: Place::Channel(U4::low_bits(0), U4::low_bits(2)),
-        id: profile_id(),
-    }
-}
-
-// Whether the events of a rehearsal are told so, one after the other.
-fn are_told(rehearsal: &mut Rehearsal, events: &[(u8, u16, Told)]) -> bool {
-    for (kind, number, told) in events {
-        if rehearsal.event(*kind, *number) != Ok(*told) {
-            return false;
-        }
-    }
-    true
-}
-
-// What a rehearsal holds of a watch; `None` too where there is no such watch.
-fn holds(rehearsal: &Rehearsal, k: usize) -> Option<bool> {
-    if k < rehearsal.watches() {
-        rehearsal.holds(k)
-    } else {
-        None
-    }
-}
-
-const SWITCHED_ON: [(u8, u16, Told); 6] = [
-    (0, 0, Told::Asked),
-    (1, 0, Told::Heard(Heard::Answered)),
-    (2, 0, Told::Noted(Noted::Peer)),
-    (0, 2, Told::Asked),
-    (1, 1, Told::Heard(Heard::Answered)),
-    (2, 1, Told::Noted(Noted::Told(0))),
-];
-
-#[test]
-fn a_profile_is_switched_on(rt: HostRuntime) {
-    let mut rehearsal = opened(rt.alloc()).expect(&rt, "no memory");
-    assert_eq!(rt; rehearsal.watches(), 1);
-    assert!(rt; are_told(&mut rehearsal, &SWITCHED_ON));
-    assert_eq!(rt; holds(&rehearsal, 0), Some(true));
-    assert_eq!(rt; rehearsal.profile_is_on(&profile_key()), Some(true));
-}
-
-// The report of the first switch comes again, after the second one:
-// it is believed, and the responder's profile is off.
-#[test]
-fn an_old_report_is_believed(rt: HostRuntime) {
-    let mut rehearsal = opened(rt.alloc()).expect(&rt, "no memory");
-    assert!(rt; are_told(&mut rehearsal, &SWITCHED_ON));
-    let again = [
-        (0, 3, Told::Asked),
-        (1, 2, Told::Heard(Heard::Answered)),
-        (2, 1, Told::Noted(Noted::Told(0))),
-    ];
-    assert!(rt; are_told(&mut rehearsal, &again));
-    assert_eq!(rt; holds(&rehearsal, 0), Some(true));
-    assert_eq!(rt; rehearsal.profile_is_on(&profile_key()), Some(false));
-}
-
-// An inventory tells what is on and off; what was only asked isn't held.
-#[test]
-fn an_inventory_is_held(rt: HostRuntime) {
-    let mut rehearsal = opened(rt.alloc()).expect(&rt, "no memory");
-    let events = [
-        (0, 0, Told::Asked),
-        (1, 0, Told::Heard(Heard::Answered)),
-        (2, 0, Told::Noted(Noted::Peer)),
-        (0, 2, Told::Asked),
-        (0, 1, Told::Asked),
-        (1, 2, Told::Heard(Heard::Answered)),
-    ];
-    assert!(rt; are_told(&mut rehearsal, &events));
-    assert_eq!(rt; holds(&rehearsal, 0), None);
-    assert!(rt; are_told(&mut rehearsal, &[(2, 1, Told::Noted(Noted::Inventory))]));
-    assert_eq!(rt; holds(&rehearsal, 0), Some(false));
-    let later = [
-        (1, 1, Told::Heard(Heard::Answered)),
-        (1, 2, Told::Heard(Heard::Answered)),
-        (2, 3, Told::Noted(Noted::Inventory)),
-    ];
-    assert!(rt; are_told(&mut rehearsal, &later));
-    assert_eq!(rt; holds(&rehearsal, 0), Some(true));
-}
-
-#[test]
-fn events_that_ask_for_what_is_not_there(rt: HostRuntime) {
-    let mut rehearsal = opened(rt.alloc()).expect(&rt, "no memory");
-    let bad = Err(EventFault::BadEvent);
-    assert_eq!(rt; rehearsal.event(0, 2), bad);
-    assert_eq!(rt; rehearsal.event(1, 0), bad);
-    assert_eq!(rt; rehearsal.event(2, 0), bad);
-    assert_eq!(rt; rehearsal.event(3, 0), bad);
-    assert!(rt; are_told(&mut rehearsal, &SWITCHED_ON));
-    assert_eq!(rt; rehearsal.event(0, 4), bad);
-    assert_eq!(rt; rehearsal.event(1, 2), bad);
-    assert_eq!(rt; rehearsal.event(2, 2), bad);
 }
 
 #[test]

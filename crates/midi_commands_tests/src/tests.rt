@@ -4,17 +4,22 @@
 ghost use Rattle.std.specs.Prelude.{◌<◌};
 
 mod back_rows;
+mod block_rows;
 mod byte_rows;
 mod clip_rows;
 mod compact_rows;
 mod down_rows;
 mod endpoint_rows;
+mod exclusive_rows;
 mod fault_rows;
 mod finish_rows;
+mod heard_rows;
 mod paired_rows;
+mod parameter_rows;
 mod readme_rows;
 mod rehearse_rows;
 mod selftest_rows;
+mod setup_rows;
 mod show_rows;
 mod state_rows;
 mod sysex8_rows;

@@ -1,5 +1,5 @@
-// Packets by hand from the tables of M2-104-UM and M2-101-UM, taken by
-// an endpoint of one block with two MUIDs and one profile.
+// Packets by hand from the tables of M2-104-UM and M2-101-UM, taken by an endpoint of one block with two MUIDs
+// and one profile. The rows of `midi_commands_tests` tell of the rest.
 ghost use Rattle.std.specs.Prelude.{◌≤◌};
 ghost use Rattle.std.specs.Option.{IfSome};
 ghost use Rattle.ump_grammar.specs.Ranges.{IsPacket};
@@ -9,9 +9,7 @@ use function_blocks::Setup;
 use midi_edge::U4;
 use std::alloc::Global;
 use std::test::Fail;
-use ump_endpoint::{
-    BadStep, CiFault, Endpoint, Heard, Key, Kind, Listed, MOST_REPLY_WORDS, Outcome, Place, Taken,
-};
+use ump_endpoint::{BadStep, Endpoint, Heard, Key, Outcome, Place, Taken};
 use ump_grammar::{Packet, decode};
 use ump_words::words::words_in_packet;
 use ump_words::{Framed, Words};
@@ -67,67 +65,6 @@ fn ended(outcome: Outcome) -> Option<Result<Taken, BadStep>> {
     }))
 }
 
-// A packet that lost this, and ended a message of which this became, if it ended one.
-fn lost(outcome: Option<Outcome>, offset: u64, kind: Kind) -> Option<Result<Taken, BadStep>> {
-    let listed = Listed {
-        offset,
-        group: Some(U4::low_bits(2)),
-        kind,
-    };
-    Some(Ok(Taken {
-        outcome,
-        listed: Some(listed),
-    }))
-}
-
-#[test]
-fn a_discovery_is_answered_packet_by_packet(rt: HostRuntime) -> Result<(), Fail> {
-    let alloc = rt.alloc();
-    let mut endpoint = opened(alloc, 6)?;
-    let discovery = [0xF0000101u32, 0x0000001F, 0, 0];
-    let result = taken(&mut endpoint, &discovery, 0);
-    assert_eq!(rt; result, ended(Outcome::Answered));
-    let mut replies = endpoint.replies();
-    assert!(rt; replies.words().len() <= MOST_REPLY_WORDS);
-    for expected in [
-        [0xF0010101u32, 0x81000300, 0, 0],
-        [0xF0020000, 0x007D0000, 0x01000200, 0x01000000],
-        [0xF4034465, 0x6D6F2045, 0x6E64706F, 0x696E7420],
-        [0xFC035800, 0, 0, 0],
-        [0xF004534E, 0x2D303030, 0x31000000, 0],
-        [0xF0060200, 0, 0, 0],
-    ] {
-        match replies.next() {
-            Some(words) => assert_eq!(rt; words, expected.as_slice()),
-            None => assert!(rt; false, "a reply is missing"),
-        }
-    }
-    assert!(rt; replies.is_empty());
-    assert!(rt; replies.next().is_none());
-    Ok(())
-}
-
-#[test]
-fn a_request_puts_its_protocol_in_force(rt: HostRuntime) -> Result<(), Fail> {
-    let alloc = rt.alloc();
-    let mut endpoint = opened(alloc, 6)?;
-    assert_eq!(rt; endpoint.protocol(), 2);
-    let result = taken(&mut endpoint, &[0xF0050100, 0, 0, 0], 0);
-    assert_eq!(rt; result, ended(Outcome::Answered));
-    assert_eq!(rt; endpoint.protocol(), 1);
-    assert_eq!(rt;
-        endpoint.replies().words(),
-        [0xF0060100u32, 0, 0, 0].as_slice()
-    );
-    let result = taken(&mut endpoint, &[0xF4000101, 0x0000001F, 0, 0], 0);
-    assert_eq!(rt; result, ended(Outcome::BadFormat));
-    assert!(rt; endpoint.replies().is_empty());
-    let note = taken(&mut endpoint, &[0x40903C00, 0xC9240000], 0);
-    assert_eq!(rt; note, Some(Ok(NOTHING)));
-    assert_eq!(rt; endpoint.setup().block_count(), 1);
-    Ok(())
-}
-
 #[test]
 fn a_profile_is_switched_on(rt: HostRuntime) -> Result<(), Fail> {
     let alloc = rt.alloc();
@@ -157,20 +94,6 @@ fn a_profile_is_switched_on(rt: HostRuntime) -> Result<(), Fail> {
         }
     }
     assert!(rt; replies.is_empty());
-    Ok(())
-}
-
-#[test]
-fn an_exclusive_that_is_lost_is_listed(rt: HostRuntime) -> Result<(), Fail> {
-    let alloc = rt.alloc();
-    let mut endpoint = opened(alloc, 6)?;
-    let stray = taken(&mut endpoint, &[0x32210100, 0], 0);
-    assert_eq!(rt; stray, lost(None, 0, Kind::StrayExclusive));
-    let begun = taken(&mut endpoint, &[0x32110100, 0], 8);
-    assert_eq!(rt; begun, Some(Ok(NOTHING)));
-    let both = taken(&mut endpoint, &[0x32010100, 0], 16);
-    let unread = Outcome::Unread(CiFault::NotCi);
-    assert_eq!(rt; both, lost(Some(unread), 8, Kind::CutExclusive));
     Ok(())
 }
 

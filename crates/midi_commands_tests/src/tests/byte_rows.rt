@@ -52,6 +52,72 @@ output 6 m1-program channel=1 program=5
 output 9 m1-bend channel=1 value=8192
 output 12 system status=F2 value=129
 
+# a common message cuts what running status has begun, and is open at the end
+run show --bytes
+input 90 3C 64 3E F8 F1
+leaves Done
+output 2 m1-note-on channel=0 note=60 velocity=100
+output 4 system status=F8
+output 3 cut-message
+output 5 open-message
+
+# a message under running status is open at the end
+run show --bytes
+input 90 3C 64 3E
+leaves Done
+output 2 m1-note-on channel=0 note=60 velocity=100
+output 3 open-message
+
+# undefined and common statuses and a stray end of an exclusive end running status
+run show --bytes
+input 90 01 02 F4 03 90 01 02 F5 03 90 01 02 F6 03 90 01 02 F7 03
+leaves Done
+output 2 m1-note-on channel=0 note=1 velocity=2
+output 3 undefined
+output 4 stray
+output 7 m1-note-on channel=0 note=1 velocity=2
+output 8 undefined
+output 9 stray
+output 12 m1-note-on channel=0 note=1 velocity=2
+output 13 system status=F6
+output 14 stray
+output 17 m1-note-on channel=0 note=1 velocity=2
+output 18 stray
+output 19 stray
+
+# so do common messages with data, and an exclusive
+run show --bytes
+input 90 01 02 F3 03 04 90 01 02 F1 03 04 90 01 02 F0 F7 04 C0 01 F2 03 04 05
+leaves Done
+output 2 m1-note-on channel=0 note=1 velocity=2
+output 4 system status=F3 value=3
+output 5 stray
+output 8 m1-note-on channel=0 note=1 velocity=2
+output 10 system status=F1 value=3
+output 11 stray
+output 14 m1-note-on channel=0 note=1 velocity=2
+output 16 exclusive length=0
+output 17 stray
+output 19 m1-program channel=0 program=1
+output 22 system status=F2 value=515
+output 23 stray
+
+# two ends of an exclusive behind a message that is begun
+run show --bytes
+input 90 01 F7 F7
+leaves Done
+output 0 cut-message
+output 2 stray
+output 3 stray
+
+# an exclusive goes on behind Real Time and an undefined status of that kind
+run show --bytes
+input F0 01 F8 FD
+leaves Done
+output 2 system status=F8
+output 3 undefined
+output 0 open-exclusive
+
 # no bytes
 run show --bytes
 leaves Done

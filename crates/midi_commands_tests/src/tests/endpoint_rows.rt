@@ -485,10 +485,31 @@ const REQUEST_STEPS: &str = "\
 17 note-cut |b| / note block 0 muid 19088743
 17 note-cut |p| / note profile 0 channel 0 2 7E00010100 off";
 
-// The six replies, the line, and the lines at the end.
+const CI_DISCOVERY: &str = "\
+# a MIDI-CI Discovery from MUID 5
+run endpoint a.toml
+input 30167E7F 0D700205 30260000 007F7F7F
+input 30267F7D 00000100 30260200 01000000
+input 30360400 02000000
+demo-setup";
+
+const CI_DISCOVERY_STEPS: &str = "\
+40 output 30 / output 30167E7F 0D710267
+40 output+ 30 / output+ 30260A0D 09050000
+40 output 30 / output 3026007D 00000100
+40 output+ 30 / output+ 30260200 01000000
+40 output 30 / output 30260400 00400000
+40 output+ 30 / output+ 30310000 00000000
+40 note-cut |3| / note 32 0 answered
+41 note-cut |p| / note protocol 2
+41 note-cut |b| / note block 0 muid 19088743
+41 note-cut |p| / note profile 0 channel 0 2 7E00010100 off";
+
+// The replies, the line, and the lines at the end.
 #[test]
 fn each_read_and_put_fails_in_turn(rt: HostRuntime) -> Result<(), Fail> {
     let alloc = rt.alloc();
     all_fail_in_turn(&rt, alloc, DISCOVERY, DISCOVERY_STEPS)?;
-    all_fail_in_turn(&rt, alloc, REQUEST, REQUEST_STEPS)
+    all_fail_in_turn(&rt, alloc, REQUEST, REQUEST_STEPS)?;
+    all_fail_in_turn(&rt, alloc, CI_DISCOVERY, CI_DISCOVERY_STEPS)
 }

@@ -66,15 +66,30 @@ fn said_of(alloc: Global, steps: &[Step<'_>], part: &str) -> Result<String, Fail
     let mut said = String::new(alloc);
     for place in PLACES {
         for step in steps {
-            if step.whole.starts_with(place.kind) {
-                write!(said, "\n{}", step.whole)?;
-            }
+            push_put(&mut said, &place, step.whole)?;
         }
-        if part.starts_with(place.kind) {
-            write!(said, "\n{part}")?;
-        }
+        push_put(&mut said, &place, part)?;
     }
     Ok(said)
+}
+
+// Adds a put in this place: in a line of its own, or behind `+` in the line that is begun. What comes behind `|`
+// there is in the next line.
+fn push_put(said: &mut String, place: &FaultPlace, put: &str) -> Result<(), Fail> {
+    let Some(rest) = put.strip_prefix(place.kind) else {
+        return Ok(());
+    };
+    match rest.strip_prefix('+') {
+        Some(more) => {
+            let (here, next) = more.split_once(" |").unwrap_or((more, ""));
+            said.push_str(here)?;
+            if !next.is_empty() {
+                write!(said, "\n{}{next}", place.kind)?;
+            }
+        }
+        None => write!(said, "\n{put}")?,
+    }
+    Ok(())
 }
 
 // Each read fails in turn, the input coming byte by byte.
@@ -198,6 +213,37 @@ const STREAM_STEPS: &str = "\
 10 output-cut |9| / output 9 m1-note-on channel=0 note=60 velocity=100
 12 output-cut |1| / output 10 open-message";
 
+// Two notes under running status, a registered parameter, an exclusive of eight bytes, a message that a
+// program change cuts off, and one that is open at the end.
+const RAISED: &str = "\
+# a stream is raised
+run translate up --room 8
+input 90 3C 64 3E 64 B0 65 00 64 00 06 02 F0 01 02 03 04 05 06 07 08 F7 90 3C C0 05 90 3C";
+
+const RAISED_STEPS: &str = "\
+3 output 40 / output 40903C00 C9240000
+5 output+ 40 / output+ 40903E00 C9240000
+12 output 40 / output 40200000 04000000
+22 output+ 30 / output+ 30160102 03040506
+22 output 30 / output 30320708 00000000
+25 note-cut |2| / note 22 0 cut-message
+26 output+ 40 / output+ 40C00000 05000000
+29 note-cut |2| / note 26 0 open-message";
+
+const RETURNED: &str = "\
+# the stream is raised, and comes back
+run translate back --room 8
+input 90 3C 64 3E 64 B0 65 00 64 00 06 02 F0 01 02 03 04 05 06 07 08 F7 90 3C C0 05 90 3C";
+
+const RETURNED_STEPS: &str = "\
+3 output 90 / output 90 3C 64
+5 output+ 90 / output+ 90 3E 64
+12 output+ B0 / output+ B0 65 00 B0 64 00 B0 06 02 B0 | 26 00
+22 output+ F0 / output+ F0 01 02 03 04 05 06 07 08 F7
+25 note-cut |2| / note 22 0 cut-message
+26 output+ C0 / output+ C0 05
+29 note-cut |2| / note 26 0 open-message";
+
 #[test]
 fn each_front_of_a_recording(rt: HostRuntime) -> Result<(), Fail> {
     let alloc = rt.alloc();
@@ -211,4 +257,11 @@ fn each_read_and_put_fails_in_turn(rt: HostRuntime) -> Result<(), Fail> {
     all_fail_in_turn(&rt, alloc, CARRIED, CARRIED_STEPS)?;
     all_fail_in_turn(&rt, alloc, SHOWN, SHOWN_STEPS)?;
     all_fail_in_turn(&rt, alloc, STREAM, STREAM_STEPS)
+}
+
+#[test]
+fn each_read_and_put_of_a_stream_fails_in_turn(rt: HostRuntime) -> Result<(), Fail> {
+    let alloc = rt.alloc();
+    all_fail_in_turn(&rt, alloc, RAISED, RAISED_STEPS)?;
+    all_fail_in_turn(&rt, alloc, RETURNED, RETURNED_STEPS)
 }

@@ -101,6 +101,84 @@ output 18 inventory
 output held 0 off
 output profile 0 channel 0 2 7E00010100 off
 
+# what is asked is held only once it is told
+run rehearse a.toml
+input 000000 010000 020000 000002 000001 010002
+demo-setup
+leaves Done
+output 0 asked
+output 3 answered
+output 6 peer
+output 9 asked
+output 12 asked
+output 15 answered
+output held 0 unknown
+output profile 0 channel 0 2 7E00010100 off
+
+# a later inventory tells that it is on
+run rehearse a.toml
+input 000000 010000 020000 000002 000001 010002 020001 010001 010002 020003
+demo-setup
+leaves Done
+output 0 asked
+output 3 answered
+output 6 peer
+output 9 asked
+output 12 asked
+output 15 answered
+output 18 inventory
+output 21 answered
+output 24 answered
+output 27 inventory
+output held 0 on
+output profile 0 channel 0 2 7E00010100 on
+
+# a question is heard before any was put
+run rehearse a.toml
+input 010000
+demo-setup
+leaves Refused { reason: BadEvent, offset: 0 }
+note refused BadEvent at 0
+
+# a watch that is not there is asked for
+run rehearse a.toml
+input 000000 010000 020000 000002 010001 020001 000004
+demo-setup
+leaves Refused { reason: BadEvent, offset: 18 }
+output 0 asked
+output 3 answered
+output 6 peer
+output 9 asked
+output 12 answered
+output 15 told
+note refused BadEvent at 18
+
+# a question is heard that was not put
+run rehearse a.toml
+input 000000 010000 020000 000002 010001 020001 010002
+demo-setup
+leaves Refused { reason: BadEvent, offset: 18 }
+output 0 asked
+output 3 answered
+output 6 peer
+output 9 asked
+output 12 answered
+output 15 told
+note refused BadEvent at 18
+
+# a reply is heard that was not given
+run rehearse a.toml
+input 000000 010000 020000 000002 010001 020001 020002
+demo-setup
+leaves Refused { reason: BadEvent, offset: 18 }
+output 0 asked
+output 3 answered
+output 6 peer
+output 9 asked
+output 12 answered
+output 15 told
+note refused BadEvent at 18
+
 # the first event has no kind
 run rehearse a.toml
 input 030000

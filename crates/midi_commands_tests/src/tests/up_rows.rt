@@ -96,6 +96,34 @@ leaves Done
 output 10F80000
 note 0 0 open-exclusive
 
+# undefined and common statuses cut what is begun
+run translate up --room 16
+input F0 01 F4 FD F2 F7
+leaves Done
+note 0 0 cut-exclusive
+note 2 0 undefined
+note 3 0 undefined
+note 4 0 cut-message
+note 5 0 stray
+
+# an exclusive of eighteen bytes does not fit a room of sixteen
+run translate up --room 16
+input F0 01 02 03 04 05 06 07 08 09 0A 0B 0C 0D 0E 0F 10 11 12
+leaves Refused { reason: ExclusiveTooLong, offset: 17 }
+note refused ExclusiveTooLong at 17
+
+# an exclusive of six bytes in one packet
+run translate up
+input F0 01 02 03 04 05 06 F7
+leaves Done
+output 30060102 03040506
+
+# a Real Time message within an exclusive
+run translate up --room 6
+input F0 01 02 F8 03 04 05 06 F7
+leaves Done
+output 10F80000 30060102 03040506
+
 # a data increment ends the raising
 run translate up --room 9
 input B0 60 00

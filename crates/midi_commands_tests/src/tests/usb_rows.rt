@@ -40,6 +40,39 @@ leaves Refused { reason: ExclusiveTooLong, offset: 8 }
 output 0FF80000
 note refused ExclusiveTooLong at 8
 
+# exclusives cut every three bytes, whose last event has one, two or three
+run usb pack --cable 2
+input F0 01 02 03 F7 F0 F7 F0 01 F7 F0 01 02 F7
+leaves Done
+output 24F00102 2603F700 26F0F700 27F001F7
+output 24F00102 25F70000
+
+# system messages, a program and a bend by their codes
+run usb pack --cable 1
+input F1 05 F2 34 12 F3 07 F6 FF C0 05 E0 01 02
+leaves Done
+output 12F10500 13F23412 12F30700 15F60000
+output 1FFF0000 1CC00500 1EE00102
+
+# what is cut off, stray, undefined and open
+run usb pack --cable 3
+input F0 01 02 F6 05 F9 90 F7 F4 90 3C
+leaves Done
+output 35F60000
+note 0 3 cut-exclusive
+note 4 3 stray
+note 5 3 undefined
+note 6 3 cut-message
+note 7 3 stray
+note 8 3 undefined
+note 9 3 open-message
+
+# an exclusive of seventeen bytes does not fit a room of sixteen
+run usb pack --room 16
+input F0 01 01 01 01 01 01 01 01 01 01 01 01 01 01 01 01 01
+leaves Refused { reason: ExclusiveTooLong, offset: 17 }
+note refused ExclusiveTooLong at 17
+
 # what the README shows: the events of a device with two cables
 run usb split --folder F
 input 09903C64 19914050 04F07E7F 0FF80000

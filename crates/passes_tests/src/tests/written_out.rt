@@ -1,15 +1,19 @@
 // What is put is written out before an input that may wait is read, and not before a file is.
-use super::passes::CLIP;
-use super::places::places_with;
+use super::places::begun_places;
 use clip_pass::run_clip;
 use midi_edge::{BufferedSource, U4, WriteSink};
 use std::alloc::Global;
 use std::test::Fail;
 use usb_passes::{PackRun, run_pack};
 
+// A clip of no ticks, with one tick for a quarter note.
+const CLIP: &[u8] = b"SMF2CLIP\x00\x30\x00\x01\
+    \xF0\x20\x00\x00\x00\x00\x00\x00\x00\x00\x00\x00\x00\x00\x00\x00\
+    \xF0\x21\x00\x00\x00\x00\x00\x00\x00\x00\x00\x00\x00\x00\x00\x00";
+
 // What the output of a clip's lines has written out, and loses no more, at the end of the pass.
 fn written_of_clip(alloc: Global, mut input: BufferedSource<&[u8]>) -> Result<[u8; 24], Fail> {
-    let mut places = places_with(alloc, 0, None, None)?;
+    let mut places = begun_places(alloc)?;
     let mut written = [0; 24];
     let mut output = WriteSink::new(written.as_mut_slice());
     let _end = run_clip(
@@ -23,7 +27,7 @@ fn written_of_clip(alloc: Global, mut input: BufferedSource<&[u8]>) -> Result<[u
 
 // The same of the events of a stream.
 fn written_of_events(alloc: Global, mut input: BufferedSource<&[u8]>) -> Result<[u8; 8], Fail> {
-    let mut places = places_with(alloc, 0, None, None)?;
+    let mut places = begun_places(alloc)?;
     let mut written = [0; 8];
     let mut output = WriteSink::new(written.as_mut_slice());
     let engine = PackRun::new(alloc, U4::low_bits(2), 8)?;

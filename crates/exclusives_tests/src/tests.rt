@@ -1,3 +1,0 @@
-// The exclusives of sixteen groups, and those of many streams.
-mod groups;
-mod streams;
