@@ -55,17 +55,13 @@ pub trait Items<A, I> {
 
     /// The same as `next`, for calls where no whole item is held, which are few: a reader whose items are
     /// many and large has it out of line, so that the loop of a pass has the reading of an item once.
-    #[inline(always)]
     fn next_read<S: Source>(&mut self, input: &mut S) -> Next<A, I>
         ensures answer { (first : Self) (all : Option (List ℕ)) (items : List (A × I)) →
             HasGiven first self.old (given all (S.left input.old) items) →
             GivesNext (IsCut first) Promises (HasGiven first self.new)
             (given all (S.left input.new) items) result }
         ensures nearer { ComesNearer (to_go self.old) (to_go self.new) result }
-        ensures cause { NextCause (S.faults input.old) (S.faults input.new) result }
-    {
-        self.next(input)
-    }
+        ensures cause { NextCause (S.faults input.old) (S.faults input.new) result };
 
     /// A new reader has given nothing.
     ghost starts: { (first : Self) (all : Option (List ℕ)) → IsNew first →
