@@ -5,7 +5,6 @@ use Rattle.function_blocks.specs.Setups.{SetupData}
 use Rattle.ump_endpoint.specs.Held.{EndpointState}
 use Rattle.c_answers.specs.Numbers.{number_of}
 use Rattle.c_answers.specs.declared.status.Status.{Status}
-use Rattle.c_answers.specs.declared.status.Status.TheVariants as statuses
 use Rattle.c_endpoint.specs.Opening.{OpensBy}
 use Rattle.c_handles.specs.declared.engine.Engine.{Engine}
 use Rattle.larboardyuzu_c.specs.EndpointCalls.{Makes}

@@ -15,7 +15,7 @@ use Rattle.c_translators.specs.Blocks.{nothing_taken}
 use Rattle.c_translators.specs.ByteBlocks.{AreTaken}
 use Rattle.c_translators.specs.declared.block.Block.{Block}
 use Rattle.c_translators.specs.declared.raised.RaisedWords.{RaisedWords}
-use Rattle.larboardyuzu_c.specs.Held.{HoldsUp, is_room, Opens, opens_in_range}
+use Rattle.larboardyuzu_c.specs.Held.{HoldsUp, is_room, Opens}
 
 -- a translator for a stream that has had no byte yet
 abbrev pub new_up : ℕ → ℕ → Bool → UpState
