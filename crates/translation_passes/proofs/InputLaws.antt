@@ -12,7 +12,7 @@ use Rattle.midi1_bytes.specs.Stream.{Open, open_at_end}
 use Rattle.midi_meaning.specs.declared.listed.Listed.{Listed}
 use Rattle.midi_meaning.specs.Agreement.{Agrees}
 use Rattle.midi_meaning.specs.Back.{SameState, back, back_of_bytes}
-use Rattle.midi_meaning.specs.Listing.{end_lines, lines_over, listing_of}
+use Rattle.midi_meaning.specs.Listing.{end_lines, lines_over}
 use Rattle.midi_meaning.specs.Messages.{as_they_come, mean1, meaning1, raised}
 use Rattle.midi_meaning.specs.Packets.{mean2, meaning2}
 use Rattle.midi_meaning.specs.Parts.{Placed, parts_of}
@@ -29,7 +29,6 @@ use Rattle.pass_loop.specs.Bytes.{byte_cutting, bytes_read}
 use Rattle.pass_loop.specs.Places.{Places, with_more}
 use Rattle.pass_loop.specs.Put.{Put, in_lane, in_notes, in_output, notes_in, notes_of, output_in, output_of, pair_of, pairs_in}
 use Rattle.listing_notes.specs.LineLaws.{notes-lines, output-lines, pairs-lines}
-use Rattle.listing_notes.specs.Lines.{line_puts}
 use Rattle.packet_input.specs.Packets.{packet_cutting}
 use Rattle.packet_output.specs.Packets.{all_placed, placed_of}
 use Rattle.packet_output.specs.Written.{AreWritten}
