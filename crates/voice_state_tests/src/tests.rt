@@ -231,6 +231,22 @@ fn a_note_of_a_stream(rt: HostRuntime) {
     messages_tell(&rt, rt.alloc(), &[message], &[on(60, 100)]);
 }
 
+// A state keeps all notes: the 65,537th and those after it find memory too.
+#[test]
+fn many_notes(rt: HostRuntime) {
+    let mut state = new_state(&rt, rt.alloc());
+    let message = Voice1::NoteOn {
+        channel: u4(0),
+        note: u7(60),
+        velocity: u7(100),
+    };
+    for _ in 0..70_000u32 {
+        state.apply1(u4(0), &message).expect(&rt, "memory is ample");
+    }
+    let facts = state.facts(rt.alloc()).expect(&rt, "memory is ample");
+    assert_eq!(rt; facts.len(), 70_000);
+}
+
 #[test]
 fn a_program_change_with_its_bank(rt: HostRuntime) {
     let packet = midi2(Voice2::Program {
