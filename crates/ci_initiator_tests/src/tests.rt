@@ -5,8 +5,8 @@ use ci_messages::laws::views_that_are_read_fit;
 use ci_messages::{Address, ProfileId, read};
 use ci_responder::Heard;
 use endpoint_fixtures::{
-    BROADCAST, CiMessage, DEMO_SETUP, DISCOVERY_REPLY, Muid, OTHER_PROFILE, PROFILE, SECOND_MUID,
-    profile_id,
+    BROADCAST, CiMessage, DEMO_SETUP, DISCOVERY_REPLY, MuidBytes, OTHER_PROFILE, PROFILE,
+    SECOND_MUID, profile_id,
 };
 use function_blocks::Setup;
 use midi_edge::ShortList;
@@ -37,11 +37,11 @@ fn too_many_messages(rt: HostRuntime) {
 // ---- the initiator alone
 
 // 1, the initiator's own; 300, the peer's; and 77.
-const OWN: Muid = [0x01, 0x00, 0x00, 0x00];
+const OWN: MuidBytes = [0x01, 0x00, 0x00, 0x00];
 
-const PEER: Muid = SECOND_MUID;
+const PEER: MuidBytes = SECOND_MUID;
 
-const OTHER: Muid = [0x4D, 0x00, 0x00, 0x00];
+const OTHER: MuidBytes = [0x4D, 0x00, 0x00, 0x00];
 
 // One profile on and two off; and the same the other way round.
 const ON_OFF: [u8; 19] = [
@@ -57,8 +57,8 @@ const OFF: [u8; 14] = [
 fn came<'a>(
     address: u8,
     sub: u8,
-    source: Muid,
-    destination: Muid,
+    source: MuidBytes,
+    destination: MuidBytes,
     body: &'a [u8],
 ) -> CiMessage<'a> {
     CiMessage {

@@ -6,7 +6,7 @@ mod messages;
 mod setup_text;
 
 pub use messages::{
-    BROADCAST, CiMessage, DISCOVERY_REPLY, FIRST_MUID, Muid, OTHER_PROFILE, PEER, PROFILE,
+    BROADCAST, CiMessage, DISCOVERY_REPLY, FIRST_MUID, MuidBytes, OTHER_PROFILE, PEER, PROFILE,
     SECOND_MUID, framed, profile_id,
 };
 pub use setup_text::DEMO_SETUP;

@@ -7,19 +7,19 @@ use midi_edge::ShortList;
 use voice_messages::U7;
 
 /// A MUID as a message spells it: four data bytes, the low seven bits first.
-pub type Muid = [u8; 4];
+pub type MuidBytes = [u8; 4];
 
 /// The MUID that names all.
-pub const BROADCAST: Muid = [0x7F, 0x7F, 0x7F, 0x7F];
+pub const BROADCAST: MuidBytes = [0x7F, 0x7F, 0x7F, 0x7F];
 
 /// The MUID 5, of a peer.
-pub const PEER: Muid = [0x05, 0x00, 0x00, 0x00];
+pub const PEER: MuidBytes = [0x05, 0x00, 0x00, 0x00];
 
 /// 19088743, the first MUID of the function block of `DEMO_SETUP`.
-pub const FIRST_MUID: Muid = [0x67, 0x0A, 0x0D, 0x09];
+pub const FIRST_MUID: MuidBytes = [0x67, 0x0A, 0x0D, 0x09];
 
 /// 300, its second one.
-pub const SECOND_MUID: Muid = [0x2C, 0x02, 0x00, 0x00];
+pub const SECOND_MUID: MuidBytes = [0x2C, 0x02, 0x00, 0x00];
 
 /// The body of a reply to Discovery. Without its last byte, the function block, it is that of a Discovery;
 /// without its last two the body of either in version 01.
@@ -74,8 +74,8 @@ pub struct CiMessage<'a> {
     pub sub: u8,
     /// The version of the format of the message.
     pub version: u8,
-    pub source: Muid,
-    pub destination: Muid,
+    pub source: MuidBytes,
+    pub destination: MuidBytes,
     /// What comes after the MUIDs.
     pub body: &'a [u8],
 }

@@ -16,9 +16,9 @@ pub const MOST_BYTES: usize = 65_536;
 
 impl Setup {
     /// Reads the setup from a TOML text, by the rules in their order (`Rule`). A number is a TOML integer,
-    /// and unknown keys are ignored. `Field` is returned exactly when the rule of that number is the first
-    /// that is broken; `Syntax` exactly when the text is short enough and isn't UTF-8, or `toml` gives no
-    /// tree for it; `NoMemory` when there was no memory.
+    /// and unknown keys are ignored. `Field` is returned only when the rule of that number is the first that
+    /// is broken; `Syntax` only when the text is short enough and isn't UTF-8, or `toml` gives no tree for
+    /// it. Each comes then, unless there is no memory: then `NoMemory` is returned.
     pub fn read(alloc: Global, text: &[u8]) -> Result<Setup, SetupFault>
         ensures setup { MeetsRead (setup_of text.now) result }
         ensures fits { IfOk result IsSetup }
