@@ -17,13 +17,14 @@ const VERSION: u8 = 2;
 /// The most bytes of a System Exclusive message that is taken.
 const MOST_BYTES: u32 = 512;
 
-/// Who asks whom of the profile of a watch.
+/// Who asks whom about the profile of a watch.
 #[derive(Clone, Copy, Debug, PartialEq, Eq)]
 pub(crate) struct Question {
     /// The MUID of the one that asks, which isn't reserved.
     pub(crate) muid: Muid,
     /// The MUID of the peer.
     pub(crate) peer: Muid,
+    /// The profile that is asked about, and where.
     pub(crate) watch: Watch,
     ghost not_reserved: { muid < 0x0FFFFF00 },
 }

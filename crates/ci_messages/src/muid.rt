@@ -38,7 +38,7 @@ pub(crate) fn is_reserved(number: u32) -> bool
 }
 
 impl Muid {
-    /// The MUID of this number; `None` exactly where it has more than 28 bits.
+    /// The MUID of this number (M2-101-UM, MUID); `None` exactly where it has more than 28 bits.
     pub fn new(number: u32) -> Option<Muid>
         ensures { MatchOption result (2 ^ 28 ≤ number) (λ muid. (muid ≡ number) × (number < 2 ^ 28)) }
     {
@@ -49,7 +49,7 @@ impl Muid {
         }
     }
 
-    /// The number, of 28 bits.
+    /// The number, of 28 bits (M2-101-UM, MUID).
     pub fn get(self) -> u32
         ensures value { result ≡ self }
         ensures fits { self < 2 ^ 28 }
@@ -57,14 +57,15 @@ impl Muid {
         self.number
     }
 
-    /// Whether no device may have it as its own: 0FFFFF00 and above, which are reserved or broadcast.
+    /// Whether no device may have it as its own (M2-101-UM, MUID): 0FFFFF00 and above, which are reserved or
+    /// broadcast.
     pub fn is_reserved(self) -> bool
         ensures { result ≡ is_reserved_of self }
     {
         is_reserved(self.number)
     }
 
-    /// Whether it stands for all devices: 0FFFFFFF.
+    /// Whether it stands for all devices (M2-101-UM, MUID): 0FFFFFFF.
     pub fn is_broadcast(self) -> bool
         ensures { result ≡ (self == 0x0FFFFFFF) }
     {

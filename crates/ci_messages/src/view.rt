@@ -88,14 +88,14 @@ pub struct CiView<'a> {
 impl<'a> CiView<'a> {
     ghost use Rattle.std.specs.Prelude.{◌≡◌, ◌==◌, ◌||◌};
 
-    /// Whether the device of this MUID sends it.
+    /// Whether the device of this MUID sends it (M2-101-UM, MUID).
     pub fn is_from(&self, muid: Muid) -> bool
         ensures { result ≡ (self.now.source == muid) }
     {
         self.source == muid.get()
     }
 
-    /// Whether it is for the device of this MUID: for that one alone, or for all.
+    /// Whether it is for the device of this MUID (M2-101-UM, MUID): for that one alone, or for all.
     pub fn is_for(&self, muid: Muid) -> bool
         ensures { result ≡ (self.now.destination == muid || self.now.destination == 0x0FFFFFFF) }
     {

@@ -1,4 +1,5 @@
--- What a block does with a message. No contract of a public call rests on what stands here.
+-- For proofs alone: no contract of a public call rests on what stands here.
+-- What a block does with a message.
 use Rattle.std.specs.Prelude.{◌≡◌, ◌<◌, ℕ, Bool, true, false, ◌==◌, List, [], ◌∷◌, is_some}
 use Rattle.std.proofs.Common.{zero, suc}
 use Rattle.ci_responder.specs.declared.action.Action.{Action}
@@ -9,7 +10,7 @@ use Rattle.ci_responder.specs.declared.keys.Key.{Key}
 use Rattle.ci_responder.specs.Keys.{same_key, state_in}
 use Rattle.ci_responder.specs.Messages.{Received, discovery, endpoint, profiles, switch, key_at}
 
--- what a message is heard as with which this is done
+-- how a message is heard with which this is done
 abbrev pub heard_of : Action → Heard
 heard_of (action.Pass row) = row
 heard_of action.Invalidate = heard.Collision

@@ -1,4 +1,4 @@
-// The replies, by the row of the message.
+// The replies to messages.
 ghost use Rattle.std.specs.Prelude.{◌≡◌, ◌<◌, ◌≤◌, ◌==◌, Some, false, if◌then◌else◌};
 ghost use Rattle.ci_messages.specs.declared.view.Body.TheVariants as body;
 ghost use Rattle.ci_messages.specs.Fields.{FitsField, byte, bytes_of_field, number};

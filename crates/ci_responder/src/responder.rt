@@ -161,7 +161,7 @@ impl Responder {
         spend(self.blocks.as_mut_slice(), owner.block as usize);
     }
 
-    // Does what is to be done with a message: what it is heard as, and the reply to it.
+    // Carries out an action, and gives what the message is heard as, with the reply.
     fn act(
         &mut self,
         owner: &Owner,

@@ -31,7 +31,8 @@ fn is_report(sub: u8) -> bool
 
 // What is done with a message, if it isn't for all.
 fn unless_to_all(view: &CiView<'_>, otherwise: Action) -> Action
-    ensures { result ≡ (if view.now.destination == broadcast then action.Pass heard.Broadcast else otherwise) }
+    ensures { result ≡ (if view.now.destination == broadcast
+        then action.Pass heard.Broadcast else otherwise) }
 {
     if view.destination == BROADCAST {
         Action::Pass(Heard::Broadcast)

@@ -18,8 +18,8 @@ pub(crate) fn fill_resolution_line(line: &mut Line, ticks: u16)
     put_text(line, "\n");
 }
 
-/// Makes the line that of an event, in the place of another one: the ticks at which it stands, and the line of
-/// its packet (own rule).
+/// Makes the line that of an event, in the place of another one: the ticks at which it stands, and the line
+/// of its packet (own rule).
 #[inline(always)]
 pub(crate) fn fill_event_line(line: &mut Line, ticks: u64, framed: &Framed, packet: &Packet)
     ensures text { line.new ≡ event_text ticks (framed.now, packet.now) }

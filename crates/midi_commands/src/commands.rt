@@ -137,8 +137,9 @@ pub fn run<S: Source, L: Lanes, W: Sink, N: Sink, K: Shelf>(
         (objects S.Source L.Lanes W.Sink N.Sink K.Shelf input.new lanes.new output.new notes.new shelf.new)
         result }
 
-    // `Done` comes only where the words are a command. What stands then is exactly what the definitions tell of
-    // the whole input, each command by its own: `LeavesAll` has a line for each.
+    // `Done` comes only where the words are a command. Where the input tells its bytes, what was put is then
+    // exactly what the definitions tell of all of them, each command by its own: `LeavesAll` has a line for
+    // each. That all else stays is said by `says`.
     ensures whole { result ≡ Status.Done → LeavesTheWhole (command_of (map string_bytes words.now))
         (objects S.Source L.Lanes W.Sink N.Sink K.Shelf input.old lanes.old output.old notes.old shelf.old)
         (objects S.Source L.Lanes W.Sink N.Sink K.Shelf input.new lanes.new output.new notes.new shelf.new) }

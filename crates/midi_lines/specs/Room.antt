@@ -60,7 +60,7 @@ before_kind = before_packet + longest_number + longest_words + 1
 abbrev pub before_text : ℕ
 before_text = 5 + longest_word
 
--- what stands before its fields
+-- what stands before the fields of a message
 abbrev pub before_fields : ℕ
 before_fields = before_kind + longest_kind
 

@@ -221,7 +221,8 @@ fn put_channel(line: &mut Line, address: ChannelAddress)
 fn put_two_numbers(line: &mut Line, address: ChannelAddress, name: &str, first: U7, second: u32)
     requires old { length line.old ≤ before_kind }
     requires name { length name.now ≤ longest_word }
-    ensures text { line.new ≡ line.old ++ (of_channel address.group address.channel ++ two_numbers name.now first second) }
+    ensures text { line.new ≡ line.old
+        ++ (of_channel address.group address.channel ++ two_numbers name.now first second) }
     ensures room { HasRoomForEnd line.new }
 {
     put_channel(line, address);
@@ -234,7 +235,8 @@ fn put_two_numbers(line: &mut Line, address: ChannelAddress, name: &str, first: 
 fn put_value(line: &mut Line, address: ChannelAddress, name: &str, value: u32)
     requires old { length line.old ≤ before_kind }
     requires name { length name.now ≤ longest_word }
-    ensures text { line.new ≡ line.old ++ (of_channel address.group address.channel ++ name.now ++ spaced value) }
+    ensures text { line.new ≡ line.old
+        ++ (of_channel address.group address.channel ++ name.now ++ spaced value) }
     ensures room { HasRoomForEnd line.new }
 {
     put_channel(line, address);
@@ -245,7 +247,8 @@ fn put_value(line: &mut Line, address: ChannelAddress, name: &str, value: u32)
 fn put_program(line: &mut Line, address: ChannelAddress, program: U7, bank: Option<Bank>)
     requires { length line.old ≤ before_kind }
     ensures text { line.new ≡ line.old
-        ++ (of_channel address.group address.channel ++ codes " program" ++ spaced program ++ bank_words bank) }
+        ++ (of_channel address.group address.channel ++ codes " program" ++ spaced program
+        ++ bank_words bank) }
     ensures room { HasRoomForEnd line.new }
 {
     put_channel(line, address);

@@ -37,7 +37,7 @@ pub fn fill_packet_line(line: &mut Line, packet: &Packet, words: &[u32], offset:
 }
 
 /// Adds the line of a packet, as `packet_line` makes it, behind what the line has: nothing, or the ticks at
-/// which the packet stands and a space, at most 21 bytes (own rule).
+/// which the packet stands and a space, at most 21 bytes (own rule). A packet has 1 to 4 words.
 #[inline(always)]
 pub fn put_packet_line(line: &mut Line, packet: &Packet, words: &[u32], offset: u64)
     requires few { length words.now ≤ most_words }

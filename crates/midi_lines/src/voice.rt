@@ -79,7 +79,8 @@ pub fn put_note_value(line: &mut Line, kind: &str, address: VoiceAddress, note: 
 #[inline(always)]
 pub fn put_control(line: &mut Line, kind: &str, address: VoiceAddress, index: U7, value: u32)
     requires { length line.old + length kind.now ≤ before_fields }
-    ensures text { line.new ≡ line.old ++ controller_value kind.now address.group address.channel index value }
+    ensures text { line.new ≡ line.old
+        ++ controller_value kind.now address.group address.channel index value }
     ensures room { HasRoomForEnd line.new }
 {
     put_voice(line, kind, address);

@@ -57,8 +57,8 @@ fn read_packet<S: Source>(words: &mut WordReader, input: &mut S) -> Next<Framed,
     next_packet(words, 0, input)
 }
 
-// The same, taken apart and put together: so what comes from out of line is copied, and a packet that is read
-// in the loop needs no place in memory that both share.
+// What comes next, taken apart and put together: so what comes from out of line is copied, and a packet that
+// is read in the loop needs no place in memory that both share.
 #[inline(always)]
 fn apart<A, I>(next: Next<A, I>) -> Next<A, I>
     ensures { result ≡ next }

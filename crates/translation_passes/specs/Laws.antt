@@ -67,8 +67,8 @@ pub record RaisesTheInput (options : UpOptions) (bytes : List ℕ) (old new : Se
       (flat_map listing_text (listing_of_bytes options.paired (Some options.room) options.group bytes))
   pub left : new.left ≡ Some []
 
--- The output gained the plain pieces of these packets: after each byte the pieces so far mean what the bytes so far mean. The notes gained
--- the lines of the listing of the input.
+-- The output gained the plain pieces of the packets to which the bytes of the input are raised: after each byte the pieces so far mean what
+-- the bytes so far mean. The notes gained the lines of the listing of the input.
 pub record ReturnsTheInput (options : BackOptions) (bytes : List ℕ) (old new : Seen) : Type 0 where
   pub output : new.places.output
       ≡ with_more old.places.output (back_of_bytes options.paired (Some options.room) options.group bytes)

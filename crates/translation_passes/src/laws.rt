@@ -54,9 +54,9 @@ pub fn a_stream_that_is_raised_is_that_of_the_input()
     ensures { DoneRaisesTheInput }
 {}
 
-/// Where `translate back` is done, the output gained exactly the plain pieces of these packets: after each
-/// byte the pieces so far mean what the bytes so far mean. The notes gained exactly the lines of the listing
-/// of the whole stream.
+/// Where `translate back` is done, the output gained exactly the plain pieces of the packets to which the
+/// bytes of the whole input are raised: after each byte the pieces so far mean what the bytes so far mean.
+/// The notes gained exactly the lines of the listing of the whole stream.
 pub fn a_stream_that_comes_back_is_that_of_the_input()
     ensures { DoneReturnsTheInput }
 {}
@@ -67,8 +67,9 @@ pub fn a_recording_that_is_shown_is_that_of_the_input()
     ensures { DoneShowsTheRecording }
 {}
 
-/// Where `show --bytes` is done, the output gained exactly the lines of the bytes of the whole input, in their
-/// order, then that of what is open at the end, and those of what the bytes mean, where the state is asked for.
+/// Where `show --bytes` is done, the output gained exactly the lines of the bytes of the whole input, in
+/// their order, then that of what is open at the end, and those of what the bytes mean, where the state is
+/// asked for.
 pub fn a_stream_that_is_shown_is_that_of_the_input()
     ensures { DoneShowsTheStream }
 {}
