@@ -10,7 +10,7 @@ name := larboardyuzu-$(VERSION)
 archive := out/$(name).tar.gz
 stage := out/release/$(name)
 program := crates/midi_tool/out/midi_tool
-pages := README.md CHANGELOG.md VERSION larboardyuzu docs completions include
+pages := README.md CONTRIBUTING.md CHANGELOG.md VERSION larboardyuzu docs completions include
 examples := $(filter-out %.py examples/faults.c,$(wildcard examples/*.*)) $(addprefix examples/,c python rust)
 shared := c/out/liblarboardyuzu.so.$(VERSION)
 # The shared library has two links, by the first two numbers of the version and by none, which are packed as links.

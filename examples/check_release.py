@@ -22,7 +22,7 @@ WITHOUT_KIT = {"PATH": ":".join([*KITLESS, "/usr/bin", "/bin"]), "LC_ALL": "C.UT
 NO_PATH = {"PATH": ""}
 STRICT = ["-std=c11", "-O2", "-Wall", "-Wextra", "-Wpedantic", "-Werror"]
 MIXED = bytes.fromhex("40903C00C9240000")
-FILES = ["larboardyuzu", "libexec/larboardyuzu", "README.md", "CHANGELOG.md", "VERSION", "include/larboardyuzu.h",
+FILES = ["larboardyuzu", "libexec/larboardyuzu", "README.md", "CONTRIBUTING.md", "CHANGELOG.md", "VERSION", "include/larboardyuzu.h",
          "include/larboardyuzu.hpp", "man/man1/larboardyuzu.1", "completions/larboardyuzu.bash", "completions/_larboardyuzu",
          "docs/setup.md", "examples/endpoint.toml"]
 
@@ -61,7 +61,7 @@ class Unpacked:
 
 
 def check_members(release):
-    """One folder with the version in its name, and no file of anyone's own, of the kit or of the sources in it."""
+    """One folder with the version in its name, no file of anyone's own in it, and each of FILES."""
     version = check.read("VERSION").strip()
     folder = f"larboardyuzu-{version}"
     for it in release.members:
@@ -91,7 +91,7 @@ def check_program(release):
         code, output, _ = ran([at, "endpoint", setup], bytes.fromhex("F00001010000001F0000000000000000"), cwd=release.room, env=NO_PATH)
         if code or len(output) != 96:
             yield f"{at} endpoint: exit code {code}, {len(output)} bytes"
-    for words, begins in ((["--help"], b"usage: "), (["help", "clip"], b""), (["--version"], b"larboardyuzu ")):
+    for words, begins in ((["--help"], b"usage: "), (["help", "clip"], b"clip: "), (["--version"], b"larboardyuzu ")):
         code, output, errors = ran([script, *words], cwd=release.room, env=NO_PATH)
         if code or errors or not output.startswith(begins):
             yield f"{script} {' '.join(words)}: exit code {code}, {output[:80]}, {errors}"

@@ -88,7 +88,6 @@ def spans(path):
 def main():
     every = "--all" in sys.argv[1:]
     pages = {page: set(spans(f"{TOP}/docs/{page}.md")) for page in PAGES}
-    named = set().union(*pages.values())
     anywhere = set()
     for path in sorted(glob.glob(f"{TOP}/docs/*.md")):
         for span in re.findall(r"`([^`\n]+)`", read(path)):
