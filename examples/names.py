@@ -22,7 +22,7 @@ IS_TEST = re.compile(r"(_tests|_fixtures|_examples)$")
 
 
 def read(path):
-    with open(path, encoding="utf-8") as file:
+    with open(path, encoding="utf-8", errors="replace") as file:
         return file.read()
 
 
@@ -99,6 +99,8 @@ def main():
             known |= set(re.findall(WORD, read(path))) | {os.path.basename(path).split(".")[0]}
     for pattern in ("crates/*", "include/*", "c/**/*", "examples/**/*", "docs/*", "completions/*", "*", ".ci/*"):
         for path in glob.glob(f"{TOP}/{pattern}", recursive=True):
+            if re.search("/(out|__pycache__)(/|$)", path[len(TOP) :]):
+                continue
             known |= set(re.split(r"[.]", os.path.basename(path)))
             if os.path.isfile(path) and not path.endswith((".md", ".ump", ".usb", ".bytes", ".events", ".midi2")):
                 known |= set(re.findall(WORD, read(path)))
