@@ -1,10 +1,10 @@
 // What a caller with buffers of its own gets.
 use c_answers::{ListingLine, Status};
-use c_readers::{
+use c_streams::{
     ByteOutcome, CarriedBytes, JoinedPart, MessageParser, Sysex8Joiner, UsbPacker, split_event,
 };
-use c_states::{ByteState, FactNumbers, PacketState};
 use c_translators::{Block, Piece, RaisedWords, SizedDown, SizedUp};
+use c_voice_state::{ByteState, FactNumbers, PacketState};
 use down_translator::Style;
 use midi_edge::U4;
 use std::test::Fail;

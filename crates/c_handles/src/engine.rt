@@ -1,8 +1,8 @@
 // What a handle holds.
 use c_endpoint::AnsweringEndpoint;
-use c_readers::{MessageParser, Sysex8Joiner, UsbPacker};
-use c_states::{ByteState, PacketState};
+use c_streams::{MessageParser, Sysex8Joiner, UsbPacker};
 use c_translators::{SizedDown, SizedUp};
+use c_voice_state::{ByteState, PacketState};
 
 /// What was opened.
 #[derive(Drop)]

@@ -12,8 +12,8 @@ use Rattle.pass_loop.specs.Put.{Put}
 use Rattle.pass_loop.specs.PutLaws.{stops_more, then_puts}
 use Rattle.pass_loop.specs.declared.ends.RunEnd.{RunEnd}
 use Rattle.pass_loop.specs.declared.ends.RunEnd.TheVariants.{Refused}
-use Rattle.listing_notes.specs.Lines.{line_puts}
-use Rattle.listing_notes.specs.Refusal.{reason_of, refusal_by}
+use Rattle.listing_lines.specs.Lines.{line_puts}
+use Rattle.listing_lines.specs.Refusal.{reason_of, refusal_by}
 use Rattle.ump_endpoint.specs.Held.{EndpointState, refusal_in, replies_in, taken_by, taken_in}
 use Rattle.ump_endpoint.specs.declared.taken.Taken.{Taken}
 use Rattle.endpoint_pass.specs.Answering.{outcome_lines}

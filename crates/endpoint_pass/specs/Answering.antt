@@ -10,9 +10,9 @@ use Rattle.function_blocks.specs.declared.setup.Block.{Block}
 use Rattle.ci_messages.specs.declared.view.CiFault.{CiFault}
 use Rattle.ci_messages.specs.declared.view.CiFault.TheVariants as faults
 use Rattle.ci_responder.specs.History.{muid_at, on_at}
-use Rattle.ci_output.specs.Names.{name_of_heard}
-use Rattle.ci_output.specs.Profiles.{profile_lines}
-use Rattle.ci_output.specs.declared.profiles.LinePlace.TheVariants.{Notes}
+use Rattle.ci_text.specs.Names.{name_of_heard}
+use Rattle.ci_text.specs.Profiles.{profile_lines}
+use Rattle.ci_text.specs.declared.profiles.LinePlace.TheVariants.{Notes}
 use Rattle.midi_meaning.specs.Listing.{end_lines}
 use Rattle.midi_meaning.specs.Parts.{Placed, group_of, part_of, parts_of}
 use Rattle.midi_meaning.specs.Refusal.{bad_part}
@@ -22,8 +22,8 @@ use Rattle.midi_lines.specs.declared.endpoint.OutcomeName.TheVariants as names
 use Rattle.pass_loop.specs.Each.{for_each}
 use Rattle.pass_loop.specs.Pass.{Work}
 use Rattle.pass_loop.specs.Put.{Put, in_notes, notes_in, output_in}
-use Rattle.listing_notes.specs.Lines.{line_puts}
-use Rattle.listing_notes.specs.Refusal.{refusal_by}
+use Rattle.listing_lines.specs.Lines.{line_puts}
+use Rattle.listing_lines.specs.Refusal.{refusal_by}
 use Rattle.packet_output.specs.Packets.{all_placed, placed_of}
 use Rattle.packet_output.specs.Written.{AreWritten, AreWrittenAndListed, output_and_notes}
 use Rattle.ump_endpoint.specs.Answers.{in_force, packet_listed, packet_outcome, packet_replies, received_in_packets}

@@ -14,9 +14,9 @@ use Rattle.function_blocks.specs.Setups.{SetupData}
 use Rattle.function_blocks.specs.declared.setup.Block.{Block}
 use Rattle.ci_responder.specs.History.{muid_at, on_at}
 use Rattle.ci_responder.specs.Messages.{Received}
-use Rattle.ci_output.specs.ProfileLaws.{profiles_named}
-use Rattle.ci_output.specs.Profiles.{profile_lines}
-use Rattle.ci_output.specs.declared.profiles.LinePlace.TheVariants.{Notes}
+use Rattle.ci_text.specs.ProfileLaws.{profiles_named}
+use Rattle.ci_text.specs.Profiles.{profile_lines}
+use Rattle.ci_text.specs.declared.profiles.LinePlace.TheVariants.{Notes}
 use Rattle.midi_meaning.specs.Listing.{end_lines}
 use Rattle.midi_meaning.specs.Parts.{Placed, parts_of}
 use Rattle.midi_meaning.specs.declared.listed.Listed.{Listed}
@@ -25,8 +25,8 @@ use Rattle.pass_loop.specs.Each.{for_each}
 use Rattle.pass_loop.specs.Named.{AreNamed, Named, named-then}
 use Rattle.pass_loop.specs.Pass.{ArePut}
 use Rattle.pass_loop.specs.Put.{Put, in_lane, in_notes, in_output, notes_in, notes_of, output_in, output_of}
-use Rattle.listing_notes.specs.LineLaws.{lines_named}
-use Rattle.listing_notes.specs.Lines.{line_puts}
+use Rattle.listing_lines.specs.LineLaws.{lines_named}
+use Rattle.listing_lines.specs.Lines.{line_puts}
 use Rattle.packet_output.specs.Packets.{all_placed, placed_of}
 use Rattle.packet_output.specs.Written.{AreWritten, output_and_notes}
 use Rattle.packet_output.specs.WrittenLaws.{written-then, written_named}

@@ -8,8 +8,8 @@ use Rattle.pass_loop.specs.Pass.{Takes}
 use Rattle.pass_loop.specs.Places.{Places, Puts}
 use Rattle.pass_loop.specs.Put.{Put}
 use Rattle.pass_loop.specs.declared.ends.RunEnd.{RunEnd}
-use Rattle.listing_notes.specs.Lines.{line_puts}
-use Rattle.listing_notes.specs.Refusal.{refusal_by}
+use Rattle.listing_lines.specs.Lines.{line_puts}
+use Rattle.listing_lines.specs.Refusal.{refusal_by}
 use Rattle.packet_output.specs.Written.{AreWritten, AreWrittenAndListed}
 use Rattle.ump_endpoint.specs.Held.{EndpointState, listed_in, outcome_in, refusal_in, replies_in}
 use Rattle.endpoint_pass.specs.Answering.{outcome_lines}

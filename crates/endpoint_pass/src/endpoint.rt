@@ -25,13 +25,12 @@ ghost use Rattle.endpoint_pass.specs.Taking.{TakesPacket};
 
 use crate::lines::put_taken;
 use crate::replies::put_replies;
-use ci_output::{LinePlace, ProfileStates, put_profiles};
+use ci_text::{LinePlace, ProfileStates, put_profiles};
 use function_blocks::{Block, Setup};
-use listing_notes::refused;
+use listing_lines::{OpenExclusives, list_open, refused};
 use midi_edge::{Lanes, NoMemory, Sink, Source, U4};
 use midi_lines::{Line, block_line, protocol_line};
 use packet_input::{PacketReader, packets_are_cut_once};
-use packet_output::{OpenExclusives, list_open};
 use pass_loop::{Engine, Outputs, RunEnd, drive};
 use std::alloc::Global;
 use std::marker::Model;

@@ -1,13 +1,13 @@
 // The lines of what an endpoint did with a packet.
 ghost use Rattle.std.specs.Prelude.{◌≡◌, ◌++◌};
 ghost use Rattle.std.specs.Option.{option_to_list};
-ghost use Rattle.listing_notes.specs.Lines.{line_puts};
+ghost use Rattle.listing_lines.specs.Lines.{line_puts};
 ghost use Rattle.pass_loop.specs.Places.{Puts};
 ghost use Rattle.midi_meaning.specs.Parts.{group_of as group_in};
 ghost use Rattle.endpoint_pass.specs.Answering.{name_of as name_in, name_of_fault as fault_name, outcome_lines};
 
-use ci_output::name_of_heard;
-use listing_notes::put_listed;
+use ci_text::name_of_heard;
+use listing_lines::put_listed;
 use midi_edge::U4;
 use midi_lines::{Line, OutcomeName, fill_endpoint_line};
 use pass_loop::{Outputs, RunEnd};

@@ -9,7 +9,7 @@ use pass_loop::{Outputs, RunEnd};
 use ump_endpoint::ReplyPackets;
 use ump_words::Order;
 
-/// Puts the words of the packets in the output, each packet by one put.
+/// Puts the words of the packets in the output, one packet after the other.
 pub(crate) fn put_replies<O: Outputs>(
     replies: ReplyPackets<'_>,
     order: Order,

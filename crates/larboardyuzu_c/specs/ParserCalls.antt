@@ -7,10 +7,10 @@ use Rattle.c_answers.specs.declared.status.Status.{Status}
 use Rattle.c_answers.specs.declared.status.Status.TheVariants as statuses
 use Rattle.c_handles.specs.declared.engine.Engine.{Engine}
 use Rattle.c_handles.specs.declared.engine.Engine.TheVariants as engine
-use Rattle.c_readers.specs.Blocks.{AreBytesParsed}
-use Rattle.c_readers.specs.Outcomes.{asking, IsEnd}
-use Rattle.c_readers.specs.Parser.{IsByteParsed}
-use Rattle.c_readers.specs.declared.outcome.ByteOutcome.{ByteOutcome}
+use Rattle.c_streams.specs.Blocks.{AreBytesParsed}
+use Rattle.c_streams.specs.Outcomes.{asking, IsEnd}
+use Rattle.c_streams.specs.Parser.{IsByteParsed}
+use Rattle.c_streams.specs.declared.outcome.ByteOutcome.{ByteOutcome}
 use Rattle.larboardyuzu_c.specs.Held.{is_room, opens_in_range}
 
 -- a parser of which this is so

@@ -10,12 +10,12 @@ use Rattle.c_answers.specs.Numbers.{number_of}
 use Rattle.c_answers.specs.declared.status.Status.TheVariants as statuses
 use Rattle.c_handles.specs.declared.engine.Engine.{Engine}
 use Rattle.c_handles.specs.declared.engine.Engine.TheVariants as engine
-use Rattle.c_states.specs.Facts.{AreTold}
-use Rattle.c_states.specs.Bytes as bytes
-use Rattle.c_states.specs.Bytes.{ByteKept}
-use Rattle.c_states.specs.Kept as packets
-use Rattle.c_states.specs.Kept.{StateKept}
-use Rattle.c_states.specs.declared.fact_numbers.FactNumbers.{FactNumbers}
+use Rattle.c_voice_state.specs.Facts.{AreTold}
+use Rattle.c_voice_state.specs.Bytes as bytes
+use Rattle.c_voice_state.specs.Bytes.{ByteKept}
+use Rattle.c_voice_state.specs.Kept as packets
+use Rattle.c_voice_state.specs.Kept.{StateKept}
+use Rattle.c_voice_state.specs.declared.fact_numbers.FactNumbers.{FactNumbers}
 use Rattle.larboardyuzu_c.specs.Held.{is_room}
 
 -- a state of packets of which this is so

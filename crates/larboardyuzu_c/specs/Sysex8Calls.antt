@@ -5,8 +5,8 @@ use Rattle.c_answers.specs.Numbers.{number_of}
 use Rattle.c_answers.specs.declared.status.Status.TheVariants as statuses
 use Rattle.c_handles.specs.declared.engine.Engine.{Engine}
 use Rattle.c_handles.specs.declared.engine.Engine.TheVariants as engine
-use Rattle.c_readers.specs.Sysex8.{no_part, IsBegun, IsPacketJoined}
-use Rattle.c_readers.specs.declared.sysex8.JoinedPart.{JoinedPart}
+use Rattle.c_streams.specs.Sysex8.{no_part, IsBegun, IsPacketJoined}
+use Rattle.c_streams.specs.declared.sysex8.JoinedPart.{JoinedPart}
 use Rattle.c_answers.specs.declared.status.Status.{Status}
 use Rattle.larboardyuzu_c.specs.Held.{Opens}
 

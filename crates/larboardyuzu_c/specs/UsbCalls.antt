@@ -7,9 +7,9 @@ use Rattle.c_answers.specs.declared.line.ListingLine.{ListingLine}
 use Rattle.c_answers.specs.declared.status.Status.TheVariants as statuses
 use Rattle.c_handles.specs.declared.engine.Engine.{Engine}
 use Rattle.c_handles.specs.declared.engine.Engine.TheVariants as engine
-use Rattle.c_readers.specs.Outcomes.{IsEnd}
-use Rattle.c_readers.specs.Usb.{IsBytePacked}
-use Rattle.c_readers.specs.declared.outcome.ByteOutcome.{ByteOutcome}
+use Rattle.c_streams.specs.Outcomes.{IsEnd}
+use Rattle.c_streams.specs.Usb.{IsBytePacked}
+use Rattle.c_streams.specs.declared.outcome.ByteOutcome.{ByteOutcome}
 use Rattle.larboardyuzu_c.specs.Held.{is_room}
 use Rattle.larboardyuzu_c.specs.ParserCalls.{IsUntaken}
 use Rattle.larboardyuzu_c.specs.UpCalls.{opens}

@@ -4,7 +4,7 @@ ghost use Rattle.larboardyuzu_c.specs.ParserCalls.{AreBytesTaken, HasEnd, IsByte
 
 use c_answers::{ListingLine, Status};
 use c_handles::{Engine, Handle};
-use c_readers::{ByteOutcome, MessageParser};
+use c_streams::{ByteOutcome, MessageParser};
 use std::alloc::Global;
 
 /// Opens a handle: a parser with nothing open and no running status. `room` is the limit of an exclusive, 6

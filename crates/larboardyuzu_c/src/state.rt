@@ -5,7 +5,7 @@ ghost use Rattle.larboardyuzu_c.specs.StateCalls.{HasTold, IsByteTaken, IsMade, 
 
 use c_answers::Status;
 use c_handles::{Engine, Handle};
-use c_states::{ByteState, FactNumbers, PacketState};
+use c_voice_state::{ByteState, FactNumbers, PacketState};
 use std::alloc::Global;
 
 // Puts a state of packets in a handle that is closed.

@@ -5,7 +5,7 @@ ghost use Rattle.larboardyuzu_c.specs.Sysex8Calls.{HasBegun, IsOpened, IsTaken};
 
 use c_answers::Status;
 use c_handles::{Engine, Handle};
-use c_readers::{JoinedPart, Sysex8Joiner};
+use c_streams::{JoinedPart, Sysex8Joiner};
 use std::alloc::Global;
 
 /// Opens a handle: a join of the 8-bit exclusives of so many streams at once, 1 to 64. `room` is the limit of

@@ -1,11 +1,11 @@
 // The calls of USB-MIDI 1.0 events.
 ghost use Rattle.std.specs.Prelude.{◌≡◌, None};
-ghost use Rattle.c_readers.specs.Usb.{IsCarried};
+ghost use Rattle.c_streams.specs.Usb.{IsCarried};
 ghost use Rattle.larboardyuzu_c.specs.UsbCalls.{HasEnd, IsByteTaken, IsOpened};
 
 use c_answers::{ListingLine, Status};
 use c_handles::{Engine, Handle};
-use c_readers::{ByteOutcome, CarriedBytes, UsbPacker, split_event};
+use c_streams::{ByteOutcome, CarriedBytes, UsbPacker, split_event};
 use midi_edge::U4;
 use std::alloc::Global;
 

@@ -1,5 +1,3 @@
-pub mod Open
-pub mod OpenLaws
 pub mod Packets
 pub mod Written
 pub mod WrittenLaws

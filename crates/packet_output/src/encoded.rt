@@ -8,7 +8,7 @@ ghost use Rattle.ump_words.specs.Cut.{word_bytes};
 use pass_loop::{Outputs, RunEnd};
 use ump_words::{Order, pair_bytes, write_words};
 
-/// Puts the words of one packet in the output, in this order of their bytes, by one put. An `Err` is
+/// Puts the words of one packet in the output, in this order of their bytes. An `Err` is
 /// `OutputFault`, and comes only where the count of the output's faults rose.
 #[inline(always)]
 pub fn put_encoded<O: Outputs>(words: &[u32], order: Order, outputs: &mut O) -> Result<(), RunEnd>

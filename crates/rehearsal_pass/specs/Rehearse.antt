@@ -14,9 +14,9 @@ use Rattle.ci_initiator.specs.declared.noted.Noted.TheVariants as noted
 use Rattle.ci_initiator.specs.declared.watch.Watched.{Watched}
 use Rattle.ci_initiator.specs.Course.{Course, IsTold, course_of, stage_of}
 use Rattle.ci_initiator.specs.Stage.{Stage, event_of, next_by}
-use Rattle.ci_output.specs.Names.{name_of_heard}
-use Rattle.ci_output.specs.Profiles.{profile_lines}
-use Rattle.ci_output.specs.declared.profiles.LinePlace.TheVariants.{Output}
+use Rattle.ci_text.specs.Names.{name_of_heard}
+use Rattle.ci_text.specs.Profiles.{profile_lines}
+use Rattle.ci_text.specs.declared.profiles.LinePlace.TheVariants.{Output}
 use Rattle.midi_lines.specs.EndpointLines.{name_word, state_word}
 use Rattle.pass_loop.specs.Each.{for_each}
 use Rattle.pass_loop.specs.Pass.{Tail, Work}

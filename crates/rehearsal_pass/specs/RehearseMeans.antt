@@ -13,9 +13,9 @@ use Rattle.ci_initiator.specs.Course.{held_in}
 use Rattle.ci_initiator.specs.Laws.{HeldIsTold, StageIsTheCourse}
 use Rattle.ci_initiator.specs.Stage.{Stage, first_stage, next_by}
 use Rattle.ci_initiator.specs.Watching.{HasIds, watches_of_setup}
-use Rattle.ci_output.specs.ProfileLaws.{profiles_named}
-use Rattle.ci_output.specs.Profiles.{profile_lines}
-use Rattle.ci_output.specs.declared.profiles.LinePlace.TheVariants.{Output}
+use Rattle.ci_text.specs.ProfileLaws.{profiles_named}
+use Rattle.ci_text.specs.Profiles.{profile_lines}
+use Rattle.ci_text.specs.declared.profiles.LinePlace.TheVariants.{Output}
 use Rattle.pass_loop.specs.Named.{AreNamed, named-then}
 use Rattle.pass_loop.specs.Put.{Put}
 use Rattle.rehearsal_pass.specs.declared.event.CalledEvent.{CalledEvent}

@@ -34,7 +34,7 @@ ghost use Rattle.sysex8_pass.specs.Parts.{part_in};
 ghost use Rattle.sysex8_pass.specs.JoiningMeans.{joins_mean, joins_named, open_named};
 
 use crate::lines::{Kind8, kind_line, whole_line};
-use listing_notes::refused;
+use listing_lines::refused;
 use midi_edge::{Lanes, NoMemory, Sink, Source, U4};
 use midi_meaning::BadStep;
 use packet_input::{PacketReader, packets_are_cut_once};

@@ -28,7 +28,7 @@ use Rattle.down_translator.specs.Recording.{packets_of}
 use Rattle.pass_loop.specs.Bytes.{byte_cutting, bytes_read}
 use Rattle.pass_loop.specs.Places.{Places, with_more}
 use Rattle.pass_loop.specs.Put.{Put, in_lane, in_notes, in_output, notes_in, notes_of, output_in, output_of, pair_of, pairs_in}
-use Rattle.listing_notes.specs.LineLaws.{notes-lines, output-lines, pairs-lines}
+use Rattle.listing_lines.specs.LineLaws.{notes-lines, output-lines, pairs-lines}
 use Rattle.packet_input.specs.Packets.{packet_cutting}
 use Rattle.packet_output.specs.Packets.{all_placed, placed_of}
 use Rattle.packet_output.specs.Written.{AreWritten}

@@ -32,7 +32,7 @@ use Rattle.pass_loop.specs.Places.{Places}
 use Rattle.pass_loop.specs.Put.{Put, in_output}
 use Rattle.pass_loop.specs.StepLaws.{takes_steps}
 use Rattle.pass_loop.specs.declared.ends.RunEnd.{RunEnd}
-use Rattle.listing_notes.specs.Refusal.{refusal_by, refusal_of}
+use Rattle.listing_lines.specs.Refusal.{refusal_by, refusal_of}
 use Rattle.translation_passes.specs.KeptState.{Kept, KeepsPacket, KeepsStep, StandsFor, after_completed}
 use Rattle.translation_passes.specs.KeptState.{ended_by_answer, ended_in, fact_puts, with_ended}
 

@@ -9,7 +9,7 @@ use Rattle.down_translator.specs.declared.carried.LentLine.{LentLine}
 use Rattle.down_translator.specs.declared.lowered.LoweredMessage.{LoweredMessage}
 use Rattle.down_translator.specs.Carried.{line_in, listed_by}
 use Rattle.down_translator.specs.Lowered.{IsCarriedAs, attribute_line, lowered_bytes}
-use Rattle.listing_notes.specs.Lines.{line_puts}
+use Rattle.listing_lines.specs.Lines.{line_puts}
 use Rattle.translation_passes.specs.Down.{lowered_puts, pair_puts, puts_for}
 
 module _ (offset : ℕ) (m : LoweredMessage) (below : m.lane < 16) where

@@ -13,7 +13,7 @@ use Rattle.up_translator.specs.Laws.{RaisedBytesAreTheDefinition}
 use Rattle.up_translator.specs.Recording.{HoldsUp}
 use Rattle.up_translator.specs.Step.{Raises}
 use Rattle.pass_loop.specs.Bytes.{bytes_read}
-use Rattle.listing_notes.specs.Refusal.{refusal_by}
+use Rattle.listing_lines.specs.Refusal.{refusal_by}
 use Rattle.translation_passes.specs.Raised.{byte_refusal, refusal_at}
 
 -- ---- accepted bytes

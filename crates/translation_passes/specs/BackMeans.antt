@@ -19,9 +19,9 @@ use Rattle.pass_loop.specs.Bytes.{bytes_read}
 use Rattle.pass_loop.specs.Named.{AreNamed, named-then}
 use Rattle.pass_loop.specs.Pass.{ArePut}
 use Rattle.pass_loop.specs.Put.{Put, notes_in, notes_of, output_in, output_of}
-use Rattle.listing_notes.specs.LineLaws.{lines_named, notes-lines, output-lines}
+use Rattle.listing_lines.specs.LineLaws.{lines_named, notes-lines, output-lines}
 use Rattle.translation_passes.specs.Back.{HoldsBack, byte_pieces, piece_puts, plain_puts, returning}
-use Rattle.listing_notes.specs.Lines.{line_puts}
+use Rattle.listing_lines.specs.Lines.{line_puts}
 use Rattle.translation_passes.specs.Options.{BackOptions}
 use Rattle.translation_passes.specs.Raised.{byte_lines, byte_packets}
 use Rattle.packet_output.specs.Written.{output_and_notes}

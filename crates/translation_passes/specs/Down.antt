@@ -24,8 +24,8 @@ use Rattle.pass_loop.specs.Pass.{Takes, Work}
 use Rattle.pass_loop.specs.Places.{Places}
 use Rattle.pass_loop.specs.Put.{Put, in_lane, notes_in, pairs_in}
 use Rattle.pass_loop.specs.declared.ends.RunEnd.{RunEnd}
-use Rattle.listing_notes.specs.Lines.{line_puts}
-use Rattle.listing_notes.specs.Refusal.{refusal_by}
+use Rattle.listing_lines.specs.Lines.{line_puts}
+use Rattle.listing_lines.specs.Refusal.{refusal_by}
 use Rattle.translation_passes.specs.Options.{DownOptions}
 use Rattle.packet_output.specs.Packets.{all_placed, placed_of}
 

@@ -21,8 +21,8 @@ use Rattle.down_translator.specs.Recording.{AreInRange, packets_of}
 use Rattle.pass_loop.specs.Named.{AreNamed}
 use Rattle.pass_loop.specs.Pass.{ArePut}
 use Rattle.pass_loop.specs.Put.{Put, notes_in, notes_of, pair_of as pair_in, pairs_in}
-use Rattle.listing_notes.specs.LineLaws.{lines_named, notes-lines, pairs-lines}
-use Rattle.listing_notes.specs.Lines.{line_puts}
+use Rattle.listing_lines.specs.LineLaws.{lines_named, notes-lines, pairs-lines}
+use Rattle.listing_lines.specs.Lines.{line_puts}
 use Rattle.translation_passes.specs.Down.{HoldsDown, IsReadyDown, carried_puts, carrying, down_options, pair_puts}
 use Rattle.translation_passes.specs.Options.{DownOptions}
 use Rattle.packet_output.specs.Packets.{all_placed, placed_of}

@@ -19,8 +19,8 @@ use Rattle.pass_loop.specs.Places.{FailsAt, Places, over_puts}
 use Rattle.pass_loop.specs.Put.{Put, in_lane, in_notes, in_output}
 use Rattle.pass_loop.specs.declared.ends.RunEnd.{RunEnd}
 use Rattle.pass_loop.specs.declared.ends.RunEnd.TheVariants.{Refused}
-use Rattle.listing_notes.specs.Lines.{line_puts}
-use Rattle.listing_notes.specs.Refusal.{refusal_by}
+use Rattle.listing_lines.specs.Lines.{line_puts}
+use Rattle.listing_lines.specs.Refusal.{refusal_by}
 
 -- the puts in the output among these
 abbrev pub output_puts : List Put → List Put

@@ -8,8 +8,8 @@ use Rattle.midi_meaning.specs.StepListing.{kinds_at_end, line_up, open_pair}
 use Rattle.pass_loop.specs.Bytes.{bytes_read}
 use Rattle.pass_loop.specs.Named.{AreNamed}
 use Rattle.pass_loop.specs.Put.{Put, in_lane, in_notes, in_output}
-use Rattle.listing_notes.specs.LineLaws.{lines_named}
-use Rattle.listing_notes.specs.Lines.{line_puts}
+use Rattle.listing_lines.specs.LineLaws.{lines_named}
+use Rattle.listing_lines.specs.Lines.{line_puts}
 use Rattle.translation_passes.specs.Raised.{last_lines, output_puts}
 use Rattle.packet_output.specs.Written.{output_and_notes}
 

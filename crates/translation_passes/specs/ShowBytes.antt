@@ -18,7 +18,7 @@ use Rattle.midi_lines.specs.StepLines.{byte_listing_text, step_text}
 use Rattle.pass_loop.specs.Bytes.{bytes_read}
 use Rattle.pass_loop.specs.Named.{AreNamed, named-then}
 use Rattle.pass_loop.specs.Pass.{Work}
-use Rattle.listing_notes.specs.Refusal.{refusal_of}
+use Rattle.listing_lines.specs.Refusal.{refusal_of}
 use Rattle.translation_passes.specs.KeptState.{Kept, StandsFor, state_named, state_puts}
 use Rattle.translation_passes.specs.Options.{ByteLineOptions}
 use Rattle.translation_passes.specs.ShownLines.{shown_items}

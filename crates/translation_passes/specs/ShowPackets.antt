@@ -19,7 +19,7 @@ use Rattle.down_translator.specs.Recording.{AreInRange, packets_of}
 use Rattle.pass_loop.specs.Named.{AreNamed}
 use Rattle.pass_loop.specs.Pass.{Work}
 use Rattle.pass_loop.specs.Put.{Put, in_output, output_in}
-use Rattle.listing_notes.specs.Refusal.{refusal_by}
+use Rattle.listing_lines.specs.Refusal.{refusal_by}
 use Rattle.translation_passes.specs.KeptState.{Kept, StandsFor, state_named, state_puts}
 use Rattle.translation_passes.specs.Options.{PacketLineOptions}
 use Rattle.packet_output.specs.Packets.{all_placed}

@@ -15,8 +15,8 @@ use Rattle.pass_loop.specs.Bytes.{bytes_read}
 use Rattle.pass_loop.specs.Named.{AreNamed, named-then}
 use Rattle.pass_loop.specs.Pass.{ArePut}
 use Rattle.pass_loop.specs.Put.{Put, notes_in, notes_of}
-use Rattle.listing_notes.specs.LineLaws.{lines_named, notes-lines}
-use Rattle.listing_notes.specs.Lines.{line_puts}
+use Rattle.listing_lines.specs.LineLaws.{lines_named, notes-lines}
+use Rattle.listing_lines.specs.Lines.{line_puts}
 use Rattle.packet_output.specs.WrittenLaws.{written-then, written_named}
 use Rattle.translation_passes.specs.Options.{UpOptions}
 use Rattle.translation_passes.specs.Raised.{output_puts}

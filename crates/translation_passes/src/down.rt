@@ -13,9 +13,9 @@ ghost use Rattle.pass_loop.specs.Put.{in_lane};
 ghost use Rattle.midi_meaning.specs.Listing.{groups};
 ghost use Rattle.down_translator.specs.Lowered.{attribute_line, lowered_bytes};
 ghost use Rattle.down_translator.specs.Recording.{pair_put};
-ghost use Rattle.listing_notes.specs.Lines.{line_puts};
+ghost use Rattle.listing_lines.specs.Lines.{line_puts};
 ghost use Rattle.translation_passes.specs.Down.{Carries, HoldsDown, IsReadyDown, carrying, lowered_puts, down_options, pair_puts, puts_for};
-ghost use Rattle.packet_output.specs.Open.{open_line, open_puts};
+ghost use Rattle.listing_lines.specs.Open.{open_line, open_puts};
 ghost use Rattle.translation_passes.specs.DownMeans.{carries_named, carries_nothing, carries_means, ends_named};
 ghost use Rattle.packet_input.specs.Packets.{packet_cutting};
 
@@ -25,11 +25,10 @@ use down_translator::laws::{
     what_is_held_is_the_definition,
 };
 use down_translator::{Carried, Down, Kind, Listed, LoweredMessage, Style};
-use listing_notes::{put_line, put_listed, refused};
+use listing_lines::{OpenExclusives, list_open, put_line, put_listed, refused};
 use midi_edge::{Lanes, NoMemory, Sink, Source, U4};
 use midi_meaning::style_laws::styled_pairs_are_a_translation;
 use packet_input::{EncodedReader, packets_are_cut_once};
-use packet_output::{OpenExclusives, list_open};
 use pass_loop::{Engine, Outputs, RunEnd, drive};
 use std::alloc::Global;
 use std::marker::Model;

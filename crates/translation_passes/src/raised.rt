@@ -9,7 +9,7 @@ ghost use Rattle.up_translator.specs.Step.{Raises};
 ghost use Rattle.pass_loop.specs.Places.{Puts};
 ghost use Rattle.translation_passes.specs.Raised.{Answers, AreDone, AreTaken, ByteIsDone, CanBeDone, CarriesOut, Doing, byte_task, open_puts};
 
-use listing_notes::{put_lines, put_listed, refused};
+use listing_lines::{put_lines, put_listed, refused};
 use midi_edge::U4;
 use pass_loop::{Outputs, RunEnd};
 use sysex_groups::part;

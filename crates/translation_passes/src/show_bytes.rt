@@ -12,13 +12,13 @@ ghost use Rattle.pass_loop.specs.Pass.{Takes, TakesIn, seen};
 ghost use Rattle.pass_loop.specs.Places.{Puts};
 ghost use Rattle.pass_loop.specs.Put.{in_output};
 ghost use Rattle.translation_passes.specs.KeptState.{KeepsStep, StandsFor, fact_puts};
-ghost use Rattle.listing_notes.specs.Refusal.{refusal_of};
+ghost use Rattle.listing_lines.specs.Refusal.{refusal_of};
 ghost use Rattle.translation_passes.specs.ShowMeans.{shown_bytes_mean};
 ghost use Rattle.translation_passes.specs.ShowBytes.{HoldsBytes, IsReadyBytes, open_puts, byte_line_options, puts_after, showing_bytes, shown_puts, shows_last_named, shows_named, shows_no_bytes};
 
 use crate::kept_state::{facts_of, keep_step, put_facts};
 use item_reader::ByteReader;
-use listing_notes::refused;
+use listing_lines::refused;
 use midi_edge::{Lanes, NoMemory, Sink, Source};
 use midi_lines::{Line, fill_byte_listing, fill_step_line};
 use midi_meaning::up_laws::rooms_that_are_not_reached_do_not_matter_in_bytes;

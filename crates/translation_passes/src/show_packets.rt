@@ -11,7 +11,7 @@ ghost use Rattle.pass_loop.specs.Pass.{TakesIn, seen};
 ghost use Rattle.pass_loop.specs.Places.{Puts};
 ghost use Rattle.pass_loop.specs.Put.{in_output};
 ghost use Rattle.midi_lines.specs.PacketLines.{packet_text};
-ghost use Rattle.listing_notes.specs.Refusal.{refusal_by};
+ghost use Rattle.listing_lines.specs.Refusal.{refusal_by};
 ghost use Rattle.translation_passes.specs.KeptState.{KeepsPacket, StandsFor, ended_in};
 ghost use Rattle.packet_input.specs.Packets.{packet_cutting};
 ghost use Rattle.translation_passes.specs.ShowMeans.{shown_packets_mean};
@@ -21,7 +21,7 @@ ghost use Rattle.translation_passes.specs.Texts.{AreOfTheirKinds, line_of_text, 
 use crate::kept_state::{facts_of, keep_packet, put_facts};
 use crate::texts::{Texts, put_text};
 use down_translator::laws::{spelled_packets_are_in_range, what_is_held_is_the_definition};
-use listing_notes::refused;
+use listing_lines::refused;
 use midi_edge::{Lanes, NoMemory, Sink, Source, U4};
 use midi_lines::{Line, fill_packet_line};
 use midi_meaning::BadStep;

@@ -25,8 +25,8 @@ use Rattle.usb_midi1.specs.declared.event.Event.{Event}
 use Rattle.usb_passes.specs.Events.{event_cutting, events_of, placed_at}
 use Rattle.usb_passes.specs.Laws.{DonePacksTheInput, DoneSplitsTheInput, PacksTheInput, lines_of, listing_of, reserved_from}
 use Rattle.usb_passes.specs.Options.{PackOptions}
-use Rattle.listing_notes.specs.LineLaws.{notes-lines, output-lines}
-use Rattle.listing_notes.specs.Lines.{line_puts}
+use Rattle.listing_lines.specs.LineLaws.{notes-lines, output-lines}
+use Rattle.listing_lines.specs.Lines.{line_puts}
 use Rattle.usb_passes.specs.Pack.{CarryTheMessages, event_puts, packing}
 use Rattle.usb_passes.specs.Split.{reserved_lines}
 

@@ -17,8 +17,8 @@ use Rattle.up_translator.specs.ByteLines.{lines_in}
 use Rattle.usb_midi1.specs.Packed.{IsPacked, cable_in, events_from, events_in, whole_in, whole_of}
 use Rattle.usb_midi1.specs.Packing.{events_by, exclusive_events, first_event}
 use Rattle.usb_midi1.specs.declared.packed.Packed.{Packed}
-use Rattle.listing_notes.specs.Lines.{line_puts}
-use Rattle.listing_notes.specs.Refusal.{refusal_of}
+use Rattle.listing_lines.specs.Lines.{line_puts}
+use Rattle.listing_lines.specs.Refusal.{refusal_of}
 use Rattle.usb_passes.specs.Pack.{event_puts, packed_puts}
 
 -- ---- steps within the room

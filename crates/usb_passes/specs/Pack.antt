@@ -8,8 +8,8 @@ use Rattle.midi_meaning.specs.declared.listed.Kind.{Kind}
 use Rattle.pass_loop.specs.Bytes.{bytes_read}
 use Rattle.pass_loop.specs.Pass.{Work}
 use Rattle.pass_loop.specs.Put.{Put, in_output, output_in}
-use Rattle.listing_notes.specs.Lines.{line_puts}
-use Rattle.listing_notes.specs.Refusal.{refusal_of}
+use Rattle.listing_lines.specs.Lines.{line_puts}
+use Rattle.listing_lines.specs.Refusal.{refusal_of}
 use Rattle.usb_midi1.specs.Held.{PackerState, packer_over}
 use Rattle.usb_midi1.specs.Laws.{SplitEventsMeanTheBytes}
 use Rattle.usb_midi1.specs.Packing.{events_by, stream_events}

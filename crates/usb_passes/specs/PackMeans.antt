@@ -15,8 +15,8 @@ use Rattle.pass_loop.specs.Put.{Put, output_in, output_of}
 use Rattle.usb_midi1.specs.Held.{PackerState}
 use Rattle.usb_midi1.specs.Packing.{events_by, stream_events}
 use Rattle.usb_passes.specs.Options.{PackOptions}
-use Rattle.listing_notes.specs.LineLaws.{lines_named, output-lines}
-use Rattle.listing_notes.specs.Lines.{line_puts}
+use Rattle.listing_lines.specs.LineLaws.{lines_named, output-lines}
+use Rattle.listing_lines.specs.Lines.{line_puts}
 use Rattle.usb_passes.specs.Pack.{CarryTheMessages, HoldsPacked, event_puts, packed_puts, packing}
 
 -- ---- the places

@@ -11,13 +11,13 @@ ghost use Rattle.up_translator.specs.ByteLines.{lines_in};
 ghost use Rattle.usb_midi1.specs.Held.{packer_after, step_in};
 ghost use Rattle.usb_midi1.specs.Packed.{IsApart, events_in, whole_in};
 ghost use Rattle.usb_midi1.specs.Packing.{exclusive_events};
-ghost use Rattle.listing_notes.specs.Lines.{line_puts};
-ghost use Rattle.listing_notes.specs.Refusal.{refusal_of};
+ghost use Rattle.listing_lines.specs.Lines.{line_puts};
+ghost use Rattle.listing_lines.specs.Refusal.{refusal_of};
 ghost use Rattle.usb_passes.specs.Pack.{HoldsPacked, event_puts, open_lines, pack_options, packed_puts, packing};
 ghost use Rattle.usb_passes.specs.PackMeans.{last_named, packs_mean, packs_named};
 
 use item_reader::ByteReader;
-use listing_notes::{put_lines, put_listed, refused};
+use listing_lines::{put_lines, put_listed, refused};
 use midi_edge::{Lanes, NoMemory, Sink, Source, U4};
 use midi_meaning::BadStep;
 use midi1_bytes::laws::parsed_bytes_are_the_definition;
@@ -108,9 +108,8 @@ impl Engine<u64, u8> for PackEngine {
 
 /// Packs a stream into the events of a cable, to its end or to the first byte that is refused (USB Device
 /// Class Definition for MIDI Devices 1.0, event packets; what comes to nothing is listed by own rule): puts
-/// the events of each message in the output, each event by one put, when the byte that completes the message
-/// is read, and after those of a byte its lines in the notes, at the end the line of what is still open.
-/// Takes no memory.
+/// the events of each message in the output when the byte that completes the message is read, and after those
+/// of a byte its lines in the notes, at the end the line of what is still open. Takes no memory.
 ///
 /// `Refused` comes for `InputTooLong` and `ExclusiveTooLong`, with the number of bytes before what is
 /// refused. `ReadFault`, `OutputFault` and `NoteFault` come only where the count of that object rose. The

@@ -3,7 +3,7 @@ use Rattle.midi_meaning.specs.declared.listed.BadStep.{BadStep}
 use Rattle.pass_loop.specs.Pass.{Takes}
 use Rattle.pass_loop.specs.Places.{Puts}
 use Rattle.pass_loop.specs.Put.{Put}
-use Rattle.listing_notes.specs.Refusal.{refusal_by}
+use Rattle.listing_lines.specs.Refusal.{refusal_by}
 use Rattle.translation_passes.specs.Down.{puts_for}
 use Rattle.translation_passes.proofs.LoweredLaws.{carried_as, is_carried_as, puts_are}
 use Rattle.translation_passes.proofs.down.carry.Goals as goal

@@ -2,7 +2,7 @@ use Rattle.std.proofs.Common.{◌≡◌, [], Option, None, refl, ap, sym, ◌∙
 use Rattle.std.specs.Prelude.{Some, Err}
 use Rattle.midi_meaning.specs.declared.listed.BadStep.{BadStep}
 use Rattle.pass_loop.specs.Pass.{Takes}
-use Rattle.listing_notes.specs.Refusal.{refusal_by}
+use Rattle.listing_lines.specs.Refusal.{refusal_by}
 use Rattle.translation_passes.specs.Down.{puts_for}
 use Rattle.translation_passes.proofs.down.carry_encoded.Goals as goal
 

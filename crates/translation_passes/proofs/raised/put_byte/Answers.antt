@@ -1,6 +1,6 @@
 use Rattle.std.proofs.Common.{Option, sym, subst}
 use Rattle.midi_meaning.specs.declared.listed.BadStep.{BadStep}
-use Rattle.listing_notes.specs.Refusal.{refusal_by}
+use Rattle.listing_lines.specs.Refusal.{refusal_by}
 use Rattle.translation_passes.specs.Raised.{Answers, ByteIsDone, byte_task}
 use Rattle.translation_passes.proofs.RaisedLaws.{carries_as, task}
 use Rattle.translation_passes.proofs.raised.put_byte.Goals as goal

@@ -2,7 +2,7 @@ use Rattle.std.proofs.Common.{sym, subst}
 use Rattle.std.specs.Prelude.{Err}
 use Rattle.pass_loop.specs.Pass.{Takes}
 use Rattle.pass_loop.specs.declared.ends.RunEnd.{RunEnd}
-use Rattle.listing_notes.specs.Refusal.{refusal_of}
+use Rattle.listing_lines.specs.Refusal.{refusal_of}
 use Rattle.usb_passes.specs.Pack.{packed_puts}
 use Rattle.midi1_bytes.specs.Steps.{Step}
 use Rattle.usb_midi1.specs.Held.{step_in}

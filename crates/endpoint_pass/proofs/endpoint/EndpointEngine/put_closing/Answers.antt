@@ -4,7 +4,7 @@ use Rattle.midi_lines.specs.EndpointLines.{protocol_text}
 use Rattle.pass_loop.specs.Put.{in_notes}
 use Rattle.pass_loop.specs.PutLaws.{stops_more, then_puts}
 use Rattle.midi_meaning.specs.Listing.{groups}
-use Rattle.packet_output.specs.Open.{open_puts}
+use Rattle.listing_lines.specs.Open.{open_puts}
 use Rattle.endpoint_pass.specs.Held.{setup_lines}
 use Rattle.endpoint_pass.proofs.endpoint.EndpointEngine.put_closing.Goals as goal
 

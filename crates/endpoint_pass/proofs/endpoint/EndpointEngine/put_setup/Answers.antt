@@ -3,8 +3,8 @@ use Rattle.std.specs.Prelude.{Err}
 use Rattle.std.proofs.lemmas.Result.{err_from_is_err_and}
 use Rattle.ci_responder.specs.Held.{muid_in}
 use Rattle.ci_responder.specs.Keys.{state_in}
-use Rattle.ci_output.specs.Profiles.{profile_lines}
-use Rattle.ci_output.specs.declared.profiles.LinePlace.TheVariants.{Notes}
+use Rattle.ci_text.specs.Profiles.{profile_lines}
+use Rattle.ci_text.specs.declared.profiles.LinePlace.TheVariants.{Notes}
 use Rattle.function_blocks.specs.Setups.{SetupData}
 use Rattle.pass_loop.specs.Each.{for_each}
 use Rattle.pass_loop.specs.Places.{Puts}

@@ -9,8 +9,8 @@ use Rattle.midi_meaning.specs.declared.listed.BadStep.{BadStep}
 use Rattle.pass_loop.specs.Pass.{Takes}
 use Rattle.pass_loop.specs.Put.{Put}
 use Rattle.pass_loop.specs.StepLaws.{takes_steps}
-use Rattle.listing_notes.specs.Lines.{line_puts}
-use Rattle.listing_notes.specs.Refusal.{refusal_by}
+use Rattle.listing_lines.specs.Lines.{line_puts}
+use Rattle.listing_lines.specs.Refusal.{refusal_by}
 use Rattle.packet_output.specs.Packets.{all_placed, placed_of}
 use Rattle.packet_output.specs.Written.{AreWrittenAndListed}
 use Rattle.ump_endpoint.specs.Answers.{packet_outcome, packet_replies}

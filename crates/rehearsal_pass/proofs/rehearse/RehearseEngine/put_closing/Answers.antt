@@ -1,7 +1,7 @@
 use Rattle.std.proofs.lemmas.Result.{err_from_is_err_and}
 use Rattle.ci_responder.specs.Keys.{state_in}
-use Rattle.ci_output.specs.Profiles.{profile_lines}
-use Rattle.ci_output.specs.declared.profiles.LinePlace.TheVariants.{Output}
+use Rattle.ci_text.specs.Profiles.{profile_lines}
+use Rattle.ci_text.specs.declared.profiles.LinePlace.TheVariants.{Output}
 use Rattle.pass_loop.specs.Each.{for_each}
 use Rattle.rehearsal_pass.specs.Rehearse.{held_line}
 use Rattle.pass_loop.specs.PutLaws.{stops_more, then_puts}

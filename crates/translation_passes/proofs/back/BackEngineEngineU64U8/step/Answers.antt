@@ -8,7 +8,7 @@ use Rattle.pass_loop.specs.Bytes.{bytes_read}
 use Rattle.pass_loop.specs.Pass.{Tail}
 use Rattle.pass_loop.specs.Put.{Put}
 use Rattle.translation_passes.specs.Back.{ComesDown, back_options, PutsDown, returning}
-use Rattle.listing_notes.specs.Lines.{line_puts}
+use Rattle.listing_lines.specs.Lines.{line_puts}
 use Rattle.translation_passes.specs.Raised.{Answers, AreDone, AreTaken, byte_lines, byte_task}
 use Rattle.translation_passes.proofs.BackLaws.{byte_comes_down, piece_is_put}
 use Rattle.translation_passes.proofs.RaisedLaws.{answered_steps, task}

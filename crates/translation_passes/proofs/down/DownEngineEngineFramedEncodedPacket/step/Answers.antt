@@ -12,8 +12,8 @@ use Rattle.down_translator.specs.Recording.{packets_of}
 use Rattle.down_translator.specs.Step.{IsStep}
 use Rattle.pass_loop.specs.Pass.{Takes}
 use Rattle.pass_loop.specs.StepLaws.{takes_steps}
-use Rattle.listing_notes.specs.Lines.{line_puts}
-use Rattle.listing_notes.specs.Refusal.{refusal_by}
+use Rattle.listing_lines.specs.Lines.{line_puts}
+use Rattle.listing_lines.specs.Refusal.{refusal_by}
 use Rattle.translation_passes.specs.Down.{carrying, down_options, pair_puts}
 use Rattle.packet_output.specs.Packets.{all_placed, placed_of}
 use Rattle.translation_passes.proofs.down.DownEngineEngineFramedEncodedPacket.step.Goals as goal

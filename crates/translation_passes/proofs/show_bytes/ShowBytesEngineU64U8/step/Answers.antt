@@ -7,7 +7,7 @@ use Rattle.midi_meaning.specs.UpRefusal.{AreStepsWithinRoom}
 use Rattle.pass_loop.specs.Bytes.{bytes_read}
 use Rattle.pass_loop.specs.Pass.{TakesIn}
 use Rattle.translation_passes.specs.KeptState.{KeepsStep}
-use Rattle.listing_notes.specs.Refusal.{refusal_of}
+use Rattle.listing_lines.specs.Refusal.{refusal_of}
 use Rattle.translation_passes.specs.ShowBytes.{byte_line_options, showing_bytes, shown_puts}
 use Rattle.translation_passes.proofs.KeptLaws.{byte_kept, step_within, steps_when_kept}
 use Rattle.translation_passes.proofs.show_bytes.ShowBytesEngineU64U8.step.Goals as goal

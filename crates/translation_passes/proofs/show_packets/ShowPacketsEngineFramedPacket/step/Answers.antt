@@ -13,7 +13,7 @@ use Rattle.down_translator.specs.Held.{refusal_in, with_part_of}
 use Rattle.down_translator.specs.Recording.{packets_of, state_of}
 use Rattle.pass_loop.specs.Pass.{TakesIn}
 use Rattle.pass_loop.specs.Put.{Put, in_output}
-use Rattle.listing_notes.specs.Refusal.{refusal_by}
+use Rattle.listing_lines.specs.Refusal.{refusal_by}
 use Rattle.translation_passes.specs.KeptState.{KeepsPacket, ended_in}
 use Rattle.packet_output.specs.Packets.{all_placed, placed_of}
 use Rattle.translation_passes.specs.ShowPackets.{bad_join, packet_line_options, packet_puts, showing}

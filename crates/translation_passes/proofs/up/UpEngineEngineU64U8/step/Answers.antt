@@ -7,7 +7,7 @@ use Rattle.up_translator.specs.Held.{UpState}
 use Rattle.up_translator.specs.Raised.{packets_in}
 use Rattle.pass_loop.specs.Bytes.{bytes_read}
 use Rattle.pass_loop.specs.Pass.{Tail}
-use Rattle.listing_notes.specs.Lines.{line_puts}
+use Rattle.listing_lines.specs.Lines.{line_puts}
 use Rattle.translation_passes.specs.Raised.{Answers, AreTaken, byte_task}
 use Rattle.translation_passes.specs.Up.{up_options, raising}
 use Rattle.packet_output.specs.Written.{AreWritten}

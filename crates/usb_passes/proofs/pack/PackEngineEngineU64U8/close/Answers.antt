@@ -5,7 +5,7 @@ use Rattle.midi1_bytes.specs.Stream.{Open}
 use Rattle.pass_loop.specs.Bytes.{bytes_read}
 use Rattle.midi_meaning.specs.StepListing.{kinds_at_end}
 use Rattle.usb_midi1.specs.Held.{PackerState}
-use Rattle.listing_notes.specs.Lines.{line_puts}
+use Rattle.listing_lines.specs.Lines.{line_puts}
 use Rattle.usb_passes.specs.Pack.{open_lines}
 use Rattle.usb_passes.proofs.pack.PackEngineEngineU64U8.close.Goals as goal
 

@@ -7,7 +7,7 @@ use Rattle.pass_loop.specs.Bytes.{bytes_read}
 use Rattle.pass_loop.specs.Pass.{Takes}
 use Rattle.pass_loop.specs.StepLaws.{takes_steps}
 use Rattle.usb_midi1.specs.Held.{PackerState, packer_over, packer_after, step_in}
-use Rattle.listing_notes.specs.Refusal.{refusal_of}
+use Rattle.listing_lines.specs.Refusal.{refusal_of}
 use Rattle.usb_passes.specs.Pack.{pack_options, packed_puts, packing}
 use Rattle.usb_passes.proofs.PackLaws.{step_within}
 use Rattle.usb_passes.proofs.pack.PackEngineEngineU64U8.step.Goals as goal

@@ -1,0 +1,30 @@
+-- What a running state of the bytes of a MIDI 1.0 stream answers a caller.
+use Rattle.std.specs.Prelude.{◌≡◌, ℕ, List, Option, Some, None}
+use Rattle.midi1_bytes.specs.Messages.{Message}
+use Rattle.midi1_bytes.specs.Parsing.{Parsing, parse}
+use Rattle.midi1_bytes.specs.Steps.{Step, completed_by, too_long}
+use Rattle.midi_meaning.specs.Messages.{as_they_come}
+use Rattle.voice_state.specs.Kept.{KeptGroup}
+use Rattle.voice_state.specs.States.{States, after_message}
+use Rattle.c_answers.specs.Numbers.{number_of}
+use Rattle.c_answers.specs.declared.status.Status.TheVariants as statuses
+use Rattle.c_voice_state.specs.Kept.{Changes}
+
+-- what is kept of the groups, and what the parser holds
+pub record ByteKept : Type 0 where
+  pub kept : List KeptGroup
+  pub parsing : Parsing
+
+-- the states of a stream after a message, if a byte completes one; a stream has no groups, so it is in group 0 (own rule)
+abbrev pub after_completed : Option Message → States → States
+after_completed None states = states
+after_completed (Some message) states = after_message 0 message states
+
+-- what a byte does is kept; the message isn't where there isn't enough memory for it
+abbrev pub takes_step : Step → List KeptGroup → ℕ → List KeptGroup → Type 0
+takes_step too_long old status new = (status ≡ number_of statuses.ExclusiveTooLong) × (new ≡ old)
+takes_step step old status new = Changes as_they_come (after_completed (completed_by step)) old status new
+
+abbrev pub IsByteTaken : ByteKept → ℕ → ℕ → ByteKept → Type 0
+IsByteTaken old byte status new =
+    (new.parsing ≡ (parse old.parsing 0 byte).after) × takes_step (parse old.parsing 0 byte).step old.kept status new.kept

@@ -1,0 +1,135 @@
+// The running state of packets.
+ghost use Rattle.std.specs.Prelude.{◌≡◌, ◌≢◌, ◌≤◌, length, None, IfOk};
+ghost use Rattle.ump_grammar.specs.Ranges.{IsPacket};
+ghost use Rattle.sysex_groups.specs.Exclusives.{IsData};
+ghost use Rattle.sysex_groups.specs.Table.{answer_to, empty_table, with_part};
+ghost use Rattle.midi_meaning.specs.Messages.{raised, Scale};
+ghost use Rattle.voice_state.specs.Facts.{facts_of};
+ghost use Rattle.voice_state.specs.Kept.{Keeps};
+ghost use Rattle.voice_state.specs.States.{after_packet, first_states, States};
+ghost use Rattle.c_answers.specs.Numbers.{number_of};
+ghost use Rattle.c_voice_state.specs.Facts.{AreTold};
+ghost use Rattle.c_voice_state.specs.Kept.{takes_part, Changes, IsPacketTaken, IsTaken};
+
+use crate::fact_numbers::{FactNumbers, tell};
+use c_answers::{Status, framed};
+use midi_edge::{NoMemory, U4};
+use std::alloc::Global;
+use std::marker::Model;
+use sysex_groups::{Fed, Groups};
+use ump_grammar::{Packet, decode};
+use voice_messages::Form;
+use voice_state::VoiceState;
+
+/// What the packets so far have left in a receiver. A contract sees what is kept of the groups, and the
+/// exclusives that they have open.
+///
+/// Notes and channel mode messages are kept as the list of all that came,
+/// and parameters in a map, so a packet may take memory.
+#[derive(Drop)]
+pub struct PacketState {
+    state: VoiceState,
+    groups: Groups,
+}
+
+impl Model for PacketState {
+    ghost use Rattle.c_voice_state.specs.Kept.{StateKept};
+
+    ghost Value = { StateKept };
+
+    ghost view = { λ s. record { kept = s.state; exclusives = s.groups } };
+}
+
+impl PacketState {
+    /// The state before the first packet, for exclusives of `room` bytes between F0 and F7, 6 to 1,048,576.
+    /// `NoMemory` where there is none for its tables.
+    pub fn new(alloc: Global, room: u32) -> Result<PacketState, NoMemory>
+        requires least { 6 ≤ room }
+        requires most { room ≤ 1048576 }
+        ensures exclusives { IfOk result (λ state. state.exclusives ≡ empty_table room) }
+        ensures kept { IfOk result (λ state. Keeps raised state.kept (first_states raised)) }
+    {
+        let state = VoiceState::new(alloc)?;
+        let groups = Groups::new(alloc, room)?;
+        Ok(PacketState { state, groups })
+    }
+
+    // Takes a part of an exclusive; one that is whole is counted.
+    fn part(&mut self, group: U4, form: Form, bytes: &[u8]) -> Status
+        requires few { length bytes.now ≤ 6 }
+        requires data_bytes { IsData bytes.now }
+        ensures exclusives { self.new.exclusives ≡
+            with_part (record { group = group; form = form; bytes = bytes.now; offset = 0 })
+            self.old.exclusives }
+        ensures kept { takes_part (answer_to self.old.exclusives
+            (record { group = group; form = form; bytes = bytes.now; offset = 0 }))
+            group self.old.kept (number_of result) self.new.kept }
+    {
+        match self.groups.feed(group, form, bytes, 0) {
+            Fed::Whole(_) => {
+                self.state.system(group, false);
+                Status::Done
+            }
+            Fed::RestartedWhole { .. } => {
+                self.state.system(group, false);
+                Status::Done
+            }
+            Fed::TooLong => Status::ExclusiveTooLong,
+            Fed::Held | Fed::Stray | Fed::Restarted { .. } => Status::Done,
+        }
+    }
+
+    // Takes a packet.
+    fn take(&mut self, packet: &Packet) -> Status
+        requires { IsPacket packet.now }
+        ensures { IsTaken self.old packet.now (number_of result) self.new }
+    {
+        match packet {
+            Packet::Exclusive { group, form, bytes } => self.part(*group, *form, bytes.as_slice()),
+            _ => self.other(packet),
+        }
+    }
+
+    // Takes a packet that has no part of an exclusive.
+    fn other(&mut self, packet: &Packet) -> Status
+        ensures exclusives { self.new.exclusives ≡ self.old.exclusives }
+        ensures kept { Changes raised (after_packet packet.now None)
+            self.old.kept (number_of result) self.new.kept }
+    {
+        match self.state.apply2(packet) {
+            Ok(()) => Status::Done,
+            Err(NoMemory) => Status::NoMemory,
+        }
+    }
+
+    /// Takes the packet that the words encode (M2-104-UM). The answer is `BadWordCount` where they aren't
+    /// those of one packet, and `BadCount` or `HighBit` where no packet has them; then, and where it is
+    /// `NoMemory`, nothing has changed. Where it is `ExclusiveTooLong`, the exclusive of the group is
+    /// dropped.
+    pub fn packet(&mut self, words: &[u32]) -> Status
+        ensures { IsPacketTaken self.old words.now (number_of result) self.new }
+    {
+        let Some(framed) = framed(words, 0) else {
+            return Status::BadWordCount;
+        };
+        match decode(&framed) {
+            Ok(packet) => self.take(&packet),
+            Err(bad) => Status::of_bad(bad),
+        }
+    }
+
+    /// Tells what isn't at its first value, in order: how many facts there are, and their numbers where the
+    /// buffer has room for all of them; else the answer is `SmallBuffer`. It takes memory for the call; where
+    /// there isn't enough, the answer is `NoMemory`.
+    pub fn facts(&self, alloc: Global, buffer: &mut [FactNumbers], count: &mut usize) -> Status
+        ensures memory { number_of result ≡ 1 → (count.new ≡ count.old) × (buffer.new ≡ buffer.old) }
+        ensures told { number_of result ≢ 1 → (scale : Scale) (states : States)
+            → Keeps scale self.now.kept states
+            → AreTold (facts_of scale states) buffer.old (number_of result) count.new buffer.new }
+    {
+        match self.state.facts(alloc) {
+            Ok(facts) => tell(facts.as_slice(), buffer, count),
+            Err(NoMemory) => Status::NoMemory,
+        }
+    }
+}

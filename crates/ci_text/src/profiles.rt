@@ -1,0 +1,94 @@
+// The lines of the profiles of a setup.
+ghost use Rattle.std.specs.Prelude.{◌≡◌, ◌<◌, Bool, [], ◌∷◌, Option, length, unwrap_or};
+ghost use Rattle.ci_responder.specs.Keys.{key_of, state_in};
+ghost use Rattle.ci_responder.specs.declared.keys.Key.{Key};
+ghost use Rattle.pass_loop.specs.Places.{Puts};
+ghost use Rattle.ci_text.specs.Profiles.{profile_line_of, profile_lines, put_at};
+
+use ci_responder::{Key, ProfileId, Responder};
+use function_blocks::{Profile, Setup};
+use midi_lines::profile_line;
+use pass_loop::{Outputs, RunEnd};
+
+/// Where a line is put.
+#[derive(Clone, Copy, Debug, PartialEq, Eq)]
+pub enum LinePlace {
+    /// In the output, among what the command puts there.
+    Output,
+    /// In the notes, among the lines of the listing.
+    Notes,
+}
+
+/// Tells which profiles are on.
+pub trait ProfileStates {
+    /// Whether a profile is on, by its key, where that is known.
+    ghost states: { Self → Key → Option Bool };
+
+    /// Whether the profile with this key is on; `None` where that isn't known.
+    fn profile_is_on(&self, key: &Key) -> Option<bool>
+        ensures { result ≡ states self.now key.now };
+}
+
+impl ProfileStates for Responder {
+    ghost states = { λ responder. state_in responder.states };
+
+    fn profile_is_on(&self, key: &Key) -> Option<bool> {
+        Responder::profile_is_on(self, key)
+    }
+}
+
+// Whether a profile is on: as the setup says, where nothing else is known.
+fn is_on<P: ProfileStates>(known: &P, profile: &Profile) -> bool
+    ensures { result ≡ unwrap_or (P.states known.now (key_of profile.now)) profile.now.on }
+{
+    let id = profile.id;
+    let key = Key {
+        block: profile.block,
+        place: profile.place,
+        id: ProfileId { bytes: id },
+    };
+    known.profile_is_on(&key).unwrap_or(profile.on)
+}
+
+// Puts a line, which isn't empty, in the output or in the notes.
+fn put_line<O: Outputs>(place: LinePlace, line: &[u8], outputs: &mut O) -> Result<(), RunEnd>
+    requires { 0 < length line.now }
+    ensures { Puts (put_at place line.now ∷ []) (O.places outputs.old) (O.places outputs.new) result }
+{
+    match place {
+        LinePlace::Output => outputs.put_output(line),
+        LinePlace::Notes => outputs.put_notes(line),
+    }
+}
+
+// Puts the line of a profile.
+fn put_profile<P: ProfileStates, O: Outputs>(
+    known: &P,
+    profile: &Profile,
+    place: LinePlace,
+    outputs: &mut O,
+) -> Result<(), RunEnd>
+    ensures { Puts (profile_line_of place (P.states known.now) 0 profile.now)
+        (O.places outputs.old) (O.places outputs.new) result }
+{
+    let line = profile_line(profile, is_on(known, profile));
+    put_line(place, line.as_slice(), outputs)
+}
+
+/// Puts the line of each profile of a setup, in its order: whether it is on, as `known` tells, else as the
+/// setup says (own rule). An `Err` is the fault of the place, `OutputFault` or `NoteFault`, and comes only
+/// where the place's count of faults rose.
+pub fn put_profiles<P: ProfileStates, O: Outputs>(
+    setup: &Setup,
+    known: &P,
+    place: LinePlace,
+    outputs: &mut O,
+) -> Result<(), RunEnd>
+    ensures { Puts (profile_lines place (P.states known.now) setup.now.profiles)
+        (O.places outputs.old) (O.places outputs.new) result }
+{
+    for profile in setup.profiles() {
+        put_profile(known, profile, place, outputs)?;
+    }
+    Ok(())
+}

@@ -1,0 +1,48 @@
+// Lines of the listing in the notes.
+ghost use Rattle.std.specs.Prelude.{◌∷◌, []};
+ghost use Rattle.std.specs.Option.{option_to_list};
+ghost use Rattle.pass_loop.specs.Places.{Puts};
+ghost use Rattle.up_translator.specs.ByteLines.{lines_in};
+ghost use Rattle.listing_lines.specs.Lines.{line_puts};
+
+use midi_lines::{Line, fill_listing_line};
+use midi_meaning::Listed;
+use pass_loop::{Outputs, RunEnd};
+use up_translator::ByteLines;
+
+/// Puts a line of the listing in the notes. An `Err` is `NoteFault`, and
+/// comes only where the count of the notes' faults rose.
+#[inline(never)]
+pub fn put_line<O: Outputs>(listed: &Listed, outputs: &mut O) -> Result<(), RunEnd>
+    ensures { Puts (line_puts (listed.now ∷ [])) (O.places outputs.old) (O.places outputs.new) result }
+{
+    let mut line = Line::new();
+    fill_listing_line(&mut line, listed);
+    outputs.put_notes(line.as_slice())
+}
+
+/// Puts a line of the listing in the notes, if there is one. An `Err` is `NoteFault`, and comes only where
+/// the count of the notes' faults rose. Mostly there is no line, so only that question stands at each call.
+#[inline(always)]
+pub fn put_listed<O: Outputs>(listed: Option<Listed>, outputs: &mut O) -> Result<(), RunEnd>
+    ensures { Puts (line_puts (option_to_list listed)) (O.places outputs.old) (O.places outputs.new) result }
+{
+    match listed {
+        Some(listed) => put_line(&listed, outputs),
+        None => Ok(()),
+    }
+}
+
+/// Puts the lines of a byte in the notes, in order. An `Err` is `NoteFault`, and comes only where the count
+/// of the notes' faults rose. Most bytes have no line, so that is asked first.
+#[inline(always)]
+pub fn put_lines<O: Outputs>(lines: &ByteLines, outputs: &mut O) -> Result<(), RunEnd>
+    ensures { Puts (line_puts (lines_in lines.now)) (O.places outputs.old) (O.places outputs.new) result }
+{
+    if lines.is_empty() {
+        return Ok(());
+    }
+    // The second line is asked for once the first is put: nearly all bytes that have a line have no second.
+    put_listed(lines.first(), outputs)?;
+    put_listed(lines.second(), outputs)
+}

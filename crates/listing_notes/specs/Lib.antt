@@ -1,3 +1,0 @@
-pub mod LineLaws
-pub mod Lines
-pub mod Refusal
