@@ -109,8 +109,8 @@ IsTakenOrRefused state offset words old (Err why) new after =
     Refuses (is_whole words) (reason words) state words why after × (new ≡ old)
 
 -- these words are of a packet that one message carries
-abbrev pub IsLone : DownState → List ℕ → LoweredMessage → Type 0
-IsLone state words message = (packet : Packet) × Reads words packet × IsDirectStep state packet message
+abbrev pub IsLowered : DownState → List ℕ → LoweredMessage → Type 0
+IsLowered state words message = (packet : Packet) × Reads words packet × IsDirectStep state packet message
 
 -- ---- the call
 

@@ -7,7 +7,7 @@ ghost use Rattle.down_translator.specs.Lowered.{attribute_line, lowered_bytes};
 ghost use Rattle.c_answers.specs.Fronts.{with_front};
 ghost use Rattle.c_answers.specs.Numbers.{number_of};
 ghost use Rattle.c_translators.specs.PacketBlocks.{AreTaken};
-ghost use Rattle.c_translators.specs.Down.{most_bytes, with_piece, HasBegun, IsAnswered, IsCarried, IsLone, IsRead, IsTakenOrRefused};
+ghost use Rattle.c_translators.specs.Down.{most_bytes, with_piece, HasBegun, IsAnswered, IsCarried, IsLowered, IsRead, IsTakenOrRefused};
 ghost use Rattle.c_translators.specs.Pieces.{piece_shown};
 
 use crate::block::Block;
@@ -149,8 +149,8 @@ fn take_any(
 
 // The message that alone carries the packet that the words encode, where one does.
 #[inline(always)]
-fn lone(down: &Down, words: &[u32]) -> Option<LoweredMessage>
-    ensures { IfSome result (λ message. IsLone down.now words.now message) }
+fn lowered(down: &Down, words: &[u32]) -> Option<LoweredMessage>
+    ensures { IfSome result (λ message. IsLowered down.now words.now message) }
 {
     // Other types have no such message.
     if words.is_empty() || words[0] >> 28 != VOICE2 {
@@ -176,7 +176,7 @@ fn take(
         (with_piece result piece.new) buffer.new down.new }
     ensures kept { IfErr result (λ why. piece.new ≡ piece.old) }
 {
-    match lone(down, words) {
+    match lowered(down, words) {
         Some(message) => {
             write_direct(&message, offset, buffer, piece);
             return Ok(());

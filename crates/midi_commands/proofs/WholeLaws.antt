@@ -25,7 +25,7 @@ use Rattle.midi_commands.specs.Command.{show_bytes_pass, show_bytes_pass_options
 use Rattle.midi_commands.specs.Command.{sysex8_pass_options, up_pass, up_pass_options}
 use Rattle.midi_commands.specs.Run.{Does, FindsSetup, HasLastLine, Objects, RunSays, Runs, RunsInto, RunsWith, ShelfSeen, ShowsClip}
 use Rattle.midi_commands.specs.Run.{opened, status_after}
-use Rattle.midi_commands.specs.WholeInput.{DoneLeavesTheWhole, LeavesAll, LeavesTheWhole}
+use Rattle.midi_commands.specs.WholeInput.{DoneLeavesTheWhole, LeavesAll, LeavesTheWhole, input_of}
 use Rattle.midi_commands.specs.declared.status.Status.{Status}
 use Rattle.midi_commands.specs.declared.status.Status.TheVariants.{Done, NoMemory, Usage}
 
@@ -90,7 +90,7 @@ pub record PassLaws : Type 0 where
   pub clips : DoneShowsTheClip
 
 module _ (laws : PassLaws) where
-  leaves_all : (asked : Asked) (bytes : List ℕ) (old new : Objects) → old.seen.left ≡ Some bytes → Does (plan_of asked) old new Done
+  leaves_all : (asked : Asked) (bytes : List ℕ) (old new : Objects) → input_of asked old ≡ Some bytes → Does (plan_of asked) old new Done
       → LeavesAll asked bytes old new
   leaves_all (down folder options) bytes old new told does =
       laws.carries (down_pass_options options) bytes (opened folder old.seen) new.seen told
@@ -121,10 +121,10 @@ module _ (laws : PassLaws) where
   leaves_all (self_test options) bytes old new told does = does
 
   pub leaves_the_whole : DoneLeavesTheWhole
-  leaves_the_whole = λ asked old new does. by_left asked old new does old.seen.left refl
+  leaves_the_whole = λ asked old new does. by_left asked old new does (input_of asked old) refl
     where
       by_left : (asked : Asked) (old new : Objects) → Does (plan_of asked) old new Done → (left : Option (List ℕ))
-          → old.seen.left ≡ left → IfSome left (λ bytes. LeavesAll asked bytes old new)
+          → input_of asked old ≡ left → IfSome left (λ bytes. LeavesAll asked bytes old new)
       by_left asked old new does None told = tt
       by_left asked old new does (Some bytes) told = leaves_all asked bytes old new told does
 

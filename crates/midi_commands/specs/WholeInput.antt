@@ -1,5 +1,5 @@
 -- What a run that is done leaves, by the whole input.
-use Rattle.std.specs.Prelude.{ℕ, List, Option, None, Some, IfSome, Ok}
+use Rattle.std.specs.Prelude.{ℕ, List, [], Option, None, Some, IfSome, Ok}
 use Rattle.function_blocks.specs.Setups.{SetupData}
 use Rattle.command_line.specs.Asked.{Asked, down, up, back, show, show_bytes, endpoint}
 use Rattle.command_line.specs.Asked.{usb_split, usb_pack, sysex8, rehearse, clip, self_test}
@@ -37,10 +37,15 @@ LeavesAll (rehearse name) bytes old new =
 LeavesAll clip bytes old new = IsShownClip bytes old.seen.places new.seen.places
 LeavesAll (self_test options) bytes old new = PutsLineAlone (self_test_text options.seed options.packets) old new Done
 
+-- the bytes of the input that a command reads, where it tells them; a self test reads none
+abbrev pub input_of : Asked → Objects → Option (List ℕ)
+input_of (self_test options) old = Some []
+input_of _ old = old.seen.left
+
 -- the words are a command, and it leaves what it leaves of the whole input, where the input tells its bytes
 abbrev pub LeavesTheWhole : Option Asked → Objects → Objects → Type 0
 LeavesTheWhole None old new = ⊥
-LeavesTheWhole (Some asked) old new = IfSome old.seen.left (λ bytes. LeavesAll asked bytes old new)
+LeavesTheWhole (Some asked) old new = IfSome (input_of asked old) (λ bytes. LeavesAll asked bytes old new)
 
 -- a command that is done leaves it
 abbrev pub DoneLeavesTheWhole : Type 0

@@ -1,5 +1,5 @@
 // The generator of packets (own rule).
-ghost use Rattle.std.specs.Prelude.{◌≡◌, ◌+◌, ◌*◌, ◌<◌, ◌^◌, None};
+ghost use Rattle.std.specs.Prelude.{◌≡◌, ◌+◌, ◌*◌, ◌<◌, ◌^◌, ◌%◌, None};
 ghost use Rattle.voice_messages.specs.Ranges.{IsBank, IsVoice2};
 ghost use Rattle.midi_meaning.specs.Refusal.{bad_voice2};
 ghost use Rattle.self_test.specs.Generator.{bank_of, drawn_message};
@@ -49,6 +49,19 @@ impl Draws {
         }
     }
 
+    // The registered parameter that is set.
+    fn param(&self) -> Param
+        ensures kind { result.kind ≡ ParamKind.Registered }
+        ensures bank { result.bank ≡ self.now.number % 128 }
+        ensures index { result.index ≡ self.now.high % 128 }
+    {
+        Param {
+            kind: ParamKind::Registered,
+            bank: U7::low_bits(u32::from(self.number)),
+            index: U7::low_bits(u32::from(self.high)),
+        }
+    }
+
     // The message.
     #[tactic(auto, using(crate::proofs::GeneratorLaws::not_refused), unfolding(crate::specs::Generator::drawn_message))]
     fn message(&self) -> Voice2
@@ -59,6 +72,7 @@ impl Draws {
     {
         let channel = U4::low_bits(u32::from(self.channel));
         let number = U7::low_bits(u32::from(self.number));
+        let value = self.value();
         match self.kind % 8 {
             0 => Voice2::NoteOn {
                 channel,
@@ -77,15 +91,11 @@ impl Draws {
             2 => Voice2::Control {
                 channel,
                 index: U7::low_bits(1 + u32::from(self.number % 95)),
-                value: self.value(),
+                value,
             },
             3 => Voice2::Set {
                 channel,
-                param: Param {
-                    kind: ParamKind::Registered,
-                    bank: number,
-                    index: U7::low_bits(u32::from(self.high)),
-                },
+                param: self.param(),
                 value: u32::from(self.low) * 65536,
             },
             4 => Voice2::Program {
@@ -93,19 +103,13 @@ impl Draws {
                 program: number,
                 bank: self.bank(),
             },
-            5 => Voice2::Bend {
-                channel,
-                value: self.value(),
-            },
+            5 => Voice2::Bend { channel, value },
             6 => Voice2::PolyPressure {
                 channel,
                 note: number,
-                value: self.value(),
+                value,
             },
-            _ => Voice2::Pressure {
-                channel,
-                value: self.value(),
-            },
+            _ => Voice2::Pressure { channel, value },
         }
     }
 }
