@@ -3,6 +3,7 @@ ghost use Rattle.std.specs.Prelude.{◌≡◌, ◌<◌, ◌^◌};
 ghost use Rattle.ump_grammar.specs.Ranges.{IsPacket};
 ghost use Rattle.system_stream.specs.Layout.{FitsPlaces, IsStream};
 
+use std::process::Abort;
 use std::test::Fail;
 use system_stream::*;
 use ump_grammar::{Packet, encode};
@@ -227,103 +228,123 @@ fn formats_and_unnamed_places(rt: HostRuntime) {
     assert_eq!(rt; read(&full), Ok(info));
 }
 
-// Whether packet `k` of the text has these words.
-fn is_cut(kind: TextKind, text: &[u8], k: usize, words: [u32; 4]) -> bool {
+// Whether packet `k` of the text has these words, or there is none.
+fn is_cut(kind: TextKind, text: &[u8], k: usize, words: Option<[u32; 4]>) -> bool {
     if text.is_empty() || text.len() > kind.limit() {
         return false;
     }
-    match cut_text(kind, 5, text, k) {
-        Some(packet) => encode(&packet).as_slice() == words.as_slice(),
-        None => false,
+    match (cut_text(kind, 5, text, k), words) {
+        (Some(packet), Some(words)) => encode(&packet).as_slice() == words.as_slice(),
+        (None, None) => true,
+        _ => false,
     }
-}
-
-fn is_past(kind: TextKind, text: &[u8], k: usize) -> bool {
-    if text.is_empty() || text.len() > kind.limit() {
-        return false;
-    }
-    cut_text(kind, 5, text, k).is_none()
 }
 
 #[test]
 fn texts_are_cut(rt: HostRuntime) {
-    let name = b"Demo Endpoint X";
+    let (name, id) = (TextKind::EndpointName, TextKind::ProductId);
+    let text = b"Demo Endpoint X".as_slice();
     let first = [0xF403_4465, 0x6D6F_2045, 0x6E64_706F, 0x696E_7420];
-    assert!(rt; is_cut(TextKind::EndpointName, name, 0, first));
-    assert!(rt; is_cut(TextKind::EndpointName, name, 1, [0xFC03_5800, 0, 0, 0]));
-    assert!(rt; is_past(TextKind::EndpointName, name, 2));
-    assert!(rt; is_past(TextKind::EndpointName, name, usize::MAX));
-    let id = [0xF004_534E, 0x2D30_3030, 0x3100_0000, 0];
-    assert!(rt; is_cut(TextKind::ProductId, b"SN-0001", 0, id));
-    assert!(rt; is_past(TextKind::ProductId, b"SN-0001", 1));
-    let block = b"abcdefghijklmnopqrstuvwxyz!";
+    let number = b"SN-0001".as_slice();
+    let whole = [0xF004_534E, 0x2D30_3030, 0x3100_0000, 0];
+    for (kind, text, k, words) in [
+        (name, text, 0, Some(first)),
+        (name, text, 1, Some([0xFC03_5800, 0, 0, 0])),
+        (name, text, 2, None),
+        (name, text, usize::MAX, None),
+        (id, number, 0, Some(whole)),
+        (id, number, 1, None),
+    ] {
+        assert!(rt; is_cut(kind, text, k, words), "packet {k}");
+    }
+}
+
+#[test]
+fn a_block_name_is_cut(rt: HostRuntime) {
+    let text = b"abcdefghijklmnopqrstuvwxyz!".as_slice();
     let first = [0xF412_0561, 0x6263_6465, 0x6667_6869, 0x6A6B_6C6D];
     let second = [0xF812_056E, 0x6F70_7172, 0x7374_7576, 0x7778_797A];
-    assert!(rt; is_cut(TextKind::BlockName, block, 0, first));
-    assert!(rt; is_cut(TextKind::BlockName, block, 1, second));
-    assert!(rt; is_cut(TextKind::BlockName, block, 2, [0xFC12_0521, 0, 0, 0]));
-    assert!(rt; is_past(TextKind::BlockName, block, 3));
-    assert!(rt; is_past(TextKind::BlockName, &block[..26], 2));
+    for (text, k, words) in [
+        (text, 0, Some(first)),
+        (text, 1, Some(second)),
+        (text, 2, Some([0xFC12_0521, 0, 0, 0])),
+        (text, 3, None),
+        (&text[..26], 2, None),
+    ] {
+        assert!(rt; is_cut(TextKind::BlockName, text, k, words), "packet {k}");
+    }
+}
+
+// What the parts of a text answer, one after the other: each has its place in the text, its block and its bytes.
+fn parts_answer(rt: &impl Abort, kind: TextKind, parts: &[(Form, u8, &[u8], Joined<'_>)]) {
+    let mut join = TextJoin::new(kind);
+    for (k, (form, block, bytes, answer)) in parts.iter().enumerate() {
+        assert_eq!(rt; join.part(*form, *block, bytes), *answer, "part {k}");
+    }
 }
 
 #[test]
 fn a_name_is_joined(rt: HostRuntime) {
-    let mut name = TextJoin::new(TextKind::EndpointName);
-    assert_eq!(rt; name.part(Form::Start, 0, b"Demo Endpoint "), Joined::Held);
-    let end = name.part(Form::End, 0, b"X\0\0\0\0\0\0\0\0\0\0\0\0\0");
-    assert_eq!(rt; end, Joined::Whole(b"Demo Endpoint X"));
-    assert_eq!(rt; name.part(Form::End, 0, b"X"), Joined::Bad);
-    assert_eq!(rt; name.part(Form::Continue, 0, b"X"), Joined::Bad);
-    assert_eq!(rt;
-        name.part(Form::Complete, 0, b"a\0b\0\0"),
-        Joined::Whole(b"a\0b")
-    );
-    assert_eq!(rt; name.part(Form::Complete, 0, b"\0\0"), Joined::Whole(b""));
-    assert_eq!(rt; name.part(Form::Start, 0, b"lost"), Joined::Held);
-    assert_eq!(rt; name.part(Form::Start, 0, b"one"), Joined::Held);
-    assert_eq!(rt;
-        name.part(Form::End, 0, b" text"),
-        Joined::Whole(b"one text")
-    );
-    assert_eq!(rt; name.part(Form::Start, 0, b"lost"), Joined::Held);
-    assert_eq!(rt;
-        name.part(Form::Complete, 0, b"whole"),
-        Joined::Whole(b"whole")
-    );
-    assert_eq!(rt; name.part(Form::End, 0, b"X"), Joined::Bad);
+    let parts: [(Form, u8, &[u8], Joined<'_>); 12] = [
+        (Form::Start, 0, b"Demo Endpoint ", Joined::Held),
+        (
+            Form::End,
+            0,
+            b"X\0\0\0\0\0\0\0\0\0\0\0\0\0",
+            Joined::Whole(b"Demo Endpoint X"),
+        ),
+        (Form::End, 0, b"X", Joined::Bad),
+        (Form::Continue, 0, b"X", Joined::Bad),
+        (Form::Complete, 0, b"a\0b\0\0", Joined::Whole(b"a\0b")),
+        (Form::Complete, 0, b"\0\0", Joined::Whole(b"")),
+        (Form::Start, 0, b"lost", Joined::Held),
+        (Form::Start, 0, b"one", Joined::Held),
+        (Form::End, 0, b" text", Joined::Whole(b"one text")),
+        (Form::Start, 0, b"lost", Joined::Held),
+        (Form::Complete, 0, b"whole", Joined::Whole(b"whole")),
+        (Form::End, 0, b"X", Joined::Bad),
+    ];
+    parts_answer(&rt, TextKind::EndpointName, &parts);
 }
 
 #[test]
 fn utf8_is_tested_on_the_whole_text(rt: HostRuntime) {
-    let mut name = TextJoin::new(TextKind::EndpointName);
-    assert_eq!(rt; name.part(Form::Start, 0, b"Ther\xC3"), Joined::Held);
-    let end = name.part(Form::End, 0, b"\xA9mine\0\0");
-    assert_eq!(rt; end, Joined::Whole(b"Ther\xC3\xA9mine"));
-    assert_eq!(rt; name.part(Form::Complete, 0, b"Ther\xC3"), Joined::Bad);
-    assert_eq!(rt; name.part(Form::Complete, 0, b"\xFF"), Joined::Bad);
+    let parts: [(Form, u8, &[u8], Joined<'_>); 4] = [
+        (Form::Start, 0, b"Ther\xC3", Joined::Held),
+        (
+            Form::End,
+            0,
+            b"\xA9mine\0\0",
+            Joined::Whole(b"Ther\xC3\xA9mine"),
+        ),
+        (Form::Complete, 0, b"Ther\xC3", Joined::Bad),
+        (Form::Complete, 0, b"\xFF", Joined::Bad),
+    ];
+    parts_answer(&rt, TextKind::EndpointName, &parts);
 }
 
 #[test]
 fn a_product_id_is_printable(rt: HostRuntime) {
-    let mut id = TextJoin::new(TextKind::ProductId);
-    assert_eq!(rt;
-        id.part(Form::Complete, 0, b"SN-0001\0\0"),
-        Joined::Whole(b"SN-0001")
-    );
-    assert_eq!(rt; id.part(Form::Complete, 0, b" ~"), Joined::Whole(b" ~"));
-    assert_eq!(rt; id.part(Form::Complete, 0, b"SN\x1F"), Joined::Bad);
-    assert_eq!(rt; id.part(Form::Complete, 0, b"SN\x7F"), Joined::Bad);
-    assert_eq!(rt; id.part(Form::Complete, 0, b"S\0N"), Joined::Bad);
+    let parts: [(Form, u8, &[u8], Joined<'_>); 5] = [
+        (Form::Complete, 0, b"SN-0001\0\0", Joined::Whole(b"SN-0001")),
+        (Form::Complete, 0, b" ~", Joined::Whole(b" ~")),
+        (Form::Complete, 0, b"SN\x1F", Joined::Bad),
+        (Form::Complete, 0, b"SN\x7F", Joined::Bad),
+        (Form::Complete, 0, b"S\0N", Joined::Bad),
+    ];
+    parts_answer(&rt, TextKind::ProductId, &parts);
 }
 
 #[test]
 fn a_block_name_stays_with_its_block(rt: HostRuntime) {
-    let mut name = TextJoin::new(TextKind::BlockName);
-    assert_eq!(rt; name.part(Form::Start, 1, b"Left "), Joined::Held);
-    assert_eq!(rt; name.part(Form::Continue, 2, b"or "), Joined::Bad);
-    assert_eq!(rt; name.part(Form::End, 1, b"right"), Joined::Bad);
-    assert_eq!(rt; name.part(Form::Start, 2, b"Right"), Joined::Held);
-    assert_eq!(rt; name.part(Form::End, 2, b"!\0"), Joined::Whole(b"Right!"));
+    let parts: [(Form, u8, &[u8], Joined<'_>); 5] = [
+        (Form::Start, 1, b"Left ", Joined::Held),
+        (Form::Continue, 2, b"or ", Joined::Bad),
+        (Form::End, 1, b"right", Joined::Bad),
+        (Form::Start, 2, b"Right", Joined::Held),
+        (Form::End, 2, b"!\0", Joined::Whole(b"Right!")),
+    ];
+    parts_answer(&rt, TextKind::BlockName, &parts);
 }
 
 // What a number of full packets answer, one after the other, the last of them as an end; `None` before the
@@ -345,18 +366,28 @@ fn joins_packets(kind: TextKind, count: usize) -> Option<bool> {
 
 #[test]
 fn the_limit_counts_whole_packets(rt: HostRuntime) {
-    assert_eq!(rt; joins_packets(TextKind::EndpointName, 7), Some(true));
-    assert_eq!(rt; joins_packets(TextKind::EndpointName, 8), Some(false));
-    assert_eq!(rt; joins_packets(TextKind::ProductId, 3), Some(true));
-    assert_eq!(rt; joins_packets(TextKind::ProductId, 4), Some(false));
-    assert_eq!(rt; joins_packets(TextKind::BlockName, 7), Some(true));
-    assert_eq!(rt; joins_packets(TextKind::BlockName, 8), Some(false));
-    let mut id = TextJoin::new(TextKind::ProductId);
-    assert_eq!(rt; id.part(Form::Start, 0, &[b'a'; 42]), Joined::Held);
-    assert_eq!(rt; id.part(Form::Continue, 0, &[0]), Joined::Bad);
-    assert_eq!(rt; id.part(Form::End, 0, b""), Joined::Bad);
-    assert_eq!(rt; id.part(Form::Start, 0, &[b'a'; 43]), Joined::Bad);
-    assert_eq!(rt; id.part(Form::Complete, 0, &[0; 43]), Joined::Bad);
+    for (kind, count, is_whole) in [
+        (TextKind::EndpointName, 7, true),
+        (TextKind::EndpointName, 8, false),
+        (TextKind::ProductId, 3, true),
+        (TextKind::ProductId, 4, false),
+        (TextKind::BlockName, 7, true),
+        (TextKind::BlockName, 8, false),
+    ] {
+        assert_eq!(rt; joins_packets(kind, count), Some(is_whole), "{count}");
+    }
+}
+
+#[test]
+fn the_limit_counts_each_byte(rt: HostRuntime) {
+    let parts: [(Form, u8, &[u8], Joined<'_>); 5] = [
+        (Form::Start, 0, &[b'a'; 42], Joined::Held),
+        (Form::Continue, 0, &[0], Joined::Bad),
+        (Form::End, 0, b"", Joined::Bad),
+        (Form::Start, 0, &[b'a'; 43], Joined::Bad),
+        (Form::Complete, 0, &[0; 43], Joined::Bad),
+    ];
+    parts_answer(&rt, TextKind::ProductId, &parts);
 }
 
 #[test]
