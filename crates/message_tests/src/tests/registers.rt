@@ -1,0 +1,121 @@
+// The roles of control changes and the registers of a channel, worked
+// by hand from the tables of the standards.
+use midi_meaning::{ControlRole, Registers, is_null_param};
+use std::process::Abort;
+use voice_messages::{Bank, Param, ParamKind, U7};
+
+fn u7(number: u32) -> U7 {
+    U7::low_bits(number)
+}
+
+fn bank(msb: u32, lsb: u32) -> Bank {
+    Bank {
+        msb: u7(msb),
+        lsb: u7(lsb),
+    }
+}
+
+fn param(kind: ParamKind, bank: u32, index: u32) -> Param {
+    Param {
+        kind,
+        bank: u7(bank),
+        index: u7(index),
+    }
+}
+
+// MIDI 1.0, the table of controller numbers.
+#[test]
+fn roles_of_controllers(rt: HostRuntime) {
+    let rows = [
+        (0, ControlRole::BankMsb),
+        (1, ControlRole::Coarse),
+        (5, ControlRole::Coarse),
+        (6, ControlRole::DataMsb),
+        (7, ControlRole::Coarse),
+        (31, ControlRole::Coarse),
+        (32, ControlRole::BankLsb),
+        (33, ControlRole::Fine),
+        (38, ControlRole::DataLsb),
+        (39, ControlRole::Fine),
+        (63, ControlRole::Fine),
+        (64, ControlRole::Plain),
+        (95, ControlRole::Plain),
+        (96, ControlRole::DataIncrement),
+        (97, ControlRole::DataDecrement),
+        (98, ControlRole::NumberLsb(ParamKind::Assignable)),
+        (99, ControlRole::NumberMsb(ParamKind::Assignable)),
+        (100, ControlRole::NumberLsb(ParamKind::Registered)),
+        (101, ControlRole::NumberMsb(ParamKind::Registered)),
+        (102, ControlRole::Plain),
+        (119, ControlRole::Plain),
+        (120, ControlRole::ChannelMode),
+        (121, ControlRole::ResetAll),
+        (122, ControlRole::ChannelMode),
+        (127, ControlRole::ChannelMode),
+    ];
+    for (index, role) in rows {
+        assert_eq!(rt; ControlRole::of(u7(index)), role, "control {index}");
+    }
+}
+
+#[test]
+fn halves_of_controllers_where_they_are_paired(rt: HostRuntime) {
+    for (role, paired, found) in [
+        (ControlRole::Coarse, true, ControlRole::Coarse),
+        (ControlRole::Coarse, false, ControlRole::Plain),
+        (ControlRole::Fine, true, ControlRole::Fine),
+        (ControlRole::Fine, false, ControlRole::Plain),
+        (ControlRole::DataMsb, false, ControlRole::DataMsb),
+    ] {
+        assert_eq!(rt; role.pairing(paired), found);
+    }
+}
+
+// What the registers tell: the MSB and the LSB of the bank, the bank, and the parameter that is selected.
+type Told = (Option<U7>, Option<U7>, Option<Bank>, Option<Param>);
+
+// What they tell after each control change of a table, one after the other.
+fn registers_tell(rt: &impl Abort, table: &[(u32, u32, Told)]) {
+    let mut registers = Registers::unset();
+    assert_eq!(rt; registers.bank(), None);
+    for (index, value, told) in table {
+        registers.control(u7(*index), u7(*value));
+        let (msb, lsb) = (registers.bank_msb(), registers.bank_lsb());
+        let found = (msb, lsb, registers.bank(), registers.selected());
+        assert_eq!(rt; found, *told, "control {index}");
+    }
+}
+
+#[test]
+fn halves_of_registers(rt: HostRuntime) {
+    let registered = Some(param(ParamKind::Registered, 0, 5));
+    let assignable = Some(param(ParamKind::Assignable, 127, 126));
+    let (lsb, both) = (Some(bank(0, 2)), Some(bank(1, 2)));
+    let table = [
+        (32, 2, (None, Some(u7(2)), lsb, None)),
+        (0, 1, (Some(u7(1)), Some(u7(2)), both, None)),
+        (101, 0, (Some(u7(1)), Some(u7(2)), both, None)),
+        (100, 5, (Some(u7(1)), Some(u7(2)), both, registered)),
+        (7, 100, (Some(u7(1)), Some(u7(2)), both, registered)),
+        (6, 64, (Some(u7(1)), Some(u7(2)), both, registered)),
+        (99, 127, (Some(u7(1)), Some(u7(2)), both, None)),
+        (98, 127, (Some(u7(1)), Some(u7(2)), both, None)),
+        (98, 126, (Some(u7(1)), Some(u7(2)), both, assignable)),
+        (121, 0, (Some(u7(1)), Some(u7(2)), both, None)),
+    ];
+    registers_tell(&rt, &table);
+}
+
+#[test]
+fn the_null_parameter(rt: HostRuntime) {
+    let rows = [
+        (127, 127, true),
+        (127, 126, false),
+        (126, 127, false),
+        (0, 0, false),
+    ];
+    for (bank, index, null) in rows {
+        let param = param(ParamKind::Assignable, bank, index);
+        assert_eq!(rt; is_null_param(&param), null, "{bank}/{index}");
+    }
+}
