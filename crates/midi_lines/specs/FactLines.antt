@@ -30,31 +30,48 @@ unfoldable pub loose_word : Bool → List ℕ
 loose_word true = codes " loose"
 loose_word false = []
 
--- ---- the words behind the channel
+-- ---- what a fact is about: a channel, or a whole group
+
+abbrev pub address_words : Fact → List ℕ
+address_words (fact.On group channel note velocity) = of_channel group channel
+address_words (fact.Off group channel note velocity) = of_channel group channel
+address_words (fact.Mode group channel index value) = of_channel group channel
+address_words (fact.Poly group channel note value) = of_channel group channel
+address_words (fact.Control group channel index value) = of_channel group channel
+address_words (fact.Pressure group channel value) = of_channel group channel
+address_words (fact.Bend group channel value) = of_channel group channel
+address_words (fact.Program group channel program bank) = of_channel group channel
+address_words (fact.Registered group channel bank index value is_loose) = of_channel group channel
+address_words (fact.Assignable group channel bank index value is_loose) = of_channel group channel
+address_words (fact.System group count) = of_group group
+address_words (fact.RealTime group count) = of_group group
+
+-- ---- what it tells: its name, and its numbers
 
 abbrev pub two_numbers : List ℕ → ℕ → ℕ → List ℕ
 two_numbers name first second = name ++ spaced first ++ spaced second
 
 abbrev pub param_words : List ℕ → ℕ → ℕ → Option ℕ → Bool → List ℕ
-param_words name bank index value is_loose = name ++ spaced bank ++ spaced index ++ value_word value ++ loose_word is_loose
+param_words name bank index value is_loose = two_numbers name bank index ++ value_word value ++ loose_word is_loose
+
+abbrev pub told_words : Fact → List ℕ
+told_words (fact.On group channel note velocity) = two_numbers (codes " on") note velocity
+told_words (fact.Off group channel note velocity) = two_numbers (codes " off") note velocity
+told_words (fact.Mode group channel index value) = two_numbers (codes " mode") index value
+told_words (fact.Poly group channel note value) = two_numbers (codes " poly") note value
+told_words (fact.Control group channel index value) = two_numbers (codes " control") index value
+told_words (fact.Pressure group channel value) = codes " pressure" ++ spaced value
+told_words (fact.Bend group channel value) = codes " bend" ++ spaced value
+told_words (fact.Program group channel program bank) = codes " program" ++ spaced program ++ bank_words bank
+told_words (fact.Registered group channel bank index value is_loose) = param_words (codes " registered") bank index value is_loose
+told_words (fact.Assignable group channel bank index value is_loose) = param_words (codes " assignable") bank index value is_loose
+told_words (fact.System group count) = codes " system" ++ spaced count
+told_words (fact.RealTime group count) = codes " real-time" ++ spaced count
 
 -- ---- the whole line
 
 abbrev pub fact_words : Fact → List ℕ
-fact_words (fact.On group channel note velocity) = of_channel group channel ++ two_numbers (codes " on") note velocity
-fact_words (fact.Off group channel note velocity) = of_channel group channel ++ two_numbers (codes " off") note velocity
-fact_words (fact.Mode group channel index value) = of_channel group channel ++ two_numbers (codes " mode") index value
-fact_words (fact.Poly group channel note value) = of_channel group channel ++ two_numbers (codes " poly") note value
-fact_words (fact.Control group channel index value) = of_channel group channel ++ two_numbers (codes " control") index value
-fact_words (fact.Pressure group channel value) = of_channel group channel ++ codes " pressure" ++ spaced value
-fact_words (fact.Bend group channel value) = of_channel group channel ++ codes " bend" ++ spaced value
-fact_words (fact.Program group channel program bank) = of_channel group channel ++ codes " program" ++ spaced program ++ bank_words bank
-fact_words (fact.Registered group channel bank index value is_loose) =
-    of_channel group channel ++ param_words (codes " registered") bank index value is_loose
-fact_words (fact.Assignable group channel bank index value is_loose) =
-    of_channel group channel ++ param_words (codes " assignable") bank index value is_loose
-fact_words (fact.System group count) = of_group group ++ codes " system" ++ spaced count
-fact_words (fact.RealTime group count) = of_group group ++ codes " real-time" ++ spaced count
+fact_words told = address_words told ++ told_words told
 
 abbrev pub fact_text : Fact → List ℕ
 fact_text told = fact_words told ++ codes "\n"

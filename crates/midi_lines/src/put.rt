@@ -43,7 +43,7 @@ pub fn put_hex(line: &mut Line, width: usize, number: u32)
 
 // The two digits of each byte.
 #[rattlefmt::skip]
-static PAIRS: [u8; 512] =
+static HEX_PAIRS: [u8; 512] =
     *b"000102030405060708090A0B0C0D0E0F\
       101112131415161718191A1B1C1D1E1F\
       202122232425262728292A2B2C2D2E2F\
@@ -61,8 +61,8 @@ static PAIRS: [u8; 512] =
       E0E1E2E3E4E5E6E7E8E9EAEBECEDEEEF\
       F0F1F2F3F4F5F6F7F8F9FAFBFCFDFEFF";
 
-// The byte above the lowest one.
-fn byte_above(number: u32) -> u32
+// The number that stands above the lowest byte.
+fn above_lowest_byte(number: u32) -> u32
     ensures { result ≡ number / 16 / 16 }
 {
     number / 256
@@ -76,7 +76,7 @@ fn put_pair(line: &mut Line, number: u32)
     ensures room { length line.new ≡ length line.old + 2 }
 {
     let at = (number % 256) as usize * 2;
-    line.extend(&[PAIRS[at], PAIRS[at + 1]]);
+    line.extend(&[HEX_PAIRS[at], HEX_PAIRS[at + 1]]);
 }
 
 /// Adds a word in eight hexadecimal digits. The line of 256 bytes asks room for them.
@@ -86,9 +86,9 @@ pub fn put_word(line: &mut Line, word: u32)
     ensures text { line.new ≡ line.old ++ hex 8 word }
     ensures room { length line.new ≡ length line.old + 8 }
 {
-    let third = byte_above(word);
-    let second = byte_above(third);
-    put_pair(line, byte_above(second));
+    let third = above_lowest_byte(word);
+    let second = above_lowest_byte(third);
+    put_pair(line, above_lowest_byte(second));
     put_pair(line, second);
     put_pair(line, third);
     put_pair(line, word);

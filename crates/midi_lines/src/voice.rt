@@ -15,17 +15,6 @@ pub struct VoiceAddress {
     pub channel: U4,
 }
 
-impl VoiceAddress {
-    /// This channel of this group.
-    #[inline(always)]
-    pub fn new(group: Option<U4>, channel: U4) -> Self
-        ensures group { result.group ≡ group }
-        ensures channel { result.channel ≡ channel }
-    {
-        VoiceAddress { group, channel }
-    }
-}
-
 /// Adds the group of a message, if it has one.
 #[tactic(auto, unfolding(crate::specs::Fields::group_field))]
 #[inline(always)]

@@ -1,5 +1,6 @@
 // The lines of messages of the MIDI 1.0 protocol, from their kind on.
 ghost use Rattle.std.specs.Prelude.{◌≡◌, ◌≤◌, ◌+◌, ◌++◌, length, codes};
+ghost use Rattle.midi_meaning.specs.Messages.{channel_of};
 ghost use Rattle.midi_lines.specs.Fields.{field};
 ghost use Rattle.midi_lines.specs.Voice1Lines.{voice1_fields, system_fields, system_status, m1_note, m1_program};
 ghost use Rattle.midi_lines.specs.VoiceLines.{channel_value, controller_value, note_value};
@@ -19,43 +20,44 @@ pub fn put_voice1(line: &mut Line, group: Option<U4>, message: &Voice1)
     ensures text { line.new ≡ line.old ++ voice1_fields group message.now }
     ensures room { HasRoomForEnd line.new }
 {
-    match message {
-        Voice1::NoteOff {
-            channel,
-            note,
-            velocity,
-        } => put_note(
-            line,
-            "m1-note-off",
-            VoiceAddress::new(group, *channel),
-            *note,
-            *velocity,
-        ),
-        Voice1::NoteOn {
-            channel,
-            note,
-            velocity,
-        } => put_note(
-            line,
-            "m1-note-on",
-            VoiceAddress::new(group, *channel),
-            *note,
-            *velocity,
-        ),
-        Voice1::PolyPressure {
-            channel,
-            note,
-            value,
-        } => put_poly_pressure(line, group, *channel, *note, *value),
-        Voice1::Control {
-            channel,
-            index,
-            value,
-        } => put_control_change(line, group, *channel, *index, *value),
-        Voice1::Program { channel, program } => put_program(line, group, *channel, *program),
-        Voice1::Pressure { channel, value } => put_pressure(line, group, *channel, *value),
-        Voice1::Bend { channel, value } => put_bend(line, group, *channel, *value),
+    let address = address_of(group, message);
+    match *message {
+        Voice1::NoteOff { note, velocity, .. } => {
+            put_note(line, "m1-note-off", address, note, velocity);
+        }
+        Voice1::NoteOn { note, velocity, .. } => {
+            put_note(line, "m1-note-on", address, note, velocity);
+        }
+        Voice1::PolyPressure { note, value, .. } => {
+            put_note_value(line, "m1-poly", address, note, value.get() as u32);
+        }
+        Voice1::Control { index, value, .. } => {
+            put_control(line, "m1-control", address, index, value.get() as u32);
+        }
+        Voice1::Program { program, .. } => put_program(line, address, program),
+        Voice1::Pressure { value, .. } => {
+            put_value(line, "m1-pressure", address, value.get() as u32);
+        }
+        Voice1::Bend { value, .. } => put_value(line, "m1-bend", address, value.get() as u32),
     }
+}
+
+// The channel that a message is for, in this group.
+#[inline(always)]
+fn address_of(group: Option<U4>, message: &Voice1) -> VoiceAddress
+    ensures group { result.group ≡ group }
+    ensures channel { result.channel ≡ channel_of message.now }
+{
+    let channel = match *message {
+        Voice1::NoteOff { channel, .. }
+        | Voice1::NoteOn { channel, .. }
+        | Voice1::PolyPressure { channel, .. }
+        | Voice1::Control { channel, .. }
+        | Voice1::Program { channel, .. }
+        | Voice1::Pressure { channel, .. }
+        | Voice1::Bend { channel, .. } => channel,
+    };
+    VoiceAddress { group, channel }
 }
 
 #[inline(always)]
@@ -70,71 +72,13 @@ fn put_note(line: &mut Line, kind: &str, address: VoiceAddress, note: U7, veloci
 }
 
 #[inline(always)]
-fn put_poly_pressure(line: &mut Line, group: Option<U4>, channel: U4, note: U7, value: U7)
+fn put_program(line: &mut Line, address: VoiceAddress, program: U7)
     requires { length line.old ≤ before_kind }
-    ensures text { line.new ≡ line.old ++ note_value (codes "m1-poly") group channel note value }
+    ensures text { line.new ≡ line.old ++ m1_program address.group address.channel program }
     ensures room { HasRoomForEnd line.new }
 {
-    put_note_value(
-        line,
-        "m1-poly",
-        VoiceAddress::new(group, channel),
-        note,
-        value.get() as u32,
-    );
-}
-
-#[inline(always)]
-fn put_control_change(line: &mut Line, group: Option<U4>, channel: U4, index: U7, value: U7)
-    requires { length line.old ≤ before_kind }
-    ensures text { line.new ≡ line.old ++ controller_value (codes "m1-control") group channel index value }
-    ensures room { HasRoomForEnd line.new }
-{
-    put_control(
-        line,
-        "m1-control",
-        VoiceAddress::new(group, channel),
-        index,
-        value.get() as u32,
-    );
-}
-
-#[inline(always)]
-fn put_program(line: &mut Line, group: Option<U4>, channel: U4, program: U7)
-    requires { length line.old ≤ before_kind }
-    ensures text { line.new ≡ line.old ++ m1_program group channel program }
-    ensures room { HasRoomForEnd line.new }
-{
-    put_voice(line, "m1-program", VoiceAddress::new(group, channel));
+    put_voice(line, "m1-program", address);
     put_field(line, " program=", program.get() as u32);
-}
-
-#[inline(always)]
-fn put_pressure(line: &mut Line, group: Option<U4>, channel: U4, value: U7)
-    requires { length line.old ≤ before_kind }
-    ensures text { line.new ≡ line.old ++ channel_value (codes "m1-pressure") group channel value }
-    ensures room { HasRoomForEnd line.new }
-{
-    put_value(
-        line,
-        "m1-pressure",
-        VoiceAddress::new(group, channel),
-        value.get() as u32,
-    );
-}
-
-#[inline(always)]
-fn put_bend(line: &mut Line, group: Option<U4>, channel: U4, value: U14)
-    requires { length line.old ≤ before_kind }
-    ensures text { line.new ≡ line.old ++ channel_value (codes "m1-bend") group channel value }
-    ensures room { HasRoomForEnd line.new }
-{
-    put_value(
-        line,
-        "m1-bend",
-        VoiceAddress::new(group, channel),
-        value.get() as u32,
-    );
 }
 
 /// Adds the kind and the fields of a system message.

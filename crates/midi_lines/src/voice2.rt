@@ -1,6 +1,7 @@
 // The lines of messages of the MIDI 2.0 protocol, from their kind on.
 ghost use Rattle.std.specs.Prelude.{◌≡◌, ◌≤◌, ◌+◌, ◌*◌, ◌++◌, length, codes};
 ghost use Rattle.voice_messages.specs.Kinds.{IsNote, IsOfOneNote, IsOfChannel};
+ghost use Rattle.midi_meaning.specs.Packets.{channel2};
 ghost use Rattle.midi_lines.specs.Fields.{field};
 ghost use Rattle.midi_lines.specs.Voice2Lines.{voice2_fields, kind_word, bank_field, param_fields, param_value, controller_fields, program, note_management};
 ghost use Rattle.midi_lines.specs.Room.{AddsAtMost, HasRoom, HasRoomForEnd, before_fields, before_kind, behind_channel, longest_field, longest_word};
@@ -27,6 +28,29 @@ pub fn put_voice2(line: &mut Line, group: Option<U4>, message: &Voice2)
     }
 }
 
+// The channel that a message is for, in this group.
+#[inline(always)]
+fn address_of(group: Option<U4>, message: &Voice2) -> VoiceAddress
+    ensures group { result.group ≡ group }
+    ensures channel { result.channel ≡ channel2 message.now }
+{
+    let channel = match *message {
+        Voice2::NoteOff { channel, .. }
+        | Voice2::NoteOn { channel, .. }
+        | Voice2::PolyPressure { channel, .. }
+        | Voice2::Control { channel, .. }
+        | Voice2::Set { channel, .. }
+        | Voice2::Shift { channel, .. }
+        | Voice2::Program { channel, .. }
+        | Voice2::Pressure { channel, .. }
+        | Voice2::Bend { channel, .. }
+        | Voice2::NoteController { channel, .. }
+        | Voice2::NoteBend { channel, .. }
+        | Voice2::NoteManagement { channel, .. } => channel,
+    };
+    VoiceAddress { group, channel }
+}
+
 // A note off or a note on.
 #[inline(always)]
 fn put_note_message(line: &mut Line, group: Option<U4>, message: &Voice2)
@@ -35,26 +59,27 @@ fn put_note_message(line: &mut Line, group: Option<U4>, message: &Voice2)
     ensures text { line.new ≡ line.old ++ voice2_fields group message.now }
     ensures room { HasRoomForEnd line.new }
 {
-    match message {
+    let address = address_of(group, message);
+    match *message {
         Voice2::NoteOff {
-            channel,
             note,
             velocity,
             attribute_type,
             attribute,
+            ..
         } => {
-            put_voice(line, "note-off", VoiceAddress::new(group, *channel));
-            put_note(line, *note, *velocity, *attribute_type, *attribute);
+            put_voice(line, "note-off", address);
+            put_note(line, note, velocity, attribute_type, attribute);
         }
         Voice2::NoteOn {
-            channel,
             note,
             velocity,
             attribute_type,
             attribute,
+            ..
         } => {
-            put_voice(line, "note-on", VoiceAddress::new(group, *channel));
-            put_note(line, *note, *velocity, *attribute_type, *attribute);
+            put_voice(line, "note-on", address);
+            put_note(line, note, velocity, attribute_type, attribute);
         }
         // Only a note off or a note on is told here.
         _ => unreachable!(),
@@ -69,45 +94,28 @@ fn put_per_note_message(line: &mut Line, group: Option<U4>, message: &Voice2)
     ensures text { line.new ≡ line.old ++ voice2_fields group message.now }
     ensures room { HasRoomForEnd line.new }
 {
-    match message {
-        Voice2::PolyPressure {
-            channel,
-            note,
-            value,
-        } => put_note_value(
-            line,
-            "poly",
-            VoiceAddress::new(group, *channel),
-            *note,
-            *value,
-        ),
+    let address = address_of(group, message);
+    match *message {
+        Voice2::PolyPressure { note, value, .. } => {
+            put_note_value(line, "poly", address, note, value);
+        }
         Voice2::NoteController {
-            channel,
             kind,
             note,
             index,
             value,
+            ..
         } => {
-            put_voice(line, "note-controller", VoiceAddress::new(group, *channel));
-            put_controller_fields(line, *kind, *note, *index);
-            put_field(line, " value=", *value);
+            put_voice(line, "note-controller", address);
+            put_controller_fields(line, kind, note, index);
+            put_field(line, " value=", value);
         }
-        Voice2::NoteBend {
-            channel,
-            note,
-            value,
-        } => put_note_value(
-            line,
-            "note-bend",
-            VoiceAddress::new(group, *channel),
-            *note,
-            *value,
-        ),
-        Voice2::NoteManagement {
-            channel,
-            note,
-            flags,
-        } => put_note_management(line, VoiceAddress::new(group, *channel), *note, *flags),
+        Voice2::NoteBend { note, value, .. } => {
+            put_note_value(line, "note-bend", address, note, value);
+        }
+        Voice2::NoteManagement { note, flags, .. } => {
+            put_note_management(line, address, note, flags);
+        }
         // Only a message of one note that is neither a note off nor a note on is told here.
         _ => unreachable!(),
     }
@@ -121,57 +129,16 @@ fn put_channel_message(line: &mut Line, group: Option<U4>, message: &Voice2)
     ensures text { line.new ≡ line.old ++ voice2_fields group message.now }
     ensures room { HasRoomForEnd line.new }
 {
+    let address = address_of(group, message);
     match message {
-        Voice2::Control {
-            channel,
-            index,
-            value,
-        } => put_control(
-            line,
-            "control",
-            VoiceAddress::new(group, *channel),
-            *index,
-            *value,
-        ),
-        Voice2::Set {
-            channel,
-            param,
-            value,
-        } => put_param(
-            line,
-            "parameter",
-            VoiceAddress::new(group, *channel),
-            *param,
-            *value,
-        ),
-        Voice2::Shift {
-            channel,
-            param,
-            value,
-        } => put_param(
-            line,
-            "relative",
-            VoiceAddress::new(group, *channel),
-            *param,
-            *value,
-        ),
-        Voice2::Program {
-            channel,
-            program,
-            bank,
-        } => put_program(line, VoiceAddress::new(group, *channel), *program, bank),
-        Voice2::Pressure { channel, value } => put_value(
-            line,
-            "pressure",
-            VoiceAddress::new(group, *channel),
-            *value,
-        ),
-        Voice2::Bend { channel, value } => put_value(
-            line,
-            "bend",
-            VoiceAddress::new(group, *channel),
-            *value,
-        ),
+        Voice2::Control { index, value, .. } => {
+            put_control(line, "control", address, *index, *value);
+        }
+        Voice2::Set { param, value, .. } => put_param(line, "parameter", address, *param, *value),
+        Voice2::Shift { param, value, .. } => put_param(line, "relative", address, *param, *value),
+        Voice2::Program { program, bank, .. } => put_program(line, address, *program, bank),
+        Voice2::Pressure { value, .. } => put_value(line, "pressure", address, *value),
+        Voice2::Bend { value, .. } => put_value(line, "bend", address, *value),
         // Only a message of the whole channel is told here.
         _ => unreachable!(),
     }
@@ -192,8 +159,8 @@ fn put_note(line: &mut Line, note: U7, velocity: u16, attribute_type: u8, attrib
     put_field(line, " attribute=", attribute as u32);
 }
 
-// The word of a kind of parameter.
-fn kind_name(kind: ParamKind) -> &'static str
+/// The word of a kind of parameter.
+pub fn kind_name(kind: ParamKind) -> &'static str
     ensures word { result.now ≡ kind_word kind }
     ensures size { length (codes " kind=") + length result.now ≤ longest_word }
 {

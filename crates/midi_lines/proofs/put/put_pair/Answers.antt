@@ -1,10 +1,10 @@
 use Rattle.std.proofs.Common.{◌≡◌, ℕ, ◌+◌, ◌*◌, ◌%◌, [], ◌∷◌, ◌++◌, get_or, refl, ap, ◌∙◌}
 use Rattle.midi_lines.specs.Fields.{hex}
-use Rattle.midi_lines.specs.declared.put.TheConstants.{PAIRS}
+use Rattle.midi_lines.specs.declared.put.TheConstants.{HEX_PAIRS}
 use Rattle.midi_lines.proofs.Pairs.{first_digit, second_digit}
 use Rattle.midi_lines.proofs.put.put_pair.Goals as goal
 
-two_digits : (n : ℕ) → get_or PAIRS (n % 256 * 2) 0 ∷ get_or PAIRS (n % 256 * 2 + 1) 0 ∷ [] ≡ hex 2 n
+two_digits : (n : ℕ) → get_or HEX_PAIRS (n % 256 * 2) 0 ∷ get_or HEX_PAIRS (n % 256 * 2 + 1) 0 ∷ [] ≡ hex 2 n
 unfolding hex
 two_digits n = rw (first_digit n, second_digit n) refl
 
