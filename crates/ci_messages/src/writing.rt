@@ -172,6 +172,7 @@ fn put_discovery(format: Format, body: &Body<'_>, into: &mut Message)
         path,
     } = body
     else {
+        // the body is a Discovery
         unreachable!()
     };
     put_identity(manufacturer, family, model, revision, into);
@@ -198,6 +199,7 @@ fn put_discovery_reply(format: Format, body: &Body<'_>, into: &mut Message)
         block,
     } = body
     else {
+        // the body is a Reply to Discovery
         unreachable!()
     };
     put_identity(manufacturer, family, model, revision, into);
