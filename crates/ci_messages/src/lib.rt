@@ -9,6 +9,7 @@ pub mod reading;
 pub mod view;
 pub mod writing;
 
+pub use crate::kind::Format;
 pub use crate::muid::{BROADCAST, Muid};
 pub use crate::reading::read;
 pub use crate::view::{Address, Body, CiFault, CiView, NO_BLOCK, PROFILE_CONFIGURATION, ProfileId};

@@ -1,5 +1,5 @@
 // The numbers by which devices are addressed.
-ghost use Rattle.std.specs.Prelude.{◌≡◌, ◌<◌, ◌≤◌, ◌==◌, ◌^◌, MatchOption};
+ghost use Rattle.std.specs.Prelude.{◌≡◌, ◌<◌, ◌≤◌, ◌^◌, MatchOption};
 ghost use Rattle.ci_messages.specs.Reading.{is_reserved as is_reserved_of};
 
 use std::marker::Model;
@@ -55,20 +55,5 @@ impl Muid {
         ensures fits { self < 2 ^ 28 }
     {
         self.number
-    }
-
-    /// Whether no device may have it as its own (M2-101-UM, MUID): 0FFFFF00 and above, which are reserved or
-    /// broadcast.
-    pub fn is_reserved(self) -> bool
-        ensures { result ≡ is_reserved_of self }
-    {
-        is_reserved(self.number)
-    }
-
-    /// Whether it stands for all devices (M2-101-UM, MUID): 0FFFFFFF.
-    pub fn is_broadcast(self) -> bool
-        ensures { result ≡ (self == 0x0FFFFFFF) }
-    {
-        self.number == BROADCAST
     }
 }

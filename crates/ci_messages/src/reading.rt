@@ -291,7 +291,7 @@ fn body_bytes(message: &[u8]) -> &[u8]
     ensures bytes { result.now ≡ body_of message.now }
     ensures data_bytes { IsData result.now }
 {
-    part(message, BODY, message.len() - SHORTEST)
+    &message[BODY..message.len() - 1]
 }
 
 /// Reads a message (M2-101-UM) from its exclusive, which has data bytes between F0 and F7. The view borrows

@@ -95,11 +95,18 @@ impl<'a> CiView<'a> {
         self.source == muid.get()
     }
 
+    /// Whether it is for all devices (M2-101-UM, MUID): its destination is 0FFFFFFF.
+    pub fn is_for_all(&self) -> bool
+        ensures { result ≡ (self.now.destination == 0x0FFFFFFF) }
+    {
+        self.destination == BROADCAST
+    }
+
     /// Whether it is for the device of this MUID (M2-101-UM, MUID): for that one alone, or for all.
     pub fn is_for(&self, muid: Muid) -> bool
         ensures { result ≡ (self.now.destination == muid || self.now.destination == 0x0FFFFFFF) }
     {
-        self.destination == muid.get() || self.destination == BROADCAST
+        self.destination == muid.get() || self.is_for_all()
     }
 }
 
@@ -162,7 +169,7 @@ pub enum Body<'a> {
     },
     /// 7F: MIDI-CI NAK.
     Nak {
-        /// The sub-id of the message that is refused.
+        /// The sub-id of the message that it answers.
         original: u8,
         /// The status code.
         code: u8,

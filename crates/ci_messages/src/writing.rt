@@ -4,7 +4,7 @@ ghost use Rattle.ci_messages.specs.declared.kind.Kind.TheVariants as kind;
 ghost use Rattle.ci_messages.specs.declared.view.CiFault.{CiFault};
 ghost use Rattle.ci_messages.specs.declared.view.CiView.{CiView};
 ghost use Rattle.ci_messages.specs.Fields.{bytes, bytes_of_fields, list, nothing, number};
-ghost use Rattle.ci_messages.specs.Messages.{block_in, channels_in, fields_of, path_in};
+ghost use Rattle.ci_messages.specs.Messages.{block_in, body_kind, channels_in, fields_of, path_in};
 ghost use Rattle.ci_messages.specs.Positions.{bytes2, bytes4};
 ghost use Rattle.ci_messages.specs.Reading.{Reads};
 ghost use Rattle.ci_messages.specs.Writing.{
@@ -97,29 +97,29 @@ fn put_path_and_block(format: Format, path: u8, block: u8, into: &mut Message)
     }
 }
 
-// What a NAK says of the message that it refuses.
+// Which message a NAK answers, and why.
 #[derive(Clone, Copy, Debug, PartialEq, Eq)]
-struct Refusal {
+struct NakReason {
     original: u8,
     code: u8,
     value: u8,
 }
 
 // The fields of a NAK, where they have a place.
-fn put_nak(format: Format, refusal: Refusal, details: &[u8; 5], text: &[u8], into: &mut Message)
+fn put_nak(format: Format, reason: NakReason, details: &[u8; 5], text: &[u8], into: &mut Message)
     requires { length into.old + length (bytes_of_fields (fields_of format kind.Nak)
-        (number refusal.original ∷ number refusal.code ∷ number refusal.value
+        (number reason.original ∷ number reason.code ∷ number reason.value
         ∷ list details.now ∷ list text.now ∷ [])) ≤ 512 }
     ensures { into.new ≡ into.old ++ bytes_of_fields (fields_of format kind.Nak)
-        (number refusal.original ∷ number refusal.code ∷ number refusal.value
+        (number reason.original ∷ number reason.code ∷ number reason.value
         ∷ list details.now ∷ list text.now ∷ []) }
 {
     match format {
         Format::Short => {}
         Format::Full => {
-            into.push(refusal.original);
-            into.push(refusal.code);
-            into.push(refusal.value);
+            into.push(reason.original);
+            into.push(reason.code);
+            into.push(reason.value);
             into.extend(details);
             put_counted(text, 1, into);
         }
@@ -155,41 +155,67 @@ fn put_set_off(format: Format, id: &ProfileId, into: &mut Message)
     }
 }
 
+// The body of a Discovery.
+fn put_discovery(format: Format, body: &Body<'_>, into: &mut Message)
+    requires kind { body_kind body.now ≡ kind.Discovery }
+    requires fits { FitsBody format body.now }
+    requires capacity { length into.old + length (body_bytes format body.now) ≤ 512 }
+    ensures { into.new ≡ into.old ++ body_bytes format body.now }
+{
+    let Body::Discovery {
+        manufacturer,
+        family,
+        model,
+        revision,
+        category,
+        size,
+        path,
+    } = body
+    else {
+        // the body is a Discovery
+        unreachable!()
+    };
+    put_identity(manufacturer, family, model, revision, into);
+    into.push(*category);
+    put_four(*size, into);
+    put_path(format, *path, into);
+}
+
+// The body of a Reply to Discovery.
+fn put_discovery_reply(format: Format, body: &Body<'_>, into: &mut Message)
+    requires kind { body_kind body.now ≡ kind.DiscoveryReply }
+    requires fits { FitsBody format body.now }
+    requires capacity { length into.old + length (body_bytes format body.now) ≤ 512 }
+    ensures { into.new ≡ into.old ++ body_bytes format body.now }
+{
+    let Body::DiscoveryReply {
+        manufacturer,
+        family,
+        model,
+        revision,
+        category,
+        size,
+        path,
+        block,
+    } = body
+    else {
+        // the body is a Reply to Discovery
+        unreachable!()
+    };
+    put_identity(manufacturer, family, model, revision, into);
+    into.push(*category);
+    put_four(*size, into);
+    put_path_and_block(format, *path, *block, into);
+}
+
 fn put_body(format: Format, body: &Body<'_>, into: &mut Message)
     requires fits { FitsBody format body.now }
     requires capacity { length into.old + length (body_bytes format body.now) ≤ 512 }
     ensures { into.new ≡ into.old ++ body_bytes format body.now }
 {
     match body {
-        Body::Discovery {
-            manufacturer,
-            family,
-            model,
-            revision,
-            category,
-            size,
-            path,
-        } => {
-            put_identity(manufacturer, family, model, revision, into);
-            into.push(*category);
-            put_four(*size, into);
-            put_path(format, *path, into);
-        }
-        Body::DiscoveryReply {
-            manufacturer,
-            family,
-            model,
-            revision,
-            category,
-            size,
-            path,
-            block,
-        } => {
-            put_identity(manufacturer, family, model, revision, into);
-            into.push(*category);
-            put_four(*size, into);
-            put_path_and_block(format, *path, *block, into);
-        }
+        Body::Discovery { .. } => put_discovery(format, body, into),
+        Body::DiscoveryReply { .. } => put_discovery_reply(format, body, into),
         Body::EndpointInquiry { status } => into.push(*status),
         Body::EndpointReply { status, text } => {
             into.push(*status);
@@ -203,12 +229,12 @@ fn put_body(format: Format, body: &Body<'_>, into: &mut Message)
             details,
             text,
         } => {
-            let refusal = Refusal {
+            let reason = NakReason {
                 original: *original,
                 code: *code,
                 value: *value,
             };
-            put_nak(format, refusal, details, text, into);
+            put_nak(format, reason, details, text, into);
         }
         Body::ProfileInquiry => {}
         Body::ProfileReply { on, off } => {
@@ -234,22 +260,6 @@ fn number_of(address: Address) -> u8
     }
 }
 
-// Puts the bytes of a message into an empty list.
-fn put_message(view: &CiView<'_>, into: &mut Message)
-    requires view { IsView view.now }
-    requires fits { length (message_bytes view.now) ≤ 512 }
-    requires empty { into.old ≡ [] }
-    ensures { into.new ≡ message_bytes view.now }
-{
-    into.extend(&[START_OF_EXCLUSIVE, 0x7E, number_of(view.address), 0x0D]);
-    into.push(view.sub);
-    into.push(view.version);
-    put_four(view.source, into);
-    put_four(view.destination, into);
-    put_body(Format::of(view.version), &view.body, into);
-    into.push(END_OF_EXCLUSIVE);
-}
-
 /// Writes the bytes of a message (M2-101-UM), from F0 to F7, into an empty list. Reserved bytes are zeros.
 ///
 /// The version is 1 to 127, the body is the one that the sub-id and version name, each number fits its bytes,
@@ -266,5 +276,11 @@ pub fn write(view: &CiView<'_>, into: &mut ShortList<u8, 512>)
         Reads into.new answer → IsOkAnd answer (SameView view.now) }
 {
     written_messages_are_read_again();
-    put_message(view, into);
+    into.extend(&[START_OF_EXCLUSIVE, 0x7E, number_of(view.address), 0x0D]);
+    into.push(view.sub);
+    into.push(view.version);
+    put_four(view.source, into);
+    put_four(view.destination, into);
+    put_body(Format::of(view.version), &view.body, into);
+    into.push(END_OF_EXCLUSIVE);
 }

@@ -96,9 +96,9 @@ abbrev pub invalidation : Sender → Message → List ℕ
 invalidation sender message =
     payload message address.Block sender.muid broadcast kind.Invalidate (number sender.muid ∷ [])
 
--- the sub-id that is refused, and nine zeros
-abbrev pub refusal : Sender → Message → List ℕ
-refusal sender message =
+-- a NAK: the sub-id of the message that it answers, and nine zeros
+abbrev pub nak : Sender → Message → List ℕ
+nak sender message =
     payload message message.address sender.muid message.source kind.Nak
     (number message.sub ∷ number 0 ∷ number 0 ∷ list (replicate 5 0) ∷ list [] ∷ [])
 
@@ -121,7 +121,7 @@ sent group (Some bytes) = packets_of group bytes
 abbrev pub reply_to : Sender → Heard → Received → Option (List ℕ)
 reply_to sender heard.Collision received = Some (invalidation sender received.message)
 reply_to sender heard.Answered received = reply_row sender received received.message.said
-reply_to sender heard.Nak received = Some (refusal sender received.message)
+reply_to sender heard.Nak received = Some (nak sender received.message)
 reply_to sender _ received = None
 
 -- a message from F0 to F7 for each payload

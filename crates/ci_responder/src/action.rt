@@ -6,7 +6,7 @@ use ci_messages::ProfileId;
 #[derive(Clone, Copy, Debug, PartialEq, Eq)]
 pub(crate) enum Action {
     /// Nothing: the message is heard so, and that is all.
-    Pass(Heard),
+    PassOver(Heard),
     /// Its own MUID is invalidated for all, and it takes the next one.
     Invalidate,
     /// It takes the next MUID.
@@ -20,7 +20,7 @@ pub(crate) enum Action {
     /// It switches a profile, and reports it.
     Switch(Switch),
     /// It sends a NAK.
-    Refuse,
+    Nak,
 }
 
 /// A switch of a profile that the setup names.

@@ -18,7 +18,7 @@ ghost use Rattle.ci_responder.specs.Replies.{
   invalidation,
   message_of_payload,
   message_of_reply,
-  refusal,
+  nak,
   reply_version as reply_version_of,
 };
 
@@ -26,7 +26,9 @@ use crate::message::CiMessage;
 use crate::owner::Owner;
 use crate::profiles::{ids_at, place_of};
 use crate::responder::Responder;
-use ci_messages::{Address, BROADCAST, Body, CiView, NO_BLOCK, PROFILE_CONFIGURATION, ProfileId};
+use ci_messages::{
+    Address, BROADCAST, Body, CiView, Format, NO_BLOCK, PROFILE_CONFIGURATION, ProfileId,
+};
 use function_blocks::Identity;
 
 // The version of the reply to a message: 01 to a message of version 01, else 02 (own rule).
@@ -35,7 +37,10 @@ fn reply_version(view: &CiView<'_>) -> u8
     ensures least { 1 ≤ result }
     ensures most { result ≤ 2 }
 {
-    if view.version == 1 { 1 } else { 2 }
+    match Format::of(view.version) {
+        Format::Short => 1,
+        Format::Full => 2,
+    }
 }
 
 // A number of a message of a version, or what it is where version 01 has no place for it.
@@ -45,7 +50,10 @@ fn placed(version: u8, value: u8, otherwise: u8) -> u8
     ensures bytes { bytes_of_field (full_only (format_of version) byte (number otherwise)) (number result)
         ≡ bytes_of_field (full_only (format_of version) byte (number otherwise)) (number value) }
 {
-    if version == 1 { otherwise } else { value }
+    match Format::of(version) {
+        Format::Short => otherwise,
+        Format::Full => value,
+    }
 }
 
 // The number of channels that a report tells: that of its address, and
@@ -55,7 +63,10 @@ fn channels_told(version: u8, address: Address) -> u16
     ensures bytes { bytes_of_field (channels_in (format_of version)) (number result)
         ≡ bytes_of_field (channels_in (format_of version)) (number (channels_of address)) }
 {
-    if version == 1 { 0 } else { address.channels() }
+    match Format::of(version) {
+        Format::Short => 0,
+        Format::Full => address.channels(),
+    }
 }
 
 // The body of a report that a profile is on, or that it is off.
@@ -90,10 +101,10 @@ impl Responder {
     }
 
     /// A NAK.
-    pub(crate) fn refuse(&self, owner: &Owner, view: &CiView<'_>) -> CiMessage
+    pub(crate) fn nak(&self, owner: &Owner, view: &CiView<'_>) -> CiMessage
         requires { IsView view.now }
         ensures { result ≡ message_of_payload
-            (refusal (sender_of self.now owner.now.block owner.now.muid) (viewed_message view.now)) }
+            (nak (sender_of self.now owner.now.block owner.now.muid) (viewed_message view.now)) }
     {
         let version = reply_version(view);
         let original = placed(version, view.sub, 0);

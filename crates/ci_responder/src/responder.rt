@@ -182,7 +182,7 @@ impl Responder {
             (received_of owner.now.group view.now)) }
     {
         match action {
-            Action::Pass(heard) => (heard, None),
+            Action::PassOver(heard) => (heard, None),
             Action::Invalidate => {
                 let reply = self.invalidate(owner, view);
                 self.take_next_muid(owner);
@@ -202,7 +202,7 @@ impl Responder {
                 set(&mut self.states, switch.number, switch.on);
                 (Heard::Answered, Some(reply))
             }
-            Action::Refuse => (Heard::Nak, Some(self.refuse(owner, view))),
+            Action::Nak => (Heard::Nak, Some(self.nak(owner, view))),
         }
     }
 }

@@ -1,12 +1,9 @@
 // What is done with a message, by its row.
-ghost use Rattle.std.specs.Prelude.{◌≡◌, ◌==◌, false, if◌then◌else◌};
+ghost use Rattle.std.specs.Prelude.{◌≡◌, ◌==◌, false};
 ghost use Rattle.ci_messages.specs.Writing.{IsView};
-ghost use Rattle.ci_responder.specs.declared.action.Action.TheVariants as action;
-ghost use Rattle.ci_responder.specs.declared.heard.Heard.TheVariants as heard;
 ghost use Rattle.ci_responder.specs.Actions.{IsSwitchOf, Suits, heard_of};
 ghost use Rattle.ci_responder.specs.Messages.{key_at, said_in, received_of, viewed_message};
 ghost use Rattle.ci_responder.specs.Rows.{
-  broadcast,
   heard_row,
   is_report as is_report_of,
   names,
@@ -19,7 +16,7 @@ use crate::keys::Key;
 use crate::owner::Owner;
 use crate::profiles::{number_of, place_of};
 use crate::responder::Responder;
-use ci_messages::{BROADCAST, Body, CiView, ProfileId};
+use ci_messages::{Body, CiView, ProfileId};
 
 // Whether this is the sub-id of a reply, a report, an ACK or a NAK,
 // Process Inquiry's replies apart (own rule).
@@ -29,20 +26,8 @@ fn is_report(sub: u8) -> bool
     matches!(sub, 0x71 | 0x73 | 0x21 | 0x24..=0x27 | 0x29 | 0x7D | 0x7F)
 }
 
-// What is done with a message, if it isn't for all.
-fn unless_to_all(view: &CiView<'_>, otherwise: Action) -> Action
-    ensures { result ≡ (if view.now.destination == broadcast
-        then action.Pass heard.Broadcast else otherwise) }
-{
-    if view.destination == BROADCAST {
-        Action::Pass(Heard::Broadcast)
-    } else {
-        otherwise
-    }
-}
-
 impl Responder {
-    /// What a block does with a message.
+    /// What a block does with a message: the first of these that applies.
     pub(crate) fn action(&self, owner: &Owner, view: &CiView<'_>) -> Action
         requires { IsView view.now }
         ensures heard { heard_of result ≡ heard_row owner.now.muid
@@ -53,15 +38,15 @@ impl Responder {
         if view.is_from(owner.muid) {
             Action::Invalidate
         } else if view.version == 0 {
-            Action::Pass(Heard::OldVersion)
+            Action::PassOver(Heard::OldVersion)
         } else if !view.is_for(owner.muid) {
-            Action::Pass(Heard::NotOurs)
+            Action::PassOver(Heard::NotOurs)
         } else {
             self.action_by_body(owner, view)
         }
     }
 
-    // What a block does with a message that is for it, and not of version 00.
+    // What a block does with a message that is for it, and not of version 00: the first of these that applies.
     fn action_by_body(&self, owner: &Owner, view: &CiView<'_>) -> Action
         requires view { IsView view.now }
         requires version { (view.now.version == 0) ≡ false }
@@ -71,23 +56,24 @@ impl Responder {
         ensures suits { Suits self.now.states owner.now.block (received_of owner.now.group view.now) result }
     {
         match &view.body {
-            Body::Discovery { path, .. } => Action::TellDevice { path: *path },
-            Body::EndpointInquiry { status: 0 } => unless_to_all(view, Action::TellProductId),
-            Body::EndpointInquiry { .. } => unless_to_all(view, Action::Refuse),
             Body::Invalidate { target } if *target == owner.muid.get() => Action::Move,
-            Body::Invalidate { .. } => Action::Pass(Heard::NotOurs),
-            Body::ProfileInquiry => unless_to_all(view, Action::TellProfiles),
-            Body::SetOn { id, .. } => unless_to_all(view, self.switch_of(owner, view, id, true)),
-            Body::SetOff { id } => unless_to_all(view, self.switch_of(owner, view, id, false)),
-            Body::DiscoveryReply { .. } => Action::Pass(Heard::Report),
-            Body::EndpointReply { .. } => Action::Pass(Heard::Report),
-            Body::Nak { .. } => Action::Pass(Heard::Report),
-            Body::ProfileReply { .. } => Action::Pass(Heard::Report),
-            Body::EnabledReport { .. } => Action::Pass(Heard::Report),
-            Body::DisabledReport { .. } => Action::Pass(Heard::Report),
-            Body::Property(_) => unless_to_all(view, Action::Pass(Heard::Passed)),
-            Body::Other(_) if is_report(view.sub) => Action::Pass(Heard::Report),
-            Body::Other(_) => unless_to_all(view, Action::Refuse),
+            Body::Invalidate { .. } => Action::PassOver(Heard::NotOurs),
+            Body::DiscoveryReply { .. } => Action::PassOver(Heard::Report),
+            Body::EndpointReply { .. } => Action::PassOver(Heard::Report),
+            Body::Nak { .. } => Action::PassOver(Heard::Report),
+            Body::ProfileReply { .. } => Action::PassOver(Heard::Report),
+            Body::EnabledReport { .. } => Action::PassOver(Heard::Report),
+            Body::DisabledReport { .. } => Action::PassOver(Heard::Report),
+            Body::Other(_) if is_report(view.sub) => Action::PassOver(Heard::Report),
+            Body::Discovery { path, .. } => Action::TellDevice { path: *path },
+            _ if view.is_for_all() => Action::PassOver(Heard::Broadcast),
+            Body::EndpointInquiry { status: 0 } => Action::TellProductId,
+            Body::EndpointInquiry { .. } => Action::Nak,
+            Body::ProfileInquiry => Action::TellProfiles,
+            Body::SetOn { id, .. } => self.switch_of(owner, view, id, true),
+            Body::SetOff { id } => self.switch_of(owner, view, id, false),
+            Body::Property(_) => Action::PassOver(Heard::Passed),
+            Body::Other(_) => Action::Nak,
         }
     }
 
@@ -107,7 +93,7 @@ impl Responder {
                 id: *id,
                 on,
             }),
-            None => Action::Refuse,
+            None => Action::Nak,
         }
     }
 }

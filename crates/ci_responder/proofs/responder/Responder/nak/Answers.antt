@@ -3,9 +3,9 @@ use Rattle.ci_messages.specs.declared.kind.Format.{Format}
 use Rattle.ci_messages.specs.Fields.{bytes, bytes_of_field, bytes_of_fields, counted, list, number}
 use Rattle.ci_messages.specs.Messages.{format_of, full_only, nak_byte_in}
 use Rattle.ci_responder.specs.Replies.{message_of_payload, payload_with}
-use Rattle.ci_responder.proofs.responder.Responder.refuse.Goals as goal
+use Rattle.ci_responder.proofs.responder.Responder.nak.Goals as goal
 
--- what follows the sub-id that is refused
+-- what follows the sub-id of the message that it answers
 abbrev zeros : Format → List ℕ
 zeros form =
     bytes_of_fields
