@@ -1,5 +1,5 @@
 -- Channel voice messages of the MIDI 2.0 protocol whose MIDI 1.0 counterpart has their status byte (M2-104-UM, opcodes 8 to B, D and E).
-use Rattle.std.specs.Prelude.{◌≡◌, ◌==◌, ◌||◌, ◌<◌, ◌/◌, ◌%◌, ◌^◌, ℕ, Bool, true, false, if◌then◌else◌}
+use Rattle.std.specs.Prelude.{◌≡◌, ◌==◌, ◌<◌, ◌/◌, ◌%◌, ◌^◌, ℕ, Bool, true, false, if◌then◌else◌}
 use Rattle.std.proofs.Common.{eqb, sym, refl, subst, ◌∙◌}
 use Rattle.std.proofs.lemmas.Bool.{eqb-true, true≢false}
 use Rattle.voice_messages.specs.declared.voice2.Voice2.{Voice2}
@@ -7,9 +7,26 @@ use Rattle.voice_messages.specs.declared.voice2.Voice2.TheVariants as voice2
 use Rattle.ump_grammar.specs.declared.packet.Packet.{Packet}
 use Rattle.ump_grammar.specs.declared.packet.Packet.TheVariants as packet
 use Rattle.direct_packets.specs.declared.direct_message.DirectMessage.{DirectMessage}
+use Rattle.direct_packets.specs.declared.direct_message.DirectKind.{DirectKind}
+use Rattle.direct_packets.specs.declared.direct_message.DirectKind.TheVariants as kinds
+
+-- the kind with this opcode
+abbrev pub kind_by : ℕ → DirectKind
+kind_by opcode =
+    if opcode == 0x8 then kinds.NoteOff
+    else if opcode == 0x9 then kinds.NoteOn
+    else if opcode == 0xA then kinds.PolyPressure
+    else if opcode == 0xB then kinds.Control
+    else if opcode == 0xD then kinds.Pressure
+    else if opcode == 0xE then kinds.Bend
+    else kinds.Other
+
+abbrev pub is_direct_kind : DirectKind → Bool
+is_direct_kind kinds.Other = false
+is_direct_kind _ = true
 
 abbrev pub is_direct_opcode : ℕ → Bool
-is_direct_opcode opcode = opcode == 0x8 || opcode == 0x9 || opcode == 0xA || opcode == 0xB || opcode == 0xD || opcode == 0xE
+is_direct_opcode opcode = is_direct_kind (kind_by opcode)
 
 -- What holds of each of the six opcodes holds of one of them.
 pick : (P : ℕ → Type 0) (n k : ℕ) (same : Bool) → eqb n k ≡ same → P k → (same ≡ false → P n) → P n
@@ -27,15 +44,17 @@ one_of_six P at8 at9 atA atB atD atE n e =
     let none : is_direct_opcode n ≡ false = rw (not8, not9, notA, notB, notD, notE) refl in
     absurd (true≢false (sym e ∙ none))))))))
 
--- the message with this opcode
+-- the message of this kind
+abbrev pub message_of : DirectKind → DirectMessage → Voice2
+message_of kinds.NoteOff m = voice2.NoteOff (m.status % 16) m.index (m.value / 2 ^ 16) m.attribute_type (m.value % 2 ^ 16)
+message_of kinds.NoteOn m = voice2.NoteOn (m.status % 16) m.index (m.value / 2 ^ 16) m.attribute_type (m.value % 2 ^ 16)
+message_of kinds.PolyPressure m = voice2.PolyPressure (m.status % 16) m.index m.value
+message_of kinds.Control m = voice2.Control (m.status % 16) m.index m.value
+message_of kinds.Pressure m = voice2.Pressure (m.status % 16) m.value
+message_of _ m = voice2.Bend (m.status % 16) m.value
+
 abbrev pub message_by : ℕ → DirectMessage → Voice2
-message_by opcode m =
-    if opcode == 0x8 then voice2.NoteOff (m.status % 16) m.index (m.value / 2 ^ 16) m.attribute_type (m.value % 2 ^ 16)
-    else if opcode == 0x9 then voice2.NoteOn (m.status % 16) m.index (m.value / 2 ^ 16) m.attribute_type (m.value % 2 ^ 16)
-    else if opcode == 0xA then voice2.PolyPressure (m.status % 16) m.index m.value
-    else if opcode == 0xB then voice2.Control (m.status % 16) m.index m.value
-    else if opcode == 0xD then voice2.Pressure (m.status % 16) m.value
-    else voice2.Bend (m.status % 16) m.value
+message_by opcode m = message_of (kind_by opcode) m
 
 abbrev pub direct_voice : DirectMessage → Voice2
 direct_voice m = message_by (m.status / 16) m

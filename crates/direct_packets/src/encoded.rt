@@ -11,7 +11,7 @@ ghost use Rattle.direct_packets.specs.Parts.{begins_part, has_low_bytes, is_full
 ghost use Rattle.direct_packets.specs.Encoded.{ThePacket, the_packet-prop};
 ghost use Rattle.direct_packets.specs.DirectMessages.{IsDirectMessage, has_direct_kind, is_direct_opcode, direct_voice};
 
-use crate::direct_message::DirectMessage;
+use crate::direct_message::{DirectKind, DirectMessage};
 use crate::exclusive_part::ExclusivePart;
 use std::marker::Model;
 use ump_grammar::decoding::form_of;
@@ -235,16 +235,10 @@ fn message_in(words: &[u32]) -> DirectMessage
     }
 }
 
-// Which opcodes are those of direct messages: a table, since no order in which they come could be guessed.
-const HAVE_VALUE: [bool; 16] = [
-    false, false, false, false, false, false, false, false, true, true, true, true, false, true,
-    true, false,
-];
-
 // Whether this is the first word of a direct message.
 #[inline(always)]
 fn begins_direct(first: u32) -> bool
     ensures { result ≡ (field first 28 4 == 4 && is_direct_opcode (field first 20 4)) }
 {
-    (bits(first, 28, 4) == 4) & HAVE_VALUE[bits(first, 20, 4) as usize]
+    bits(first, 28, 4) == 4 && DirectKind::of(bits(first, 20, 4) as u8).is_direct()
 }

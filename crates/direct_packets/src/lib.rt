@@ -6,6 +6,6 @@ pub mod direct_message;
 pub mod encoded;
 pub mod exclusive_part;
 
-pub use crate::direct_message::DirectMessage;
+pub use crate::direct_message::{DirectKind, DirectMessage};
 pub use crate::encoded::EncodedPacket;
 pub use crate::exclusive_part::ExclusivePart;

@@ -1,13 +1,16 @@
 -- Direct control changes by their index, and the status byte that a lane takes.
 use Rattle.std.proofs.Common.{ℕ, ◌≡◌, ◌/◌, refl, ap, Bool, true, false, Option, Some, None}
-use Rattle.std.specs.Prelude.{◌==◌, ◌&&◌, not, if◌then◌else◌}
+use Rattle.std.specs.Prelude.{◌&&◌, not}
 use Rattle.std.proofs.lemmas.Bool.{eqb-true}
+use Rattle.direct_packets.specs.declared.direct_message.DirectKind.{DirectKind}
+use Rattle.direct_packets.specs.declared.direct_message.DirectKind.TheVariants as direct
 use Rattle.direct_packets.specs.declared.direct_message.DirectMessage.{DirectMessage}
+use Rattle.direct_packets.specs.DirectMessages.{kind_by}
 use Rattle.midi1_bytes.specs.RunningStatus.{is_running}
 use Rattle.midi_meaning.specs.Controllers.{is_direct, is_direct_in, pairing, role_of}
 use Rattle.midi_meaning.specs.Styles.{Style, plain_style, compact_style}
 use Rattle.down_translator.specs.KeptLanes.{is_plain, when_compact, when_plain}
-use Rattle.down_translator.specs.Lowered.{message_goes_direct}
+use Rattle.down_translator.specs.Lowered.{goes_by, index_by, message_goes_direct}
 
 pub direct_when_plain : (style : Style) (paired : Bool) (index : ℕ) →
     is_direct_in (when_plain style paired) index ≡ (is_plain style && is_direct (pairing paired (role_of index)))
@@ -20,16 +23,20 @@ direct_when_compact plain_style paired index = refl
 direct_when_compact compact_style paired index = refl
 
 -- 64 is the index of a direct control change
-direct_by : (control paired : Bool) (index : ℕ) →
-    is_direct (pairing paired (role_of (if control then index else 64)))
-    ≡ (if control then is_direct (pairing paired (role_of index)) else true)
+direct_by : (kind : DirectKind) (paired : Bool) (m : DirectMessage)
+    → is_direct (pairing paired (role_of (index_by kind m))) ≡ goes_by kind paired m
 unfolding role_of
-direct_by true paired index = refl
-direct_by false paired index = refl
+direct_by direct.NoteOff paired m = refl
+direct_by direct.NoteOn paired m = refl
+direct_by direct.PolyPressure paired m = refl
+direct_by direct.Control paired m = refl
+direct_by direct.Pressure paired m = refl
+direct_by direct.Bend paired m = refl
+direct_by direct.Other paired m = refl
 
 pub direct_index : (paired : Bool) (m : DirectMessage) →
-    is_direct (pairing paired (role_of (if m.status / 16 == 0xB then m.index else 64))) ≡ message_goes_direct paired m
-direct_index paired m = direct_by (m.status / 16 == 0xB) paired m.index
+    is_direct (pairing paired (role_of (index_by (kind_by (m.status / 16)) m))) ≡ message_goes_direct paired m
+direct_index paired m = direct_by (kind_by (m.status / 16)) paired m
 
 -- a status byte that is the running status leaves it
 pub running_is : (running : Option ℕ) (status : ℕ) → is_running running status ≡ true → running ≡ Some status

@@ -2,7 +2,7 @@
 -- its whole step.
 use Rattle.std.proofs.Common.{List, ◌≡◌, ◌+◌, ◌*◌, ◌/◌, ◌%◌, ◌^◌, ℕ, Bool, true, false, [], ◌∷◌, refl}
 use Rattle.std.proofs.Common.{sym, ap, ◌∙◌, subst, arith, Option, Some, None, ◌≤◌, ◌<◌, length, take, min}
-use Rattle.std.specs.Prelude.{◌==◌, ◌&&◌, not, if◌then◌else◌, nat_lt}
+use Rattle.std.specs.Prelude.{◌==◌, ◌&&◌, not, if◌then◌else◌}
 use Rattle.std.specs.List.{flat_map}
 use Rattle.std.proofs.lemmas.List.{append-nil, length-take}
 use Rattle.std.proofs.lemmas.List.Elements.{All-take}
@@ -10,7 +10,7 @@ use Rattle.sysex_groups.specs.Exclusives.{IsData}
 use Rattle.std.specs.Option.{option_map, option_to_list}
 use Rattle.bit_scaling.specs.Scaling.{down7, down14, release_down}
 use Rattle.direct_packets.specs.declared.direct_message.DirectMessage.{DirectMessage}
-use Rattle.direct_packets.specs.DirectMessages.{IsDirectMessage, has_direct_kind, message_by, direct_voice, one_of_six}
+use Rattle.direct_packets.specs.DirectMessages.{IsDirectMessage, has_direct_kind, kind_by, message_by, direct_voice, one_of_six}
 use Rattle.voice_messages.specs.declared.voice1.Voice1.{Voice1}
 use Rattle.voice_messages.specs.declared.voice1.Voice1.TheVariants as voice1
 use Rattle.voice_messages.specs.declared.voice2.Voice2.{Voice2}
@@ -35,7 +35,7 @@ use Rattle.down_translator.specs.declared.lowered.LoweredMessage.{LoweredMessage
 use Rattle.down_translator.specs.Held.{DownState, down_after, paired_of, unless_refused}
 use Rattle.down_translator.specs.KeptLanes.{is_plain, is_single, lane_at, lanes_after, states_by, voice_piece}
 use Rattle.down_translator.specs.Lowered.{IsDirectStep, attribute_line, lowered_bytes, first_by, has_attribute}
-use Rattle.down_translator.specs.Lowered.{message_goes_direct, packet_goes_direct, goes_direct, second_by, voice_by, voice_of}
+use Rattle.down_translator.specs.Lowered.{goes_by, is_note, message_goes_direct, packet_goes_direct, goes_direct, second_by, voice_by, voice_of}
 use Rattle.down_translator.specs.Step.{IsStep, lane_of}
 
 -- the upper seven bits of a value, of the upper sixteen and of the upper fourteen
@@ -49,13 +49,16 @@ same_bend value = omega arith
 
 module _ (m : DirectMessage) where
   abbrev IsSpelled : ℕ → Type 0
-  IsSpelled o = m.status / 16 ≡ o → m.status ∷ first_by o m ∷ option_to_list (second_by o m) ≡ spelled_voice (voice_by o m)
+  IsSpelled o =
+      m.status / 16 ≡ o
+      → m.status ∷ first_by (kind_by o) m ∷ option_to_list (second_by (kind_by o) m) ≡ spelled_voice (voice_by (kind_by o) m)
 
   status-is : (o : ℕ) → m.status / 16 ≡ o → m.status ≡ o * 16 + m.status % 16
   status-is o e = omega arith
 
   pub spelled_lowered : IsDirectMessage m
-      → m.status ∷ first_by (m.status / 16) m ∷ option_to_list (second_by (m.status / 16) m) ≡ spelled_voice (voice_of m)
+      → m.status ∷ first_by (kind_by (m.status / 16)) m ∷ option_to_list (second_by (kind_by (m.status / 16)) m)
+      ≡ spelled_voice (voice_of m)
   spelled_lowered is =
       one_of_six IsSpelled
       (λ e. let status = status-is 0x8 e in let last = same_release m.value in cc)
@@ -150,15 +153,16 @@ module _ (state : DownState) (is_plain_style : state.lanes.style ≡ plain_style
 
 -- ---- by the opcode
 
-direct_control : (o : ℕ) (direct : Bool) → (if o == 0xB then direct else true) ≡ true → o ≡ 0xB → direct ≡ true
-direct_control o direct h e = ap (λ n. if n == 0xB then direct else true) (sym e) ∙ h
+direct_control : (paired : Bool) (m : DirectMessage) (o : ℕ) → goes_by (kind_by o) paired m ≡ true → o ≡ 0xB
+    → is_direct (pairing paired (role_of m.index)) ≡ true
+direct_control paired m o h e = ap (λ n. goes_by (kind_by n) paired m) (sym e) ∙ h
 
 module _ (paired : Bool) (m : DirectMessage) (offset : ℕ) (direct : message_goes_direct paired m ≡ true) where
   abbrev left_out_by : ℕ → Bool
-  left_out_by o = nat_lt o 0xA && not (m.attribute_type == 0)
+  left_out_by o = is_note (kind_by o) && not (m.attribute_type == 0)
 
   abbrev IsSingleBy : ℕ → Type 0
-  IsSingleBy o = m.status / 16 ≡ o → IsSingle paired offset m.group (message_by o m) (voice_by o m) (left_out_by o)
+  IsSingleBy o = m.status / 16 ≡ o → IsSingle paired offset m.group (message_by o m) (voice_by (kind_by o) m) (left_out_by o)
 
   single-8 : IsSingleBy 0x8
   single-8 e = record {
@@ -184,7 +188,7 @@ module _ (paired : Bool) (m : DirectMessage) (offset : ℕ) (direct : message_go
   single-B : IsSingleBy 0xB
   single-B e =
       let role : Role = pairing paired (role_of m.index) in
-      let direct_role : is_direct role ≡ true = direct_control (m.status / 16) (is_direct role) direct e in
+      let direct_role : is_direct role ≡ true = direct_control paired m (m.status / 16) direct e in
       let single : is_single role ≡ true = direct_single role direct_role in
       record {
         accepted = single_accepted paired (role_of m.index) single;
@@ -209,7 +213,7 @@ direct_packet : (paired : Bool) (m : DirectMessage) → IsDirectMessage m
 direct_packet paired m is =
     let Same : ℕ → Type 0 =
     λ o. packet_goes_direct paired (packet.Voice2 m.group (message_by o m))
-    ≡ (if o == 0xB then is_direct (pairing paired (role_of m.index)) else true) in
+    ≡ goes_by (kind_by o) paired m in
     one_of_six Same refl refl refl refl refl refl (m.status / 16) is.opcode
 
 no_direct_packet : (paired : Bool) (p : Packet) → has_direct_kind p ≡ false → packet_goes_direct paired p ≡ false

@@ -1,12 +1,14 @@
 -- Messages of the MIDI 2.0 protocol that one MIDI 1.0 message with their status byte carries (M2-104-UM, default translation).
-use Rattle.std.specs.Prelude.{◌<◌, ◌≡◌, ◌==◌, ◌/◌, ◌%◌, ◌^◌, ◌&&◌, not, nat_lt, ℕ, Bool, true, if◌then◌else◌, List, ◌∷◌, Option, Some, None}
+use Rattle.std.specs.Prelude.{◌<◌, ◌≡◌, ◌==◌, ◌/◌, ◌%◌, ◌^◌, ◌&&◌, not, ℕ, Bool, true, false, if◌then◌else◌, List, ◌∷◌, Option, Some, None}
 use Rattle.std.specs.Option.{option_to_list}
 use Rattle.voice_messages.specs.declared.voice1.Voice1.{Voice1}
 use Rattle.voice_messages.specs.declared.voice1.Voice1.TheVariants as voice1
 use Rattle.voice_messages.specs.declared.voice2.Voice2.TheVariants as voice2
 use Rattle.bit_scaling.specs.Scaling.{down7, down14, release_down, velocity_down}
 use Rattle.direct_packets.specs.declared.direct_message.DirectMessage.{DirectMessage}
-use Rattle.direct_packets.specs.DirectMessages.{has_direct_kind}
+use Rattle.direct_packets.specs.DirectMessages.{has_direct_kind, kind_by}
+use Rattle.direct_packets.specs.declared.direct_message.DirectKind.{DirectKind}
+use Rattle.direct_packets.specs.declared.direct_message.DirectKind.TheVariants as direct
 use Rattle.midi_meaning.specs.Controllers.{is_direct, pairing, role_of}
 use Rattle.midi_meaning.specs.declared.listed.Kind.TheVariants as kinds
 use Rattle.midi_meaning.specs.declared.listed.Listed.{Listed}
@@ -19,30 +21,38 @@ use Rattle.down_translator.specs.KeptLanes.{is_plain}
 use Rattle.down_translator.specs.Step.{IsStep}
 use Rattle.down_translator.specs.declared.lowered.LoweredMessage.{LoweredMessage}
 
--- the data bytes, by the opcode
-abbrev pub first_by : ℕ → DirectMessage → ℕ
-first_by opcode m = if opcode == 0xD then down7 m.value else if opcode == 0xE then down14 m.value % 128 else m.index
+-- the data bytes, by the kind
+abbrev pub first_by : DirectKind → DirectMessage → ℕ
+first_by direct.Pressure m = down7 m.value
+first_by direct.Bend m = down14 m.value % 128
+first_by _ m = m.index
 
-abbrev pub second_by : ℕ → DirectMessage → Option ℕ
-second_by opcode m =
-    if opcode == 0xD then None else if opcode == 0x9 then Some (velocity_down (m.value / 2 ^ 16)) else Some (down7 m.value)
+abbrev pub second_by : DirectKind → DirectMessage → Option ℕ
+second_by direct.NoteOn m = Some (velocity_down (m.value / 2 ^ 16))
+second_by direct.Pressure m = None
+second_by _ m = Some (down7 m.value)
 
--- the MIDI 1.0 message, by the opcode
-abbrev pub voice_by : ℕ → DirectMessage → Voice1
-voice_by opcode m =
-    if opcode == 0x8 then voice1.NoteOff (m.status % 16) m.index (release_down (m.value / 2 ^ 16))
-    else if opcode == 0x9 then voice1.NoteOn (m.status % 16) m.index (velocity_down (m.value / 2 ^ 16))
-    else if opcode == 0xA then voice1.PolyPressure (m.status % 16) m.index (down7 m.value)
-    else if opcode == 0xB then voice1.Control (m.status % 16) m.index (down7 m.value)
-    else if opcode == 0xD then voice1.Pressure (m.status % 16) (down7 m.value)
-    else voice1.Bend (m.status % 16) (down14 m.value)
+-- the MIDI 1.0 message, by the kind
+abbrev pub voice_by : DirectKind → DirectMessage → Voice1
+voice_by direct.NoteOff m = voice1.NoteOff (m.status % 16) m.index (release_down (m.value / 2 ^ 16))
+voice_by direct.NoteOn m = voice1.NoteOn (m.status % 16) m.index (velocity_down (m.value / 2 ^ 16))
+voice_by direct.PolyPressure m = voice1.PolyPressure (m.status % 16) m.index (down7 m.value)
+voice_by direct.Control m = voice1.Control (m.status % 16) m.index (down7 m.value)
+voice_by direct.Pressure m = voice1.Pressure (m.status % 16) (down7 m.value)
+voice_by _ m = voice1.Bend (m.status % 16) (down14 m.value)
 
 abbrev pub voice_of : DirectMessage → Voice1
-voice_of m = voice_by (m.status / 16) m
+voice_of m = voice_by (kind_by (m.status / 16)) m
 
--- a note off or on has an attribute where its type is not 0
+-- a note off or on
+abbrev pub is_note : DirectKind → Bool
+is_note direct.NoteOff = true
+is_note direct.NoteOn = true
+is_note _ = false
+
+-- it has an attribute where its type is not 0
 abbrev pub has_attribute : DirectMessage → Bool
-has_attribute m = nat_lt (m.status / 16) 0xA && not (m.attribute_type == 0)
+has_attribute m = is_note (kind_by (m.status / 16)) && not (m.attribute_type == 0)
 
 -- its bytes
 abbrev pub lowered_bytes : LoweredMessage → List ℕ
@@ -59,9 +69,18 @@ pub record IsCarriedAs (offset : ℕ) (m : LoweredMessage) (carried : Carried) :
   pub lane : lane_in carried ≡ m.lane
   pub line : line_in carried ≡ attribute_line offset m.lane m.has_attribute
 
+-- the index of a control change; of other messages that of a direct one
+abbrev pub index_by : DirectKind → DirectMessage → ℕ
+index_by direct.Control m = m.index
+index_by _ m = 64
+
 -- a direct message, except for a control change that isn't direct
+abbrev pub goes_by : DirectKind → Bool → DirectMessage → Bool
+goes_by direct.Control paired m = is_direct (pairing paired (role_of m.index))
+goes_by _ paired m = true
+
 abbrev pub message_goes_direct : Bool → DirectMessage → Bool
-message_goes_direct paired m = if m.status / 16 == 0xB then is_direct (pairing paired (role_of m.index)) else true
+message_goes_direct paired m = goes_by (kind_by (m.status / 16)) paired m
 
 abbrev pub packet_goes_direct : Bool → Packet → Bool
 packet_goes_direct paired (packet.Voice2 group (voice2.Control channel index value)) = is_direct (pairing paired (role_of index))

@@ -1,11 +1,11 @@
 // Messages that one MIDI 1.0 message with their status byte carries.
-ghost use Rattle.std.specs.Prelude.{◌≡◌, ◌/◌, ◌==◌, not, ◌&&◌};
+ghost use Rattle.std.specs.Prelude.{◌≡◌};
 ghost use Rattle.direct_packets.specs.DirectMessages.{IsDirectMessage};
 ghost use Rattle.midi1_bytes.specs.Messages.{spelled_voice};
-ghost use Rattle.down_translator.specs.Lowered.{lowered_bytes, first_by, has_attribute, second_by, voice_of};
+ghost use Rattle.down_translator.specs.Lowered.{lowered_bytes, first_by, has_attribute, is_note, second_by, voice_of};
 
 use bit_scaling::{down7, down14, velocity_down};
-use direct_packets::DirectMessage;
+use direct_packets::{DirectKind, DirectMessage};
 use midi_edge::U4;
 use voice_messages::U7;
 
@@ -25,23 +25,40 @@ pub struct LoweredMessage {
     pub has_attribute: bool,
 }
 
-// The data bytes, by the opcode: the note or the index, and the value; of a bend the low and the high seven
-// bits of its value, of a channel pressure the value alone. They are chosen with no branch on the kind.
+// The data bytes, by the kind: the note or the index, and the value; of a bend the low and the high seven bits
+// of its value, of a channel pressure the value alone. They are chosen as values, since nothing could guess
+// which kind comes next: only a channel pressure, which has one byte, is asked for by a branch.
 #[inline(always)]
-fn data_bytes(opcode: u8, message: &DirectMessage) -> (U7, Option<U7>)
-    ensures first { result.0 ≡ first_by opcode message.now }
-    ensures second { result.1 ≡ second_by opcode message.now }
+fn data_bytes(kind: DirectKind, message: &DirectMessage) -> (U7, Option<U7>)
+    ensures first { result.0 ≡ first_by kind message.now }
+    ensures second { result.1 ≡ second_by kind message.now }
 {
     let upper = down7(message.value);
     let lower = U7::low_bits(u32::from(down14(message.value).get()));
     let velocity = velocity_down((message.value >> 16) as u16);
-    let first = if opcode == 0xE { lower } else { message.index };
-    let second = if opcode == 0x9 { velocity } else { upper };
-    if opcode == 0xD {
+    let first = if matches!(kind, DirectKind::Bend) {
+        lower
+    } else {
+        message.index
+    };
+    let second = if matches!(kind, DirectKind::NoteOn) {
+        velocity
+    } else {
+        upper
+    };
+    if matches!(kind, DirectKind::Pressure) {
         (upper, None)
     } else {
         (first, Some(second))
     }
+}
+
+// Whether it is a note off or on.
+#[inline(always)]
+fn is_note(kind: DirectKind) -> bool
+    ensures { result ≡ is_note kind }
+{
+    matches!(kind, DirectKind::NoteOff | DirectKind::NoteOn)
 }
 
 /// The message that carries a direct message (M2-104-UM, default translation; M2-115-U).
@@ -53,13 +70,13 @@ pub fn lowered(message: &DirectMessage) -> LoweredMessage
     ensures bytes { lowered_bytes result ≡ spelled_voice (voice_of message.now) }
     ensures attribute { result.has_attribute ≡ has_attribute message.now }
 {
-    let opcode = message.status / 16;
-    let (first, second) = data_bytes(opcode, message);
+    let kind = message.kind();
+    let (first, second) = data_bytes(kind, message);
     LoweredMessage {
         lane: message.group,
         status: message.status,
         first,
         second,
-        has_attribute: (opcode < 0xA) & (message.attribute_type != 0),
+        has_attribute: is_note(kind) & (message.attribute_type != 0),
     }
 }

@@ -1,14 +1,15 @@
 // Messages that compact style writes without their packets being taken apart.
-ghost use Rattle.std.specs.Prelude.{◌≡◌, ◌≤◌, ◌/◌, ◌==◌, ◌∷◌, if◌then◌else◌, false, take};
+ghost use Rattle.std.specs.Prelude.{◌≡◌, ◌≤◌, ◌/◌, ◌∷◌, false, take};
 ghost use Rattle.std.specs.Option.{option_to_list};
 ghost use Rattle.midi1_bytes.specs.RunningStatus.{without_status};
 ghost use Rattle.down_translator.specs.KeptLanes.{is_plain, kept_by, lane_at};
-ghost use Rattle.down_translator.specs.Lowered.{attribute_line, lowered_bytes};
+ghost use Rattle.direct_packets.specs.DirectMessages.{kind_by};
+ghost use Rattle.down_translator.specs.Lowered.{attribute_line, index_by, lowered_bytes};
 ghost use Rattle.down_translator.specs.declared.statuses.Statuses.TheVariants.{Changes};
 
 use crate::kept_lanes::KeptLanes;
 use crate::lowered::LoweredMessage;
-use direct_packets::DirectMessage;
+use direct_packets::{DirectKind, DirectMessage};
 use midi_meaning::{Kind, Listed};
 use voice_messages::U7;
 
@@ -19,9 +20,9 @@ pub type Bytes = [u8; 3];
 /// nothing need be guessed.
 #[inline(always)]
 pub fn control_index(message: &DirectMessage) -> U7
-    ensures { result ≡ (if message.now.status / 16 == 0xB then message.now.index else 64) }
+    ensures { result ≡ index_by (kind_by (message.now.status / 16)) message.now }
 {
-    if message.status / 16 == 0xB {
+    if matches!(message.kind(), DirectKind::Control) {
         message.index
     } else {
         U7::low_bits(64)
