@@ -1,55 +1,38 @@
 -- What is kept of parameters: the numbers of entries, and what is told of them.
-use Rattle.std.proofs.Common.{◌≡◌, ◌∙◌, ap, sym, refl, subst, append_assoc, arith, ℕ, zero, suc, ◌+◌, ◌<◌, ◌≤◌, ⊎_elim}
+use Rattle.std.proofs.Common.{◌≡◌, ◌∙◌, ap, sym, refl, arith, ℕ, zero, suc, ◌+◌, ◌<◌, ◌≤◌, ⊎_elim}
 use Rattle.std.proofs.Common.{Bool, true, false, cond, List, [], ◌∷◌, ◌++◌, map, Option, Some, None, Less, All}
-use Rattle.std.specs.Prelude.{Result, Ok, Err, OnOk, OnErr}
-use Rattle.std.specs.Cmp.{unsigned_tied}
 use Rattle.std.specs.List.{AllByRecursion, flat_map, range_with_len}
 use Rattle.std.specs.List.Sorted.{IsStrictlySortedBy}
 use Rattle.std.specs.Option.{option_map, option_to_list}
 use Rattle.std.specs.Ordering.{nat_cmp}
-use Rattle.std.specs.BTreeMap.{insert_entry, is_at}
 use Rattle.std.specs.Map.{keys_of}
-use Rattle.std.proofs.lemmas.Bool.{cases_eq, eq-eqb, ne_eqb}
+use Rattle.std.proofs.lemmas.Bool.{cases_eq}
 use Rattle.std.proofs.lemmas.Bool.Decides.{nat_tests}
-use Rattle.std.proofs.lemmas.List.Elements.{All-tail, recursion_from_All}
-use Rattle.std.proofs.lemmas.Map.Entries.{lookup_head, lookup_tail}
-use Rattle.std.proofs.lemmas.Map.Views.{All-keys-insert_entry}
+use Rattle.std.proofs.lemmas.List.Elements.{All-map, recursion_from_All}
 use Rattle.voice_messages.specs.declared.voice2.ParamKind.{ParamKind}
 use Rattle.voice_messages.specs.declared.voice2.Param.{Param}
 use Rattle.midi_meaning.specs.State.{Channel}
 use Rattle.voice_state.specs.declared.fact.Fact.{Fact}
 use Rattle.voice_state.specs.declared.param_map.ParamState.{ParamState}
 use Rattle.voice_state.specs.Facts.{first, is_told, param_fact, param_facts, params_in_order}
-use Rattle.voice_state.specs.Params.{number_of, param_of, param_state, state_at, IsOf}
+use Rattle.voice_state.specs.Params.{number_of, param_of, param_state, state_at, IsInOrder, IsOf}
 use Rattle.voice_state.proofs.KeptParams.{param_again}
+use Rattle.voice_state.proofs.Places.{strictly_sorted}
 use Rattle.voice_state.proofs.ToldFacts.{by_rows, each_below}
 
 -- what is told of an entry
 abbrev pub entry_fact : ℕ → ℕ → ParamKind → ℕ × ParamState → Fact
 entry_fact group channel kind entry = param_fact group channel (param_of kind entry.0) entry.1.value entry.1.loose
 
--- ---- the numbers of entries
-
-pub below_put : {A E : Type 0} (result : Result A E) (old new : List (ℕ × ParamState)) (number : ℕ) (state : ParamState) →
-    OnOk result (new ≡ insert_entry nat_cmp old number state) → OnErr result (new ≡ old) →
-    All (λ other. other < 16384) (keys_of old) → number < 16384 → All (λ other. other < 16384) (keys_of new)
-below_put (Ok value) old new number state put unchanged all below =
-    subst (λ entries. All (λ other. other < 16384) (keys_of entries)) (sym put)
-    (All-keys-insert_entry nat_cmp number state (λ other. other < 16384) old all below)
-below_put (Err fault) old new number state put unchanged all below =
-    subst (λ entries. All (λ other. other < 16384) (keys_of entries)) (sym unchanged) all
-
 -- ---- what an entry has at a number
 
 found : (number : ℕ) (entry : ℕ × ParamState) (entries : List (ℕ × ParamState)) → number ≡ entry.0
     → state_at (entry ∷ entries) number ≡ Some entry.1
-found number entry entries same =
-    lookup_head (is_at (nat_cmp number)) entry entries (unsigned_tied number entry.0 ∙ eq-eqb number entry.0 same)
+found number entry entries same = grind (arith, nat_tests, same)
 
 passed : (number : ℕ) (entry : ℕ × ParamState) (entries : List (ℕ × ParamState)) → (number ≡ entry.0 → ⊥)
     → state_at (entry ∷ entries) number ≡ state_at entries number
-passed number entry entries other =
-    lookup_tail (is_at (nat_cmp number)) entry entries (unsigned_tied number entry.0 ∙ ne_eqb number entry.0 other)
+passed number entry entries other = grind (arith, nat_tests, other)
 
 missing : (number : ℕ) (entries : List (ℕ × ParamState)) → AllByRecursion (λ key. number < key) (keys_of entries)
     → state_at entries number ≡ None
@@ -158,16 +141,16 @@ told_param group channel param None false = refl
 told_param group channel param (Some n) is_loose = refl
 
 pub params_told : (group channel : ℕ) (kind : ParamKind) (entries : List (ℕ × ParamState)) (state : Channel)
-    → IsStrictlySortedBy nat_cmp (keys_of entries) →
-    All (λ number. number < 16384) (keys_of entries) → IsOf kind entries state
+    → IsInOrder entries → All (λ entry. entry.0 < 16384) entries → IsOf kind entries state
     → map (entry_fact group channel kind) entries ≡ params_in_order group channel kind state
-params_told group channel kind entries state sorted below is =
+params_told group channel kind entries state ordered below is =
     let fact_of = entry_fact group channel kind in
     let at : ℕ → List Fact = λ number. param_facts group channel state (param_of kind number) in
     let within =
     weaker (λ number. number < 16384) (λ key. (0 ≤ key) × (key < 0 + 16384)) (λ key is_below. (omega arith, omega (arith, is_below)))
-    (keys_of entries) (recursion_from_All (λ number. number < 16384) (keys_of entries) below) in
-    sym (told_from fact_of 0 16384 entries sorted within)
+    (keys_of entries)
+    (recursion_from_All (λ number. number < 16384) (keys_of entries) (All-map (λ number. number < 16384) (λ entry. entry.0) entries below)) in
+    sym (told_from fact_of 0 16384 entries (strictly_sorted entries ordered) within)
     ∙ ap (flat_map (told_at fact_of entries)) (first_is 16384)
     ∙ each_below (told_at fact_of entries) at 16384
     (λ number _. ap (λ told. option_to_list (option_map (λ param_is. fact_of (number, param_is)) told)) (is number)
@@ -178,15 +161,3 @@ params_told group channel kind entries state sorted below is =
     (λ bank _. each_below (λ index. at (number_of bank index))
     (λ index. param_facts group channel state (record { kind = kind; bank = bank; index = index })) 128
     (λ index index_below. ap (param_facts group channel state) (param_again kind bank index index_below)))
-
--- ---- a loop over the entries
-
-pub told_next : {X A : Type 0} (fact_of : X → A) (facts new all : List A) (item : X) (rest left : List X) (told : A) →
-    new ≡ facts ++ told ∷ [] → told ≡ fact_of item → left ≡ item ∷ rest → facts ++ map fact_of left ≡ all → new ++ map fact_of rest ≡ all
-told_next fact_of facts new all item rest left told new_is told_is left_is so_far =
-    ap (λ ys. ys ++ map fact_of rest) new_is ∙ append_assoc facts (told ∷ []) (map fact_of rest)
-    ∙ ap (λ fact. facts ++ fact ∷ map fact_of rest) told_is ∙ ap (λ xs. facts ++ map fact_of xs) (sym left_is) ∙ so_far
-
-pub keys_left : (P : ℕ → Type 0) (entry : ℕ × ParamState) (rest left : List (ℕ × ParamState)) → left ≡ entry ∷ rest → All P (keys_of left)
-    → All P (keys_of rest)
-keys_left P entry rest left is all = All-tail P entry.0 (keys_of rest) (subst (λ entries. All P (keys_of entries)) is all)

@@ -1,6 +1,8 @@
 pub mod ToldFacts
 pub mod Counts
 pub mod KeptParams
+pub mod Places
+pub mod Rooms
 pub mod Entries
 pub mod KeptChannel
 pub mod KeptGroups

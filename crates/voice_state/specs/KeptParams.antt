@@ -1,5 +1,5 @@
 -- The parameters that are kept of a channel, of both kinds.
-use Rattle.std.specs.Prelude.{ℕ, ◌≡◌, ◌==◌, List, Option}
+use Rattle.std.specs.Prelude.{ℕ, ◌≡◌, ◌≤◌, ◌==◌, List, length, Option, None}
 use Rattle.voice_messages.specs.declared.voice2.ParamKind.{ParamKind}
 use Rattle.voice_messages.specs.declared.voice2.ParamKind.TheVariants.{Registered, Assignable}
 use Rattle.voice_messages.specs.declared.voice2.Param.{Param}
@@ -14,6 +14,10 @@ entries_of Assignable params = params.assignable
 
 abbrev pub state_in : Params → Param → Option ParamState
 state_in params param = state_at (entries_of param.kind params) (number_of param.bank param.index)
+
+-- there are as many of a parameter's kind as there is room for, and it isn't one of them
+abbrev pub AreFull : ℕ → Params → Param → Type 0
+AreFull room params param = (room ≤ length (entries_of param.kind params)) × (state_in params param ≡ None)
 
 -- what is kept is what the channel has
 pub record KeepsParams (params : Params) (channel : Channel) : Type 0 where

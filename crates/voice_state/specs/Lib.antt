@@ -3,6 +3,7 @@ pub mod Facts
 pub mod Kept
 pub mod KeptParams
 pub mod Params
+pub mod Rooms
 pub mod StateLaws
 pub mod States
 pub mod Tables

@@ -1,9 +1,11 @@
 // The notes and channel mode messages that came.
-ghost use Rattle.std.specs.Prelude.{◌≡◌, [], ◌∷◌, ◌++◌, OnOk, OnErr, map};
+ghost use Rattle.std.specs.Prelude.{◌≡◌, ◌≤◌, [], ◌∷◌, ◌++◌, length, IfOk, OnOk, OnErr, map};
 ghost use Rattle.voice_state.specs.Acts.{act_of};
 ghost use Rattle.voice_state.specs.Facts.{act_fact};
+ghost use Rattle.voice_state.specs.Rooms.{IsFullWhere};
 
 use crate::fact::{Fact, put};
+use crate::not_kept::NotKept;
 use crate::note_act::NoteAct;
 use midi_edge::{NoMemory, U4};
 use std::alloc::Global;
@@ -26,22 +28,28 @@ impl Model for Acts {
 }
 
 impl Acts {
-    pub(crate) fn new(alloc: Global) -> Acts
-        ensures { result ≡ [] }
+    /// None yet. The memory for `taken` of them is taken here.
+    pub(crate) fn new(alloc: Global, taken: usize) -> Result<Acts, NoMemory>
+        ensures { IfOk result (λ acts. acts ≡ []) }
     {
-        Acts {
-            acts: Vec::new(alloc),
+        match Vec::with_capacity(alloc, taken) {
+            Ok(acts) => Ok(Acts { acts }),
+            Err(_) => Err(NoMemory),
         }
     }
 
-    /// Adds one at the end. After `NoMemory` nothing has changed.
-    pub(crate) fn add(&mut self, act: NoteAct) -> Result<(), NoMemory>
+    /// Adds one at the end, where there are fewer than `room`. Else nothing changes.
+    pub(crate) fn add(&mut self, act: NoteAct, room: usize) -> Result<(), NotKept>
         ensures added { OnOk result (self.new ≡ self.old ++ act_of act ∷ []) }
         ensures unchanged { OnErr result (self.new ≡ self.old) }
+        ensures full { IsFullWhere result (room ≤ length self.old) }
     {
+        if room <= self.acts.len() {
+            return Err(NotKept::Full);
+        }
         match self.acts.push(act) {
             Ok(()) => Ok(()),
-            Err(_) => Err(NoMemory),
+            Err(_) => Err(NotKept::NoMemory),
         }
     }
 

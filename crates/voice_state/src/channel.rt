@@ -6,10 +6,12 @@ ghost use Rattle.midi_meaning.specs.State as definition;
 ghost use Rattle.voice_state.specs.Acts.{act_of};
 ghost use Rattle.voice_state.specs.Facts.{bend_facts, channel_facts, pressure_facts, program_fact, value_facts};
 ghost use Rattle.voice_state.specs.Kept.{KeepsChannel};
+ghost use Rattle.voice_state.specs.Rooms.{AreActsFull, IsFullWhere};
 ghost use Rattle.voice_state.specs.Widths.{scale_of};
 
 use crate::acts::Acts;
 use crate::fact::{Fact, put};
+use crate::not_kept::{NotKept, Room};
 use crate::note_act::NoteAct;
 use crate::params::Params;
 use crate::table::{Content, Table};
@@ -37,47 +39,51 @@ pub(crate) struct Channel {
     pub program: Option<ProgramChange>,
     pub params: Params,
     pub registers: Registers,
+    pub room: Room,
 }
 
 impl Channel {
-    /// A channel that has no message yet.
-    pub(crate) fn new(alloc: Global) -> Result<Channel, NoMemory>
+    /// A channel that has no message yet. The memory for `taken` is taken here.
+    pub(crate) fn new(alloc: Global, taken: Room, room: Room) -> Result<Channel, NoMemory>
         ensures midi1 { IfOk result
             (λ channel. KeepsChannel as_they_come channel (start_channel as_they_come)) }
         ensures packets { IfOk result (λ channel. KeepsChannel raised channel (start_channel raised)) }
+        ensures room { IfOk result (λ channel. channel.room ≡ room) }
     {
-        let Ok(poly) = Table::new(alloc) else {
-            return Err(NoMemory);
-        };
-        let Ok(controllers) = Table::new(alloc) else {
-            return Err(NoMemory);
-        };
+        let poly = Table::new(alloc)?;
+        let controllers = Table::new(alloc)?;
+        let acts = Acts::new(alloc, taken.notes)?;
+        let params = Params::new(alloc, taken.params)?;
         Ok(Channel {
-            acts: Acts::new(alloc),
+            acts,
             poly,
             controllers,
             pressure: 0,
             bend: None,
             program: None,
-            params: Params::new(alloc),
+            params,
             registers: Registers::unset(),
+            room,
         })
     }
 
-    /// Takes a note or a channel mode message. After `NoMemory` nothing has changed.
-    pub(crate) fn act(&mut self, act: NoteAct) -> Result<(), NoMemory>
+    /// Takes a note or a channel mode message. Where it isn't kept, nothing has changed.
+    pub(crate) fn act(&mut self, act: NoteAct) -> Result<(), NotKept>
         ensures step { OnOk result
             ((scale : Scale) (state : definition.Channel) → KeepsChannel scale self.old state
             → KeepsChannel scale self.new (definition.with_act (act_of act) state)) }
         ensures unchanged { OnErr result (self.new ≡ self.old) }
+        ensures full { IsFullWhere result (AreActsFull self.old) }
+        ensures room { self.new.room ≡ self.old.room }
     {
-        self.acts.add(act)
+        self.acts.add(act, self.room.notes)
     }
 
     /// Takes a bend, which isn't kept where it is at its centre.
     pub(crate) fn set_bend(&mut self, width: Width, value: u32)
-        ensures { (state : definition.Channel) → KeepsChannel (scale_of width) self.old state
+        ensures step { (state : definition.Channel) → KeepsChannel (scale_of width) self.old state
             → KeepsChannel (scale_of width) self.new (definition.with_bend value state) }
+        ensures room { self.new.room ≡ self.old.room }
     {
         self.bend = if value == width.centre() {
             None
@@ -88,8 +94,9 @@ impl Channel {
 
     /// Takes a program change, with the bank as it stands.
     pub(crate) fn set_program(&mut self, program: U7)
-        ensures { (scale : Scale) (state : definition.Channel) → KeepsChannel scale self.old state
+        ensures step { (scale : Scale) (state : definition.Channel) → KeepsChannel scale self.old state
             → KeepsChannel scale self.new (definition.with_program program state) }
+        ensures room { self.new.room ≡ self.old.room }
     {
         let bank = self.registers.bank();
         self.program = Some(ProgramChange { program, bank });

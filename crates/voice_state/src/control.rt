@@ -8,24 +8,28 @@ ghost use Rattle.midi_meaning.specs.Registers.{selected};
 ghost use Rattle.midi_meaning.specs.Roles.{role_in};
 ghost use Rattle.midi_meaning.specs.State as definition;
 ghost use Rattle.voice_state.specs.Kept.{KeepsChannel, with_controllers_reset};
+ghost use Rattle.voice_state.specs.Rooms.{AreActsFull, IsControl2Full, IsControlFull, IsEntryFull, IsFullWhere};
 ghost use Rattle.voice_state.specs.Widths.{scale_of};
 
 use crate::channel::Channel;
+use crate::not_kept::NotKept;
 use crate::note_act::NoteAct;
 use crate::width::Width;
-use midi_edge::NoMemory;
 use midi_meaning::ControlRole;
 use voice_messages::U7;
 
 impl Channel {
     /// Takes a control change of the MIDI 1.0 protocol (MIDI 1.0 Detailed Specification, control change;
-    /// RP-015). After `NoMemory` nothing has changed.
-    pub(crate) fn control(&mut self, width: Width, index: U7, value: U7) -> Result<(), NoMemory>
+    /// RP-015). Where it isn't kept, nothing
+    /// has changed.
+    pub(crate) fn control(&mut self, width: Width, index: U7, value: U7) -> Result<(), NotKept>
         ensures step { OnOk result
             ((state : definition.Channel) → KeepsChannel (scale_of width) self.old state
             → KeepsChannel (scale_of width) self.new
             (messages.control (scale_of width) (pairing false (role_of index)) index value state)) }
         ensures unchanged { OnErr result (self.new ≡ self.old) }
+        ensures full { IsFullWhere result (IsControlFull (pairing false (role_of index)) self.old) }
+        ensures room { self.new.room ≡ self.old.room }
     {
         self.control_as(width, ControlRole::of(index), index, value)
     }
@@ -36,12 +40,14 @@ impl Channel {
         role: ControlRole,
         index: U7,
         value: U7,
-    ) -> Result<(), NoMemory>
+    ) -> Result<(), NotKept>
         ensures step { OnOk result
             ((state : definition.Channel) → KeepsChannel (scale_of width) self.old state
             → KeepsChannel (scale_of width) self.new
             (messages.control (scale_of width) (pairing false (role_in role)) index value state)) }
         ensures unchanged { OnErr result (self.new ≡ self.old) }
+        ensures full { IsFullWhere result (IsControlFull (pairing false (role_in role)) self.old) }
+        ensures room { self.new.room ≡ self.old.room }
     {
         match role {
             ControlRole::BankMsb
@@ -67,19 +73,24 @@ impl Channel {
     }
 
     /// Takes a control change of the MIDI 2.0 protocol (M2-104-UM, MIDI 2.0 control change): the indexes of
-    /// banks, data entry and parameter numbers do nothing. After `NoMemory` nothing has changed.
-    pub(crate) fn control2(&mut self, index: U7, value: u32) -> Result<(), NoMemory>
+    /// banks, data entry and parameter numbers do nothing. Where it isn't kept, nothing
+    /// has changed.
+    pub(crate) fn control2(&mut self, index: U7, value: u32) -> Result<(), NotKept>
         ensures step { OnOk result ((state : definition.Channel) → KeepsChannel raised self.old state
             → KeepsChannel raised self.new (control2 (pairing false (role_of index)) index value state)) }
         ensures unchanged { OnErr result (self.new ≡ self.old) }
+        ensures full { IsFullWhere result (IsControl2Full (pairing false (role_of index)) self.old) }
+        ensures room { self.new.room ≡ self.old.room }
     {
         self.control2_as(ControlRole::of(index), index, value)
     }
 
-    fn control2_as(&mut self, role: ControlRole, index: U7, value: u32) -> Result<(), NoMemory>
+    fn control2_as(&mut self, role: ControlRole, index: U7, value: u32) -> Result<(), NotKept>
         ensures step { OnOk result ((state : definition.Channel) → KeepsChannel raised self.old state
             → KeepsChannel raised self.new (control2 (pairing false (role_in role)) index value state)) }
         ensures unchanged { OnErr result (self.new ≡ self.old) }
+        ensures full { IsFullWhere result (IsControl2Full (pairing false (role_in role)) self.old) }
+        ensures room { self.new.room ≡ self.old.room }
     {
         match role {
             ControlRole::ResetAll => self.reset_all(Width::Midi2, index, value),
@@ -93,44 +104,52 @@ impl Channel {
     }
 
     // A data entry of the MSB of the selected parameter.
-    fn enter_msb(&mut self, width: Width, value: U7) -> Result<(), NoMemory>
+    fn enter_msb(&mut self, width: Width, value: U7) -> Result<(), NotKept>
         ensures step { OnOk result
             ((state : definition.Channel) → KeepsChannel (scale_of width) self.old state
             → KeepsChannel (scale_of width) self.new
             (messages.enter_msb (scale_of width) (selected state.registers) value state)) }
         ensures unchanged { OnErr result (self.new ≡ self.old) }
+        ensures full { IsFullWhere result (IsEntryFull self.old (selected self.old.registers)) }
+        ensures room { self.new.room ≡ self.old.room }
     {
         match self.registers.selected() {
-            Some(param) => self.params.set(&param, width.of_msb(value)),
+            Some(param) => self
+                .params
+                .set(&param, width.of_msb(value), self.room.params),
             None => Ok(()),
         }
     }
 
     // A data entry of the LSB of the selected parameter, which keeps its MSB.
-    fn enter_lsb(&mut self, width: Width, value: U7) -> Result<(), NoMemory>
+    fn enter_lsb(&mut self, width: Width, value: U7) -> Result<(), NotKept>
         ensures step { OnOk result
             ((state : definition.Channel) → KeepsChannel (scale_of width) self.old state
             → KeepsChannel (scale_of width) self.new
             (messages.enter_lsb (scale_of width) (selected state.registers) value state)) }
         ensures unchanged { OnErr result (self.new ≡ self.old) }
+        ensures full { IsFullWhere result (IsEntryFull self.old (selected self.old.registers)) }
+        ensures room { self.new.room ≡ self.old.room }
     {
         match self.registers.selected() {
             Some(param) => {
                 let old = self.params.value(&param);
                 self.params
-                    .set_value(&param, width.with_new_lsb(old, value))
+                    .set_value(&param, width.with_new_lsb(old, value), self.room.params)
             }
             None => Ok(()),
         }
     }
 
     // Reset all controllers (RP-015), which is a channel mode message too.
-    fn reset_all(&mut self, width: Width, index: U7, value: u32) -> Result<(), NoMemory>
+    fn reset_all(&mut self, width: Width, index: U7, value: u32) -> Result<(), NotKept>
         ensures step { OnOk result
             ((state : definition.Channel) → KeepsChannel (scale_of width) self.old state
             → KeepsChannel (scale_of width) self.new
             (messages.reset (scale_of width) (definition.with_act (definition.mode index value) state))) }
         ensures unchanged { OnErr result (self.new ≡ self.old) }
+        ensures full { IsFullWhere result (AreActsFull self.old) }
+        ensures room { self.new.room ≡ self.old.room }
     {
         self.act(NoteAct::Mode { index, value })?;
         self.reset(width);
@@ -139,8 +158,9 @@ impl Channel {
 
     // What it does besides.
     fn reset(&mut self, width: Width)
-        ensures { (state : definition.Channel) → KeepsChannel (scale_of width) self.old state
+        ensures step { (state : definition.Channel) → KeepsChannel (scale_of width) self.old state
             → KeepsChannel (scale_of width) self.new (messages.reset (scale_of width) state) }
+        ensures room { self.new.room ≡ self.old.room }
     {
         self.reset_controllers(width);
         self.poly.clear();
@@ -151,8 +171,9 @@ impl Channel {
 
     // Expression at its greatest; modulation, hold, portamento, sostenuto and soft pedal at 0.
     fn reset_controllers(&mut self, width: Width)
-        ensures { (state : definition.Channel) → KeepsChannel (scale_of width) self.old state
+        ensures step { (state : definition.Channel) → KeepsChannel (scale_of width) self.old state
             → KeepsChannel (scale_of width) self.new (with_controllers_reset (scale_of width) state) }
+        ensures room { self.new.room ≡ self.old.room }
     {
         let zero = width.controller(U7::low_bits(0));
         self.controllers.set(U7::low_bits(1), zero);

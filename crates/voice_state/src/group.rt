@@ -9,11 +9,13 @@ ghost use Rattle.midi_meaning.specs.State.{GroupState, with_common, with_real_ti
 ghost use Rattle.voice_state.specs.declared.fact.Fact.TheVariants as fact;
 ghost use Rattle.voice_state.specs.Facts.{count_facts, facts_of_channels, group_facts};
 ghost use Rattle.voice_state.specs.Kept.{KeepsGroup};
+ghost use Rattle.voice_state.specs.Rooms.{ChannelsHaveRoom, IsFullWhere, IsGroupFull1, IsGroupFull2, KeepsRooms};
 ghost use Rattle.voice_state.specs.States.{after_voice1, after_voice2};
 ghost use Rattle.voice_state.specs.Widths.{scale_of};
 
 use crate::channel::Channel;
 use crate::fact::{Fact, put};
+use crate::not_kept::{NotKept, Room};
 use crate::width::Width;
 use midi_edge::{NoMemory, U4};
 use std::alloc::Global;
@@ -80,16 +82,17 @@ impl Model for Group {
 }
 
 impl Group {
-    /// A group that has no message yet.
-    pub(crate) fn new(alloc: Global) -> Result<Group, NoMemory>
+    /// A group that has no message yet. The memory for `taken` is taken here, in each channel.
+    pub(crate) fn new(alloc: Global, taken: Room, room: Room) -> Result<Group, NoMemory>
         ensures midi1 { IfOk result (λ group. KeepsGroup as_they_come group (start as_they_come)) }
         ensures packets { IfOk result (λ group. KeepsGroup raised group (start raised)) }
+        ensures rooms { IfOk result (ChannelsHaveRoom room) }
     {
         let Ok(mut channels) = Vec::with_capacity(alloc, 16) else {
             return Err(NoMemory);
         };
         for _ in 0..16usize {
-            let Ok(channel) = Channel::new(alloc) else {
+            let Ok(channel) = Channel::new(alloc, taken, room) else {
                 return Err(NoMemory);
             };
             if channels.push(channel).is_err() {
@@ -103,21 +106,27 @@ impl Group {
         })
     }
 
-    /// Takes a message of the MIDI 1.0 protocol. After `NoMemory` nothing has changed.
-    pub(crate) fn voice1(&mut self, width: Width, message: &Voice1) -> Result<(), NoMemory>
+    /// Takes a message of the MIDI 1.0 protocol. Where it isn't kept, nothing has
+    /// changed.
+    pub(crate) fn voice1(&mut self, width: Width, message: &Voice1) -> Result<(), NotKept>
         ensures step { OnOk result ((state : GroupState) → KeepsGroup (scale_of width) self.old state
             → KeepsGroup (scale_of width) self.new (after_voice1 (scale_of width) message.now state)) }
         ensures unchanged { OnErr result (self.new ≡ self.old) }
+        ensures full { IsFullWhere result (IsGroupFull1 message.now self.old) }
+        ensures rooms { KeepsRooms self.old self.new }
     {
         let channel = &mut self.channels[channel_of(message).get() as usize];
         channel.voice1(width, message)
     }
 
-    /// Takes a message of the MIDI 2.0 protocol. After `NoMemory` nothing has changed.
-    pub(crate) fn voice2(&mut self, message: &Voice2) -> Result<(), NoMemory>
+    /// Takes a message of the MIDI 2.0 protocol. Where it isn't kept, nothing has
+    /// changed.
+    pub(crate) fn voice2(&mut self, message: &Voice2) -> Result<(), NotKept>
         ensures step { OnOk result ((state : GroupState) → KeepsGroup raised self.old state
             → KeepsGroup raised self.new (after_voice2 message.now state)) }
         ensures unchanged { OnErr result (self.new ≡ self.old) }
+        ensures full { IsFullWhere result (IsGroupFull2 message.now self.old) }
+        ensures rooms { KeepsRooms self.old self.new }
     {
         let channel = &mut self.channels[channel2(message).get() as usize];
         channel.voice2(message)
@@ -125,17 +134,19 @@ impl Group {
 
     /// Counts a system common message or an exclusive.
     pub(crate) fn count_common(&mut self)
-        ensures { (scale : Scale) (state : GroupState) (message : Message) → KeepsGroup scale self.old state
+        ensures step { (scale : Scale) (state : GroupState) (message : Message) → KeepsGroup scale self.old state
             → KeepsGroup scale self.new (with_common message state) }
+        ensures rooms { KeepsRooms self.old self.new }
     {
         self.commons = self.commons.saturating_add(1);
     }
 
     /// Counts a system Real Time message.
     pub(crate) fn count_real_time(&mut self)
-        ensures { (scale : Scale) (state : GroupState) (message : system.System)
+        ensures step { (scale : Scale) (state : GroupState) (message : system.System)
             → KeepsGroup scale self.old state
             → KeepsGroup scale self.new (with_real_time message state) }
+        ensures rooms { KeepsRooms self.old self.new }
     {
         self.real_times = self.real_times.saturating_add(1);
     }

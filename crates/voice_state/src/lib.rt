@@ -7,6 +7,7 @@ mod channel;
 mod control;
 pub mod fact;
 mod group;
+pub mod not_kept;
 mod note_act;
 mod param_map;
 mod params;
@@ -17,7 +18,8 @@ mod voice;
 mod width;
 
 pub use crate::fact::Fact;
-pub use crate::running::VoiceState;
+pub use crate::not_kept::NotKept;
+pub use crate::running::{VoiceState, most_facts};
 pub use midi_meaning::{
     BadStep, ControlRole, DirectControls, Kind, Listed, Registers, is_null_param,
 };

@@ -1,13 +1,15 @@
 // The parameters of one kind.
-ghost use Rattle.std.specs.Prelude.{◌≡◌, ℕ, ◌<◌, ◌==◌, ◌++◌, [], OnOk, OnErr};
+ghost use Rattle.std.specs.Prelude.{◌≡◌, ◌≤◌, ℕ, ◌<◌, ◌==◌, ◌++◌, [], length, None, IfErr, IfOk, OnOk, OnErr};
+ghost use Rattle.std.specs.List.{insert};
 ghost use Rattle.midi_meaning.specs.State as definition;
 ghost use Rattle.voice_state.specs.Facts.{param_fact, params_in_order};
-ghost use Rattle.voice_state.specs.Params.{number_of, param_of, state_at, IsOf};
+ghost use Rattle.voice_state.specs.Params.{number_of, param_of, state_at, IsAt, IsGapFor, IsOf};
+ghost use Rattle.voice_state.specs.Rooms.{IsFullWhere};
 
 use crate::fact::{Fact, put};
+use crate::not_kept::NotKept;
 use midi_edge::{NoMemory, U4};
 use std::alloc::Global;
-use std::collections::BTreeMap;
 use std::marker::Model;
 use voice_messages::{ParamKind, U7};
 
@@ -55,31 +57,43 @@ fn param_fact(group: U4, channel: U4, kind: ParamKind, number: u16, state: Param
     }
 }
 
-/// The parameters of a kind that were set or changed. To a contract it is the list of them by their numbers.
+/// The parameters of a kind that were set or changed, in the order of their numbers. To a contract it is the
+/// list of them.
 #[derive(Drop)]
 pub(crate) struct ParamMap {
-    states: BTreeMap<u16, ParamState>,
+    entries: Vec<(u16, ParamState)>,
 }
 
 impl Model for ParamMap {
     ghost use Rattle.std.specs.Prelude.{ℕ, List, ◌<◌, All};
-    ghost use Rattle.std.specs.Map.{keys_of};
+    ghost use Rattle.voice_state.specs.Params.{IsInOrder};
     ghost use Rattle.voice_state.specs.declared.param_map.ParamState.{ParamState};
 
     ghost Value = { List (ℕ × ParamState) };
 
-    ghost view = { λ p. p.states.entries };
+    ghost view = { λ p. p.entries.items };
 
-    ghost invariant = { λ p. All (λ number. number < 16384) (keys_of p.states.entries) };
+    ghost invariant = { λ p. IsInOrder p.entries.items × All (λ entry. entry.0 < 16384) p.entries.items };
 }
 
 impl ParamMap {
-    pub(crate) fn new(alloc: Global) -> ParamMap
-        ensures { result ≡ [] }
+    /// None yet. The memory for `taken` of them is taken here.
+    pub(crate) fn new(alloc: Global, taken: usize) -> Result<ParamMap, NoMemory>
+        ensures { IfOk result (λ map. map ≡ []) }
     {
-        ParamMap {
-            states: BTreeMap::new(alloc),
+        match Vec::with_capacity(alloc, taken) {
+            Ok(entries) => Ok(ParamMap { entries }),
+            Err(_) => Err(NoMemory),
         }
+    }
+
+    // Where the parameter of a number is, or where it would go.
+    fn place(&self, number: u16) -> Result<usize, usize>
+        ensures found { IfOk result (IsAt self.now number) }
+        ensures absent { IfErr result (IsGapFor self.now number) }
+    {
+        self.entries
+            .binary_search_by_key(&number, |&(other, _)| other)
     }
 
     /// What is known of a parameter.
@@ -87,20 +101,59 @@ impl ParamMap {
         ensures state { result ≡ state_at self.now (number_of bank index) }
         ensures in_range { index < 128 }
     {
-        self.states.get(&number_of(bank, index)).copied()
+        match self.place(number_of(bank, index)) {
+            Ok(place) => Some(self.entries[place].1),
+            Err(_) => None,
+        }
     }
 
-    /// Puts what is known of a parameter in the place of what was. After `NoMemory` nothing has changed.
-    pub(crate) fn put(&mut self, bank: U7, index: U7, state: ParamState) -> Result<(), NoMemory>
+    /// Puts what is known of a parameter in the place of what was, or adds it where there are fewer than
+    /// `room`. Else nothing changes.
+    pub(crate) fn put(
+        &mut self,
+        bank: U7,
+        index: U7,
+        state: ParamState,
+        room: usize,
+    ) -> Result<(), NotKept>
         ensures put { OnOk result ((number : ℕ)
             → state_at self.new number
             ≡ definition.put ◌==◌ (state_at self.old) (number_of bank index) state number) }
         ensures in_range { index < 128 }
         ensures unchanged { OnErr result (self.new ≡ self.old) }
+        ensures full { IsFullWhere result
+            ((room ≤ length self.old) × (state_at self.old (number_of bank index) ≡ None)) }
     {
-        match self.states.insert(number_of(bank, index), state) {
-            Ok(_) => Ok(()),
-            Err(_) => Err(NoMemory),
+        let number = number_of(bank, index);
+        match self.place(number) {
+            Ok(place) => {
+                self.entries[place] = (number, state);
+                Ok(())
+            }
+            Err(place) => self.add(place, number, state, room),
+        }
+    }
+
+    // Adds a parameter at its place, where there are fewer than `room`. Else nothing changes.
+    fn add(
+        &mut self,
+        place: usize,
+        number: u16,
+        state: ParamState,
+        room: usize,
+    ) -> Result<(), NotKept>
+        requires place { IsGapFor self.old number place }
+        requires below { number < 16384 }
+        ensures added { OnOk result (self.new ≡ insert self.old place (number, state)) }
+        ensures unchanged { OnErr result (self.new ≡ self.old) }
+        ensures full { IsFullWhere result (room ≤ length self.old) }
+    {
+        if room <= self.entries.len() {
+            return Err(NotKept::Full);
+        }
+        match self.entries.insert(place, (number, state)) {
+            Ok(()) => Ok(()),
+            Err(_) => Err(NotKept::NoMemory),
         }
     }
 
@@ -115,7 +168,7 @@ impl ParamMap {
         ensures { OnOk result ((state : definition.Channel) → IsOf kind self.now state
             → facts.new.items ≡ facts.old.items ++ params_in_order group channel kind state) }
     {
-        for (number, state) in self.states.iter() {
+        for (number, state) in &self.entries {
             put(
                 facts,
                 Some(param_fact(group, channel, kind, *number, *state)),

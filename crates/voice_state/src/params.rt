@@ -1,12 +1,14 @@
 // The parameters of a channel.
-ghost use Rattle.std.specs.Prelude.{◌≡◌, ◌<◌, ◌++◌, true, OnOk, OnErr};
+ghost use Rattle.std.specs.Prelude.{◌≡◌, ◌<◌, ◌++◌, true, IfOk, OnOk, OnErr};
 ghost use Rattle.voice_messages.specs.declared.voice2.ParamKind.TheVariants.{Registered, Assignable};
 ghost use Rattle.midi_meaning.specs.Messages as messages;
 ghost use Rattle.midi_meaning.specs.State as definition;
 ghost use Rattle.voice_state.specs.Facts.{params_in_order};
-ghost use Rattle.voice_state.specs.KeptParams.{state_in, KeepsParams, PutsParam};
+ghost use Rattle.voice_state.specs.KeptParams.{state_in, AreFull, KeepsParams, PutsParam};
+ghost use Rattle.voice_state.specs.Rooms.{IsFullWhere};
 
 use crate::fact::Fact;
+use crate::not_kept::NotKept;
 use crate::param_map::{ParamMap, ParamState};
 use midi_edge::{NoMemory, U4};
 use std::alloc::Global;
@@ -20,13 +22,17 @@ pub(crate) struct Params {
 }
 
 impl Params {
-    pub(crate) fn new(alloc: Global) -> Params
-        ensures { (scale : messages.Scale) → KeepsParams result (messages.start_channel scale) }
+    /// None yet. The memory for `taken` of each kind is taken here.
+    pub(crate) fn new(alloc: Global, taken: usize) -> Result<Params, NoMemory>
+        ensures { IfOk result (λ params. (scale : messages.Scale)
+            → KeepsParams params (messages.start_channel scale)) }
     {
-        Params {
-            registered: ParamMap::new(alloc),
-            assignable: ParamMap::new(alloc),
-        }
+        let registered = ParamMap::new(alloc, taken)?;
+        let assignable = ParamMap::new(alloc, taken)?;
+        Ok(Params {
+            registered,
+            assignable,
+        })
     }
 
     /// The value of a parameter, where it was set.
@@ -50,41 +56,52 @@ impl Params {
         }
     }
 
-    /// A parameter has a value, and isn't loose. After `NoMemory` nothing has changed.
-    pub(crate) fn set(&mut self, param: &Param, value: u32) -> Result<(), NoMemory>
+    /// A parameter has a value, and isn't loose. Where it would be one more than `room` of
+    /// its kind, or there is no memory for it, nothing has changed.
+    pub(crate) fn set(&mut self, param: &Param, value: u32, room: usize) -> Result<(), NotKept>
         ensures set { OnOk result ((state : definition.Channel) → KeepsParams self.old state
             → KeepsParams self.new (definition.with_param param.now value state)) }
         ensures unchanged { OnErr result (self.new ≡ self.old) }
+        ensures full { IsFullWhere result (AreFull room self.old param.now) }
     {
         let state = ParamState {
             value: Some(value),
             loose: false,
         };
-        self.put(param, state)
+        self.put(param, state, room)
     }
 
-    /// A parameter has a value, and is as loose as before. After `NoMemory` nothing has changed.
-    pub(crate) fn set_value(&mut self, param: &Param, value: u32) -> Result<(), NoMemory>
+    /// A parameter has a value, and is as loose as before. Where it would be one more than `room` of
+    /// its kind, or there is no memory for it, nothing has changed.
+    pub(crate) fn set_value(
+        &mut self,
+        param: &Param,
+        value: u32,
+        room: usize,
+    ) -> Result<(), NotKept>
         ensures set { OnOk result ((state : definition.Channel) → KeepsParams self.old state
             → KeepsParams self.new (definition.with_value param.now value state)) }
         ensures unchanged { OnErr result (self.new ≡ self.old) }
+        ensures full { IsFullWhere result (AreFull room self.old param.now) }
     {
         let loose = self.is_loose(param);
         let state = ParamState {
             value: Some(value),
             loose,
         };
-        self.put(param, state)
+        self.put(param, state, room)
     }
 
-    /// A parameter is loose, and keeps its value. After `NoMemory` nothing has changed.
-    pub(crate) fn loosen(&mut self, param: &Param) -> Result<(), NoMemory>
+    /// A parameter is loose, and keeps its value. Where it would be one more than `room` of
+    /// its kind, or there is no memory for it, nothing has changed.
+    pub(crate) fn loosen(&mut self, param: &Param, room: usize) -> Result<(), NotKept>
         ensures loosened { OnOk result ((state : definition.Channel) → KeepsParams self.old state
             → KeepsParams self.new (definition.with_looseness true param.now state)) }
         ensures unchanged { OnErr result (self.new ≡ self.old) }
+        ensures full { IsFullWhere result (AreFull room self.old param.now) }
     {
         let value = self.value(param);
-        self.put(param, ParamState { value, loose: true })
+        self.put(param, ParamState { value, loose: true }, room)
     }
 
     fn get(&self, param: &Param) -> Option<ParamState>
@@ -97,14 +114,15 @@ impl Params {
         }
     }
 
-    fn put(&mut self, param: &Param, state: ParamState) -> Result<(), NoMemory>
+    fn put(&mut self, param: &Param, state: ParamState, room: usize) -> Result<(), NotKept>
         ensures put { OnOk result (PutsParam self.old self.new param.now state) }
         ensures in_range { param.now.index < 128 }
         ensures unchanged { OnErr result (self.new ≡ self.old) }
+        ensures full { IsFullWhere result (AreFull room self.old param.now) }
     {
         match param.kind {
-            ParamKind::Registered => self.registered.put(param.bank, param.index, state),
-            ParamKind::Assignable => self.assignable.put(param.bank, param.index, state),
+            ParamKind::Registered => self.registered.put(param.bank, param.index, state, room),
+            ParamKind::Assignable => self.assignable.put(param.bank, param.index, state, room),
         }
     }
 

@@ -1,16 +1,18 @@
 // What messages or packets have left in a receiver, kept while they come.
-ghost use Rattle.std.specs.Prelude.{◌≡◌, true, false, None, IfOk, OnOk, OnErr};
+ghost use Rattle.std.specs.Prelude.{◌≡◌, ◌+◌, ◌*◌, ◌++◌, true, false, None, IfOk, OnOk, OnErr};
 ghost use Rattle.voice_messages.specs.declared.voice1.System as system;
 ghost use Rattle.midi1_bytes.specs.Messages.{Message, system_message, voice};
 ghost use Rattle.midi_meaning.specs.Messages.{Scale, as_they_come, raised};
 ghost use Rattle.midi_meaning.specs.State.{with_common, with_real_time};
 ghost use Rattle.voice_state.specs.Facts.{facts_of};
 ghost use Rattle.voice_state.specs.Kept.{Keeps};
+ghost use Rattle.voice_state.specs.Rooms.{GroupIs, HasRoom, IsFullWhere, IsGroupFull1, IsGroupFull2, IsPacketFull, KeepsAllRooms};
 ghost use Rattle.voice_state.specs.States.{States, after_message, after_packet, after_voice1, after_voice2, at_group, first_states, is_real_time};
 ghost use Rattle.voice_state.specs.Widths.{scale_of};
 
 use crate::fact::Fact;
 use crate::group::Group;
+use crate::not_kept::{NotKept, Room};
 use crate::width::Width;
 use midi_edge::{NoMemory, U4};
 use std::alloc::Global;
@@ -23,8 +25,9 @@ use voice_messages::{System, Voice1, Voice2};
 /// of each group; `Keeps` says which states that stands for. One state takes either messages, of 7 and 14
 /// bits, or packets, of 16 and 32 bits; what one that took both stands for isn't promised.
 ///
-/// Notes and channel mode messages are kept as the list of all that came, and parameters in a map by their
-/// numbers. All other memory is taken when it is made.
+/// Notes and channel mode messages are kept as the list of all that came, and parameters in a list by their
+/// numbers. All other memory is taken when it is made, and the memory of the lists too where they have a
+/// room.
 #[derive(Drop)]
 pub struct VoiceState {
     groups: Vec<Group>,
@@ -42,16 +45,55 @@ impl Model for VoiceState {
 }
 
 impl VoiceState {
-    /// The state before the first message or packet. `NoMemory` where there is none for its tables.
+    /// The state before the first message or packet. Its lists take memory while they grow. `NoMemory` where
+    /// there is none for its tables.
     pub fn new(alloc: Global) -> Result<VoiceState, NoMemory>
         ensures messages { IfOk result (λ state. Keeps as_they_come state (first_states as_they_come)) }
         ensures packets { IfOk result (λ state. Keeps raised state (first_states raised)) }
     {
+        VoiceState::made(alloc, 0, Room::none(), Room::unlimited())
+    }
+
+    /// The state before the first message or packet, with room for so many notes and mode messages of each
+    /// channel, and so many parameters of each kind and channel. All memory that it ever needs is taken here.
+    /// `NoMemory` where there isn't enough.
+    pub fn with_room(alloc: Global, notes: usize, params: usize) -> Result<VoiceState, NoMemory>
+        ensures messages { IfOk result (λ state. Keeps as_they_come state (first_states as_they_come)) }
+        ensures packets { IfOk result (λ state. Keeps raised state (first_states raised)) }
+        ensures room { IfOk result (HasRoom notes params) }
+    {
+        let room = Room { notes, params };
+        VoiceState::made(alloc, 16, room, room)
+    }
+
+    /// The same for a stream, all whose messages are in group 0 (own rule): the memory of the lists is taken
+    /// for that group alone.
+    pub fn of_stream(alloc: Global, notes: usize, params: usize) -> Result<VoiceState, NoMemory>
+        ensures messages { IfOk result (λ state. Keeps as_they_come state (first_states as_they_come)) }
+        ensures packets { IfOk result (λ state. Keeps raised state (first_states raised)) }
+        ensures room { IfOk result (HasRoom notes params) }
+    {
+        let room = Room { notes, params };
+        VoiceState::made(alloc, 1, room, room)
+    }
+
+    // The state before the first message. The memory for `taken` is taken here, in each channel of the first
+    // groups.
+    fn made(alloc: Global, with_room: u8, taken: Room, room: Room) -> Result<VoiceState, NoMemory>
+        ensures messages { IfOk result (λ state. Keeps as_they_come state (first_states as_they_come)) }
+        ensures packets { IfOk result (λ state. Keeps raised state (first_states raised)) }
+        ensures room { IfOk result (HasRoom room.notes room.params) }
+    {
         let Ok(mut groups) = Vec::with_capacity(alloc, 16) else {
             return Err(NoMemory);
         };
-        for _ in 0..16usize {
-            let Ok(group) = Group::new(alloc) else {
+        for index in 0..16u8 {
+            let here = if index < with_room {
+                taken
+            } else {
+                Room::none()
+            };
+            let Ok(group) = Group::new(alloc, here, room) else {
                 return Err(NoMemory);
             };
             if groups.push(group).is_err() {
@@ -61,22 +103,54 @@ impl VoiceState {
         Ok(VoiceState { groups })
     }
 
-    /// Takes a channel voice message of a MIDI 1.0 stream in a group (MIDI 1.0 Detailed Specification,
-    /// channel voice messages; RP-015). After `NoMemory` nothing has changed.
+    /// Takes a channel voice message of a MIDI 1.0 stream in a group, as `take_message` does. `NoMemory`
+    /// where it isn't kept, for want of memory or of room; then nothing has changed.
     pub fn apply1(&mut self, group: U4, m: &Voice1) -> Result<(), NoMemory>
         ensures step { OnOk result ((states : States) → Keeps as_they_come self.old states
             → Keeps as_they_come self.new (after_message group (voice m.now) states)) }
         ensures unchanged { OnErr result (self.new ≡ self.old) }
     {
-        self.voice1(Width::Midi1, group, m)
+        match self.take_message(group, m) {
+            Ok(()) => Ok(()),
+            Err(_) => Err(NoMemory),
+        }
     }
 
-    /// Takes a packet (M2-104-UM). A packet of an exclusive changes nothing: whole exclusives are counted by
-    /// `system`. After `NoMemory` nothing has changed.
+    /// Takes a packet, as `take_packet` does. `NoMemory` where it isn't kept, for want of memory or of room;
+    /// then nothing has changed.
     pub fn apply2(&mut self, p: &Packet) -> Result<(), NoMemory>
         ensures step { OnOk result ((states : States) → Keeps raised self.old states
             → Keeps raised self.new (after_packet p.now None states)) }
         ensures unchanged { OnErr result (self.new ≡ self.old) }
+    {
+        match self.take_packet(p) {
+            Ok(()) => Ok(()),
+            Err(_) => Err(NoMemory),
+        }
+    }
+
+    /// Takes a channel voice message of a MIDI 1.0 stream in a group (MIDI 1.0 Detailed Specification,
+    /// channel voice messages; RP-015). `Full` exactly where it adds to a list of its channel that is full.
+    /// Where it isn't kept, nothing has changed.
+    pub fn take_message(&mut self, group: U4, m: &Voice1) -> Result<(), NotKept>
+        ensures step { OnOk result ((states : States) → Keeps as_they_come self.old states
+            → Keeps as_they_come self.new (after_message group (voice m.now) states)) }
+        ensures unchanged { OnErr result (self.new ≡ self.old) }
+        ensures full { IsFullWhere result (GroupIs self.old group (IsGroupFull1 m.now)) }
+        ensures rooms { KeepsAllRooms self.old self.new }
+    {
+        self.voice1(Width::Midi1, group, m)
+    }
+
+    /// Takes a packet (M2-104-UM). A packet of an exclusive changes nothing: whole exclusives are counted by
+    /// `system`. `Full` exactly where it adds to a list of its channel that is full. Where it isn't kept,
+    /// nothing has changed.
+    pub fn take_packet(&mut self, p: &Packet) -> Result<(), NotKept>
+        ensures step { OnOk result ((states : States) → Keeps raised self.old states
+            → Keeps raised self.new (after_packet p.now None states)) }
+        ensures unchanged { OnErr result (self.new ≡ self.old) }
+        ensures full { IsFullWhere result (IsPacketFull p.now self.old) }
+        ensures rooms { KeepsAllRooms self.old self.new }
     {
         match p {
             Packet::System { group, message } => {
@@ -103,6 +177,7 @@ impl VoiceState {
         ensures real_time { real_time ≡ true → (scale : Scale) (states : States) (message : system.System)
             → Keeps scale self.old states
             → Keeps scale self.new (at_group group (with_real_time message) states) }
+        ensures rooms { KeepsAllRooms self.old self.new }
     {
         if real_time {
             self.count_real_time(group);
@@ -112,39 +187,45 @@ impl VoiceState {
     }
 
     // Takes a message of the MIDI 1.0 protocol.
-    fn voice1(&mut self, width: Width, group: U4, message: &Voice1) -> Result<(), NoMemory>
+    fn voice1(&mut self, width: Width, group: U4, message: &Voice1) -> Result<(), NotKept>
         ensures step { OnOk result ((states : States) → Keeps (scale_of width) self.old states
             → Keeps (scale_of width) self.new
             (at_group group (after_voice1 (scale_of width) message.now) states)) }
         ensures unchanged { OnErr result (self.new ≡ self.old) }
+        ensures full { IsFullWhere result (GroupIs self.old group (IsGroupFull1 message.now)) }
+        ensures rooms { KeepsAllRooms self.old self.new }
     {
         let group = &mut self.groups[group.get() as usize];
         group.voice1(width, message)
     }
 
     // Takes a message of the MIDI 2.0 protocol.
-    fn voice2(&mut self, group: U4, message: &Voice2) -> Result<(), NoMemory>
+    fn voice2(&mut self, group: U4, message: &Voice2) -> Result<(), NotKept>
         ensures step { OnOk result ((states : States) → Keeps raised self.old states
             → Keeps raised self.new (at_group group (after_voice2 message.now) states)) }
         ensures unchanged { OnErr result (self.new ≡ self.old) }
+        ensures full { IsFullWhere result (GroupIs self.old group (IsGroupFull2 message.now)) }
+        ensures rooms { KeepsAllRooms self.old self.new }
     {
         let group = &mut self.groups[group.get() as usize];
         group.voice2(message)
     }
 
     fn count_common(&mut self, group: U4)
-        ensures { (scale : Scale) (states : States) (message : Message)
+        ensures step { (scale : Scale) (states : States) (message : Message)
             → Keeps scale self.old states
             → Keeps scale self.new (at_group group (with_common message) states) }
+        ensures rooms { KeepsAllRooms self.old self.new }
     {
         let group = &mut self.groups[group.get() as usize];
         group.count_common();
     }
 
     fn count_real_time(&mut self, group: U4)
-        ensures { (scale : Scale) (states : States) (message : system.System)
+        ensures step { (scale : Scale) (states : States) (message : system.System)
             → Keeps scale self.old states
             → Keeps scale self.new (at_group group (with_real_time message) states) }
+        ensures rooms { KeepsAllRooms self.old self.new }
     {
         let group = &mut self.groups[group.get() as usize];
         group.count_real_time();
@@ -159,11 +240,31 @@ impl VoiceState {
             → facts.items ≡ facts_of scale states) }
     {
         let mut facts = Vec::new(alloc);
-        for index in 0..16u8 {
-            self.groups[index as usize].put_facts(&mut facts, U4::low_bits(index as u32))?;
-        }
+        self.put_facts(&mut facts)?;
         Ok(facts)
     }
+
+    /// Adds the facts to a list. `NoMemory` where it has to grow and there is none; a list with a capacity of
+    /// `most_facts` that is empty hasn't to.
+    pub fn put_facts(&self, facts: &mut Vec<Fact>) -> Result<(), NoMemory>
+        ensures { OnOk result ((scale : Scale) (states : States) → Keeps scale self.now states
+            → facts.new.items ≡ facts.old.items ++ facts_of scale states) }
+    {
+        for index in 0..16u8 {
+            self.groups[index as usize].put_facts(facts, U4::low_bits(index as u32))?;
+        }
+        Ok(())
+    }
+}
+
+/// The most facts that a state has of so many groups, with room for so many notes and mode messages of each
+/// channel, and so many parameters of each kind and channel. A channel has 128 key pressures and 128
+/// controllers, a pressure, a bend and a program besides, and a group two counts.
+pub fn most_facts(groups: u8, notes: u32, params: u32) -> usize
+    ensures { result ≡ groups * (16 * (notes + 2 * params + 259) + 2) }
+{
+    let of_channel = notes as usize + 2 * params as usize + 259;
+    groups as usize * (16 * of_channel + 2)
 }
 
 // Whether a system message is a Real Time message.

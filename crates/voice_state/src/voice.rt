@@ -6,12 +6,13 @@ ghost use Rattle.midi_meaning.specs.Registers.{is_null};
 ghost use Rattle.midi_meaning.specs.State as definition;
 ghost use Rattle.voice_state.specs.Acts.{act_of};
 ghost use Rattle.voice_state.specs.Kept.{KeepsChannel};
+ghost use Rattle.voice_state.specs.Rooms.{IsFull1, IsFull2, IsFullWhere, IsParamFull};
 ghost use Rattle.voice_state.specs.Widths.{scale_of};
 
 use crate::channel::Channel;
+use crate::not_kept::NotKept;
 use crate::note_act::NoteAct;
 use crate::width::Width;
-use midi_edge::NoMemory;
 use midi_meaning::is_null_param;
 use voice_messages::{Bank, Param, U7, Voice1, Voice2};
 
@@ -29,12 +30,14 @@ fn note_on(width: Width, note: U7, velocity: U7) -> NoteAct
 }
 
 impl Channel {
-    /// Takes a message of the MIDI 1.0 protocol. After `NoMemory` nothing has changed.
-    pub(crate) fn voice1(&mut self, width: Width, message: &Voice1) -> Result<(), NoMemory>
+    /// Takes a message of the MIDI 1.0 protocol. Where it isn't kept, nothing has changed.
+    pub(crate) fn voice1(&mut self, width: Width, message: &Voice1) -> Result<(), NotKept>
         ensures step { OnOk result
             ((state : definition.Channel) → KeepsChannel (scale_of width) self.old state
             → KeepsChannel (scale_of width) self.new (voice_at (scale_of width) message.now state)) }
         ensures unchanged { OnErr result (self.new ≡ self.old) }
+        ensures full { IsFullWhere result (IsFull1 message.now self.old) }
+        ensures room { self.new.room ≡ self.old.room }
     {
         match *message {
             Voice1::NoteOff { note, velocity, .. } => {
@@ -62,12 +65,14 @@ impl Channel {
         }
     }
 
-    /// Takes a message of the MIDI 2.0 protocol (M2-104-UM, MIDI 2.0 channel voice messages). After
-    /// `NoMemory` nothing has changed.
-    pub(crate) fn voice2(&mut self, message: &Voice2) -> Result<(), NoMemory>
+    /// Takes a message of the MIDI 2.0 protocol (M2-104-UM, MIDI 2.0 channel voice messages). Where it
+    /// isn't kept, nothing has changed.
+    pub(crate) fn voice2(&mut self, message: &Voice2) -> Result<(), NotKept>
         ensures step { OnOk result ((state : definition.Channel) → KeepsChannel raised self.old state
             → KeepsChannel raised self.new (voice2_at false message.now state)) }
         ensures unchanged { OnErr result (self.new ≡ self.old) }
+        ensures full { IsFullWhere result (IsFull2 message.now self.old) }
+        ensures room { self.new.room ≡ self.old.room }
     {
         match *message {
             Voice2::NoteOff { note, velocity, .. } => self.act(NoteAct::Off { note, velocity }),
@@ -98,37 +103,42 @@ impl Channel {
     }
 
     // The value of a parameter, which is selected by it; the null parameter takes none.
-    fn set_param(&mut self, param: &Param, value: u32) -> Result<(), NoMemory>
+    fn set_param(&mut self, param: &Param, value: u32) -> Result<(), NotKept>
         ensures step { OnOk result ((state : definition.Channel) → KeepsChannel raised self.old state
             → KeepsChannel raised self.new
             (if is_null param.now then state else set_param param.now value state)) }
         ensures unchanged { OnErr result (self.new ≡ self.old) }
+        ensures full { IsFullWhere result (IsParamFull self.old param.now) }
+        ensures room { self.new.room ≡ self.old.room }
     {
         if is_null_param(param) {
             return Ok(());
         }
-        self.params.set(param, value)?;
+        self.params.set(param, value, self.room.params)?;
         self.registers.select(param);
         Ok(())
     }
 
     // A relative change of a parameter, which leaves its value; the null parameter takes none.
-    fn loosen(&mut self, param: &Param) -> Result<(), NoMemory>
+    fn loosen(&mut self, param: &Param) -> Result<(), NotKept>
         ensures step { OnOk result ((state : definition.Channel) → KeepsChannel raised self.old state
             → KeepsChannel raised self.new
             (if is_null param.now then state else definition.with_looseness true param.now state)) }
         ensures unchanged { OnErr result (self.new ≡ self.old) }
+        ensures full { IsFullWhere result (IsParamFull self.old param.now) }
+        ensures room { self.new.room ≡ self.old.room }
     {
         if is_null_param(param) {
             return Ok(());
         }
-        self.params.loosen(param)
+        self.params.loosen(param, self.room.params)
     }
 
     // A program change, which may select its bank.
     fn program2(&mut self, program: U7, bank: Option<Bank>)
-        ensures { (state : definition.Channel) → KeepsChannel raised self.old state
+        ensures step { (state : definition.Channel) → KeepsChannel raised self.old state
             → KeepsChannel raised self.new (program2 bank program state) }
+        ensures room { self.new.room ≡ self.old.room }
     {
         match bank {
             None => self.set_program(program),

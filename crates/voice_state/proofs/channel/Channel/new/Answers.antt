@@ -5,25 +5,25 @@ use Rattle.voice_state.proofs.channel.Channel.new.Goals as goal
 
 pub returns-clause-midi1 : goal.returns-clause-midi1
 returns-clause-midi1 c = record {
-  acts = c.new-3.ensures;
-  poly = c.in-Ok.ensures;
-  controllers = c.in-Ok-new.ensures;
+  acts = c.in_ok-acts.ensures;
+  poly = c.in_ok-poly.ensures;
+  controllers = c.in_ok-controllers.ensures;
   pressure = refl;
   bend = refl;
   program = refl;
-  params = c.new-4.ensures as_they_come;
+  params = c.in_ok-params.ensures as_they_come;
   registers = c.unset.ensures;
 }
 
 pub returns-clause-packets : goal.returns-clause-packets
 unfolding up
 returns-clause-packets c = record {
-  acts = c.new-3.ensures;
-  poly = c.in-Ok.ensures;
-  controllers = c.in-Ok-new.ensures;
+  acts = c.in_ok-acts.ensures;
+  poly = c.in_ok-poly.ensures;
+  controllers = c.in_ok-controllers.ensures;
   pressure = refl;
   bend = refl;
   program = refl;
-  params = c.new-4.ensures raised;
+  params = c.in_ok-params.ensures raised;
   registers = c.unset.ensures;
 }

@@ -13,10 +13,12 @@ loop-preserved c =
     ∙ ap (λ is_pushed. if is_pushed then channels ++ channel ∷ [] else channels) (c.is_err.ensures.negation ∙ ap not c.if-is_err.false) in
     subst
     (λ items. (length items ≡ c.loop.counter + 1) × All (λ at. KeepsChannel as_they_come at (start_channel as_they_come)) items
-    × All (λ at. KeepsChannel raised at (start_channel raised)) items)
+    × All (λ at. KeepsChannel raised at (start_channel raised)) items
+    × All (λ at. at.room ≡ c.args.room) items)
     (sym pushed) (
       length-append channels (channel ∷ []) ∙ ap (λ n. n + 1) c.loop.invariant.0,
       All-push (λ at. KeepsChannel as_they_come at (start_channel as_they_come)) channels channel c.loop.invariant.1
           c.in-Ok-new.ensures.midi1,
       All-push (λ at. KeepsChannel raised at (start_channel raised)) channels channel c.loop.invariant.2 c.in-Ok-new.ensures.packets,
+      All-push (λ at. at.room ≡ c.args.room) channels channel c.loop.invariant.3 c.in-Ok-new.ensures.room,
     )

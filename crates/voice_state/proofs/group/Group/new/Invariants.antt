@@ -7,4 +7,5 @@ abbrev pub invariant-loop : goal.invariant-loop
 invariant-loop l =
     (length l.channels.items ≡ l.counter) ×
     All (λ channel. KeepsChannel as_they_come channel (start_channel as_they_come)) l.channels.items ×
-    All (λ channel. KeepsChannel raised channel (start_channel raised)) l.channels.items
+    All (λ channel. KeepsChannel raised channel (start_channel raised)) l.channels.items ×
+    All (λ channel. channel.room ≡ l.room) l.channels.items

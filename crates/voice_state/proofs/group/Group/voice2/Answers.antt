@@ -1,10 +1,13 @@
-use Rattle.std.proofs.Common.{◌≡◌, ◌∙◌, ◌<◌, sym, subst, false, arith, length, slice_set}
+use Rattle.std.proofs.Common.{refl, ◌≡◌, ◌∙◌, ◌<◌, sym, subst, false, arith, length, slice_set}
 use Rattle.std.proofs.lemmas.Result.{on_ok_weaker}
 use Rattle.midi_meaning.specs.Messages.{raised}
 use Rattle.midi_meaning.specs.Packets.{channel2, voice2_at}
 use Rattle.midi_meaning.specs.State.{at_channel}
 use Rattle.voice_state.specs.Kept.{KeepsChannel, KeepsGroup, KeptGroup}
+use Rattle.voice_state.specs.declared.channel.Channel as kept_channel
+use Rattle.voice_state.specs.Rooms.{IsFull2, IsFullWhere, IsGroupFull2, KeepsRooms}
 use Rattle.voice_state.proofs.KeptGroups.{channel_kept}
+use Rattle.voice_state.proofs.Rooms.{full_at, related}
 use Rattle.voice_state.proofs.group.Group.voice2.Goals as goal
 
 pub returns-clause-step : goal.returns-clause-step
@@ -31,3 +34,29 @@ returns-clause-step c =
     subst (λ at. KeepsGroup scale new (at_channel at (voice2_at false message) state)) is
     (channel_kept scale old state channel c.voice2.new.self (voice2_at false message) within kept (step (state.channels channel) found)))
     c.voice2.ensures.step
+
+pub returns-clause-full : goal.returns-clause-full
+returns-clause-full c =
+    let channel = c.get.result in
+    let message = c.args.message.now in
+    let channels = c.self.inside.channels.items in
+    let below : channel < 16 = omega (arith, c.get.ensures.value, c.get.ensures.below) in
+    let within : channel < length channels = omega (arith, below, c.self.invariant) in
+    subst (λ (kept : KeptGroup). IsFullWhere c.voice2.result (IsGroupFull2 message kept)) c.self.view_is
+    (full_at (IsFull2 message) channels channel (channel2 message) c.index_mut-channel.result.now c.voice2.result within
+    (c.get.ensures.value ∙ c.channel2.ensures) c.index_mut-channel.ensures.value c.voice2.ensures.full)
+
+pub returns-clause-rooms : goal.returns-clause-rooms
+returns-clause-rooms c =
+    let channel = c.get.result in
+    let channels = c.self.inside.channels.items in
+    let below : channel < 16 = omega (arith, c.get.ensures.value, c.get.ensures.below) in
+    let within : channel < length channels = omega (arith, below, c.self.invariant) in
+    let new : KeptGroup = record {
+      channels = slice_set channels channel c.voice2.new.self;
+      commons = c.self.inside.commons;
+      real_times = c.self.inside.real_times;
+    } in
+    subst (λ (kept : KeptGroup). KeepsRooms kept new) c.self.view_is
+    (related (λ (x y : kept_channel.Channel). y.room ≡ x.room) (λ x. refl) channels channel c.index_mut-channel.result.now c.voice2.new.self
+    within c.index_mut-channel.ensures.value c.voice2.ensures.room)

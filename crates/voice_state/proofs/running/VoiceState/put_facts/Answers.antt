@@ -1,12 +1,13 @@
-use Rattle.std.proofs.Common.{◌∙◌, ◌++◌, ◌<◌, ap, sym, subst, arith, ℕ, List}
+use Rattle.std.proofs.Common.{append-nil, append_assoc, ◌∙◌, ◌++◌, ◌<◌, ap, sym, subst, arith, ℕ, List}
 use Rattle.voice_state.specs.declared.fact.Fact.{Fact}
-use Rattle.voice_state.specs.Facts.{group_facts}
+use Rattle.voice_state.specs.Facts.{facts_of_groups, group_facts}
 use Rattle.voice_state.specs.Kept.{Keeps, KeepsGroup}
 use Rattle.voice_state.proofs.ToldFacts.{more, none_first}
-use Rattle.voice_state.proofs.running.VoiceState.facts.Goals as goal
+use Rattle.voice_state.proofs.running.VoiceState.put_facts.Goals as goal
 
 pub loop-index-init : goal.loop-index-init
-loop-index-init c = λ scale states keeps. c.new-facts.ensures.items ∙ sym (none_first (λ group. group_facts scale group (states group)))
+loop-index-init c = λ scale states keeps. sym (append-nil c.args.facts.now.items)
+    ∙ ap (λ ys. c.args.facts.now.items ++ ys) (sym (none_first (λ group. group_facts scale group (states group))))
 
 pub loop-index-preserved : goal.loop-index-preserved
 loop-index-preserved c = λ scale states keeps.
@@ -19,4 +20,5 @@ loop-index-preserved c = λ scale states keeps.
     c.in_ok-put_facts.ensures scale (states index) found
     ∙ ap (λ group. c.loop-index.facts.items ++ group_facts scale group (states index)) (omega (arith, place, below))
     ∙ ap (λ ys. ys ++ told index) (c.loop-index.invariant scale states keeps)
-    ∙ sym (more told index)
+    ∙ append_assoc c.args.facts.now.items (facts_of_groups index scale states) (told index)
+    ∙ ap (λ ys. c.args.facts.now.items ++ ys) (sym (more told index))

@@ -4,7 +4,7 @@ use Rattle.midi_meaning.specs.Messages.{raised}
 use Rattle.voice_state.specs.Kept.{Keeps}
 use Rattle.voice_state.specs.States.{after_packet}
 use Rattle.voice_state.proofs.KeptGroups.{system_kept}
-use Rattle.voice_state.proofs.running.VoiceState.apply2.Goals as goal
+use Rattle.voice_state.proofs.running.VoiceState.take_packet.Goals as goal
 
 pub returns-in-System-clause-step : goal.returns-in-System-clause-step
 returns-in-System-clause-step c = λ states keeps.
