@@ -3,8 +3,7 @@
  *
  * A handle is a struct that the caller holds. It is all zero while it is closed: start from
  * LARBOARDYUZU_CLOSED, open it, use it, close it. To close a closed handle does nothing. Memory is taken
- * by the calls that end in _open, and given back by those that end in _close; of the others only those of
- * the running state take any.
+ * by the calls that end in _open, and given back by those that end in _close; no other call takes any.
  *
  * Each call is total: whatever the numbers are, it answers with a status, an enum larboardyuzu_status.
  * docs/c-library.md says which ones a call has, and what stands after each.
@@ -42,7 +41,7 @@ enum larboardyuzu_status {
     LARBOARDYUZU_NO_MEMORY = 1,
     LARBOARDYUZU_HANDLE_CLOSED = 2,
     LARBOARDYUZU_ALREADY_OPEN = 3,
-    LARBOARDYUZU_BAD_ROOM = 4,            /* room isn't 6 (for SysEx8 13) to 1,048,576 */
+    LARBOARDYUZU_BAD_ROOM = 4,            /* room isn't 6 (for SysEx8 13) to 1,048,576; a state's lists */
     LARBOARDYUZU_BAD_WORD_COUNT = 5,      /* not as many words as the message type of the first one has */
     LARBOARDYUZU_SMALL_BUFFER = 6,        /* refused before anything is taken: a size that does is answered */
     LARBOARDYUZU_BAD_COUNT = 7,           /* an exclusive packet counts more than six bytes */
@@ -57,7 +56,8 @@ enum larboardyuzu_status {
     LARBOARDYUZU_SETUP_SYNTAX = 16,       /* the setup isn't UTF-8, or isn't TOML */
     LARBOARDYUZU_SETUP_RULE = 17,         /* the setup breaks a rule, whose number is answered */
     LARBOARDYUZU_BAD_BITS = 18,           /* there is no scaling between these widths */
-    LARBOARDYUZU_BAD_VALUE = 19           /* the value has more bits than that */
+    LARBOARDYUZU_BAD_VALUE = 19,          /* the value has more bits than that */
+    LARBOARDYUZU_STATE_FULL = 20          /* the message adds to a list of the state that is full */
 };
 
 /* A handle of any kind, closed. */
@@ -338,18 +338,22 @@ typedef struct larboardyuzu_fact {
     bool is_loose; /* a relative change came after the value */
 } larboardyuzu_fact;
 
-/* One state takes either packets or the bytes of one stream. */
-uint32_t larboardyuzu_state_open(larboardyuzu_state *state, uint32_t room, bool is_of_bytes);
+/* The most notes and mode messages of a channel, and the most parameters of a kind, that a state may keep. */
+#define LARBOARDYUZU_MOST_NOTES 1048576u
+#define LARBOARDYUZU_MOST_PARAMS 16384u
 
-/* Takes one packet. It may take memory, since all notes are kept; after LARBOARDYUZU_NO_MEMORY nothing has
- * changed. */
+/* One state takes either packets or the bytes of one stream. It keeps at most notes notes and mode messages
+ * of each channel, and at most params parameters of each kind and channel; 0 is allowed. */
+uint32_t larboardyuzu_state_open(larboardyuzu_state *state, uint32_t room, uint32_t notes, uint32_t params,
+                                 bool is_of_bytes);
+
+/* Takes one packet. After LARBOARDYUZU_STATE_FULL nothing has changed: it adds to a list that is full. */
 uint32_t larboardyuzu_state_packet(larboardyuzu_state *state, const uint32_t *words, size_t count);
 
-/* Takes one byte. It may take memory, likewise. */
+/* Takes one byte. After LARBOARDYUZU_STATE_FULL it is taken, but the message that it completes isn't kept. */
 uint32_t larboardyuzu_state_byte(larboardyuzu_state *state, uint8_t byte);
 
-/* Writes the facts, in the order of `show --state`. length: how many there are. It takes memory, and gives
- * it back. */
+/* Writes the facts, in the order of `show --state`. length: how many there are. */
 uint32_t larboardyuzu_state_facts(larboardyuzu_state *state, larboardyuzu_fact *facts, size_t size,
                                   size_t *length);
 

@@ -6,6 +6,8 @@
 
 enum {
     ROOM = 64,
+    NOTES = 2,
+    PARAMS = 1,
     TIMES = 100000
 };
 
@@ -64,6 +66,7 @@ static larboardyuzu_parser parser = LARBOARDYUZU_CLOSED;
 static larboardyuzu_endpoint endpoint = LARBOARDYUZU_CLOSED;
 static larboardyuzu_sysex8 sysex8 = LARBOARDYUZU_CLOSED;
 static larboardyuzu_usb usb = LARBOARDYUZU_CLOSED;
+static larboardyuzu_state packets = LARBOARDYUZU_CLOSED, stream = LARBOARDYUZU_CLOSED;
 
 static void open_all(void)
 {
@@ -77,6 +80,29 @@ static void open_all(void)
           == LARBOARDYUZU_DONE);
     CHECK(larboardyuzu_sysex8_open(&sysex8, 3, ROOM) == LARBOARDYUZU_DONE);
     CHECK(larboardyuzu_usb_open(&usb, 15, ROOM) == LARBOARDYUZU_DONE);
+    CHECK(larboardyuzu_state_open(&packets, ROOM, NOTES, PARAMS, false) == LARBOARDYUZU_DONE);
+    CHECK(larboardyuzu_state_open(&stream, ROOM, NOTES, PARAMS, true) == LARBOARDYUZU_DONE);
+}
+
+/* What the states answered: each has to be full at times, and never to want memory. */
+static long full;
+
+static void see_state(uint32_t status)
+{
+    CHECK(status != LARBOARDYUZU_NO_MEMORY);
+    full += status == LARBOARDYUZU_STATE_FULL;
+}
+
+/* The facts of both states. */
+static void take_facts(void)
+{
+    static larboardyuzu_fact facts[256 * (259 + NOTES + 2 * PARAMS) + 32];
+    size_t length;
+
+    CHECK(larboardyuzu_state_facts(&packets, facts, COUNT(facts), &length) == LARBOARDYUZU_DONE);
+    CHECK(length > 0);
+    CHECK(larboardyuzu_state_facts(&stream, facts, COUNT(facts), &length) == LARBOARDYUZU_DONE);
+    CHECK(length > 0);
 }
 
 static void take_packet(uint64_t offset)
@@ -97,6 +123,7 @@ static void take_packet(uint64_t offset)
           != LARBOARDYUZU_SMALL_BUFFER);
     CHECK(larboardyuzu_sysex8_packet(&sysex8, words, count, offset, bytes, sizeof bytes, &part)
           != LARBOARDYUZU_SMALL_BUFFER);
+    see_state(larboardyuzu_state_packet(&packets, words, count));
 }
 
 static void take_byte(uint64_t offset)
@@ -113,19 +140,21 @@ static void take_byte(uint64_t offset)
           != LARBOARDYUZU_SMALL_BUFFER);
     CHECK(larboardyuzu_usb_byte(&usb, byte, offset, message, sizeof message, &outcome)
           != LARBOARDYUZU_SMALL_BUFFER);
+    see_state(larboardyuzu_state_byte(&stream, byte));
 }
 
 int main(void)
 {
     open_all();
-    printf("memory: %ld requests of seven open calls", requests);
+    printf("memory: %ld requests of nine open calls", requests);
     requests = 0;
     for (uint64_t i = 0; i < TIMES; i++) {
         take_packet(16 * i);
         take_byte(i);
     }
-    printf(", %ld of %d calls after them", requests, 7 * TIMES);
-    CHECK(requests == 0);
+    take_facts();
+    printf(", %ld of %d calls after them", requests, 9 * TIMES + 2);
+    CHECK(requests == 0 && full > 0);
     larboardyuzu_down_close(&plain);
     larboardyuzu_down_close(&compact);
     larboardyuzu_up_close(&up);
@@ -133,6 +162,8 @@ int main(void)
     larboardyuzu_endpoint_close(&endpoint);
     larboardyuzu_sysex8_close(&sysex8);
     larboardyuzu_usb_close(&usb);
+    larboardyuzu_state_close(&packets);
+    larboardyuzu_state_close(&stream);
     printf(", %ld blocks left\n", blocks);
     CHECK(blocks == 0);
     return 0;

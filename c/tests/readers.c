@@ -136,9 +136,13 @@ static void state_statuses(void)
 
     CHECK(larboardyuzu_state_packet(&state, on, 2) == LARBOARDYUZU_HANDLE_CLOSED);
     CHECK(larboardyuzu_state_facts(&state, facts, 4, &length) == LARBOARDYUZU_HANDLE_CLOSED);
-    CHECK(larboardyuzu_state_open(&state, 5, false) == LARBOARDYUZU_BAD_ROOM && !state.is_open);
-    CHECK(larboardyuzu_state_open(&state, ROOM, false) == LARBOARDYUZU_DONE);
-    CHECK(larboardyuzu_state_open(&state, ROOM, false) == LARBOARDYUZU_ALREADY_OPEN);
+    CHECK(larboardyuzu_state_open(&state, 5, 8, 8, false) == LARBOARDYUZU_BAD_ROOM && !state.is_open);
+    CHECK(larboardyuzu_state_open(&state, ROOM, LARBOARDYUZU_MOST_NOTES + 1, 8, false)
+          == LARBOARDYUZU_BAD_ROOM);
+    CHECK(larboardyuzu_state_open(&state, ROOM, 8, LARBOARDYUZU_MOST_PARAMS + 1, false)
+          == LARBOARDYUZU_BAD_ROOM);
+    CHECK(larboardyuzu_state_open(&state, ROOM, 8, 8, false) == LARBOARDYUZU_DONE);
+    CHECK(larboardyuzu_state_open(&state, ROOM, 8, 8, false) == LARBOARDYUZU_ALREADY_OPEN);
     CHECK(larboardyuzu_state_facts(&state, facts, 0, &length) == LARBOARDYUZU_DONE && length == 0);
     CHECK(larboardyuzu_state_packet(&state, on, 1) == LARBOARDYUZU_BAD_WORD_COUNT);
     CHECK(larboardyuzu_state_packet(&state, high_bit, 1) == LARBOARDYUZU_HIGH_BIT);
@@ -172,9 +176,9 @@ static void state_of_bytes(void)
     size_t length = 7;
 
     CHECK(larboardyuzu_state_byte(&bytes, 0) == LARBOARDYUZU_HANDLE_CLOSED);
-    CHECK(larboardyuzu_state_open(&bytes, 1048577, true) == LARBOARDYUZU_BAD_ROOM);
-    CHECK(larboardyuzu_state_open(&bytes, ROOM, true) == LARBOARDYUZU_DONE);
-    CHECK(larboardyuzu_state_open(&packets, ROOM, false) == LARBOARDYUZU_DONE);
+    CHECK(larboardyuzu_state_open(&bytes, 1048577, 8, 8, true) == LARBOARDYUZU_BAD_ROOM);
+    CHECK(larboardyuzu_state_open(&bytes, ROOM, 8, 8, true) == LARBOARDYUZU_DONE);
+    CHECK(larboardyuzu_state_open(&packets, ROOM, 8, 8, false) == LARBOARDYUZU_DONE);
     CHECK(larboardyuzu_state_packet(&bytes, on, 2) == LARBOARDYUZU_OTHER_KIND);
     CHECK(larboardyuzu_state_byte(&packets, 0x92) == LARBOARDYUZU_OTHER_KIND);
     for (size_t i = 0; i < sizeof stream; i++)
@@ -192,6 +196,57 @@ static void state_of_bytes(void)
     larboardyuzu_state_close(&bytes);
     larboardyuzu_state_close(&packets);
     CHECK(!bytes.is_open && !packets.is_open);
+}
+
+/* A full list refuses what adds to it, and other messages go on. */
+static void full_state(void)
+{
+    static const uint32_t on[] = { 0x40923C00, 0xC9240000 }, other_channel[] = { 0x40933C00, 0xC9240000 };
+    static const uint32_t set[] = { 0x40220001, 7 }, again[] = { 0x40220001, 9 }, next[] = { 0x40220002, 7 };
+    static const uint32_t assignable[] = { 0x40320002, 7 }, control[] = { 0x40B20700, 5 };
+    larboardyuzu_state state = LARBOARDYUZU_CLOSED;
+    larboardyuzu_fact facts[8];
+    size_t length = 0;
+
+    CHECK(larboardyuzu_state_open(&state, ROOM, 1, 1, false) == LARBOARDYUZU_DONE);
+    CHECK(larboardyuzu_state_packet(&state, on, 2) == LARBOARDYUZU_DONE);
+    CHECK(larboardyuzu_state_packet(&state, on, 2) == LARBOARDYUZU_STATE_FULL);
+    CHECK(larboardyuzu_state_packet(&state, other_channel, 2) == LARBOARDYUZU_DONE);
+    CHECK(larboardyuzu_state_packet(&state, set, 2) == LARBOARDYUZU_DONE);
+    CHECK(larboardyuzu_state_packet(&state, next, 2) == LARBOARDYUZU_STATE_FULL);
+    CHECK(larboardyuzu_state_packet(&state, again, 2) == LARBOARDYUZU_DONE);
+    CHECK(larboardyuzu_state_packet(&state, assignable, 2) == LARBOARDYUZU_DONE);
+    CHECK(larboardyuzu_state_packet(&state, control, 2) == LARBOARDYUZU_DONE);
+    CHECK(larboardyuzu_state_facts(&state, facts, 8, &length) == LARBOARDYUZU_DONE && length == 5);
+    CHECK(facts[0].kind == LARBOARDYUZU_FACT_ON && facts[0].channel == 2);
+    CHECK(facts[1].kind == LARBOARDYUZU_FACT_CONTROL && facts[1].number == 7 && facts[1].value == 5);
+    CHECK(facts[2].kind == LARBOARDYUZU_FACT_REGISTERED && facts[2].number == 1 && facts[2].value == 9);
+    CHECK(facts[3].kind == LARBOARDYUZU_FACT_ASSIGNABLE && facts[3].number == 2 && facts[3].value == 7);
+    CHECK(facts[4].kind == LARBOARDYUZU_FACT_ON && facts[4].channel == 3);
+    larboardyuzu_state_close(&state);
+}
+
+/* No room at all: only what has one place goes on. */
+static void full_stream(void)
+{
+    static const uint8_t control[] = { 0xB2, 0x07, 0x05 };
+    static const uint8_t on[] = { 0x92, 0x3C, 0x64 }, entry[] = { 0xB2, 0x65, 0x00, 0x64, 0x00, 0x06, 0x02 };
+    larboardyuzu_state state = LARBOARDYUZU_CLOSED;
+    larboardyuzu_fact facts[2];
+    size_t length = 0;
+
+    CHECK(larboardyuzu_state_open(&state, ROOM, 0, 0, true) == LARBOARDYUZU_DONE);
+    for (size_t i = 0; i < sizeof on; i++)
+        CHECK(larboardyuzu_state_byte(&state, on[i])
+              == (i == 2 ? LARBOARDYUZU_STATE_FULL : LARBOARDYUZU_DONE));
+    for (size_t i = 0; i < sizeof entry; i++)
+        CHECK(larboardyuzu_state_byte(&state, entry[i])
+              == (i == 6 ? LARBOARDYUZU_STATE_FULL : LARBOARDYUZU_DONE));
+    for (size_t i = 0; i < sizeof control; i++)
+        CHECK(larboardyuzu_state_byte(&state, control[i]) == LARBOARDYUZU_DONE);
+    CHECK(larboardyuzu_state_facts(&state, facts, 2, &length) == LARBOARDYUZU_DONE && length == 1);
+    CHECK(facts[0].kind == LARBOARDYUZU_FACT_CONTROL && facts[0].channel == 2 && facts[0].value == 5);
+    larboardyuzu_state_close(&state);
 }
 
 /* ---- A handle of another kind. */
@@ -230,6 +285,8 @@ int main(void)
     sysex8_statuses();
     state_statuses();
     state_of_bytes();
+    full_state();
+    full_stream();
     other_kind();
     printf("readers: ok\n");
     return 0;

@@ -1,6 +1,5 @@
 /* Each request for memory of each open call is refused in turn, by three functions of this test's own: the
- * call answers NO_MEMORY, the handle stays closed, and what was given before is given back. The same for
- * the calls of the running state, which leave it as it was. */
+ * call answers NO_MEMORY, the handle stays closed, and what was given before is given back. */
 #include "check.h"
 #include "larboardyuzu.h"
 #include "larboardyuzu_heap.h"
@@ -81,7 +80,7 @@ static uint32_t open_endpoint(void)
 
 static uint32_t open_state(void)
 {
-    return larboardyuzu_state_open(&state, ROOM, false);
+    return larboardyuzu_state_open(&state, ROOM, 8, 8, false);
 }
 
 static uint32_t open_sysex8(void)
@@ -112,38 +111,6 @@ static void starve(const char *name, uint32_t (*open)(void), const bool *is_open
     printf("starved: %s, %ld requests\n", name, requests);
 }
 
-static bool is_same(const larboardyuzu_fact *a, const larboardyuzu_fact *b)
-{
-    return a->kind == b->kind && a->group == b->group && a->channel == b->channel && a->number == b->number
-           && a->value == b->value && a->count == b->count;
-}
-
-/* Keeps notes until a request is refused, and then sees that the state is as it was. */
-static void starve_state(void)
-{
-    static larboardyuzu_fact before[4096], after[4096];
-    static const uint32_t note[] = { 0x40903C00, 0xC9240000 };
-    size_t length_before, length_after;
-    uint32_t status = LARBOARDYUZU_DONE;
-
-    for (int refused = 0; refused < 5;) {
-        CHECK(larboardyuzu_state_facts(&state, before, COUNT(before), &length_before) == LARBOARDYUZU_DONE);
-        left = 0;
-        status = larboardyuzu_state_packet(&state, note, 2);
-        left = -1;
-        CHECK(larboardyuzu_state_facts(&state, after, COUNT(after), &length_after) == LARBOARDYUZU_DONE);
-        if (status == LARBOARDYUZU_NO_MEMORY) {
-            refused++;
-            CHECK(length_after == length_before);
-            for (size_t i = 0; i < length_before; i++)
-                CHECK(is_same(&before[i], &after[i]));
-            CHECK(larboardyuzu_state_packet(&state, note, 2) == LARBOARDYUZU_DONE);
-        } else {
-            CHECK(status == LARBOARDYUZU_DONE && length_after == length_before + 1);
-        }
-    }
-}
-
 int main(void)
 {
     starve("down", open_down, &down.is_open);
@@ -159,7 +126,6 @@ int main(void)
     starve("usb", open_usb, &usb.is_open);
     larboardyuzu_usb_close(&usb);
     starve("state", open_state, &state.is_open);
-    starve_state();
     larboardyuzu_state_close(&state);
     CHECK(blocks == 0);
     return 0;

@@ -75,6 +75,12 @@ static void say_fact(const larboardyuzu_fact *fact)
 
 static larboardyuzu_state state = LARBOARDYUZU_CLOSED;
 
+/* The rooms of the state: more than a recording of these tests has. */
+enum {
+    NOTES = 4096,
+    PARAMS = 128
+};
+
 static void say_facts(void)
 {
     size_t length = 0;
@@ -131,7 +137,7 @@ int run_state(const options *given)
 {
     int code;
 
-    must(larboardyuzu_state_open(&state, given->room, given->is_bytes) == LARBOARDYUZU_DONE, "not opened");
+    must(larboardyuzu_state_open(&state, given->room, NOTES, PARAMS, given->is_bytes) == LARBOARDYUZU_DONE, "not opened");
     code = given->is_bytes ? state_of_bytes() : state_of_packets(given->is_little);
     if (code == 0)
         say_facts();

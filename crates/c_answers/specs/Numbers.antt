@@ -27,6 +27,7 @@ number_of statuses.SetupSyntax = 16
 number_of statuses.SetupRule = 17
 number_of statuses.BadBits = 18
 number_of statuses.BadValue = 19
+number_of statuses.StateFull = 20
 
 -- of the kinds of lines
 abbrev pub kind_number : Kind → ℕ

@@ -17,7 +17,7 @@ pub enum Status {
     HandleClosed,
     /// The handle is open.
     AlreadyOpen,
-    /// The limit of an exclusive is out of range.
+    /// The limit of an exclusive is out of range, or a room of a running state.
     BadRoom,
     /// The words aren't as many as the message type of the first one has.
     BadWordCount,
@@ -49,6 +49,8 @@ pub enum Status {
     BadBits,
     /// A value has more bits than its width.
     BadValue,
+    /// The message adds to a list of the running state that is full.
+    StateFull,
 }
 
 impl Status {
@@ -78,6 +80,7 @@ impl Status {
             Status::SetupRule => 17,
             Status::BadBits => 18,
             Status::BadValue => 19,
+            Status::StateFull => 20,
         }
     }
 

@@ -124,7 +124,8 @@ fn an_exclusive_is_joined(rt: HostRuntime) -> Result<(), Fail> {
 #[test]
 fn a_note_is_told(rt: HostRuntime) -> Result<(), Fail> {
     let alloc = rt.alloc();
-    let (mut packets, mut bytes) = (PacketState::new(alloc, 6)?, ByteState::new(alloc, 6)?);
+    let mut packets = PacketState::new(alloc, 6, 1, 0)?;
+    let mut bytes = ByteState::new(alloc, 6, 1, 0)?;
     let _ = packets.packet(&[0x42913C00, 0xC9240000]);
     for byte in [0x91u8, 0x3C, 0x64] {
         let _ = bytes.byte(byte);
@@ -134,8 +135,11 @@ fn a_note_is_told(rt: HostRuntime) -> Result<(), Fail> {
         count: 0,
     };
     let (mut facts, mut count) = ([FactNumbers::of(&no_clock); 2], 0);
-    let _ = packets.facts(alloc, &mut facts[..1], &mut count);
-    let _ = bytes.facts(alloc, &mut facts[1..], &mut count);
+    // there is room for one note, and the second one isn't kept
+    let status = packets.packet(&[0x42913C00, 0xC9240000]).number();
+    assert_eq!(rt; status, 20);
+    let _ = packets.facts(&mut facts[..1], &mut count);
+    let _ = bytes.facts(&mut facts[1..], &mut count);
     for (fact, group, value) in [(facts[0], 2, 0xC924), (facts[1], 0, 0x64)] {
         assert_eq!(rt;
             (fact.kind, fact.group, fact.channel, fact.number, fact.value),

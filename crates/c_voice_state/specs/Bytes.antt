@@ -1,10 +1,11 @@
 -- What a running state of the bytes of a MIDI 1.0 stream answers a caller.
 use Rattle.std.specs.Prelude.{◌≡◌, ℕ, List, Option, Some, None}
-use Rattle.midi1_bytes.specs.Messages.{Message}
+use Rattle.midi1_bytes.specs.Messages.{Message, voice}
 use Rattle.midi1_bytes.specs.Parsing.{Parsing, parse}
 use Rattle.midi1_bytes.specs.Steps.{Step, completed_by, too_long}
 use Rattle.midi_meaning.specs.Messages.{as_they_come}
 use Rattle.voice_state.specs.Kept.{KeptGroup}
+use Rattle.voice_state.specs.Rooms.{GroupIs, IsGroupFull1}
 use Rattle.voice_state.specs.States.{States, after_message}
 use Rattle.c_answers.specs.Numbers.{number_of}
 use Rattle.c_answers.specs.declared.status.Status.TheVariants as statuses
@@ -20,10 +21,16 @@ abbrev pub after_completed : Option Message → States → States
 after_completed None states = states
 after_completed (Some message) states = after_message 0 message states
 
--- what a byte does is kept; the message isn't where there isn't enough memory for it
+-- the message that a byte completes, if it completes one, adds to a list that is full
+abbrev pub IsFull : Option Message → List KeptGroup → Type 0
+IsFull (Some (voice message)) kept = GroupIs kept 0 (IsGroupFull1 message)
+IsFull _ kept = ⊥
+
+-- what a byte does is kept; the message isn't where it adds to a full list, or there isn't enough memory for it
 abbrev pub takes_step : Step → List KeptGroup → ℕ → List KeptGroup → Type 0
 takes_step too_long old status new = (status ≡ number_of statuses.ExclusiveTooLong) × (new ≡ old)
-takes_step step old status new = Changes as_they_come (after_completed (completed_by step)) old status new
+takes_step step old status new =
+    Changes as_they_come (after_completed (completed_by step)) (IsFull (completed_by step) old) old status new
 
 abbrev pub IsByteTaken : ByteKept → ℕ → ℕ → ByteKept → Type 0
 IsByteTaken old byte status new =

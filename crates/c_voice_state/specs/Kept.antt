@@ -1,5 +1,5 @@
 -- What a running state answers a caller.
-use Rattle.std.specs.Prelude.{◌≡◌, ◌==◌, ℕ, Bool, true, false, List, [], ◌∷◌, length, Option, Some, None, ◌⊎◌}
+use Rattle.std.specs.Prelude.{◌≡◌, ◌≢◌, ◌==◌, ◌↔◌, ℕ, Bool, true, false, List, [], ◌∷◌, length, Option, Some, None, Result, Ok, Err, ◌⊎◌}
 use Rattle.ump_grammar.specs.Reason.{reason}
 use Rattle.ump_grammar.specs.Spelling.{Spells}
 use Rattle.ump_grammar.specs.declared.packet.Bad.{Bad}
@@ -10,7 +10,10 @@ use Rattle.sysex_groups.specs.Table.{Table, answer_to, with_part}
 use Rattle.midi1_bytes.specs.Messages.{Message}
 use Rattle.midi_meaning.specs.Messages.{Scale, raised}
 use Rattle.midi_meaning.specs.State.{with_common}
+use Rattle.voice_state.specs.declared.not_kept.NotKept.{NotKept}
+use Rattle.voice_state.specs.declared.not_kept.NotKept.TheVariants as not_kept
 use Rattle.voice_state.specs.Kept.{KeptGroup, Keeps}
+use Rattle.voice_state.specs.Rooms.{IsPacketFull, KeepsAllRooms}
 use Rattle.voice_state.specs.States.{States, after_packet, at_group}
 use Rattle.c_answers.specs.Numbers.{number_of}
 use Rattle.c_answers.specs.Whole.{is_whole}
@@ -22,17 +25,27 @@ pub record StateKept : Type 0 where
   pub kept : List KeptGroup
   pub exclusives : Table
 
--- Where it is done, what is kept stands for the changed states if it stood for the states before; where there isn't enough memory,
--- nothing has changed.
-pub record Changes (scale : Scale) (change : States → States) (old : List KeptGroup) (status : ℕ) (new : List KeptGroup) : Type 0 where
+-- by whether a message is kept, and why it isn't
+abbrev pub kept_status : {A : Type 0} → Result A NotKept → ℕ
+kept_status (Ok value) = number_of statuses.Done
+kept_status (Err not_kept.Full) = number_of statuses.StateFull
+kept_status (Err not_kept.NoMemory) = number_of statuses.NoMemory
+
+-- Where it is done, what is kept stands for the changed states if it stood for the states before; where it adds to a full list, or
+-- there isn't enough memory, nothing has changed.
+pub record Changes (scale : Scale) (change : States → States) (IsFull : Type 0) (old : List KeptGroup) (status : ℕ)
+    (new : List KeptGroup) : Type 0 where
   pub done : status ≡ number_of statuses.Done → (states : States) → Keeps scale old states → Keeps scale new (change states)
-  pub unchanged : status ≡ number_of statuses.NoMemory → new ≡ old
-  pub either : (status ≡ number_of statuses.Done) ⊎ (status ≡ number_of statuses.NoMemory)
+  pub unchanged : status ≢ number_of statuses.Done → new ≡ old
+  pub full : (status ≡ number_of statuses.StateFull) ↔ IsFull
+  pub rooms : KeepsAllRooms old new
+  pub answers : (status ≡ number_of statuses.Done) ⊎ (status ≡ number_of statuses.NoMemory) ⊎ (status ≡ number_of statuses.StateFull)
 
 -- a whole exclusive of a group is counted
 abbrev pub IsCounted : ℕ → List KeptGroup → ℕ → List KeptGroup → Type 0
 IsCounted group old status new =
     (status ≡ number_of statuses.Done)
+    × KeepsAllRooms old new
     × ((states : States) (message : Message) → Keeps raised old states → Keeps raised new (at_group group (with_common message) states))
 
 -- a part of an exclusive, by what it does
@@ -46,7 +59,7 @@ abbrev pub IsTaken : StateKept → Packet → ℕ → StateKept → Type 0
 IsTaken old (packets.Exclusive group form bytes) status new =
     let part : Part = record { group = group; form = form; bytes = bytes; offset = 0 } in
     (new.exclusives ≡ with_part part old.exclusives) × takes_part (answer_to old.exclusives part) group old.kept status new.kept
-IsTaken old packet status new = (new.exclusives ≡ old.exclusives) × Changes raised (after_packet packet None) old.kept status new.kept
+IsTaken old packet status new = (new.exclusives ≡ old.exclusives) × Changes raised (after_packet packet None) (IsPacketFull packet old.kept) old.kept status new.kept
 
 -- ---- words
 

@@ -6,19 +6,21 @@ ghost use Rattle.midi1_bytes.specs.Parsing.{idle};
 ghost use Rattle.midi_meaning.specs.Messages.{as_they_come, Scale};
 ghost use Rattle.voice_state.specs.Facts.{facts_of};
 ghost use Rattle.voice_state.specs.Kept.{Keeps};
+ghost use Rattle.voice_state.specs.Rooms.{GroupIs, HasRoom, IsGroupFull1};
 ghost use Rattle.voice_state.specs.States.{after_message, first_states, States};
 ghost use Rattle.c_answers.specs.Numbers.{number_of};
 ghost use Rattle.c_voice_state.specs.Bytes.{takes_step, IsByteTaken};
 ghost use Rattle.c_voice_state.specs.Facts.{AreTold};
 ghost use Rattle.c_voice_state.specs.Kept.{Changes};
 
-use crate::fact_numbers::{FactNumbers, tell};
+use crate::fact_numbers::{FactNumbers, tell_state, told_facts};
+use crate::state::kept_status;
 use c_answers::Status;
 use midi_edge::{NoMemory, U4};
 use midi1_bytes::{AfterCut, Parser, Step, Voice1};
 use std::alloc::Global;
 use std::marker::Model;
-use voice_state::VoiceState;
+use voice_state::{Fact, VoiceState};
 
 /// What the bytes of a MIDI 1.0 stream so far have left in a receiver. A contract sees what is kept of the
 /// groups, and what the parser holds. A stream has no groups: all its messages are in group 0 (own rule).
@@ -26,6 +28,7 @@ use voice_state::VoiceState;
 pub struct ByteState {
     state: VoiceState,
     parser: Parser,
+    facts: Vec<Fact>,
 }
 
 impl Model for ByteState {
@@ -46,12 +49,9 @@ fn stream_group() -> U4
 // Takes a voice message.
 fn take_voice(state: &mut VoiceState, message: &Voice1) -> Status
     ensures { Changes as_they_come (after_message 0 (voice message.now))
-        state.old (number_of result) state.new }
+        (GroupIs state.old 0 (IsGroupFull1 message.now)) state.old (number_of result) state.new }
 {
-    match state.apply1(stream_group(), message) {
-        Ok(()) => Status::Done,
-        Err(NoMemory) => Status::NoMemory,
-    }
+    kept_status(state.take_message(stream_group(), message))
 }
 
 // Takes what a byte does.
@@ -85,22 +85,29 @@ fn take_step(state: &mut VoiceState, step: &Step<'_>) -> Status
 }
 
 impl ByteState {
-    /// The state before the first byte, for exclusives of `room` bytes between F0 and F7, 6 to 1,048,576.
-    /// `NoMemory` where there is none for its tables.
-    pub fn new(alloc: Global, room: u32) -> Result<ByteState, NoMemory>
+    /// The state before the first byte, for exclusives of `room` bytes between F0 and F7, 6 to 1,048,576,
+    /// for `notes` notes and mode messages of each channel, and `params` parameters of each kind and channel.
+    /// `NoMemory` where there isn't enough for all that it ever needs.
+    pub fn new(alloc: Global, room: u32, notes: u32, params: u32) -> Result<ByteState, NoMemory>
         requires least { 6 ≤ room }
         requires most { room ≤ 1048576 }
         ensures parsing { IfOk result (λ state. state.parsing ≡ idle room) }
         ensures kept { IfOk result (λ state. Keeps as_they_come state.kept (first_states as_they_come)) }
+        ensures room { IfOk result (λ state. HasRoom notes params state.kept) }
     {
-        let state = VoiceState::new(alloc)?;
+        let state = VoiceState::of_stream(alloc, notes as usize, params as usize)?;
         let parser = Parser::new(alloc, room)?;
-        Ok(ByteState { state, parser })
+        let facts = told_facts(alloc, 1, notes, params)?;
+        Ok(ByteState {
+            state,
+            parser,
+            facts,
+        })
     }
 
     /// Takes one more byte (MIDI 1.0 Detailed Specification; RP-015). The answer is `ExclusiveTooLong` where
-    /// it exceeds the limit of the exclusive, which is dropped, and `NoMemory` where the message that it
-    /// completes can't be kept; the byte is taken then, too.
+    /// it exceeds the limit of the exclusive, which is dropped, `StateFull` where the message that it completes
+    /// adds to a list that is full, and `NoMemory` where there isn't enough for it; the byte is taken then, too.
     pub fn byte(&mut self, byte: u8) -> Status
         ensures { IsByteTaken self.old byte (number_of result) self.new }
     {
@@ -109,15 +116,13 @@ impl ByteState {
     }
 
     /// Tells what isn't at its first value, as the state of packets does.
-    pub fn facts(&self, alloc: Global, buffer: &mut [FactNumbers], count: &mut usize) -> Status
+    pub fn facts(&mut self, buffer: &mut [FactNumbers], count: &mut usize) -> Status
+        ensures same { self.new ≡ self.old }
         ensures memory { number_of result ≡ 1 → (count.new ≡ count.old) × (buffer.new ≡ buffer.old) }
         ensures told { number_of result ≢ 1 → (scale : Scale) (states : States)
-            → Keeps scale self.now.kept states
+            → Keeps scale self.old.kept states
             → AreTold (facts_of scale states) buffer.old (number_of result) count.new buffer.new }
     {
-        match self.state.facts(alloc) {
-            Ok(facts) => tell(facts.as_slice(), buffer, count),
-            Err(NoMemory) => Status::NoMemory,
-        }
+        tell_state(&self.state, &mut self.facts, buffer, count)
     }
 }

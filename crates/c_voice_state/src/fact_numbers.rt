@@ -1,12 +1,18 @@
 // What is told of a running state, by numbers.
-ghost use Rattle.std.specs.Prelude.{◌≡◌, ◌≤◌, length, map};
+ghost use Rattle.std.specs.Prelude.{◌≡◌, ◌≢◌, ◌≤◌, [], length, map, IfOk};
+ghost use Rattle.midi_meaning.specs.Messages.{Scale};
+ghost use Rattle.voice_state.specs.Facts.{facts_of};
+ghost use Rattle.voice_state.specs.Kept.{Keeps};
+ghost use Rattle.voice_state.specs.States.{States};
 ghost use Rattle.c_answers.specs.Fronts.{with_front};
 ghost use Rattle.c_answers.specs.Numbers.{number_of};
 ghost use Rattle.c_voice_state.specs.Facts.{counted, lsb_of, msb_of, numbers_of, parametrised, programmed, valued, AreTold};
 
 use c_answers::Status;
+use midi_edge::NoMemory;
+use std::alloc::Global;
 use voice_messages::{Bank, U4, U7};
-use voice_state::Fact;
+use voice_state::{Fact, VoiceState, most_facts};
 
 /// One thing that is told of a state: a note or a channel mode message
 /// that came, or a value that isn't at its first one.
@@ -191,6 +197,23 @@ impl FactNumbers {
     }
 }
 
+// An empty list with places for the facts of so many groups, with so many notes and mode messages of each
+// channel, and so many parameters of each kind and channel.
+pub(crate) fn told_facts(
+    alloc: Global,
+    groups: u8,
+    notes: u32,
+    params: u32,
+) -> Result<Vec<Fact>, NoMemory>
+    ensures { IfOk result (λ facts. facts.items ≡ []) }
+{
+    let places = most_facts(groups, notes, params);
+    match Vec::with_capacity(alloc, places) {
+        Ok(facts) => Ok(facts),
+        Err(_) => Err(NoMemory),
+    }
+}
+
 // Writes the numbers of facts to the front of a buffer that has room for all of them.
 fn put_facts(facts: &[Fact], buffer: &mut [FactNumbers])
     requires { length facts.now ≤ length buffer.old }
@@ -203,7 +226,7 @@ fn put_facts(facts: &[Fact], buffer: &mut [FactNumbers])
 
 /// Tells facts: how many they are, and their numbers where the buffer has room for all of them. Else the
 /// answer is `SmallBuffer`.
-pub(crate) fn tell(facts: &[Fact], buffer: &mut [FactNumbers], count: &mut usize) -> Status
+fn tell(facts: &[Fact], buffer: &mut [FactNumbers], count: &mut usize) -> Status
     ensures { AreTold facts.now buffer.old (number_of result) count.new buffer.new }
 {
     *count = facts.len();
@@ -212,4 +235,23 @@ pub(crate) fn tell(facts: &[Fact], buffer: &mut [FactNumbers], count: &mut usize
     }
     put_facts(facts, buffer);
     Status::Done
+}
+
+/// Tells what isn't at its first value in a state, by way of a list that is emptied first. `NoMemory` where the
+/// list has to grow and there is none; then nothing is told.
+pub(crate) fn tell_state(
+    state: &VoiceState,
+    facts: &mut Vec<Fact>,
+    buffer: &mut [FactNumbers],
+    count: &mut usize,
+) -> Status
+    ensures memory { number_of result ≡ 1 → (count.new ≡ count.old) × (buffer.new ≡ buffer.old) }
+    ensures told { number_of result ≢ 1 → (scale : Scale) (states : States) → Keeps scale state.now states
+        → AreTold (facts_of scale states) buffer.old (number_of result) count.new buffer.new }
+{
+    facts.clear();
+    match state.put_facts(facts) {
+        Ok(()) => tell(facts.as_slice(), buffer, count),
+        Err(NoMemory) => Status::NoMemory,
+    }
 }

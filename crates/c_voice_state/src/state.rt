@@ -6,12 +6,13 @@ ghost use Rattle.sysex_groups.specs.Table.{answer_to, empty_table, with_part};
 ghost use Rattle.midi_meaning.specs.Messages.{raised, Scale};
 ghost use Rattle.voice_state.specs.Facts.{facts_of};
 ghost use Rattle.voice_state.specs.Kept.{Keeps};
+ghost use Rattle.voice_state.specs.Rooms.{HasRoom, IsPacketFull};
 ghost use Rattle.voice_state.specs.States.{after_packet, first_states, States};
 ghost use Rattle.c_answers.specs.Numbers.{number_of};
 ghost use Rattle.c_voice_state.specs.Facts.{AreTold};
-ghost use Rattle.c_voice_state.specs.Kept.{takes_part, Changes, IsPacketTaken, IsTaken};
+ghost use Rattle.c_voice_state.specs.Kept.{kept_status, takes_part, Changes, IsPacketTaken, IsTaken};
 
-use crate::fact_numbers::{FactNumbers, tell};
+use crate::fact_numbers::{FactNumbers, tell_state, told_facts};
 use c_answers::{Status, framed};
 use midi_edge::{NoMemory, U4};
 use std::alloc::Global;
@@ -19,17 +20,29 @@ use std::marker::Model;
 use sysex_groups::{Fed, Groups};
 use ump_grammar::{Packet, decode};
 use voice_messages::Form;
-use voice_state::VoiceState;
+use voice_state::{Fact, NotKept, VoiceState};
+
+// What is answered of a message, by whether it is kept.
+pub(crate) fn kept_status(kept: Result<(), NotKept>) -> Status
+    ensures { number_of result ≡ kept_status kept }
+{
+    match kept {
+        Ok(()) => Status::Done,
+        Err(NotKept::Full) => Status::StateFull,
+        Err(NotKept::NoMemory) => Status::NoMemory,
+    }
+}
 
 /// What the packets so far have left in a receiver. A contract sees what is kept of the groups, and the
 /// exclusives that they have open.
 ///
-/// Notes and channel mode messages are kept as the list of all that came,
-/// and parameters in a map, so a packet may take memory.
+/// Notes and channel mode messages are kept as the list of all that came, parameters by their numbers. All
+/// memory is taken when it is made.
 #[derive(Drop)]
 pub struct PacketState {
     state: VoiceState,
     groups: Groups,
+    facts: Vec<Fact>,
 }
 
 impl Model for PacketState {
@@ -41,17 +54,24 @@ impl Model for PacketState {
 }
 
 impl PacketState {
-    /// The state before the first packet, for exclusives of `room` bytes between F0 and F7, 6 to 1,048,576.
-    /// `NoMemory` where there is none for its tables.
-    pub fn new(alloc: Global, room: u32) -> Result<PacketState, NoMemory>
+    /// The state before the first packet, for exclusives of `room` bytes between F0 and F7, 6 to 1,048,576,
+    /// for `notes` notes and mode messages of each channel, and `params` parameters of each kind and channel.
+    /// `NoMemory` where there isn't enough for all that it ever needs.
+    pub fn new(alloc: Global, room: u32, notes: u32, params: u32) -> Result<PacketState, NoMemory>
         requires least { 6 ≤ room }
         requires most { room ≤ 1048576 }
         ensures exclusives { IfOk result (λ state. state.exclusives ≡ empty_table room) }
         ensures kept { IfOk result (λ state. Keeps raised state.kept (first_states raised)) }
+        ensures room { IfOk result (λ state. HasRoom notes params state.kept) }
     {
-        let state = VoiceState::new(alloc)?;
+        let state = VoiceState::with_room(alloc, notes as usize, params as usize)?;
         let groups = Groups::new(alloc, room)?;
-        Ok(PacketState { state, groups })
+        let facts = told_facts(alloc, 16, notes, params)?;
+        Ok(PacketState {
+            state,
+            groups,
+            facts,
+        })
     }
 
     // Takes a part of an exclusive; one that is whole is counted.
@@ -94,18 +114,15 @@ impl PacketState {
     fn other(&mut self, packet: &Packet) -> Status
         ensures exclusives { self.new.exclusives ≡ self.old.exclusives }
         ensures kept { Changes raised (after_packet packet.now None)
-            self.old.kept (number_of result) self.new.kept }
+            (IsPacketFull packet.now self.old.kept) self.old.kept (number_of result) self.new.kept }
     {
-        match self.state.apply2(packet) {
-            Ok(()) => Status::Done,
-            Err(NoMemory) => Status::NoMemory,
-        }
+        kept_status(self.state.take_packet(packet))
     }
 
     /// Takes the packet that the words encode (M2-104-UM). The answer is `BadWordCount` where they aren't
-    /// those of one packet, and `BadCount` or `HighBit` where no packet has them; then, and where it is
-    /// `NoMemory`, nothing has changed. Where it is `ExclusiveTooLong`, the exclusive of the group is
-    /// dropped.
+    /// those of one packet, `BadCount` or `HighBit` where no packet has them, and `StateFull` where the message
+    /// adds to a list that is full; then, and where it is `NoMemory`, nothing has changed. Where it is
+    /// `ExclusiveTooLong`, the exclusive of the group is dropped.
     pub fn packet(&mut self, words: &[u32]) -> Status
         ensures { IsPacketTaken self.old words.now (number_of result) self.new }
     {
@@ -119,17 +136,15 @@ impl PacketState {
     }
 
     /// Tells what isn't at its first value, in order: how many facts there are, and their numbers where the
-    /// buffer has room for all of them; else the answer is `SmallBuffer`. It takes memory for the call; where
-    /// there isn't enough, the answer is `NoMemory`.
-    pub fn facts(&self, alloc: Global, buffer: &mut [FactNumbers], count: &mut usize) -> Status
+    /// buffer has room for all of them; else the answer is `SmallBuffer`. The facts are written to a list of
+    /// its own first, which has places for all that can be kept; where it hasn't, the answer is `NoMemory`.
+    pub fn facts(&mut self, buffer: &mut [FactNumbers], count: &mut usize) -> Status
+        ensures same { self.new ≡ self.old }
         ensures memory { number_of result ≡ 1 → (count.new ≡ count.old) × (buffer.new ≡ buffer.old) }
         ensures told { number_of result ≢ 1 → (scale : Scale) (states : States)
-            → Keeps scale self.now.kept states
+            → Keeps scale self.old.kept states
             → AreTold (facts_of scale states) buffer.old (number_of result) count.new buffer.new }
     {
-        match self.state.facts(alloc) {
-            Ok(facts) => tell(facts.as_slice(), buffer, count),
-            Err(NoMemory) => Status::NoMemory,
-        }
+        tell_state(&self.state, &mut self.facts, buffer, count)
     }
 }

@@ -1,10 +1,11 @@
 -- What the calls of the running state answer, by what the handle holds.
-use Rattle.std.specs.Prelude.{◌≡◌, ◌≢◌, ℕ, Bool, true, false, List, Option, Some, None, MatchOption}
+use Rattle.std.specs.Prelude.{◌≡◌, ◌≢◌, ◌&&◌, nat_le, ℕ, Bool, true, false, List, Option, Some, None, MatchOption}
 use Rattle.midi1_bytes.specs.Parsing.{idle}
 use Rattle.sysex_groups.specs.Table.{empty_table}
 use Rattle.midi_meaning.specs.Messages.{as_they_come, raised, Scale}
 use Rattle.voice_state.specs.Facts.{facts_of}
 use Rattle.voice_state.specs.Kept.{KeptGroup, Keeps}
+use Rattle.voice_state.specs.Rooms.{HasRoom}
 use Rattle.voice_state.specs.States.{first_states, States}
 use Rattle.c_answers.specs.Numbers.{number_of}
 use Rattle.c_answers.specs.declared.status.Status.TheVariants as statuses
@@ -28,23 +29,36 @@ abbrev pub HoldsByteState : Option Engine → (ByteKept → Type 0) → Type 0
 HoldsByteState (Some (engine.ByteState state)) IsSo = IsSo state
 HoldsByteState _ IsSo = ⊥
 
+-- the limit of an exclusive, and the most notes and mode messages, and parameters of a kind, of a channel
+pub record Asked : Type 0 where
+  pub room : ℕ
+  pub notes : ℕ
+  pub params : ℕ
+
+abbrev pub is_asked : Asked → Bool
+is_asked asked = is_room asked.room && nat_le asked.notes 1048576 && nat_le asked.params 16384
+
 -- the state before the first byte or the first packet
-abbrev pub IsNew : Bool → ℕ → Engine → Type 0
-IsNew true room (engine.ByteState state) = (state.parsing ≡ idle room) × Keeps as_they_come state.kept (first_states as_they_come)
-IsNew false room (engine.PacketState state) = (state.exclusives ≡ empty_table room) × Keeps raised state.kept (first_states raised)
-IsNew _ room _ = ⊥
+abbrev pub IsNew : Bool → Asked → Engine → Type 0
+IsNew true asked (engine.ByteState state) =
+    (state.parsing ≡ idle asked.room) × Keeps as_they_come state.kept (first_states as_they_come)
+    × HasRoom asked.notes asked.params state.kept
+IsNew false asked (engine.PacketState state) =
+    (state.exclusives ≡ empty_table asked.room) × Keeps raised state.kept (first_states raised)
+    × HasRoom asked.notes asked.params state.kept
+IsNew _ asked _ = ⊥
 
-abbrev pub IsMade : Bool → ℕ → ℕ → Option Engine → Type 0
-IsMade is_of_bytes room status after =
-    MatchOption after (status ≡ number_of statuses.NoMemory) (λ held. (status ≡ number_of statuses.Done) × IsNew is_of_bytes room held)
+abbrev pub IsMade : Bool → Asked → ℕ → Option Engine → Type 0
+IsMade is_of_bytes asked status after =
+    MatchOption after (status ≡ number_of statuses.NoMemory) (λ held. (status ≡ number_of statuses.Done) × IsNew is_of_bytes asked held)
 
-abbrev pub opens : Bool → Option Engine → Bool → ℕ → ℕ → Option Engine → Type 0
-opens false before is_of_bytes room status after = (status ≡ number_of statuses.BadRoom) × (after ≡ before)
-opens true (Some held) is_of_bytes room status after = (status ≡ number_of statuses.AlreadyOpen) × (after ≡ Some held)
-opens true None is_of_bytes room status after = IsMade is_of_bytes room status after
+abbrev pub opens : Bool → Option Engine → Bool → Asked → ℕ → Option Engine → Type 0
+opens false before is_of_bytes asked status after = (status ≡ number_of statuses.BadRoom) × (after ≡ before)
+opens true (Some held) is_of_bytes asked status after = (status ≡ number_of statuses.AlreadyOpen) × (after ≡ Some held)
+opens true None is_of_bytes asked status after = IsMade is_of_bytes asked status after
 
-abbrev pub IsOpened : Option Engine → ℕ → Bool → ℕ → Option Engine → Type 0
-IsOpened before room is_of_bytes status after = opens (is_room room) before is_of_bytes room status after
+abbrev pub IsOpened : Option Engine → Asked → Bool → ℕ → Option Engine → Type 0
+IsOpened before asked is_of_bytes status after = opens (is_asked asked) before is_of_bytes asked status after
 
 abbrev pub IsPacketTaken : Option Engine → List ℕ → ℕ → Option Engine → Type 0
 IsPacketTaken None words status after = (status ≡ number_of statuses.HandleClosed) × (after ≡ None)

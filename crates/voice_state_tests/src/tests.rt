@@ -8,11 +8,11 @@ use ump_grammar::Packet;
 use voice_messages::{Bank, Form, Param, ParamKind, System, U4, U7, U14, Voice1, Voice2};
 use voice_state::{Fact, VoiceState};
 
-fn u4(number: u32) -> U4 {
+pub(crate) fn u4(number: u32) -> U4 {
     U4::low_bits(number)
 }
 
-fn u7(number: u32) -> U7 {
+pub(crate) fn u7(number: u32) -> U7 {
     U7::low_bits(number)
 }
 
@@ -48,14 +48,14 @@ fn midi1(message: Voice1) -> Packet {
     }
 }
 
-fn midi2(message: Voice2) -> Packet {
+pub(crate) fn midi2(message: Voice2) -> Packet {
     Packet::Voice2 {
         group: u4(0),
         message,
     }
 }
 
-fn control2(index: u32, value: u32) -> Packet {
+pub(crate) fn control2(index: u32, value: u32) -> Packet {
     midi2(Voice2::Control {
         channel: u4(0),
         index: u7(index),
@@ -70,7 +70,7 @@ fn bend2(value: u32) -> Packet {
     })
 }
 
-fn set2(kind: ParamKind, bank: u32, index: u32, value: u32) -> Packet {
+pub(crate) fn set2(kind: ParamKind, bank: u32, index: u32, value: u32) -> Packet {
     midi2(Voice2::Set {
         channel: u4(0),
         param: param(kind, bank, index),
@@ -78,7 +78,7 @@ fn set2(kind: ParamKind, bank: u32, index: u32, value: u32) -> Packet {
     })
 }
 
-fn shift2(kind: ParamKind, bank: u32, index: u32) -> Packet {
+pub(crate) fn shift2(kind: ParamKind, bank: u32, index: u32) -> Packet {
     midi2(Voice2::Shift {
         channel: u4(0),
         param: param(kind, bank, index),
@@ -165,7 +165,7 @@ fn program(program: u32, bank: Option<Bank>) -> Fact {
     }
 }
 
-fn registered(bank: u32, index: u32, value: Option<u32>, loose: bool) -> Fact {
+pub(crate) fn registered(bank: u32, index: u32, value: Option<u32>, loose: bool) -> Fact {
     Fact::Registered {
         group: u4(0),
         channel: u4(0),
@@ -193,7 +193,7 @@ fn new_state(rt: &impl Abort, alloc: Global) -> VoiceState {
     VoiceState::new(alloc).expect(rt, "memory is ample")
 }
 
-fn tells(rt: &impl Abort, alloc: Global, state: &VoiceState, facts: &[Fact]) {
+pub(crate) fn tells(rt: &impl Abort, alloc: Global, state: &VoiceState, facts: &[Fact]) {
     let found = state.facts(alloc).expect(rt, "memory is ample");
     assert_eq!(rt; found.as_slice(), facts);
 }

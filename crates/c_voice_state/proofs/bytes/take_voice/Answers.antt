@@ -1,15 +1,23 @@
-use Rattle.std.proofs.Common.{ℕ, refl, subst}
+use Rattle.std.proofs.Common.{ℕ, List, refl, subst}
 use Rattle.midi1_bytes.specs.Messages.{voice}
 use Rattle.midi_meaning.specs.Messages.{as_they_come}
-use Rattle.voice_state.specs.Kept.{Keeps}
+use Rattle.voice_state.specs.Kept.{KeptGroup}
+use Rattle.voice_state.specs.Rooms.{GroupIs, IsGroupFull1}
 use Rattle.voice_state.specs.States.{after_message}
-use Rattle.c_voice_state.proofs.TakenLaws.{changed}
+use Rattle.c_answers.specs.Numbers.{number_of}
+use Rattle.c_voice_state.specs.Kept.{Changes}
+use Rattle.c_voice_state.proofs.TakenLaws.{answered}
 use Rattle.c_voice_state.proofs.bytes.take_voice.Goals as goal
 
-pub returns-in-Ok : goal.returns-in-Ok
-returns-in-Ok c =
-    let message = voice c.args.message.now in
-    let new = c.apply1.new.self in
-    changed as_they_come (after_message 0 message) c.args.state.now c.args.state.now new 0 refl refl (λ states keeps.
-    let G : ℕ → Type 0 = λ g. Keeps as_they_come new (after_message g message states) in
-    subst G c.stream_group.ensures (c.in-Ok.ensures.step states keeps))
+pub returns : goal.returns
+returns c =
+    let message = c.args.message.now in
+    let old = c.args.state.now in
+    let new = c.take_message.new.self in
+    let status = number_of c.kept_status.result in
+    let G : ℕ → Type 0 =
+    λ g. Changes as_they_come (after_message g (voice message)) (GroupIs old g (IsGroupFull1 message)) old status new in
+    subst G c.stream_group.ensures
+    (answered as_they_come (after_message c.stream_group.result (voice message))
+    (λ kept. GroupIs kept c.stream_group.result (IsGroupFull1 message)) old old new status refl c.take_message.ensures.rooms
+    c.take_message.result c.kept_status.ensures c.take_message.ensures.step c.take_message.ensures.unchanged c.take_message.ensures.full)

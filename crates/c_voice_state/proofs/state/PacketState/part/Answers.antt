@@ -5,6 +5,7 @@ use Rattle.sysex_groups.specs.Table.{answer_to}
 use Rattle.sysex_groups.specs.declared.fed.Fed.{Fed}
 use Rattle.midi_meaning.specs.Messages.{raised}
 use Rattle.voice_state.specs.Kept.{KeptGroup, Keeps}
+use Rattle.voice_state.specs.Rooms.{KeepsAllRooms}
 use Rattle.c_voice_state.specs.Kept.{takes_part, StateKept}
 use Rattle.c_voice_state.proofs.state.PacketState.part.Goals as goal
 
@@ -18,6 +19,7 @@ returns-in-Whole-clause-kept c =
     let known = c.feed.ensures.answer ∙ ap (λ (s : StateKept). answer_to s.exclusives part) c.self.view_is in
     subst A known (subst F (sym c.in-Whole.is) (
       refl,
+      (let R : List KeptGroup → Type 0 = λ k. KeepsAllRooms k c.system.new.self in subst R same c.system.ensures.rooms),
       λ states message keeps. let K : List KeptGroup → Type 0 = λ k. Keeps raised k states in
           c.system.ensures.common refl raised states message (subst K (sym same) keeps),
     ))
@@ -33,6 +35,7 @@ returns-in-RestartedWhole-clause-kept c =
     let known = c.feed.ensures.answer ∙ ap (λ (s : StateKept). answer_to s.exclusives part) c.self.view_is in
     subst A known (subst F (sym c.in-RestartedWhole.is) (
       refl,
+      (let R : List KeptGroup → Type 0 = λ k. KeepsAllRooms k c.system-in-RestartedWhole.new.self in subst R same c.system-in-RestartedWhole.ensures.rooms),
       λ states message keeps. let K : List KeptGroup → Type 0 = λ k. Keeps raised k states in
           c.system-in-RestartedWhole.ensures.common refl raised states message (subst K (sym same) keeps),
     ))
