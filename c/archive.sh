@@ -3,7 +3,8 @@
 # FILE of the same crate, proved for another TARGET.
 #
 # rt lib proves each library below anew that has no stamp, as none has after rt ci in a fresh clone. Where none has one, this builds the
-# crate alone over the libraries that are there, with the words with which rt itself would call the compiler.
+# crate alone over the libraries that are there, with the words with which rt itself would call the compiler. What a build proves is kept in the
+# crate's out/, as rt lib keeps it, so that the archive for another target isn't proved from nothing again.
 set -euo pipefail
 name=larboardyuzu_c
 folder=$(cd "$(dirname "${BASH_SOURCE[0]}")/../crates/$name" && pwd)
@@ -38,7 +39,7 @@ import rtlib
 with contextlib.redirect_stdout(sys.stderr):
     crate = rtlib.Crate(os.getcwd(), rtlib.root_above(os.getcwd()), {})
     words = crate.words(["--jobs", str(os.cpu_count())], keeps=sys.argv[2] == "True")
-print(*words, sep="\n")
+print(*words, *rtlib.KEPT, sep="\n")
 END
 )
 mkdir -p "$(dirname "$file")"
