@@ -1,5 +1,0 @@
-use Rattle.std.proofs.Common.{ap}
-use Rattle.library_examples.proofs.tests.translate_down.Goals as goal
-
-pub loop-down-init : goal.loop-down-init
-loop-down-init c = (ap (λ reader. reader.end) c.new-reader.ensures, c.requires)
