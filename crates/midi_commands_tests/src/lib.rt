@@ -1,4 +1,5 @@
-//! The worked rows of every command, on the public call `run`, and what comes after a run.
+//! The tests of the commands: worked rows of each, on the public call `run`, what comes after a run, the words of
+//! `command_line`, and what is called directly of `clip_pass`, `midi_clip` and `usb_passes`.
 #![tactic(auto)]
 
 #[cfg(test)]

@@ -10,6 +10,3 @@ pub mod rows;
 
 pub use crate::counts::{Counts, count};
 pub use crate::generator::Generator;
-
-#[cfg(test)]
-mod tests;

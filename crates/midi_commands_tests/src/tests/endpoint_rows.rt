@@ -138,6 +138,20 @@ note protocol 1
 note block 0 muid 19088743
 note profile 0 channel 0 2 7E00010100 off
 
+# two requests with the least significant byte first
+run endpoint --little a.toml
+input 000105F0 00000000 00000000 00000000
+input 000205F0 00000000 00000000 00000000
+demo-setup
+leaves Done
+output 000106F0 00000000 00000000 00000000
+output 000206F0 00000000 00000000 00000000
+note 0 - answered
+note 16 - answered
+note protocol 2
+note block 0 muid 19088743
+note profile 0 channel 0 2 7E00010100 off
+
 # a setup that is no TOML
 run endpoint a.toml
 input F0000101 0000001F 00000000 00000000
@@ -388,6 +402,16 @@ note 8 0 cut-exclusive
 note 24 0 not-ci
 note 16 0 cut-exclusive
 note 32 3 open-exclusive
+note protocol 2
+note block 0 muid 19088743
+note profile 0 channel 0 2 7E00010100 off
+
+# an exclusive of group 15 that is open at the end
+run endpoint a.toml
+input 3F160102 03040506
+demo-setup
+leaves Done
+note 0 15 open-exclusive
 note protocol 2
 note block 0 muid 19088743
 note profile 0 channel 0 2 7E00010100 off

@@ -10,22 +10,13 @@ use std::test::Fail;
 // The number of lines of `DEMO_SETUP`.
 const LINES: usize = 29;
 
-// The text of the first `count` lines of `DEMO_SETUP`, with one of them replaced, and of more lines.
-fn text_of(
-    alloc: Global,
-    count: usize,
-    index: usize,
-    line: &str,
-    more: &[&str],
-) -> Result<String, AllocError> {
+// The text of the first `count` lines of `DEMO_SETUP`, with one of them replaced.
+fn text_of(alloc: Global, count: usize, index: usize, line: &str) -> Result<String, AllocError> {
     let mut text = String::new(alloc);
     for (k, own) in DEMO_SETUP.lines().enumerate() {
         if k < count {
             add_lines(&mut text, if k == index { line } else { own })?;
         }
-    }
-    for line in more {
-        add_lines(&mut text, line)?;
     }
     Ok(text)
 }
@@ -56,17 +47,12 @@ fn fault_of(read: Result<Setup, SetupFault>) -> Result<(), SetupFault> {
 
 // What the first `count` lines are read as.
 fn front(alloc: Global, count: usize) -> Result<(), SetupFault> {
-    fault_of(setup_of(alloc, text_of(alloc, count, LINES, "", &[])))
+    fault_of(setup_of(alloc, text_of(alloc, count, LINES, "")))
 }
 
 // What the whole setup is read as, where one line is replaced.
 fn with_line(alloc: Global, index: usize, line: &str) -> Result<(), SetupFault> {
-    fault_of(setup_of(alloc, text_of(alloc, LINES, index, line, &[])))
-}
-
-// What the whole setup is read as with more lines after it.
-fn with_more(alloc: Global, more: &[&str]) -> Result<(), SetupFault> {
-    fault_of(setup_of(alloc, text_of(alloc, LINES, LINES, "", more)))
+    fault_of(setup_of(alloc, text_of(alloc, LINES, index, line)))
 }
 
 // Each front lacks all that comes after it, so it breaks all later rules too: the first is reported.
@@ -88,7 +74,7 @@ fn the_first_missing_key_is_told(rt: HostRuntime) {
 }
 
 // Each row of a table has the index of a line of `DEMO_SETUP`, the number of the rule that is broken where
-// the line is replaced, or `kept`, and the lines in its place, which a slash parts.
+// the line is replaced, or `kept`, or `syntax`, and the lines in its place, which a slash parts.
 fn lines_break(rt: &impl Abort, alloc: Global, table: &str) -> Result<(), Fail> {
     for row in table.lines() {
         let mut cells = row.splitn(3, ' ');
@@ -97,6 +83,7 @@ fn lines_break(rt: &impl Abort, alloc: Global, table: &str) -> Result<(), Fail> 
         };
         let expected = match rule {
             "kept" => Ok(()),
+            "syntax" => Err(SetupFault::Syntax),
             number => Err(SetupFault::Field(number.parse::<u8>()?)),
         };
         let line = cells.next().unwrap_or("");
@@ -221,58 +208,31 @@ fn profiles_past_each_border(rt: HostRuntime) -> Result<(), Fail> {
     lines_break(&rt, rt.alloc(), PROFILE_LINES)
 }
 
-// The keys of a block after `active` and before `first`.
-const BLOCK: &str = "name = \"More\"\nhint = 0\nmidi1 = 0\ndirection = 1\nsysex8 = 0";
-
-// The keys of a profile after `block`.
-const PROFILE: &str = "place = \"channel\"\ngroup = 0\non = true\n";
+// More tables behind the last line: blocks, and profiles, of which the last is of an inactive block.
+const MORE_TABLES: &str = "\
+28 22 on = false / [[block]] / active = true / first = 0 / count = 16 / ci = 1 / muids = [5] / name = \"More\" / hint = 0 / midi1 = 0 / direction = 1 / sysex8 = 0
+28 kept on = false / [[block]] / active = true / first = 1 / count = 15 / ci = 1 / muids = [5] / name = \"More\" / hint = 0 / midi1 = 0 / direction = 1 / sysex8 = 0
+28 kept on = false / [[block]] / active = true / first = 0 / count = 1 / ci = 0 / muids = [] / name = \"More\" / hint = 0 / midi1 = 0 / direction = 1 / sysex8 = 0
+28 kept on = false / [[block]] / active = false / first = 0 / count = 1 / ci = 2 / muids = [5] / name = \"More\" / hint = 0 / midi1 = 0 / direction = 1 / sysex8 = 0
+28 23 on = false / [[block]] / active = false / first = 0 / count = 1 / ci = 0 / muids = [300] / name = \"More\" / hint = 0 / midi1 = 0 / direction = 1 / sysex8 = 0
+28 22 on = false / [[block]] / active = true / first = 0 / count = 1 / ci = 1 / muids = [300] / name = \"More\" / hint = 0 / midi1 = 0 / direction = 1 / sysex8 = 0
+28 19 on = false / [[block]] / active = true / first = 0 / count = 1 / ci = 3 / muids = [300] / name = \"More\" / hint = 0 / midi1 = 0 / direction = 1 / sysex8 = 0
+28 31 on = false / [[profile]] / block = 0 / id = [126, 0, 1, 1, 0] / channel = 2 / place = \"channel\" / group = 0 / on = true
+28 kept on = false / [[profile]] / block = 0 / id = [126, 0, 1, 1, 0] / channel = 3 / place = \"channel\" / group = 0 / on = true
+28 kept on = false / [[profile]] / block = 0 / id = [126, 0, 1, 1, 1] / channel = 2 / place = \"channel\" / group = 0 / on = true
+28 31 on = false / [[profile]] / block = 0 / id = [126, 0, 1, 1, 1] / channel = 2 / place = \"channel\" / group = 0 / on = true / [[profile]] / block = 0 / id = [126, 0, 1, 1, 0] / channel = 2 / place = \"channel\" / group = 0 / on = true
+28 kept on = false / [[profile]] / block = 0 / id = [126, 0, 1, 1, 0] / channel = 3 / place = \"channel\" / group = 0 / on = false
+28 kept on = false / [[block]] / active = false / first = 0 / count = 1 / ci = 2 / muids = [5] / name = \"More\" / hint = 0 / midi1 = 0 / direction = 1 / sysex8 = 0 / [[profile]] / block = 1 / id = [126, 0, 1, 1, 0] / place = \"function\" / on = true";
 
 #[test]
-fn blocks_and_profiles_together(rt: HostRuntime) {
-    let other = "[[block]]\nactive = true\nfirst = 0\ncount = 16\nci = 1\nmuids = [5]";
-    let alloc = rt.alloc();
-    assert_eq!(rt;
-        with_more(alloc, &[other, BLOCK]),
-        Err(SetupFault::Field(22))
-    );
-    let last = "[[block]]\nactive = true\nfirst = 1\ncount = 15\nci = 1\nmuids = [5]";
-    assert_eq!(rt; with_more(alloc, &[last, BLOCK]), Ok(()));
-    let without_ci = "[[block]]\nactive = true\nfirst = 0\ncount = 1\nci = 0\nmuids = []";
-    assert_eq!(rt; with_more(alloc, &[without_ci, BLOCK]), Ok(()));
-    let inactive = "[[block]]\nactive = false\nfirst = 0\ncount = 1\nci = 2\nmuids = [5]";
-    assert_eq!(rt; with_more(alloc, &[inactive, BLOCK]), Ok(()));
-    let same_muid = "[[block]]\nactive = false\nfirst = 0\ncount = 1\nci = 0\nmuids = [300]";
-    assert_eq!(rt;
-        with_more(alloc, &[same_muid, BLOCK]),
-        Err(SetupFault::Field(23))
-    );
-    let both = "[[block]]\nactive = true\nfirst = 0\ncount = 1\nci = 1\nmuids = [300]";
-    assert_eq!(rt;
-        with_more(alloc, &[both, BLOCK]),
-        Err(SetupFault::Field(22))
-    );
-    let broken = "[[block]]\nactive = true\nfirst = 0\ncount = 1\nci = 3\nmuids = [300]";
-    assert_eq!(rt;
-        with_more(alloc, &[broken, BLOCK]),
-        Err(SetupFault::Field(19))
-    );
-    let same = "[[profile]]\nblock = 0\nid = [126, 0, 1, 1, 0]\nchannel = 2";
-    assert_eq!(rt;
-        with_more(alloc, &[same, PROFILE]),
-        Err(SetupFault::Field(31))
-    );
-    let other_channel = "[[profile]]\nblock = 0\nid = [126, 0, 1, 1, 0]\nchannel = 3";
-    assert_eq!(rt; with_more(alloc, &[other_channel, PROFILE]), Ok(()));
-    let other_id = "[[profile]]\nblock = 0\nid = [126, 0, 1, 1, 1]\nchannel = 2";
-    assert_eq!(rt; with_more(alloc, &[other_id, PROFILE]), Ok(()));
-    let two = [other_id, PROFILE, same, PROFILE];
-    assert_eq!(rt; with_more(alloc, &two), Err(SetupFault::Field(31)));
+fn blocks_and_profiles_together(rt: HostRuntime) -> Result<(), Fail> {
+    lines_break(&rt, rt.alloc(), MORE_TABLES)
 }
 
 // The endpoint of the setup and this many blocks without MIDI-CI, each
 // with a name of 91 bytes, and profiles that aren't read.
 fn many_blocks(alloc: Global, blocks: usize) -> Result<String, AllocError> {
-    let mut text = text_of(alloc, 11, LINES, "", &[])?;
+    let mut text = text_of(alloc, 11, LINES, "")?;
     for _ in 0..blocks {
         add_lines(&mut text, "[[block]]")?;
         add_lines(
@@ -288,7 +248,7 @@ fn many_blocks(alloc: Global, blocks: usize) -> Result<String, AllocError> {
 }
 
 fn many_profiles(alloc: Global, profiles: usize) -> Result<String, AllocError> {
-    let mut text = text_of(alloc, 22, LINES, "", &[])?;
+    let mut text = text_of(alloc, 22, LINES, "")?;
     for k in 0..profiles {
         add_lines(
             &mut text,
@@ -316,22 +276,20 @@ fn no_more_blocks_and_profiles_than_fit(rt: HostRuntime) -> Result<(), Fail> {
     Ok(())
 }
 
+const TOML_LINES: &str = "\
+14 syntax hint =
+14 syntax hint = 3 / hint = 3
+14 syntax hint = 9223372036854775808
+14 14 hint = 9223372036854775807";
+
+#[test]
+fn lines_that_are_no_toml(rt: HostRuntime) -> Result<(), Fail> {
+    lines_break(&rt, rt.alloc(), TOML_LINES)
+}
+
 #[test]
 fn texts_that_are_no_toml(rt: HostRuntime) -> Result<(), Fail> {
     let alloc = rt.alloc();
-    assert_eq!(rt; with_line(alloc, 14, "hint ="), Err(SetupFault::Syntax));
-    assert_eq!(rt;
-        with_line(alloc, 14, "hint = 3\nhint = 3"),
-        Err(SetupFault::Syntax)
-    );
-    assert_eq!(rt;
-        with_line(alloc, 14, "hint = 9223372036854775808"),
-        Err(SetupFault::Syntax)
-    );
-    assert_eq!(rt;
-        with_line(alloc, 14, "hint = 9223372036854775807"),
-        Err(SetupFault::Field(14))
-    );
     assert_eq!(rt;
         fault_of(Setup::read(alloc, b"[endpoint]\nname = \"\xFF\"")),
         Err(SetupFault::Syntax)

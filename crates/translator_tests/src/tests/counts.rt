@@ -1,6 +1,6 @@
 // The counts of a few seeds, and the first packets of seed 0.
-use super::*;
 use midi_edge::U4;
+use self_test::{Generator, count};
 use std::alloc::Global;
 use std::process::Abort;
 use std::test::Fail;

@@ -1,5 +1,0 @@
-//! The tests of `function_blocks`, in a crate of their own: the gate proves a crate with tests a second time.
-#![tactic(auto)]
-
-#[cfg(test)]
-mod tests;
