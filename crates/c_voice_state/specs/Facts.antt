@@ -1,6 +1,8 @@
 -- What is told of a running state, by numbers.
 use Rattle.std.specs.Prelude.{◌≡◌, ℕ, nat_lt, Bool, true, false, List, length, map, Option, Some, None, is_some, unwrap_or}
 use Rattle.voice_messages.specs.declared.voice2.Bank.{Bank}
+use Rattle.voice_messages.specs.declared.voice2.Param.{Param}
+use Rattle.voice_messages.specs.declared.voice2.ParamKind.TheVariants.{Registered, Assignable}
 use Rattle.voice_state.specs.declared.fact.Fact.{Fact}
 use Rattle.voice_state.specs.declared.fact.Fact.TheVariants as facts
 use Rattle.c_answers.specs.Fronts.{with_front}
@@ -8,26 +10,59 @@ use Rattle.c_answers.specs.Numbers.{number_of}
 use Rattle.c_answers.specs.declared.status.Status.TheVariants as statuses
 use Rattle.c_voice_state.specs.declared.fact_numbers.FactNumbers.{FactNumbers}
 
--- a fact of a kind of a channel of a group, with a number and a value
-abbrev pub valued : ℕ → ℕ → ℕ → ℕ → ℕ → FactNumbers
-valued kind group channel number value =
+-- the group that a fact is about, and its channel; 0 where it is about the whole group
+abbrev pub group_of : Fact → ℕ
+group_of (facts.On group channel note velocity) = group
+group_of (facts.Off group channel note velocity) = group
+group_of (facts.Mode group channel index value) = group
+group_of (facts.Poly group channel note value) = group
+group_of (facts.Control group channel index value) = group
+group_of (facts.Pressure group channel value) = group
+group_of (facts.Bend group channel value) = group
+group_of (facts.Program group channel program bank) = group
+group_of (facts.Registered group channel bank index value is_loose) = group
+group_of (facts.Assignable group channel bank index value is_loose) = group
+group_of (facts.System group count) = group
+group_of (facts.RealTime group count) = group
+
+abbrev pub channel_of : Fact → ℕ
+channel_of (facts.On group channel note velocity) = channel
+channel_of (facts.Off group channel note velocity) = channel
+channel_of (facts.Mode group channel index value) = channel
+channel_of (facts.Poly group channel note value) = channel
+channel_of (facts.Control group channel index value) = channel
+channel_of (facts.Pressure group channel value) = channel
+channel_of (facts.Bend group channel value) = channel
+channel_of (facts.Program group channel program bank) = channel
+channel_of (facts.Registered group channel bank index value is_loose) = channel
+channel_of (facts.Assignable group channel bank index value is_loose) = channel
+channel_of (facts.System group count) = 0
+channel_of (facts.RealTime group count) = 0
+
+-- nothing is told yet, of this group and channel
+abbrev pub nothing_at : ℕ → ℕ → FactNumbers
+nothing_at group channel =
     record {
       count = 0;
-      value = value;
-      kind = kind;
+      value = 0;
+      kind = 0;
       group = group;
       channel = channel;
-      number = number;
+      number = 0;
       bank = 0;
       bank_lsb = 0;
       has_bank = false;
-      has_value = true;
+      has_value = false;
       is_loose = false;
     }
 
--- a count of messages of a group
-abbrev pub counted : ℕ → ℕ → ℕ → FactNumbers
-counted kind group count = record (valued kind group 0 0 0) { count = count; has_value = false }
+-- what is told: a kind, with a number and a value
+abbrev pub valued : FactNumbers → ℕ → ℕ → ℕ → FactNumbers
+valued at kind number value = record at { kind = kind; number = number; value = value; has_value = true }
+
+-- a count of messages
+abbrev pub counted : FactNumbers → ℕ → ℕ → FactNumbers
+counted at kind count = record at { kind = kind; count = count }
 
 abbrev pub msb_of : Option Bank → ℕ
 msb_of None = 0
@@ -37,27 +72,39 @@ abbrev pub lsb_of : Option Bank → ℕ
 lsb_of None = 0
 lsb_of (Some bank) = bank.lsb
 
-abbrev pub programmed : ℕ → ℕ → ℕ → Option Bank → FactNumbers
-programmed group channel program bank =
-    record (valued 7 group channel program 0) { bank = msb_of bank; bank_lsb = lsb_of bank; has_bank = is_some bank; has_value = false }
+abbrev pub programmed : FactNumbers → ℕ → Option Bank → FactNumbers
+programmed at program bank =
+    record at { kind = 7; number = program; bank = msb_of bank; bank_lsb = lsb_of bank; has_bank = is_some bank }
 
-abbrev pub parametrised : ℕ → ℕ → ℕ → ℕ → ℕ → Option ℕ → Bool → FactNumbers
-parametrised kind group channel bank index value is_loose =
-    record (valued kind group channel index (unwrap_or value 0)) { bank = bank; has_value = is_some value; is_loose = is_loose }
+abbrev pub parametrised : FactNumbers → ℕ → Param → Option ℕ → Bool → FactNumbers
+parametrised at kind param value is_loose =
+    record at {
+      kind = kind;
+      bank = param.bank;
+      number = param.index;
+      value = unwrap_or value 0;
+      has_value = is_some value;
+      is_loose = is_loose;
+    }
+
+abbrev pub told_at : FactNumbers → Fact → FactNumbers
+told_at at (facts.On group channel note velocity) = valued at 0 note velocity
+told_at at (facts.Off group channel note velocity) = valued at 1 note velocity
+told_at at (facts.Mode group channel index value) = valued at 2 index value
+told_at at (facts.Poly group channel note value) = valued at 3 note value
+told_at at (facts.Control group channel index value) = valued at 4 index value
+told_at at (facts.Pressure group channel value) = valued at 5 0 value
+told_at at (facts.Bend group channel value) = valued at 6 0 value
+told_at at (facts.Program group channel program bank) = programmed at program bank
+told_at at (facts.Registered group channel bank index value is_loose) =
+    parametrised at 8 (record { kind = Registered; bank = bank; index = index }) value is_loose
+told_at at (facts.Assignable group channel bank index value is_loose) =
+    parametrised at 9 (record { kind = Assignable; bank = bank; index = index }) value is_loose
+told_at at (facts.System group count) = counted at 10 count
+told_at at (facts.RealTime group count) = counted at 11 count
 
 abbrev pub numbers_of : Fact → FactNumbers
-numbers_of (facts.On group channel note velocity) = valued 0 group channel note velocity
-numbers_of (facts.Off group channel note velocity) = valued 1 group channel note velocity
-numbers_of (facts.Mode group channel index value) = valued 2 group channel index value
-numbers_of (facts.Poly group channel note value) = valued 3 group channel note value
-numbers_of (facts.Control group channel index value) = valued 4 group channel index value
-numbers_of (facts.Pressure group channel value) = valued 5 group channel 0 value
-numbers_of (facts.Bend group channel value) = valued 6 group channel 0 value
-numbers_of (facts.Program group channel program bank) = programmed group channel program bank
-numbers_of (facts.Registered group channel bank index value is_loose) = parametrised 8 group channel bank index value is_loose
-numbers_of (facts.Assignable group channel bank index value is_loose) = parametrised 9 group channel bank index value is_loose
-numbers_of (facts.System group count) = counted 10 group count
-numbers_of (facts.RealTime group count) = counted 11 group count
+numbers_of fact = told_at (nothing_at (group_of fact) (channel_of fact)) fact
 
 -- ---- all of them
 

@@ -6,12 +6,12 @@ ghost use Rattle.voice_state.specs.Kept.{Keeps};
 ghost use Rattle.voice_state.specs.States.{States};
 ghost use Rattle.c_answers.specs.Fronts.{with_front};
 ghost use Rattle.c_answers.specs.Numbers.{number_of};
-ghost use Rattle.c_voice_state.specs.Facts.{counted, lsb_of, msb_of, numbers_of, parametrised, programmed, valued, AreTold};
+ghost use Rattle.c_voice_state.specs.Facts.{channel_of, counted, group_of, lsb_of, msb_of, nothing_at, numbers_of, parametrised, programmed, valued, AreTold};
 
 use c_answers::Status;
 use midi_edge::NoMemory;
 use std::alloc::Global;
-use voice_messages::{Bank, U4, U7};
+use voice_messages::{Bank, Param, ParamKind, U4, U7};
 use voice_state::{Fact, VoiceState, most_facts};
 
 /// One thing that is told of a state: a note or a channel mode message
@@ -46,34 +46,6 @@ pub struct FactNumbers {
     pub is_loose: bool,
 }
 
-fn valued(kind: u8, group: U4, channel: U4, number: u8, value: u32) -> FactNumbers
-    ensures { result ≡ valued kind group channel number value }
-{
-    FactNumbers {
-        count: 0,
-        value,
-        kind,
-        group: group.get(),
-        channel: channel.get(),
-        number,
-        bank: 0,
-        bank_lsb: 0,
-        has_bank: false,
-        has_value: true,
-        is_loose: false,
-    }
-}
-
-fn counted(kind: u8, group: U4, count: u64) -> FactNumbers
-    ensures { result ≡ counted kind group count }
-{
-    FactNumbers {
-        count,
-        has_value: false,
-        ..valued(kind, group, U4::low_bits(0), 0, 0)
-    }
-}
-
 fn msb_of(bank: Option<Bank>) -> u8
     ensures { result ≡ msb_of bank }
 {
@@ -92,107 +64,132 @@ fn lsb_of(bank: Option<Bank>) -> u8
     }
 }
 
-fn programmed(group: U4, channel: U4, program: U7, bank: Option<Bank>) -> FactNumbers
-    ensures { result ≡ programmed group channel program bank }
-{
-    FactNumbers {
-        bank: msb_of(bank),
-        bank_lsb: lsb_of(bank),
-        has_bank: bank.is_some(),
-        has_value: false,
-        ..valued(7, group, channel, program.get(), 0)
-    }
-}
-
-fn parametrised(
-    kind: u8,
-    group: U4,
-    channel: U4,
-    bank: U7,
-    index: U7,
-    value: Option<u32>,
-    is_loose: bool,
-) -> FactNumbers
-    ensures { result ≡ parametrised kind group channel bank index value is_loose }
-{
-    FactNumbers {
-        bank: bank.get(),
-        has_value: value.is_some(),
-        is_loose,
-        ..valued(kind, group, channel, index.get(), value.unwrap_or(0))
-    }
-}
-
 impl FactNumbers {
+    // Nothing is told yet, of this group and channel.
+    fn at(group: U4, channel: U4) -> FactNumbers
+        ensures { result ≡ nothing_at group channel }
+    {
+        FactNumbers {
+            count: 0,
+            value: 0,
+            kind: 0,
+            group: group.get(),
+            channel: channel.get(),
+            number: 0,
+            bank: 0,
+            bank_lsb: 0,
+            has_bank: false,
+            has_value: false,
+            is_loose: false,
+        }
+    }
+
+    // The same of the group of a fact, and of its channel, if it is about one; else of channel 0.
+    fn at_place_of(fact: &Fact) -> FactNumbers
+        ensures { result ≡ nothing_at (group_of fact.now) (channel_of fact.now) }
+    {
+        match *fact {
+            Fact::On { group, channel, .. }
+            | Fact::Off { group, channel, .. }
+            | Fact::Mode { group, channel, .. }
+            | Fact::Poly { group, channel, .. }
+            | Fact::Control { group, channel, .. }
+            | Fact::Pressure { group, channel, .. }
+            | Fact::Bend { group, channel, .. }
+            | Fact::Program { group, channel, .. }
+            | Fact::Registered { group, channel, .. }
+            | Fact::Assignable { group, channel, .. } => FactNumbers::at(group, channel),
+            Fact::System { group, .. } | Fact::RealTime { group, .. } => {
+                FactNumbers::at(group, U4::low_bits(0))
+            }
+        }
+    }
+
+    fn valued(self, kind: u8, number: u8, value: u32) -> FactNumbers
+        ensures { result ≡ valued self kind number value }
+    {
+        FactNumbers {
+            kind,
+            number,
+            value,
+            has_value: true,
+            ..self
+        }
+    }
+
+    fn counted(self, kind: u8, count: u64) -> FactNumbers
+        ensures { result ≡ counted self kind count }
+    {
+        FactNumbers {
+            kind,
+            count,
+            ..self
+        }
+    }
+
+    fn programmed(self, program: U7, bank: Option<Bank>) -> FactNumbers
+        ensures { result ≡ programmed self program bank }
+    {
+        FactNumbers {
+            kind: 7,
+            number: program.get(),
+            bank: msb_of(bank),
+            bank_lsb: lsb_of(bank),
+            has_bank: bank.is_some(),
+            ..self
+        }
+    }
+
+    fn parametrised(self, kind: u8, param: Param, value: Option<u32>, is_loose: bool) -> FactNumbers
+        ensures { result ≡ parametrised self kind param value is_loose }
+    {
+        FactNumbers {
+            kind,
+            bank: param.bank.get(),
+            number: param.index.get(),
+            value: value.unwrap_or(0),
+            has_value: value.is_some(),
+            is_loose,
+            ..self
+        }
+    }
+
     /// The numbers of a fact.
     pub fn of(fact: &Fact) -> FactNumbers
         ensures { result ≡ numbers_of fact.now }
     {
+        let at = FactNumbers::at_place_of(fact);
         match *fact {
-            Fact::On {
-                group,
-                channel,
-                note,
-                velocity,
-            } => valued(0, group, channel, note.get(), u32::from(velocity)),
-            Fact::Off {
-                group,
-                channel,
-                note,
-                velocity,
-            } => valued(1, group, channel, note.get(), u32::from(velocity)),
-            Fact::Mode {
-                group,
-                channel,
-                index,
-                value,
-            } => valued(2, group, channel, index.get(), value),
-            Fact::Poly {
-                group,
-                channel,
-                note,
-                value,
-            } => valued(3, group, channel, note.get(), value),
-            Fact::Control {
-                group,
-                channel,
-                index,
-                value,
-            } => valued(4, group, channel, index.get(), value),
-            Fact::Pressure {
-                group,
-                channel,
-                value,
-            } => valued(5, group, channel, 0, value),
-            Fact::Bend {
-                group,
-                channel,
-                value,
-            } => valued(6, group, channel, 0, value),
-            Fact::Program {
-                group,
-                channel,
-                program,
-                bank,
-            } => programmed(group, channel, program, bank),
+            Fact::On { note, velocity, .. } => at.valued(0, note.get(), u32::from(velocity)),
+            Fact::Off { note, velocity, .. } => at.valued(1, note.get(), u32::from(velocity)),
+            Fact::Mode { index, value, .. } => at.valued(2, index.get(), value),
+            Fact::Poly { note, value, .. } => at.valued(3, note.get(), value),
+            Fact::Control { index, value, .. } => at.valued(4, index.get(), value),
+            Fact::Pressure { value, .. } => at.valued(5, 0, value),
+            Fact::Bend { value, .. } => at.valued(6, 0, value),
+            Fact::Program { program, bank, .. } => at.programmed(program, bank),
             Fact::Registered {
-                group,
-                channel,
                 bank,
                 index,
                 value,
                 loose,
-            } => parametrised(8, group, channel, bank, index, value, loose),
+                ..
+            } => {
+                let kind = ParamKind::Registered;
+                at.parametrised(8, Param { kind, bank, index }, value, loose)
+            }
             Fact::Assignable {
-                group,
-                channel,
                 bank,
                 index,
                 value,
                 loose,
-            } => parametrised(9, group, channel, bank, index, value, loose),
-            Fact::System { group, count } => counted(10, group, count),
-            Fact::RealTime { group, count } => counted(11, group, count),
+                ..
+            } => {
+                let kind = ParamKind::Assignable;
+                at.parametrised(9, Param { kind, bank, index }, value, loose)
+            }
+            Fact::System { count, .. } => at.counted(10, count),
+            Fact::RealTime { count, .. } => at.counted(11, count),
         }
     }
 }
