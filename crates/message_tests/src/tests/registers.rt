@@ -1,7 +1,6 @@
 // The roles of control changes and the registers of a channel, worked
 // by hand from the tables of the standards.
 use midi_meaning::{ControlRole, Registers, is_null_param};
-use std::process::Abort;
 use voice_messages::{Bank, Param, ParamKind, U7};
 
 fn u7(number: u32) -> U7 {
@@ -60,50 +59,47 @@ fn roles_of_controllers(rt: HostRuntime) {
 
 #[test]
 fn halves_of_controllers_where_they_are_paired(rt: HostRuntime) {
-    for (role, paired, found) in [
-        (ControlRole::Coarse, true, ControlRole::Coarse),
-        (ControlRole::Coarse, false, ControlRole::Plain),
-        (ControlRole::Fine, true, ControlRole::Fine),
-        (ControlRole::Fine, false, ControlRole::Plain),
-        (ControlRole::DataMsb, false, ControlRole::DataMsb),
-    ] {
-        assert_eq!(rt; role.pairing(paired), found);
-    }
-}
-
-// What the registers tell: the MSB and the LSB of the bank, the bank, and the parameter that is selected.
-type Told = (Option<U7>, Option<U7>, Option<Bank>, Option<Param>);
-
-// What they tell after each control change of a table, one after the other.
-fn registers_tell(rt: &impl Abort, table: &[(u32, u32, Told)]) {
-    let mut registers = Registers::unset();
-    assert_eq!(rt; registers.bank(), None);
-    for (index, value, told) in table {
-        registers.control(u7(*index), u7(*value));
-        let (msb, lsb) = (registers.bank_msb(), registers.bank_lsb());
-        let found = (msb, lsb, registers.bank(), registers.selected());
-        assert_eq!(rt; found, *told, "control {index}");
-    }
+    assert_eq!(rt; ControlRole::Coarse.pairing(true), ControlRole::Coarse);
+    assert_eq!(rt; ControlRole::Coarse.pairing(false), ControlRole::Plain);
+    assert_eq!(rt; ControlRole::Fine.pairing(true), ControlRole::Fine);
+    assert_eq!(rt; ControlRole::Fine.pairing(false), ControlRole::Plain);
+    assert_eq!(rt; ControlRole::DataMsb.pairing(false), ControlRole::DataMsb);
 }
 
 #[test]
 fn halves_of_registers(rt: HostRuntime) {
-    let registered = Some(param(ParamKind::Registered, 0, 5));
-    let assignable = Some(param(ParamKind::Assignable, 127, 126));
-    let (lsb, both) = (Some(bank(0, 2)), Some(bank(1, 2)));
-    let table = [
-        (32, 2, (None, Some(u7(2)), lsb, None)),
-        (0, 1, (Some(u7(1)), Some(u7(2)), both, None)),
-        (101, 0, (Some(u7(1)), Some(u7(2)), both, None)),
-        (100, 5, (Some(u7(1)), Some(u7(2)), both, registered)),
-        (7, 100, (Some(u7(1)), Some(u7(2)), both, registered)),
-        (6, 64, (Some(u7(1)), Some(u7(2)), both, registered)),
-        (99, 127, (Some(u7(1)), Some(u7(2)), both, None)),
-        (98, 127, (Some(u7(1)), Some(u7(2)), both, None)),
-        (98, 126, (Some(u7(1)), Some(u7(2)), both, assignable)),
-        (121, 0, (Some(u7(1)), Some(u7(2)), both, None)),
-    ];
-    registers_tell(&rt, &table);
+    let mut registers = Registers::unset();
+    assert_eq!(rt; registers.bank(), None);
+    registers.control(u7(32), u7(2));
+    assert_eq!(rt; registers.bank_msb(), None);
+    assert_eq!(rt; registers.bank_lsb(), Some(u7(2)));
+    assert_eq!(rt; registers.bank(), Some(bank(0, 2)));
+    registers.control(u7(0), u7(1));
+    assert_eq!(rt; registers.bank(), Some(bank(1, 2)));
+    registers.control(u7(101), u7(0));
+    assert_eq!(rt; registers.selected(), None);
+    registers.control(u7(100), u7(5));
+    assert_eq!(rt;
+        registers.selected(),
+        Some(param(ParamKind::Registered, 0, 5))
+    );
+    registers.control(u7(7), u7(100));
+    registers.control(u7(6), u7(64));
+    assert_eq!(rt;
+        registers.selected(),
+        Some(param(ParamKind::Registered, 0, 5))
+    );
+    registers.control(u7(99), u7(127));
+    registers.control(u7(98), u7(127));
+    assert_eq!(rt; registers.selected(), None);
+    registers.control(u7(98), u7(126));
+    assert_eq!(rt;
+        registers.selected(),
+        Some(param(ParamKind::Assignable, 127, 126))
+    );
+    registers.control(u7(121), u7(0));
+    assert_eq!(rt; registers.selected(), None);
+    assert_eq!(rt; registers.bank_msb(), Some(u7(1)));
 }
 
 #[test]
