@@ -75,11 +75,14 @@ static void say_fact(const larboardyuzu_fact *fact)
 
 static larboardyuzu_state state = LARBOARDYUZU_CLOSED;
 
-/* The rooms of the state: more than a recording of these tests has. */
-enum {
-    NOTES = 4096,
-    PARAMS = 128
-};
+/* The rooms of the state: more than a recording of these tests has. A longer one is compared with a program
+   that is built with more, as by -DNOTES=262144 -DPARAMS=4096. */
+#ifndef NOTES
+#define NOTES 4096
+#endif
+#ifndef PARAMS
+#define PARAMS 128
+#endif
 
 static void say_facts(void)
 {
