@@ -8,9 +8,10 @@ use Rattle.midi_meaning.specs.declared.listed.Listed.{Listed}
 use Rattle.down_translator.specs.declared.carried.Carried.{Carried}
 use Rattle.down_translator.specs.declared.carried.LentLine.{LentLine}
 use Rattle.down_translator.specs.declared.lowered.LoweredMessage.{LoweredMessage}
+use Rattle.down_translator.specs.declared.shortened.ShortenedMessage.{ShortenedMessage}
 use Rattle.down_translator.specs.Carried.{lane_in, line_in, listed_by}
 use Rattle.down_translator.specs.Held.{DownState}
-use Rattle.down_translator.specs.Lowered.{IsCarriedAs, IsDirectStep, attribute_line, lowered_bytes}
+use Rattle.down_translator.specs.Lowered.{IsAnsweredAs, IsDirectStep, IsShortenedStep, attribute_line, lowered_bytes, shortened_bytes}
 use Rattle.down_translator.specs.Step.{IsStep}
 use Rattle.c_answers.specs.Fronts.{with_front}
 use Rattle.c_translators.specs.Down.{IsAccepted}
@@ -30,28 +31,28 @@ step_carried state offset packet carried lane line old new piece step lane_is li
 
 -- ---- a message that alone carries its packet
 
-module _ (offset : ℕ) (m : LoweredMessage) (below : m.lane < 16) where
+module _ (offset lane : ℕ) (bytes : List ℕ) (left_out : Bool) (below : lane < 16) where
   abbrev line_at : Bool → Option LentLine
   line_at left_out =
       if left_out
-      then Some (record { offset = offset; group = Some (record { number = m.lane; below = below }); kind = kinds.NoteAttribute })
+      then Some (record { offset = offset; group = Some (record { number = lane; below = below }); kind = kinds.NoteAttribute })
       else None
 
-  -- an answer with its bytes
+  -- an answer with these bytes
   abbrev carried_as : Carried
   carried_as =
       record {
-        piece = record { ref_ptr = (0, 0); now = lowered_bytes m };
-        lane = record { number = m.lane; below = below };
-        line = line_at m.has_attribute;
+        piece = record { ref_ptr = (0, 0); now = bytes };
+        lane = record { number = lane; below = below };
+        line = line_at left_out;
       }
 
-  line_told : (left_out : Bool) → option_map listed_by (line_at left_out) ≡ attribute_line offset m.lane left_out
+  line_told : (left_out : Bool) → option_map listed_by (line_at left_out) ≡ attribute_line offset lane left_out
   line_told true = refl
   line_told false = refl
 
-  is_carried_as : IsCarriedAs offset m carried_as
-  is_carried_as = record { piece = refl; lane = refl; line = line_told m.has_attribute }
+  is_carried_as : IsAnsweredAs offset lane bytes left_out carried_as
+  is_carried_as = record { piece = refl; lane = refl; line = line_told left_out }
 
 pub direct_carried : (state : DownState) (offset : ℕ) (packet : Packet) (m : LoweredMessage) (old new : List ℕ) (piece : Piece)
     → IsDirectStep state packet m →
@@ -59,7 +60,21 @@ pub direct_carried : (state : DownState) (offset : ℕ) (packet : Packet) (m : L
     → piece ≡ piece_shown (length (lowered_bytes m)) m.lane (attribute_line offset m.lane m.has_attribute) →
     IsAccepted state offset packet old piece new
 direct_carried state offset packet m old new piece whole front shown =
-    let same = is_carried_as offset m whole.lane in
-    let carried : Carried = carried_as offset m whole.lane in
+    let bytes : List ℕ = lowered_bytes m in
+    let same = is_carried_as offset m.lane bytes m.has_attribute whole.lane in
+    let carried : Carried = carried_as offset m.lane bytes m.has_attribute whole.lane in
+    step_carried state offset packet carried m.lane (attribute_line offset m.lane m.has_attribute) old new piece
+    (whole.step offset carried same) refl (sym same.line) front shown
+
+pub shortened_carried : (state behind : DownState) (offset : ℕ) (packet : Packet) (m : ShortenedMessage) (old new : List ℕ)
+    (piece : Piece)
+    → IsShortenedStep state packet m behind →
+    new ≡ with_front (shortened_bytes m) old
+    → piece ≡ piece_shown (length (shortened_bytes m)) m.lane (attribute_line offset m.lane m.has_attribute) →
+    IsAccepted state offset packet old piece new
+shortened_carried state behind offset packet m old new piece whole front shown =
+    let bytes : List ℕ = shortened_bytes m in
+    let same = is_carried_as offset m.lane bytes m.has_attribute whole.lane in
+    let carried : Carried = carried_as offset m.lane bytes m.has_attribute whole.lane in
     step_carried state offset packet carried m.lane (attribute_line offset m.lane m.has_attribute) old new piece
     (whole.step offset carried same) refl (sym same.line) front shown

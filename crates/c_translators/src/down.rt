@@ -3,7 +3,7 @@ ghost use Rattle.std.specs.Prelude.{◌≡◌, ◌≤◌, length, IfErr, IfOk, I
 ghost use Rattle.ump_grammar.specs.Ranges.{IsPacket};
 ghost use Rattle.down_translator.specs.Held.{down_after, new_down};
 ghost use Rattle.down_translator.specs.KeptLanes.{style_in};
-ghost use Rattle.down_translator.specs.Lowered.{attribute_line, lowered_bytes};
+ghost use Rattle.down_translator.specs.Lowered.{attribute_line, lowered_bytes, shortened_bytes};
 ghost use Rattle.c_answers.specs.Fronts.{with_front};
 ghost use Rattle.c_answers.specs.Numbers.{number_of};
 ghost use Rattle.c_translators.specs.PacketBlocks.{AreTaken};
@@ -14,7 +14,7 @@ use crate::block::Block;
 use crate::piece::Piece;
 use c_answers::{Status, framed, put_bytes};
 use direct_packets::EncodedPacket;
-use down_translator::{BadStep, Down, Kind, Listed, LoweredMessage, Style};
+use down_translator::{BadStep, Down, Kind, Listed, LoweredMessage, ShortenedMessage, Style};
 use midi_edge::{NoMemory, U4};
 use std::alloc::Global;
 use std::marker::Model;
@@ -68,13 +68,13 @@ fn write(message: &[u8], lane: U4, listed: Option<Listed>, buffer: &mut [u8]) ->
 
 // The line of an attribute that is left out.
 #[inline(always)]
-fn attribute_line(offset: u64, message: &LoweredMessage) -> Option<Listed>
-    ensures { result ≡ attribute_line offset message.now.lane message.now.has_attribute }
+fn attribute_line(offset: u64, lane: U4, has_attribute: bool) -> Option<Listed>
+    ensures { result ≡ attribute_line offset lane has_attribute }
 {
-    if message.has_attribute {
+    if has_attribute {
         Some(Listed {
             offset,
-            group: Some(message.lane),
+            group: Some(lane),
             kind: Kind::NoteAttribute,
         })
     } else {
@@ -90,7 +90,7 @@ fn write_direct(message: &LoweredMessage, offset: u64, buffer: &mut [u8], piece:
     ensures piece { piece.new ≡ piece_shown (length (lowered_bytes message.now)) message.now.lane
         (attribute_line offset message.now.lane message.now.has_attribute) }
 {
-    let listed = attribute_line(offset, message);
+    let listed = attribute_line(offset, message.lane, message.has_attribute);
     let (lane, status, first) = (message.lane, message.status, message.first.get());
     match message.second {
         Some(second) => *piece = write(&[status, first, second.get()], lane, listed, buffer),
@@ -98,9 +98,29 @@ fn write_direct(message: &LoweredMessage, offset: u64, buffer: &mut [u8], piece:
     }
 }
 
-// Takes a packet, and writes its piece.
+// Writes a message of compact style that alone carries its packet, and its piece.
 #[inline(always)]
-fn carry(
+fn write_shortened(message: &ShortenedMessage, offset: u64, buffer: &mut [u8], piece: &mut Piece)
+    requires { 12 ≤ length buffer.old }
+    ensures written { buffer.new ≡ with_front (shortened_bytes message.now) buffer.old }
+    ensures piece { piece.new ≡ piece_shown (length (shortened_bytes message.now)) message.now.lane
+        (attribute_line offset message.now.lane message.now.has_attribute) }
+{
+    let listed = attribute_line(offset, message.lane, message.has_attribute);
+    let (lane, first) = (message.lane, message.first.get());
+    match (message.status, message.second) {
+        (Some(status), Some(second)) => {
+            *piece = write(&[status, first, second.get()], lane, listed, buffer);
+        }
+        (Some(status), None) => *piece = write(&[status, first], lane, listed, buffer),
+        (None, Some(second)) => *piece = write(&[first, second.get()], lane, listed, buffer),
+        (None, None) => *piece = write(&[first], lane, listed, buffer),
+    }
+}
+
+// Takes a packet that isn't carried by one message, and writes its piece.
+#[inline(always)]
+fn carry_encoded(
     down: &mut Down,
     packet: &EncodedPacket,
     offset: u64,
@@ -121,6 +141,31 @@ fn carry(
             return Ok(());
         }
         Err(bad) => return Err(bad),
+    }
+}
+
+// Takes a packet, and writes its piece.
+#[inline(always)]
+fn carry(
+    down: &mut Down,
+    packet: &EncodedPacket,
+    offset: u64,
+    buffer: &mut [u8],
+    piece: &mut Piece,
+) -> Result<(), BadStep>
+    requires packet { IsPacket packet.now }
+    requires room { most_bytes down.old ≤ length buffer.old }
+    ensures answer { IsCarried down.old offset packet.now buffer.old
+        (with_piece result piece.new) buffer.new }
+    ensures after { down.new ≡ down_after offset packet.now down.old }
+    ensures kept { IfErr result (λ why. piece.new ≡ piece.old) }
+{
+    match down.shortened(packet) {
+        Some(message) => {
+            write_shortened(&message, offset, buffer, piece);
+            return Ok(());
+        }
+        None => return carry_encoded(down, packet, offset, buffer, piece),
     }
 }
 

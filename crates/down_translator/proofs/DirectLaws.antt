@@ -1,12 +1,10 @@
--- Direct control changes by their index, and the status byte that a lane takes.
-use Rattle.std.proofs.Common.{ℕ, ◌≡◌, ◌/◌, refl, ap, Bool, true, false, Option, Some, None}
+-- Direct control changes by their index.
+use Rattle.std.proofs.Common.{ℕ, ◌≡◌, ◌/◌, refl, Bool}
 use Rattle.std.specs.Prelude.{◌&&◌, not}
-use Rattle.std.proofs.lemmas.Bool.{eqb-true}
 use Rattle.direct_packets.specs.declared.direct_message.DirectKind.{DirectKind}
 use Rattle.direct_packets.specs.declared.direct_message.DirectKind.TheVariants as direct
 use Rattle.direct_packets.specs.declared.direct_message.DirectMessage.{DirectMessage}
 use Rattle.direct_packets.specs.DirectMessages.{kind_by}
-use Rattle.midi1_bytes.specs.RunningStatus.{is_running}
 use Rattle.midi_meaning.specs.Controllers.{is_direct, is_direct_in, pairing, role_of}
 use Rattle.midi_meaning.specs.Styles.{Style, plain_style, compact_style}
 use Rattle.down_translator.specs.KeptLanes.{is_plain, when_compact, when_plain}
@@ -37,8 +35,3 @@ direct_by direct.Other paired m = refl
 pub direct_index : (paired : Bool) (m : DirectMessage) →
     is_direct (pairing paired (role_of (index_by (kind_by (m.status / 16)) m))) ≡ message_goes_direct paired m
 direct_index paired m = direct_by (kind_by (m.status / 16)) paired m
-
--- a status byte that is the running status leaves it
-pub running_is : (running : Option ℕ) (status : ℕ) → is_running running status ≡ true → running ≡ Some status
-running_is None status is = cc
-running_is (Some other) status is = ap Some (eqb-true other status is)

@@ -1,4 +1,3 @@
-pub mod BytesLaws
 pub mod ExclusiveLaws
 pub mod HeldLaws
 pub mod LaneLaws
@@ -7,6 +6,7 @@ pub mod LoweredLaws
 pub mod PieceLaws
 pub mod RecordingLaws
 pub mod RecordingRooms
+pub mod RunningLaws
 pub mod ShortenedLaws
 pub mod Spelling
 pub mod StyledLaws

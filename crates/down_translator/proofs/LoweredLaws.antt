@@ -208,7 +208,7 @@ module _ (paired : Bool) (m : DirectMessage) (offset : ℕ) (direct : message_go
   is_single_of is = one_of_six IsSingleBy single-8 single-9 single-A single-B single-D single-E (m.status / 16) is.opcode refl
 
 -- such a message is a packet that one message carries, and no others are
-direct_packet : (paired : Bool) (m : DirectMessage) → IsDirectMessage m
+pub direct_packet : (paired : Bool) (m : DirectMessage) → IsDirectMessage m
     → packet_goes_direct paired (packet.Voice2 m.group (direct_voice m)) ≡ message_goes_direct paired m
 direct_packet paired m is =
     let Same : ℕ → Type 0 =
@@ -216,12 +216,12 @@ direct_packet paired m is =
     ≡ goes_by (kind_by o) paired m in
     one_of_six Same refl refl refl refl refl refl (m.status / 16) is.opcode
 
-no_direct_packet : (paired : Bool) (p : Packet) → has_direct_kind p ≡ false → packet_goes_direct paired p ≡ false
+pub no_direct_packet : (paired : Bool) (p : Packet) → has_direct_kind p ≡ false → packet_goes_direct paired p ≡ false
 no_direct_packet paired (packet.Voice2 group (voice2.Control channel index value)) none = cc
 no_direct_packet paired (packet.Voice2 group message) none = none
 no_direct_packet paired p none = none
 
-none_else : (whole direct : Bool) → direct ≡ false → (whole && direct) ≡ false
+pub none_else : (whole direct : Bool) → direct ≡ false → (whole && direct) ≡ false
 none_else true direct e = e
 none_else false direct e = refl
 

@@ -1,11 +1,12 @@
 -- In compact style the bytes of one message, without a status byte that is the running status, are the step of a packet that leaves the
 -- registers as they are.
-use Rattle.std.proofs.Common.{◌≡◌, ◌∙◌, ap, sym, refl, ℕ, true, false, Some, None}
-use Rattle.std.specs.Prelude.{slice_index}
+use Rattle.std.proofs.Common.{◌≡◌, ◌∙◌, ◌++◌, ◌∷◌, ap, sym, refl, arith, cond, ℕ, Bool, List, true, false, Option, Some, None}
+use Rattle.std.specs.Prelude.{◌&&◌, not, slice_index}
+use Rattle.std.specs.Option.{option_to_list}
 use Rattle.direct_packets.specs.declared.direct_message.DirectMessage.{DirectMessage}
-use Rattle.direct_packets.specs.DirectMessages.{IsDirectMessage, direct_voice}
+use Rattle.direct_packets.specs.DirectMessages.{IsDirectMessage, direct_voice, has_direct_kind}
 use Rattle.midi1_bytes.specs.Messages.{spelled_voice}
-use Rattle.midi1_bytes.specs.RunningStatus.{running_over, without_status}
+use Rattle.midi1_bytes.specs.RunningStatus.{is_running, running_over, without_status}
 use Rattle.ump_grammar.specs.declared.packet.Packet.{Packet}
 use Rattle.ump_grammar.specs.declared.packet.Packet.TheVariants as packet
 use Rattle.midi_meaning.specs.LaneState.{LaneState}
@@ -14,12 +15,14 @@ use Rattle.midi_meaning.specs.Styles.{Style, plain_style, compact_style}
 use Rattle.down_translator.specs.declared.carried.Carried.{Carried}
 use Rattle.down_translator.specs.Carried.{lane_in, line_in}
 use Rattle.down_translator.specs.declared.lowered.LoweredMessage.{LoweredMessage}
+use Rattle.down_translator.specs.declared.shortened.ShortenedMessage.{ShortenedMessage}
 use Rattle.down_translator.specs.declared.statuses.Statuses.TheVariants.{Changes}
 use Rattle.down_translator.specs.Held.{DownState, lanes_after_packet, paired_of, unless_refused}
 use Rattle.down_translator.specs.KeptLanes.{is_plain, kept_by, lane_at, lanes_after, piece_by, with_lane}
-use Rattle.down_translator.specs.Lowered.{attribute_line, lowered_bytes, has_attribute, message_goes_direct, voice_of}
+use Rattle.down_translator.specs.Lowered.{IsShortenedStep, attribute_line, goes_shortened, lowered_bytes, has_attribute}
+use Rattle.down_translator.specs.Lowered.{message_goes_direct, packet_goes_direct, shortened_bytes, voice_of}
 use Rattle.down_translator.specs.Step.{IsStep, lane_of}
-use Rattle.down_translator.proofs.LoweredLaws.{IsSingle, is_single_of}
+use Rattle.down_translator.proofs.LoweredLaws.{IsSingle, direct_packet, is_single_of, no_direct_packet, none_else}
 use Rattle.down_translator.proofs.PieceLaws.{piece1, single_piece}
 
 compact_is : (style : Style) → is_plain style ≡ false → style ≡ compact_style
@@ -78,3 +81,60 @@ module _ (state : DownState) (m : DirectMessage) (l : LoweredMessage) where
       state.lanes)
       (is.kept lane.channels)
       ∙ sym (ap (λ bad. lanes_after (unless_refused bad (Some m.group)) None p state.lanes) is.accepted)
+
+-- ---- the packets that are taken so
+
+pub not_shortened : (state : DownState) (p : Packet) → has_direct_kind p ≡ false → goes_shortened state p ≡ false
+not_shortened state p none =
+    none_else (not (is_plain state.lanes.style)) (packet_goes_direct state.lanes.paired p) (no_direct_packet state.lanes.paired p none)
+
+pub same_shortened : (state : DownState) (p : Packet) (m : DirectMessage) → IsDirectMessage m
+    → p ≡ packet.Voice2 m.group (direct_voice m)
+    → goes_shortened state p ≡ (not (is_plain state.lanes.style) && message_goes_direct state.lanes.paired m)
+same_shortened state p m is same =
+    ap (goes_shortened state) same ∙ ap (λ direct. not (is_plain state.lanes.style) && direct) (direct_packet state.lanes.paired m is)
+
+both_shortened : (plain direct : Bool) → (not plain && direct) ≡ true → (plain ≡ false) × (direct ≡ true)
+both_shortened true direct e = cc
+both_shortened false direct e = (refl, e)
+
+left_out : (running : Bool) (status : ℕ) (rest : List ℕ)
+    → option_to_list (cond running None (Some status)) ++ rest ≡ cond running rest (status ∷ rest)
+left_out true status rest = refl
+left_out false status rest = refl
+
+-- the bytes of a message, by whether its status byte is the running status
+pub shortened_is : (running : Option ℕ) (l : LoweredMessage) (s : ShortenedMessage) (is : Bool) → is ≡ is_running running l.status →
+    s.status ≡ cond is None (Some l.status) → s.first ≡ l.first → s.second ≡ l.second
+    → shortened_bytes s ≡ without_status running (lowered_bytes l)
+shortened_is running l s is same status first second =
+    ap (λ status. option_to_list status ++ (s.first ∷ option_to_list s.second)) status
+    ∙ ap (λ first. option_to_list (cond is None (Some l.status)) ++ (first ∷ option_to_list s.second)) first
+    ∙ ap (λ second. option_to_list (cond is None (Some l.status)) ++ (l.first ∷ option_to_list second)) second
+    ∙ left_out is l.status (l.first ∷ option_to_list l.second)
+    ∙ ap (λ is. cond is (l.first ∷ option_to_list l.second) (lowered_bytes l)) same
+
+pub taken_shortened : (state : DownState) (m : DirectMessage) (l : LoweredMessage) (s : ShortenedMessage) → IsDirectMessage m
+    → (not (is_plain state.lanes.style) && message_goes_direct state.lanes.paired m) ≡ true
+    → l.lane ≡ m.group → lowered_bytes l ≡ spelled_voice (voice_of m) → l.has_attribute ≡ has_attribute m
+    → s.lane ≡ l.lane → s.has_attribute ≡ l.has_attribute
+    → shortened_bytes s ≡ without_status (lane_at state.lanes.states l.lane).running (lowered_bytes l)
+    → IsShortenedStep state (packet.Voice2 m.group (direct_voice m)) s (record {
+      exclusives = state.exclusives;
+      lanes = kept_by l.lane (Changes (Some l.status)) (λ channels. channels) state.lanes;
+    })
+taken_shortened state m l s is whole lane bytes attribute lane_is attribute_is bytes_are =
+    let told = both_shortened (is_plain state.lanes.style) (message_goes_direct state.lanes.paired m) whole in
+    record {
+      whole = same_shortened state (packet.Voice2 m.group (direct_voice m)) m is refl ∙ whole;
+      lane = omega (arith, lane_is, lane, is.group);
+      step = λ offset carried answered.
+          shortened_step state m l offset carried is told.0 told.1 lane bytes attribute
+          (answered.piece ∙ bytes_are) (answered.lane ∙ lane_is)
+          (answered.line
+          ∙ ap (λ group. attribute_line offset group s.has_attribute) lane_is
+          ∙ ap (λ left_out. attribute_line offset l.lane left_out) attribute_is);
+      after = λ offset.
+          ap (λ lanes. record { exclusives = state.exclusives; lanes = lanes })
+          (sym (kept_shortened state m l is told.1 lane bytes));
+    }

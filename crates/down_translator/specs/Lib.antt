@@ -5,5 +5,6 @@ pub mod Laws
 pub mod Lend
 pub mod Lowered
 pub mod Recording
+pub mod Running
 pub mod Statuses
 pub mod Step

@@ -1,5 +1,5 @@
 -- Messages of the MIDI 2.0 protocol that one MIDI 1.0 message with their status byte carries (M2-104-UM, default translation).
-use Rattle.std.specs.Prelude.{◌<◌, ◌≡◌, ◌==◌, ◌/◌, ◌%◌, ◌^◌, ◌&&◌, not, ℕ, Bool, true, false, if◌then◌else◌, List, ◌∷◌, Option, Some, None}
+use Rattle.std.specs.Prelude.{◌<◌, ◌≡◌, ◌==◌, ◌/◌, ◌%◌, ◌^◌, ◌&&◌, not, ℕ, Bool, true, false, if◌then◌else◌, List, ◌∷◌, ◌++◌, Option, Some, None}
 use Rattle.std.specs.Option.{option_to_list}
 use Rattle.voice_messages.specs.declared.voice1.Voice1.{Voice1}
 use Rattle.voice_messages.specs.declared.voice1.Voice1.TheVariants as voice1
@@ -20,6 +20,7 @@ use Rattle.down_translator.specs.Held.{DownState, down_after, paired_of, style_o
 use Rattle.down_translator.specs.KeptLanes.{is_plain}
 use Rattle.down_translator.specs.Step.{IsStep}
 use Rattle.down_translator.specs.declared.lowered.LoweredMessage.{LoweredMessage}
+use Rattle.down_translator.specs.declared.shortened.ShortenedMessage.{ShortenedMessage}
 
 -- the data bytes, by the kind
 abbrev pub first_by : DirectKind → DirectMessage → ℕ
@@ -58,16 +59,23 @@ has_attribute m = is_note (kind_by (m.status / 16)) && not (m.attribute_type == 
 abbrev pub lowered_bytes : LoweredMessage → List ℕ
 lowered_bytes m = m.status ∷ m.first ∷ option_to_list m.second
 
+abbrev pub shortened_bytes : ShortenedMessage → List ℕ
+shortened_bytes m = option_to_list m.status ++ (m.first ∷ option_to_list m.second)
+
 -- its line of the listing, where its packet stands at this offset and it leaves out an attribute
 abbrev pub attribute_line : ℕ → ℕ → Bool → Option Listed
 attribute_line offset lane left_out =
     if left_out then Some (record { offset = offset; group = Some lane; kind = kinds.NoteAttribute }) else None
 
+-- an answer with these bytes in this lane, and with the line of an attribute that is left out
+pub record IsAnsweredAs (offset group : ℕ) (bytes : List ℕ) (left_out : Bool) (carried : Carried) : Type 0 where
+  pub piece : carried.piece.now ≡ bytes
+  pub lane : lane_in carried ≡ group
+  pub line : line_in carried ≡ attribute_line offset group left_out
+
 -- an answer with its bytes, its lane and its line
-pub record IsCarriedAs (offset : ℕ) (m : LoweredMessage) (carried : Carried) : Type 0 where
-  pub piece : carried.piece.now ≡ lowered_bytes m
-  pub lane : lane_in carried ≡ m.lane
-  pub line : line_in carried ≡ attribute_line offset m.lane m.has_attribute
+abbrev pub IsCarriedAs : ℕ → LoweredMessage → Carried → Type 0
+IsCarriedAs offset m carried = IsAnsweredAs offset m.lane (lowered_bytes m) m.has_attribute carried
 
 -- the index of a control change; of other messages that of a direct one
 abbrev pub index_by : DirectKind → DirectMessage → ℕ
@@ -97,3 +105,16 @@ pub record IsDirectStep (state : DownState) (packet : Packet) (m : LoweredMessag
   pub lane : m.lane < 16
   pub step : (offset : ℕ) (carried : Carried) → IsCarriedAs offset m carried → IsStep state offset packet carried
   pub after : (offset : ℕ) → down_after offset packet state ≡ state
+
+-- the packets that one message carries, perhaps without its status byte, in compact style
+abbrev pub goes_shortened : DownState → Packet → Bool
+goes_shortened state packet = not (is_plain (style_of state)) && packet_goes_direct (paired_of state) packet
+
+-- It is the whole step of a packet at any offset: an answer with its bytes is the packet's, in one of sixteen lanes, and this is held
+-- behind it.
+pub record IsShortenedStep (state : DownState) (packet : Packet) (m : ShortenedMessage) (behind : DownState) : Type 0 where
+  pub whole : goes_shortened state packet ≡ true
+  pub lane : m.lane < 16
+  pub step : (offset : ℕ) (carried : Carried) → IsAnsweredAs offset m.lane (shortened_bytes m) m.has_attribute carried
+      → IsStep state offset packet carried
+  pub after : (offset : ℕ) → down_after offset packet state ≡ behind

@@ -4,7 +4,7 @@ ghost use Rattle.sysex_groups.specs.Exclusives.{IsData};
 ghost use Rattle.ump_grammar.specs.Ranges.{IsPacket};
 ghost use Rattle.direct_packets.specs.DirectMessages.{IsDirectMessage, direct_voice};
 ghost use Rattle.down_translator.specs.KeptLanes.{is_plain};
-ghost use Rattle.down_translator.specs.Lowered.{IsDirectStep, message_goes_direct, goes_direct};
+ghost use Rattle.down_translator.specs.Lowered.{IsDirectStep, IsShortenedStep, message_goes_direct, goes_direct, goes_shortened};
 ghost use Rattle.ump_grammar.specs.declared.packet.Packet.TheVariants as packet;
 ghost use Rattle.voice_messages.specs.declared.voice2.Voice2.TheVariants as voice2;
 
@@ -14,7 +14,7 @@ use crate::listing::{line, paired_kind, voice_kind};
 use crate::lowered::{LoweredMessage, lowered};
 use crate::pieces::{Piece, write_paired, write_system, write_voice1, write_voice2};
 use crate::refusals::{bad_voice1, bad_voice2};
-use crate::shortened::{Bytes, attribute_line, control_index, write_shortened};
+use crate::shortened::{ShortenedMessage, control_index, unless_running};
 use crate::style::Style;
 use direct_packets::{DirectMessage, EncodedPacket, ExclusivePart};
 use midi_edge::{NoMemory, U4};
@@ -33,8 +33,6 @@ pub struct Down {
     groups: Groups,
     lanes: KeptLanes,
     piece: Piece,
-    // Lent in place of the piece where a message is written from the words of its packet.
-    message: Bytes,
 }
 
 impl Model for Down {
@@ -69,7 +67,6 @@ impl Down {
             groups,
             lanes,
             piece: Piece::new(),
-            message: [0; 3],
         })
     }
 
@@ -286,39 +283,60 @@ impl Down {
         self.lanes.is_shortened(control_index(message))
     }
 
-    // Takes such a message in compact style, with no packet taken apart.
-    #[tactic(auto, using(crate::proofs::ShortenedLaws::shortened_step, crate::proofs::ShortenedLaws::kept_shortened))]
-    #[inline(always)]
-    fn shortened(&mut self, message: &DirectMessage, offset: u64) -> Result<Carried<'_>, BadStep>
-        requires value { IsDirectMessage message.now }
-        requires compact { is_plain self.old.lanes.style ≡ false }
-        requires direct { message_goes_direct self.old.lanes.paired message.now ≡ true }
-        ensures answer { Translates self.old offset
-            (packet.Voice2 message.now.group (direct_voice message.now)) result }
-        ensures* after { sem 𝓛 (KeepsDown self.entry (down_after offset
-            (packet.Voice2 message.now.group (direct_voice message.now)) self.old)) }
-    {
-        let message = lowered(message);
-        let count = write_shortened(&mut self.message, &mut self.lanes, &message);
-        let listed = attribute_line(offset, &message);
-        Ok(Carried::new(message.lane, &self.message[..count], listed))
-    }
-
     /// Answers a packet that is held as its words as `packet` does. It is taken apart, unless it is a part of
-    /// an exclusive whose bytes are read from the words, or in compact style a message that is written from
-    /// the words.
+    /// an exclusive whose bytes are read from the words.
     #[inline(always)]
     pub fn encoded(&mut self, packet: &EncodedPacket, offset: u64) -> Result<Carried<'_>, BadStep>
         ensures answer { Translates self.old offset packet.now result }
         ensures* after { sem 𝓛 (KeepsDown self.entry (down_after offset packet.now self.old)) }
     {
-        // Most packets are such messages.
+        match packet.exclusive() {
+            Some(part) => self.part(part, offset),
+            None => self.packet(&packet.decode(), offset),
+        }
+    }
+
+    // Takes a direct message in compact style.
+    #[inline(always)]
+    fn shorten(&mut self, message: &DirectMessage) -> ShortenedMessage
+        requires value { IsDirectMessage message.now }
+        requires direct { (not (is_plain self.old.lanes.style)
+            && message_goes_direct self.old.lanes.paired message.now) ≡ true }
+        ensures { IsShortenedStep self.old (packet.Voice2 message.now.group (direct_voice message.now))
+            result self.new }
+    {
+        let LoweredMessage {
+            lane,
+            status,
+            first,
+            second,
+            has_attribute,
+        } = lowered(message);
+        let is_running = self.lanes.take_status(lane, status);
+        ShortenedMessage {
+            lane,
+            status: unless_running(is_running, status),
+            first,
+            second,
+            has_attribute,
+        }
+    }
+
+    /// Takes the packet, where in compact style one MIDI 1.0 message carries it and leaves the registers as
+    /// they are, and returns the message, without its status byte where that is the running status of its
+    /// lane (MIDI 1.0 Detailed Specification, running status). These are the packets of which `lowered`
+    /// speaks. It is the answer of `packet`, and what `packet` would leave is kept. `None` exactly for other
+    /// packets and in plain style, and then the translator stays as it is: `packet` has their answer.
+    #[tactic(auto, using(crate::proofs::ShortenedLaws::not_shortened, crate::proofs::ShortenedLaws::same_shortened))]
+    #[inline(always)]
+    pub fn shortened(&mut self, packet: &EncodedPacket) -> Option<ShortenedMessage>
+        ensures { MatchOption result
+            ((goes_shortened self.old packet.now ≡ false) × (self.new ≡ self.old))
+            (λ message. IsShortenedStep self.old packet.now message self.new) }
+    {
         match packet.direct_message() {
-            Some(message) if self.is_shortened(&message) => self.shortened(&message, offset),
-            _ => match packet.exclusive() {
-                Some(part) => self.part(part, offset),
-                None => self.packet(&packet.decode(), offset),
-            },
+            Some(message) if self.is_shortened(&message) => Some(self.shorten(&message)),
+            _ => None,
         }
     }
 

@@ -15,6 +15,7 @@ ghost use Rattle.midi_meaning.specs.LaneState.{
 ghost use Rattle.down_translator.specs.KeptLanes.{after_system};
 
 use crate::pieces::Piece;
+use crate::running::RunningStatus;
 use crate::statuses::add_unless_running;
 use midi_edge::{NoMemory, U4};
 use midi_meaning::Registers;
@@ -26,7 +27,7 @@ use voice_messages::{Bank, Param, System, U7, Voice1};
 /// of sixteen channels. A contract sees it as the definition's state of a lane.
 #[derive(Drop)]
 pub struct Lane {
-    running: Option<u8>,
+    running: RunningStatus,
     channels: Vec<Registers>,
 }
 
@@ -67,7 +68,7 @@ impl Lane {
             }
         }
         Ok(Lane {
-            running: None,
+            running: RunningStatus::none(),
             channels,
         })
     }
@@ -77,7 +78,7 @@ impl Lane {
     pub fn running(&self) -> Option<u8>
         ensures { result ≡ self.now.running }
     {
-        self.running
+        self.running.get()
     }
 
     /// Whether both halves of the channel's bank are these (MIDI 1.0 Detailed Specification, bank select).
@@ -108,25 +109,19 @@ impl Lane {
           channels = channels_after1 message.now self.old.channels;
         } }
     {
-        add_unless_running(piece, self.running, bytes);
-        self.running = Some(bytes[0]);
+        add_unless_running(piece, self.running.get(), bytes);
+        self.running = RunningStatus::some(bytes[0]);
         self.keep_registers(message);
     }
 
     /// Whether a status byte is the running status; from now on it is
     /// (MIDI 1.0 Detailed Specification, running status).
-    #[tactic(auto, using(crate::proofs::DirectLaws::running_is))]
     #[inline(always)]
     pub fn take_status(&mut self, status: u8) -> bool
         ensures running { result ≡ is_running self.old.running status }
         ensures after { self.new ≡ record { running = Some status; channels = self.old.channels } }
     {
-        if self.running == Some(status) {
-            true
-        } else {
-            self.running = Some(status);
-            false
-        }
+        self.running.take(status)
     }
 
     #[inline(always)]
@@ -164,7 +159,7 @@ impl Lane {
           channels = at_registers_of channel (with_selected param.now) self.old.channels;
         } }
     {
-        self.running = running;
+        self.running = RunningStatus::of(running);
         self.channels[channel.get() as usize].select(param);
     }
 
@@ -172,7 +167,7 @@ impl Lane {
     pub fn keep_running(&mut self, running: Option<u8>)
         ensures { self.new ≡ record { running = running; channels = self.old.channels } }
     {
-        self.running = running;
+        self.running = RunningStatus::of(running);
     }
 
     /// Keeps the running status, and a bank.
@@ -182,7 +177,7 @@ impl Lane {
           channels = at_registers_of channel (with_bank bank) self.old.channels;
         } }
     {
-        self.running = running;
+        self.running = RunningStatus::of(running);
         self.channels[channel.get() as usize].take_bank(bank);
     }
 
@@ -204,14 +199,14 @@ impl Lane {
     pub fn end_running(&mut self)
         ensures { self.new ≡ record { running = None; channels = self.old.channels } }
     {
-        self.running = None;
+        self.running = RunningStatus::none();
     }
 
     #[tactic(auto, using(crate::proofs::UnsetLaws::none_set))]
     fn forget(&mut self)
         ensures { self.new ≡ new_lane }
     {
-        self.running = None;
+        self.running = RunningStatus::none();
         self.forget_registers();
     }
 

@@ -1,20 +1,26 @@
 // Messages that compact style writes without their packets being taken apart.
-ghost use Rattle.std.specs.Prelude.{◌≡◌, ◌≤◌, ◌/◌, ◌∷◌, false, take};
-ghost use Rattle.std.specs.Option.{option_to_list};
-ghost use Rattle.midi1_bytes.specs.RunningStatus.{without_status};
-ghost use Rattle.down_translator.specs.KeptLanes.{is_plain, kept_by, lane_at};
+ghost use Rattle.std.specs.Prelude.{◌≡◌, ◌/◌, if◌then◌else◌, Some, None};
 ghost use Rattle.direct_packets.specs.DirectMessages.{kind_by};
-ghost use Rattle.down_translator.specs.Lowered.{attribute_line, index_by, lowered_bytes};
-ghost use Rattle.down_translator.specs.declared.statuses.Statuses.TheVariants.{Changes};
+ghost use Rattle.down_translator.specs.Lowered.{index_by};
 
-use crate::kept_lanes::KeptLanes;
-use crate::lowered::LoweredMessage;
 use direct_packets::{DirectKind, DirectMessage};
-use midi_meaning::{Kind, Listed};
-use voice_messages::U7;
+use voice_messages::{U4, U7};
 
-/// Places for the bytes of one message.
-pub type Bytes = [u8; 3];
+/// A MIDI 1.0 channel voice message in compact style, which alone carries a message of the MIDI 2.0 protocol.
+#[derive(Clone, Copy, Debug)]
+pub struct ShortenedMessage {
+    /// The lane, which is the packet's group.
+    pub lane: U4,
+    /// The status byte, 80 to BF, or D0 to EF; none where it is left out, since it is the running status of
+    /// the lane.
+    pub status: Option<u8>,
+    /// The first data byte.
+    pub first: U7,
+    /// The second data byte; none exactly in a channel pressure.
+    pub second: Option<U7>,
+    /// Whether it leaves out the attribute of a note, which is listed.
+    pub has_attribute: bool,
+}
 
 /// The index of a control change. Another message has that of a control change that is direct, so that
 /// nothing need be guessed.
@@ -29,72 +35,10 @@ pub fn control_index(message: &DirectMessage) -> U7
     }
 }
 
-// Writes the data bytes of a message into the first places, and tells how many they are.
-#[tactic(auto, using(crate::proofs::BytesLaws::one_written, crate::proofs::BytesLaws::two_written))]
+/// The status byte of a message, unless it is left out.
 #[inline(always)]
-fn write_data(bytes: &mut Bytes, message: &LoweredMessage) -> usize
-    ensures count { result ≤ 3 }
-    ensures bytes { take result bytes.new ≡ message.now.first ∷ option_to_list message.now.second }
+pub fn unless_running(is_running: bool, status: u8) -> Option<u8>
+    ensures { result ≡ if is_running then None else Some status }
 {
-    bytes[0] = message.first.get();
-    match message.second {
-        Some(second) => {
-            bytes[1] = second.get();
-            2
-        }
-        None => 1,
-    }
-}
-
-// Writes all bytes of a message, and tells how many they are.
-#[tactic(auto, using(crate::proofs::BytesLaws::two_written))]
-#[inline(always)]
-fn write_whole(bytes: &mut Bytes, message: &LoweredMessage) -> usize
-    ensures count { result ≤ 3 }
-    ensures bytes { take result bytes.new ≡ lowered_bytes message.now }
-{
-    bytes[0] = message.status;
-    bytes[1] = message.first.get();
-    match message.second {
-        Some(second) => {
-            bytes[2] = second.get();
-            3
-        }
-        None => 2,
-    }
-}
-
-/// Writes a message that leaves the registers as they are, in compact style: without its status byte where
-/// that is the running status of its lane, as it is from now on (MIDI 1.0 Detailed Specification, running
-/// status). Tells how many bytes are written, 1 to 3.
-#[inline(always)]
-pub fn write_shortened(bytes: &mut Bytes, lanes: &mut KeptLanes, message: &LoweredMessage) -> usize
-    requires { is_plain lanes.old.style ≡ false }
-    ensures count { result ≤ 3 }
-    ensures bytes { take result bytes.new
-        ≡ without_status (lane_at lanes.old.states message.now.lane).running (lowered_bytes message.now) }
-    ensures after { lanes.new
-        ≡ kept_by message.now.lane (Changes (Some message.now.status)) (λ channels. channels) lanes.old }
-{
-    if lanes.take_status(message.lane, message.status) {
-        write_data(bytes, message)
-    } else {
-        write_whole(bytes, message)
-    }
-}
-
-/// The line of the attribute that a message leaves out, if it does.
-#[inline(always)]
-pub fn attribute_line(offset: u64, message: &LoweredMessage) -> Option<Listed>
-    ensures { result ≡ attribute_line offset message.now.lane message.now.has_attribute }
-{
-    if message.has_attribute {
-        Some(Listed {
-            offset,
-            group: Some(message.lane),
-            kind: Kind::NoteAttribute,
-        })
-    } else {
-        None
-    }
+    if is_running { None } else { Some(status) }
 }

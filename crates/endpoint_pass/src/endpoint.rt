@@ -26,11 +26,12 @@ ghost use Rattle.endpoint_pass.specs.Taking.{TakesPacket};
 use crate::lines::put_taken;
 use crate::replies::put_replies;
 use ci_text::{LinePlace, ProfileStates, put_profiles};
+use direct_packets::EncodedPacket;
 use function_blocks::{Block, Setup};
 use listing_lines::{OpenExclusives, list_open, refused};
 use midi_edge::{Lanes, NoMemory, Sink, Source, U4};
 use midi_lines::{Line, block_line, protocol_line};
-use packet_input::{PacketReader, packets_are_cut_once};
+use packet_input::{EncodedReader, packets_are_cut_once};
 use pass_loop::{Engine, Outputs, RunEnd, drive};
 use std::alloc::Global;
 use std::marker::Model;
@@ -108,7 +109,7 @@ impl ProfileStates for EndpointEngine {
     }
 }
 
-impl Engine<Framed, Packet> for EndpointEngine {
+impl Engine<Framed, EncodedPacket> for EndpointEngine {
     ghost work = { λ first. answering (endpoint_options first) };
 
     ghost IsReady = { λ first. IsReadyEndpoint first };
@@ -124,11 +125,11 @@ impl Engine<Framed, Packet> for EndpointEngine {
     fn step<O: Outputs>(
         &mut self,
         at: &Framed,
-        item: &Packet,
+        item: &EncodedPacket,
         outputs: &mut O,
     ) -> Result<(), RunEnd> {
         answers_are_those_of_the_history();
-        self.take_packet(at.offset, item, outputs)
+        self.take_encoded(at.offset, item, outputs)
     }
 
     fn close<O: Outputs>(&self, outputs: &mut O) -> Result<(), RunEnd> {
@@ -187,6 +188,44 @@ fn put_blocks<O: Outputs>(setup: &Setup, endpoint: &Endpoint, outputs: &mut O) -
 }
 
 impl EndpointEngine {
+    // The same as `take_packet`. Most packets are direct messages, which have
+    // no reply and no line, so these aren't taken apart.
+    #[inline(always)]
+    fn take_encoded<O: Outputs>(
+        &mut self,
+        offset: u64,
+        packet: &EncodedPacket,
+        outputs: &mut O,
+    ) -> Result<(), RunEnd>
+        requires packet { IsPacket packet.now }
+        ensures order { self.new.order ≡ self.old.order }
+        ensures held { self.new.endpoint.held ≡ after_packet offset packet.now self.old.endpoint.held }
+        ensures takes { TakesPacket self.old.order self.old.endpoint.held offset packet.now
+            (O.places outputs.old) (O.places outputs.new) result }
+    {
+        match packet.direct_message() {
+            Some(_) => Ok(()),
+            None => self.take_apart(offset, packet, outputs),
+        }
+    }
+
+    // The same of any packet, out of line, so that the loop stays small.
+    #[inline(never)]
+    fn take_apart<O: Outputs>(
+        &mut self,
+        offset: u64,
+        packet: &EncodedPacket,
+        outputs: &mut O,
+    ) -> Result<(), RunEnd>
+        requires packet { IsPacket packet.now }
+        ensures order { self.new.order ≡ self.old.order }
+        ensures held { self.new.endpoint.held ≡ after_packet offset packet.now self.old.endpoint.held }
+        ensures takes { TakesPacket self.old.order self.old.endpoint.held offset packet.now
+            (O.places outputs.old) (O.places outputs.new) result }
+    {
+        self.take_packet(offset, &packet.decode(), outputs)
+    }
+
     // Takes one more packet: puts the words of the replies to it in the output, and its lines in the notes.
     fn take_packet<O: Outputs>(
         &mut self,
@@ -269,6 +308,6 @@ pub fn run_endpoint<S: Source, L: Lanes, W: Sink, N: Sink>(
         order,
         line: Line::new(),
     };
-    let reader = PacketReader::new(order);
+    let reader = EncodedReader::new(order);
     drive(reader, engine, input, lanes, output, notes)
 }

@@ -2,11 +2,11 @@
 use Rattle.std.proofs.Common.{◌≡◌, ◌+◌, ◌-◌, ◌<◌, ◌≤◌, ℕ, List, ◌++◌, length, take, drop}
 use Rattle.std.proofs.Common.{Option, None, Some, refl, ap, sym, ◌∙◌, arith, subst}
 use Rattle.std.proofs.lemmas.List.{append_assoc, length-take-le, take-append-drop}
-use Rattle.std.specs.Prelude.{MatchOption}
+use Rattle.std.proofs.Math.Nat.{min-le_left, min-le_right}
 use Rattle.item_reader.specs.Cut.{IsItem, IsLength}
 use Rattle.item_reader.specs.Front.{Sees}
 use Rattle.midi_edge.specs.Outside.{Loses, ahead}
-use Rattle.item_reader.specs.Reading.{Reading, Gives, cursor}
+use Rattle.item_reader.specs.Reading.{Reading, Gives, cursor, allowed_by, allowed_bytes}
 use Rattle.item_reader.specs.declared.cutting.Tail.{Tail}
 use Rattle.item_reader.specs.declared.reader.Front.TheVariants.{Item as FrontItem, TooLong as FrontTooLong}
 use Rattle.item_reader.proofs.CutLaws.{few-front, item_taken}
@@ -30,13 +30,50 @@ item_seen asked lengths window room size sees =
     let P : ℕ → Type 0 = λ n. IsItem asked (take n window) in
     subst P (sym sees.0) (item_taken asked lengths window (omega (arith, sees.0, sees.1)))
 
--- where an item is seen, the items go on: once they have ended there is no room for one
-pub still_going : (asked : List ℕ → ℕ) → IsLength asked → (window : List ℕ) (at limit stop size : ℕ) (end : Option Tail)
-    → MatchOption end (stop ≡ limit) (λ tail. stop ≡ at)
-    → Sees asked window (stop - at) (FrontItem size) → (end ≡ None) × (stop ≡ limit)
-still_going asked lengths window at limit stop size None stops sees = (refl, stops)
-still_going asked lengths window at limit stop size (Some tail) stops sees =
-    absurd (omega (arith, stops, sees.0, sees.2, lengths.some, lengths.least window))
+-- the bytes that may be given out are held, and within the room
+allowed-fits : (end : Option Tail) (held room : ℕ) → (allowed_by end held room ≤ held) × (allowed_by end held room ≤ room)
+allowed-fits None held room = (min-le_left held room, min-le_right held room)
+allowed-fits (Some tail) held room = (omega arith, omega arith)
+
+pub allowed-held : (end : Option Tail) (held room allowed : ℕ) → allowed ≡ allowed_by end held room → allowed ≤ held
+allowed-held end held room allowed is_allowed = omega (arith, is_allowed, (allowed-fits end held room).0)
+
+-- what is asked for by bytes in which an item is whole is asked for by all
+asked-whole : (asked : List ℕ → ℕ) → IsLength asked → (window : List ℕ) (allowed : ℕ) → allowed ≤ length window
+    → asked (take allowed window) ≤ allowed → asked (take allowed window) ≡ asked window
+asked-whole asked lengths window allowed fits whole =
+    let len : length (take allowed window) ≡ allowed = length-take-le allowed window fits in
+    let enough : lengths.head ≤ length (take allowed window) = omega (arith, lengths.least (take allowed window), len, whole) in
+    sym (lengths.told (take allowed window) (drop allowed window) enough) ∙ ap asked (take-append-drop allowed window)
+
+going-on : (end : Option Tail) (held room : ℕ) → 0 < allowed_by end held room → end ≡ None
+going-on None held room some = refl
+going-on (Some tail) held room some = absurd (omega (arith, some))
+
+-- An item that is whole in the bytes that may be given out is seen, and the items go on: once they have ended there are no such
+-- bytes.
+pub allowed_item : (asked : List ℕ → ℕ) → IsLength asked → (window : List ℕ) (end : Option Tail) (room allowed size : ℕ)
+    → allowed ≡ allowed_by end (length window) room → size ≡ asked (take allowed window) → size ≤ allowed
+    → (end ≡ None) × Sees asked window room (FrontItem size)
+allowed_item asked lengths window end room allowed size is_allowed is_size whole =
+    let fits = allowed-fits end (length window) room in
+    let same : size ≡ asked window =
+    is_size
+    ∙ asked-whole asked lengths window allowed (omega (arith, is_allowed, fits.0)) (omega (arith, is_size, whole)) in
+    let some : 0 < allowed_by end (length window) room = omega (arith, is_allowed, whole, same, lengths.some, lengths.least window) in
+    let seen : Sees asked window room (FrontItem size) =
+    (same, omega (arith, is_allowed, fits.0, whole), omega (arith, is_allowed, fits.1, whole)) in
+    (going-on end (length window) room some, seen)
+
+-- the same of a reader, which is this one now
+pub seen_item : {How : Type 0} (asked : How → List ℕ → ℕ) (reader now : Reading How) → IsLength (asked reader.how) → reader ≡ now
+    → (allowed size : ℕ) → allowed ≡ allowed_bytes reader → size ≡ asked reader.how (take allowed reader.pending) → size ≤ allowed
+    → (now.end ≡ None) × Sees (asked now.how) now.pending (now.limit - now.offset) (FrontItem size)
+seen_item {How} asked reader now lengths is_now allowed size is_allowed is_size whole =
+    let P : Reading How → Type 0 =
+    λ r. (r.end ≡ None) × Sees (asked r.how) r.pending (r.limit - r.offset) (FrontItem size) in
+    subst P is_now
+    (allowed_item (asked reader.how) lengths reader.pending reader.end (reader.limit - reader.offset) allowed size is_allowed is_size whole)
 
 module _ {How : Type 0} (asked : How → List ℕ → ℕ) (how : How) (at limit : ℕ) (end : Option Tail) (pending window : List ℕ)
     (left now : Option (List ℕ)) (same : ahead window now ≡ ahead pending left) where

@@ -4,3 +4,4 @@ pub mod CutLaws
 pub mod Front
 pub mod Reading
 pub mod SoFar
+pub mod Window

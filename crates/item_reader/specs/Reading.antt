@@ -1,5 +1,6 @@
 -- What a reader of items answers.
-use Rattle.std.specs.Prelude.{◌≡◌, ℕ, ◌+◌, ◌≤◌, List, [], ◌++◌, length, Option, None, Some, Result, Ok, Err, IfSome}
+use Rattle.std.specs.Prelude.{◌≡◌, ℕ, ◌+◌, ◌-◌, ◌≤◌, min, nat_lt, Bool, List, [], ◌++◌, length, take}
+use Rattle.std.specs.Prelude.{Option, None, Some, Result, Ok, Err, IfSome}
 use Rattle.item_reader.specs.Cut.{IsItem, IsRest, Ends}
 use Rattle.midi_edge.specs.Outside.{Loses, Rose, ahead}
 use Rattle.item_reader.specs.declared.cutting.Tail.{Tail}
@@ -19,6 +20,18 @@ pub record Reading (How : Type 0) : Type 0 where
 -- a reader that has taken nothing
 abbrev pub new_reading : {How : Type 0} → How → ℕ → Reading How
 new_reading how limit = record { how = how; pending = []; offset = 0; limit = limit; end = None }
+
+-- how many of the bytes that are held may be given out: those within the room, and once the items have ended none
+abbrev pub allowed_by : Option Tail → ℕ → ℕ → ℕ
+allowed_by None held room = min held room
+allowed_by (Some tail) held room = 0
+
+abbrev pub allowed_bytes : {How : Type 0} → Reading How → ℕ
+allowed_bytes reader = allowed_by reader.end (length reader.pending) (reader.limit - reader.offset)
+
+-- whether no item can be given out of the bytes that are held
+abbrev pub needs_input : {How : Type 0} → (List ℕ → ℕ) → Reading How → Bool
+needs_input asked reader = let allowed = allowed_bytes reader in nat_lt allowed (asked (take allowed reader.pending))
 
 -- A reader over its source, at some place in the stream: the reader, and what the source has left, where it tells that.
 pub record Cursor (How : Type 0) : Type 0 where

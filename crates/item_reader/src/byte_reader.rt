@@ -1,7 +1,7 @@
 // A reader of bytes from a source.
-ghost use Rattle.std.specs.Prelude.{◌≡◌, ◌↔◌, IsTrue, ◌≢◌, ℕ, ◌≤◌, ◌<◌, ◌^◌, length, IfSome};
+ghost use Rattle.std.specs.Prelude.{◌≡◌, ◌≢◌, ℕ, ◌≤◌, ◌<◌, ◌^◌, length, IfSome};
 ghost use Rattle.item_reader.specs.ByteReader.{byte_at, byte_length, new_bytes, one_byte};
-ghost use Rattle.item_reader.specs.Reading.{Answers, ReadCause, answer_of, cursor};
+ghost use Rattle.item_reader.specs.Reading.{Answers, ReadCause, answer_of, cursor, needs_input};
 
 use crate::cutting::Cut;
 use crate::reader::ItemReader;
@@ -79,10 +79,10 @@ impl ByteReader {
         self.items.next(src)
     }
 
-    /// No byte is held, so that `next` asks the source, unless the bytes have ended.
+    /// No byte is held within the limit, so that `next` asks the source, unless the bytes have ended.
     #[inline(always)]
     pub fn needs_input(&self) -> bool
-        ensures { IsTrue result ↔ (length self.now.pending < 1) }
+        ensures { result ≡ needs_input one_byte self.now }
     {
         self.items.needs_input()
     }

@@ -1,9 +1,9 @@
 // A reader of items from a source.
-ghost use Rattle.std.specs.Prelude.{◌≡◌, ◌≤◌, ◌<◌, ◌↔◌, IsTrue, ◌+◌, ◌-◌, ◌==◌, ◌^◌, None, length, take, drop, IfSome, IfOk, OnErr, if◌then◌else◌};
+ghost use Rattle.std.specs.Prelude.{◌≡◌, ◌≤◌, ◌<◌, ◌+◌, ◌-◌, ◌==◌, ◌^◌, None, length, take, drop, IfSome, IfOk, OnErr, if◌then◌else◌};
 ghost use Rattle.item_reader.specs.Cut.{IsRest};
 ghost use Rattle.item_reader.specs.Front.{Sees};
 ghost use Rattle.midi_edge.specs.Outside.{ahead, HasCause, IsUsedUp};
-ghost use Rattle.item_reader.specs.Reading.{Answers, Keeps, ReadCause, answer_of, cursor, new_reading};
+ghost use Rattle.item_reader.specs.Reading.{Answers, Keeps, ReadCause, answer_of, cursor, needs_input, new_reading};
 
 use crate::cutting::{Cut, Tail};
 use crate::window::Window;
@@ -17,28 +17,25 @@ pub struct ItemReader<H> {
     window: Window,
     offset: u64,
     limit: u64,
-    // Up to where items are given out: the limit, and once the items
-    // have ended the offset, so that none is left.
-    stop: u64,
     end: Option<Tail>,
 }
 
 impl<H> Model for ItemReader<H> {
-    ghost use Rattle.std.specs.Prelude.{◌≡◌, ◌^◌, ◌≤◌, MatchOption};
-    ghost use Rattle.item_reader.specs.Reading.{Reading};
+    ghost use Rattle.std.specs.Prelude.{◌≡◌, ◌-◌, ◌^◌, ◌≤◌, length};
+    ghost use Rattle.item_reader.specs.Reading.{Reading, allowed_by};
 
     ghost Value = { Reading H };
 
     ghost view = { λ r. record {
       how = r.how;
-      pending = r.window;
+      pending = r.window.bytes;
       offset = r.offset;
       limit = r.limit;
       end = r.end;
     } };
 
     ghost invariant = { λ r. (r.offset ≤ r.limit) × (r.limit ≤ 2 ^ 62)
-        × MatchOption r.end (r.stop ≡ r.limit) (λ tail. r.stop ≡ r.offset) };
+        × (r.window.allowed ≡ allowed_by r.end (length r.window.bytes) (r.limit - r.offset)) };
 }
 
 impl<H: Cut> ItemReader<H> {
@@ -53,7 +50,6 @@ impl<H: Cut> ItemReader<H> {
             window: Window::new(),
             offset: 0,
             limit,
-            stop: limit,
             end: None,
         }
     }
@@ -76,20 +72,22 @@ impl<H: Cut> ItemReader<H> {
         ensures held { H.asked self.old.how self.old.pending ≤ length self.old.pending → src.new ≡ src.old }
         ensures cause { ReadCause (S.faults src.old) (S.faults src.new) result }
     {
-        let room = self.stop - self.offset;
-        match front_of(&self.how, self.window.bytes(), room) {
-            Front::Item(size) => Ok(Some(self.give(size))),
-            Front::TooLong | Front::Partial => self.next_taken(src),
+        let allowed = self.window.allowed();
+        let size = self.how.asked(allowed);
+        if size <= allowed.len() {
+            Ok(Some(self.give(size)))
+        } else {
+            self.next_taken(src)
         }
     }
 
-    /// No whole item is held, so that `next` asks the source, unless the items have ended.
+    /// No whole item is held within the limit, so that `next` asks the source, unless the items have ended.
     #[inline(always)]
     pub fn needs_input(&self) -> bool
-        ensures { IsTrue result ↔ (length self.now.pending < H.asked self.now.how self.now.pending) }
+        ensures { result ≡ needs_input (H.asked self.now.how) self.now }
     {
-        let held = self.window.bytes();
-        self.how.asked(held) > held.len()
+        let allowed = self.window.allowed();
+        self.how.asked(allowed) > allowed.len()
     }
 
     // The next answer where no whole item is held, so that the source is asked, unless the items have ended.
@@ -108,19 +106,25 @@ impl<H: Cut> ItemReader<H> {
         }
         let room = self.limit - self.offset;
         match look_ahead(&self.how, &mut self.window, room, src) {
-            Ok(Front::Item(size)) => Ok(Some(self.give(size))),
+            Ok(Front::Item(size)) => {
+                self.window.allow(room);
+                Ok(Some(self.give(size)))
+            }
             Ok(Front::TooLong) => {
-                self.stop = self.offset;
+                self.window.allow(0);
                 self.end = Some(Tail::TooLong);
                 Err(ReadStop::TooLong)
             }
             Ok(Front::Partial) => {
                 let tail = tail_at(self.window.bytes(), self.offset);
-                self.stop = self.offset;
+                self.window.allow(0);
                 self.end = Some(tail);
                 answer(tail)
             }
-            Err(failed) => Err(ReadStop::Read(failed)),
+            Err(failed) => {
+                self.window.allow(room);
+                Err(ReadStop::Read(failed))
+            }
         }
     }
 
@@ -199,12 +203,12 @@ fn look_ahead<H: Cut, S: Source>(
     room: u64,
     src: &mut S,
 ) -> Result<Front, Failed>
-    ensures ahead { ahead window.new (S.left src.new) ≡ ahead window.old (S.left src.old) }
-    ensures kept { Keeps window.old window.new }
-    ensures seen { IfOk result (λ front. Sees (H.asked how.now) window.new room front) }
+    ensures ahead { ahead window.new.bytes (S.left src.new) ≡ ahead window.old.bytes (S.left src.old) }
+    ensures kept { Keeps window.old.bytes window.new.bytes }
+    ensures seen { IfOk result (λ front. Sees (H.asked how.now) window.new.bytes room front) }
     ensures end { IfOk result (λ front. front ≡ Front.Partial → IsUsedUp (S.left src.new)) }
-    ensures err { OnErr result (IsRest (H.asked how.now) window.new × (length window.new ≤ room)) }
-    ensures held { H.asked how.now window.old ≤ length window.old → src.new ≡ src.old }
+    ensures err { OnErr result (IsRest (H.asked how.now) window.new.bytes × (length window.new.bytes ≤ room)) }
+    ensures held { H.asked how.now window.old.bytes ≤ length window.old.bytes → src.new ≡ src.old }
     ensures cause { HasCause (S.faults src.old) (S.faults src.new) result }
 {
     match front_of(how, window.bytes(), room) {
@@ -220,12 +224,12 @@ fn take_more<H: Cut, S: Source>(
     room: u64,
     src: &mut S,
 ) -> Result<Front, Failed>
-    requires { Sees (H.asked how.now) window.old room Front.Partial }
-    ensures ahead { ahead window.new (S.left src.new) ≡ ahead window.old (S.left src.old) }
-    ensures kept { Keeps window.old window.new }
-    ensures seen { IfOk result (λ front. Sees (H.asked how.now) window.new room front) }
+    requires { Sees (H.asked how.now) window.old.bytes room Front.Partial }
+    ensures ahead { ahead window.new.bytes (S.left src.new) ≡ ahead window.old.bytes (S.left src.old) }
+    ensures kept { Keeps window.old.bytes window.new.bytes }
+    ensures seen { IfOk result (λ front. Sees (H.asked how.now) window.new.bytes room front) }
     ensures end { IfOk result (λ front. front ≡ Front.Partial → IsUsedUp (S.left src.new)) }
-    ensures err { OnErr result (IsRest (H.asked how.now) window.new × (length window.new ≤ room)) }
+    ensures err { OnErr result (IsRest (H.asked how.now) window.new.bytes × (length window.new.bytes ≤ room)) }
     ensures cause { HasCause (S.faults src.old) (S.faults src.new) result }
 {
     loop {

@@ -1,5 +1,5 @@
 // A buffer between a source and its reader.
-ghost use Rattle.std.specs.Prelude.{◌≡◌, ◌+◌, ◌<◌, ◌≤◌, [], drop, length, OnErr, IfOk, MatchBool};
+ghost use Rattle.std.specs.Prelude.{◌≡◌, ◌+◌, ◌-◌, ◌<◌, ◌≤◌, [], drop, length, min, take, OnErr, IfOk, MatchBool};
 ghost use Rattle.midi_edge.specs.Outside.{HasCause, IsUsedUp, ahead};
 ghost use Rattle.item_reader.specs.Reading.{Keeps};
 
@@ -8,32 +8,40 @@ use std::marker::Model;
 
 const SIZE: usize = 4096;
 
-/// Bytes that were taken from a source and not yet given out. To a contract it is these bytes.
+/// Bytes that were taken from a source and not yet given out, of which those
+/// at the front are allowed to be. A contract sees both.
 #[derive(Drop)]
 pub struct Window {
     bytes: [u8; 4096],
     start: usize,
+    // Up to where bytes are allowed to be given out.
+    stop: usize,
     end: usize,
 }
 
 impl Model for Window {
-    ghost use Rattle.std.specs.Prelude.{ℕ, ◌-◌, ◌≤◌, List, take, drop};
+    ghost use Rattle.std.specs.Prelude.{◌-◌, ◌≤◌, take, drop};
+    ghost use Rattle.item_reader.specs.Window.{Held};
 
-    ghost Value = { List ℕ };
+    ghost Value = { Held };
 
-    ghost view = { λ w. take (w.end - w.start) (drop w.start w.bytes) };
+    ghost view = { λ w. record {
+      bytes = take (w.end - w.start) (drop w.start w.bytes);
+      allowed = w.stop - w.start;
+    } };
 
-    ghost invariant = { λ w. (w.start ≤ w.end) × (w.end ≤ 4096) };
+    ghost invariant = { λ w. (w.start ≤ w.stop) × (w.stop ≤ w.end) × (w.end ≤ 4096) };
 }
 
 impl Window {
     /// An empty window.
     pub fn new() -> Self
-        ensures { result ≡ [] }
+        ensures { result ≡ record { bytes = []; allowed = 0 } }
     {
         Window {
             bytes: [0; 4096],
             start: 0,
+            stop: 0,
             end: 0,
         }
     }
@@ -41,35 +49,62 @@ impl Window {
     /// The bytes that it holds, at most 4,096.
     #[inline]
     pub fn bytes(&self) -> &[u8]
-        ensures bytes { result.now ≡ self.now }
-        ensures size { length self.now ≤ 4096 }
+        ensures bytes { result.now ≡ self.now.bytes }
+        ensures size { length self.now.bytes ≤ 4096 }
     {
         &self.bytes[self.start..self.end]
+    }
+
+    /// Those that are allowed to be given out.
+    #[inline]
+    pub fn allowed(&self) -> &[u8]
+        ensures bytes { result.now ≡ take self.now.allowed self.now.bytes }
+        ensures size { length result.now ≡ self.now.allowed }
+    {
+        &self.bytes[self.start..self.stop]
+    }
+
+    /// Allows the bytes to be given out that are within this room.
+    pub fn allow(&mut self, room: u64)
+        ensures { self.new ≡ record self.old { allowed = min (length self.old.bytes) room } }
+    {
+        let held = self.end - self.start;
+        self.stop = if held as u64 <= room {
+            self.end
+        } else {
+            self.start + room as usize
+        };
     }
 
     /// Gives out the first `count` bytes.
     #[inline]
     pub fn consume(&mut self, count: usize)
-        requires { count ≤ length self.old }
-        ensures { self.new ≡ drop count self.old }
+        requires { count ≤ self.old.allowed }
+        ensures { self.new ≡ record {
+          bytes = drop count self.old.bytes;
+          allowed = self.old.allowed - count;
+        } }
     {
         self.start += count;
     }
 
-    /// Takes more bytes by one `take`. The answer is false at the end
-    /// of the source. After an `Err` all is as it was.
+    /// Takes more bytes by one `take`, of which none is allowed yet. The answer is
+    /// false at the end of the source. After an `Err` all is as it was.
     #[inline(never)]
     pub fn fill<S: Source>(&mut self, source: &mut S) -> Result<bool, Failed>
-        requires { length self.old < 4096 }
-        ensures ahead { ahead self.new (S.left source.new) ≡ ahead self.old (S.left source.old) }
-        ensures kept { Keeps self.old self.new }
-        ensures more { IfOk result (λ is_more. MatchBool is_more (length self.old < length self.new)
-            ((self.new ≡ self.old) × IsUsedUp (S.left source.new))) }
-        ensures err { OnErr result ((self.new ≡ self.old) × (S.left source.new ≡ S.left source.old)) }
+        requires { length self.old.bytes < 4096 }
+        ensures ahead { ahead self.new.bytes (S.left source.new) ≡ ahead self.old.bytes (S.left source.old) }
+        ensures kept { Keeps self.old.bytes self.new.bytes }
+        ensures more { IfOk result (λ is_more. MatchBool is_more
+            (length self.old.bytes < length self.new.bytes)
+            ((self.new.bytes ≡ self.old.bytes) × IsUsedUp (S.left source.new))) }
+        ensures err { OnErr result ((self.new.bytes ≡ self.old.bytes)
+            × (S.left source.new ≡ S.left source.old)) }
         ensures cause { HasCause (S.faults source.old) (S.faults source.new) result }
     {
         self.bytes.copy_within(self.start..self.end, 0);
         self.end -= self.start;
+        self.stop = 0;
         self.start = 0;
         let count = source.take(&mut self.bytes[self.end..])?;
         self.end += count;

@@ -8,3 +8,12 @@ mod folder_lanes;
 mod folders;
 mod mem_shelf;
 mod scripted;
+
+use std::fmt::Debug;
+use std::process::Abort;
+
+// Fails where what was found is not what is expected, and prints both. A function of its own is proved once,
+// `assert_eq!` at each place.
+fn is_same<T: PartialEq + Debug>(rt: &impl Abort, found: &T, expected: &T) {
+    assert_eq!(rt; *found, *expected);
+}

@@ -1,6 +1,5 @@
 -- The text of a number, from that of its front and its last digits.
 use Rattle.std.proofs.Common.{◌≡◌, ℕ, ◌+◌, ◌/◌, ◌%◌, ◌^◌, ◌<◌, ◌≤◌, List, [], ◌∷◌, ◌++◌, length, ap, sym, ◌∙◌, arith, append_assoc}
-use lib.ListN.{length-append}
 use Rattle.std.specs.Fmt.{decimal}
 use Rattle.std.proofs.lemmas.Fmt.{decimal_digit, decimal_step, length-decimal-le}
 use Rattle.midi_lines.specs.Digits.{two_digits}
@@ -26,6 +25,9 @@ three_digits n few = length-decimal-le 3 n (omega arith) (omega arith) (omega ar
 
 pub four_digits : (n : ℕ) → n < 10000 → length (decimal n) ≤ 4
 four_digits n few = length-decimal-le 4 n (omega arith) (omega arith) (omega arith)
+
+pub six_digits : (n : ℕ) → n < 1000000 → length (decimal n) ≤ 6
+six_digits n few = length-decimal-le 6 n (omega arith) (omega arith) (omega arith)
 
 pub ten_digits : (n : ℕ) → n < 2 ^ 32 → length (decimal n) ≤ 10
 ten_digits n few = length-decimal-le 10 n (omega arith) (omega arith) (omega arith)
@@ -71,6 +73,3 @@ four_behind n line least most =
     append_assoc (line ++ decimal (n / 10000)) first second
     ∙ append_assoc line (decimal (n / 10000)) (first ++ second)
     ∙ ap (λ l. line ++ l) (sym (decimal_four n least most))
-
-pub four_more : (a b : ℕ) (line : List ℕ) → length ((line ++ two_digits a) ++ two_digits b) ≡ length line + 4
-four_more a b line = omega (arith, length-append (line ++ two_digits a) (two_digits b), length-append line (two_digits a))

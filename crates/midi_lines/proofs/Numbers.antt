@@ -78,6 +78,25 @@ small_number n h =
       ]
     ]
 
+abbrev has_count : ℕ → ℕ → Bool
+has_count count n = eqb (byte_at n 3) count
+
+-- the last byte of a number below 256 says how many digits it has
+pub count_in_table : (n : ℕ) → n < 256 → get_or SMALL_NUMBERS (n * 4 + 3) 0 ≡ length (decimal n)
+count_in_table n h =
+    elim (eq-zero-or-pos (n - 9)) [
+      | inl z ↦ let few : n < 10 = omega arith in rw (decimal_one n few) (eqb→eq (byte_at n 3) 1 (each_below (has_count 1) 10 n tt few))
+      | inr g ↦ elim (eq-zero-or-pos (n - 99)) [
+        | inl z ↦
+            let least : 10 ≤ n = omega arith in
+            let most : n < 100 = omega arith in
+            rw (decimal_two n least most) (eqb→eq (byte_at n 3) 2 (each_from (has_count 2) 10 90 n tt least most))
+        | inr g' ↦
+            let least : 100 ≤ n = omega arith in
+            rw (decimal_three n least (omega arith)) (eqb→eq (byte_at n 3) 3 (each_from (has_count 3) 100 156 n tt least h))
+      ]
+    ]
+
 -- the table of the two digits of each number below 100
 abbrev is_pair : ℕ → Bool
 is_pair n = eqb (get_or DECIMAL_PAIRS (n * 2) 0) (48 + n / 10) && eqb (get_or DECIMAL_PAIRS (n * 2 + 1) 0) (48 + n % 10)

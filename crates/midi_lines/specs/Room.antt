@@ -12,6 +12,10 @@ longest_number = 20
 abbrev pub longest_value : ℕ
 longest_value = 10
 
+-- the digits of the largest number of 32 bits but the last four
+abbrev pub longest_front : ℕ
+longest_front = 6
+
 -- ` attribute=`
 abbrev pub longest_label : ℕ
 longest_label = 11

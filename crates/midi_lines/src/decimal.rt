@@ -1,30 +1,47 @@
 // Numbers in decimal digits.
-ghost use Rattle.std.specs.Prelude.{◌≡◌, ◌<◌, ◌≤◌, ◌/◌, ◌%◌, ◌++◌, decimal, length};
+ghost use Rattle.std.specs.Prelude.{◌≡◌, ◌<◌, ◌/◌, ◌%◌, ◌++◌, decimal};
 ghost use Rattle.midi_lines.specs.Digits.{two_digits};
-ghost use Rattle.midi_lines.specs.Room.{AddsAtMost, HasRoom, longest_number, longest_value};
+ghost use Rattle.midi_lines.specs.Room.{AddsAtMost, HasRoom, longest_front, longest_number, longest_value};
 
 use crate::line::Line;
 use itoa::Buffer;
 
-// The decimal digits of each number below 256, with blanks behind them up to four bytes.
+// The decimal digits of each number below 256, with blanks behind them up to three bytes, and then how many
+// digits they are.
 #[rattlefmt::skip]
 static SMALL_NUMBERS: [u8; 1024] =
-    *b"0   1   2   3   4   5   6   7   8   9   10  11  12  13  14  15  \
-      16  17  18  19  20  21  22  23  24  25  26  27  28  29  30  31  \
-      32  33  34  35  36  37  38  39  40  41  42  43  44  45  46  47  \
-      48  49  50  51  52  53  54  55  56  57  58  59  60  61  62  63  \
-      64  65  66  67  68  69  70  71  72  73  74  75  76  77  78  79  \
-      80  81  82  83  84  85  86  87  88  89  90  91  92  93  94  95  \
-      96  97  98  99  100 101 102 103 104 105 106 107 108 109 110 111 \
-      112 113 114 115 116 117 118 119 120 121 122 123 124 125 126 127 \
-      128 129 130 131 132 133 134 135 136 137 138 139 140 141 142 143 \
-      144 145 146 147 148 149 150 151 152 153 154 155 156 157 158 159 \
-      160 161 162 163 164 165 166 167 168 169 170 171 172 173 174 175 \
-      176 177 178 179 180 181 182 183 184 185 186 187 188 189 190 191 \
-      192 193 194 195 196 197 198 199 200 201 202 203 204 205 206 207 \
-      208 209 210 211 212 213 214 215 216 217 218 219 220 221 222 223 \
-      224 225 226 227 228 229 230 231 232 233 234 235 236 237 238 239 \
-      240 241 242 243 244 245 246 247 248 249 250 251 252 253 254 255 ";
+    *b"0  \x011  \x012  \x013  \x014  \x015  \x016  \x017  \x01\
+      8  \x019  \x0110 \x0211 \x0212 \x0213 \x0214 \x0215 \x02\
+      16 \x0217 \x0218 \x0219 \x0220 \x0221 \x0222 \x0223 \x02\
+      24 \x0225 \x0226 \x0227 \x0228 \x0229 \x0230 \x0231 \x02\
+      32 \x0233 \x0234 \x0235 \x0236 \x0237 \x0238 \x0239 \x02\
+      40 \x0241 \x0242 \x0243 \x0244 \x0245 \x0246 \x0247 \x02\
+      48 \x0249 \x0250 \x0251 \x0252 \x0253 \x0254 \x0255 \x02\
+      56 \x0257 \x0258 \x0259 \x0260 \x0261 \x0262 \x0263 \x02\
+      64 \x0265 \x0266 \x0267 \x0268 \x0269 \x0270 \x0271 \x02\
+      72 \x0273 \x0274 \x0275 \x0276 \x0277 \x0278 \x0279 \x02\
+      80 \x0281 \x0282 \x0283 \x0284 \x0285 \x0286 \x0287 \x02\
+      88 \x0289 \x0290 \x0291 \x0292 \x0293 \x0294 \x0295 \x02\
+      96 \x0297 \x0298 \x0299 \x02100\x03101\x03102\x03103\x03\
+      104\x03105\x03106\x03107\x03108\x03109\x03110\x03111\x03\
+      112\x03113\x03114\x03115\x03116\x03117\x03118\x03119\x03\
+      120\x03121\x03122\x03123\x03124\x03125\x03126\x03127\x03\
+      128\x03129\x03130\x03131\x03132\x03133\x03134\x03135\x03\
+      136\x03137\x03138\x03139\x03140\x03141\x03142\x03143\x03\
+      144\x03145\x03146\x03147\x03148\x03149\x03150\x03151\x03\
+      152\x03153\x03154\x03155\x03156\x03157\x03158\x03159\x03\
+      160\x03161\x03162\x03163\x03164\x03165\x03166\x03167\x03\
+      168\x03169\x03170\x03171\x03172\x03173\x03174\x03175\x03\
+      176\x03177\x03178\x03179\x03180\x03181\x03182\x03183\x03\
+      184\x03185\x03186\x03187\x03188\x03189\x03190\x03191\x03\
+      192\x03193\x03194\x03195\x03196\x03197\x03198\x03199\x03\
+      200\x03201\x03202\x03203\x03204\x03205\x03206\x03207\x03\
+      208\x03209\x03210\x03211\x03212\x03213\x03214\x03215\x03\
+      216\x03217\x03218\x03219\x03220\x03221\x03222\x03223\x03\
+      224\x03225\x03226\x03227\x03228\x03229\x03230\x03231\x03\
+      232\x03233\x03234\x03235\x03236\x03237\x03238\x03239\x03\
+      240\x03241\x03242\x03243\x03244\x03245\x03246\x03247\x03\
+      248\x03249\x03250\x03251\x03252\x03253\x03254\x03255\x03";
 
 // The two digits of each number below 100.
 #[rattlefmt::skip]
@@ -34,21 +51,6 @@ static DECIMAL_PAIRS: [u8; 200] =
       4041424344454647484950515253545556575859\
       6061626364656667686970717273747576777879\
       8081828384858687888990919293949596979899";
-
-// How many digits a number has.
-#[tactic(auto, using(crate::proofs::DecimalText::decimal_one, crate::proofs::DecimalText::decimal_two, crate::proofs::DecimalText::decimal_three))]
-fn digit_count(number: u8) -> usize
-    ensures count { result ≡ length (decimal number) }
-    ensures few { result ≤ 3 }
-{
-    if number < 10 {
-        1
-    } else if number < 100 {
-        2
-    } else {
-        3
-    }
-}
 
 // Adds a number of at most three digits. Four bytes are copied, whatever the number of digits is.
 #[inline(always)]
@@ -64,7 +66,7 @@ fn put_small(line: &mut Line, number: u8)
         SMALL_NUMBERS[at + 2],
         SMALL_NUMBERS[at + 3],
     ];
-    line.extend_by(&digits, digit_count(number));
+    line.extend_by(&digits, digits[3] as usize);
 }
 
 // Adds a number below 100 in two digits.
@@ -105,7 +107,23 @@ fn put_front(line: &mut Line, number: u32)
     }
 }
 
-// Adds a number of several digits: its front, and then its other digits by four.
+// Adds a number below 1,000,000 without leading zeros.
+#[inline(always)]
+fn put_long_front(line: &mut Line, number: u32)
+    requires few { number < 1000000 }
+    requires room { HasRoom longest_front line.old }
+    ensures text { line.new ≡ line.old ++ decimal number }
+    ensures room { AddsAtMost longest_front line.old line.new }
+{
+    if number < 10_000 {
+        put_front(line, number);
+    } else {
+        put_small(line, (number / 10_000) as u8);
+        put_four(line, number % 10_000);
+    }
+}
+
+// Adds a number of several digits: its front, and then its last four digits.
 #[inline(never)]
 fn put_several(line: &mut Line, number: u32)
     requires { HasRoom longest_value line.old }
@@ -114,12 +132,8 @@ fn put_several(line: &mut Line, number: u32)
 {
     if number < 10_000 {
         put_front(line, number);
-    } else if number < 100_000_000 {
-        put_front(line, number / 10_000);
-        put_four(line, number % 10_000);
     } else {
-        put_small(line, (number / 100_000_000) as u8);
-        put_four(line, number / 10_000 % 10_000);
+        put_long_front(line, number / 10_000);
         put_four(line, number % 10_000);
     }
 }
@@ -147,9 +161,10 @@ pub fn put_decimal(line: &mut Line, number: u64)
     ensures text { line.new ≡ line.old ++ decimal number }
     ensures room { AddsAtMost longest_number line.old line.new }
 {
-    match u32::try_from(number) {
-        Ok(number) => put_number(line, number),
-        Err(_) => put_long(line, number),
+    if number <= u64::from(u32::MAX) {
+        put_number(line, number as u32);
+    } else {
+        put_long(line, number);
     }
 }
 

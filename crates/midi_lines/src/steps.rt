@@ -32,6 +32,7 @@ pub fn step_line(step: &Step<'_>, offset: u64) -> Option<Line>
 
 /// Makes the line that of what a byte does, as `step_line` does, in the place of another one, and tells
 /// whether it completes a message (own rule). Where it completes none the line stays as it was.
+#[inline(always)]
 pub fn fill_step_line(line: &mut Line, step: &Step<'_>, offset: u64) -> bool
     requires { HasBothEnds step.now }
     ensures text { step_text (step_view step.now) offset ≡ (if result then Some line.new else None) }
@@ -40,13 +41,13 @@ pub fn fill_step_line(line: &mut Line, step: &Step<'_>, offset: u64) -> bool
 {
     match step {
         Step::Voice(bytes) => fill_voice_line(line, bytes, offset),
-        Step::Common(bytes) => fill_system_line(line, &bytes.message(), offset),
-        Step::RealTime(byte) => fill_system_line(line, &byte.message(), offset),
+        Step::Common(bytes) => fill_system_line(line, bytes.message(), offset),
+        Step::RealTime(byte) => fill_system_line(line, byte.message(), offset),
         Step::Exclusive(bytes) => fill_exclusive_line(line, bytes.len() - 2, offset),
         Step::Cut {
             after: AfterCut::Tune,
             ..
-        } => fill_system_line(line, &System::Tune, offset),
+        } => fill_system_line(line, System::Tune, offset),
         _ => return false,
     }
     true
@@ -62,12 +63,12 @@ fn fill_voice_line(line: &mut Line, bytes: &VoiceBytes, offset: u64)
     put_text(line, "\n");
 }
 
-fn fill_system_line(line: &mut Line, message: &System, offset: u64)
-    ensures text { line.new ≡ decimal offset ++ codes " " ++ system_fields None message.now ++ codes "\n" }
+fn fill_system_line(line: &mut Line, message: System, offset: u64)
+    ensures text { line.new ≡ decimal offset ++ codes " " ++ system_fields None message ++ codes "\n" }
     ensures some { 0 < length line.new }
 {
     begin(line, offset);
-    put_system(line, None, message);
+    put_system(line, None, &message);
     put_text(line, "\n");
 }
 

@@ -88,10 +88,5 @@ impl Items<Framed, EncodedPacket> for EncodedReader {
         self.words.needs_input()
     }
 
-    #[inline(always)]
-    fn next_read<S: Source>(&mut self, input: &mut S) -> Next<Framed, EncodedPacket> {
-        Items::next(self, input)
-    }
-
     ghost starts = { λ first all new. none_given first.words first.words.how 0 all new };
 }

@@ -49,28 +49,6 @@ pub fn next_packet<S: Source>(
     }
 }
 
-// The next packet of a recording, out of line.
-#[inline(never)]
-fn read_packet<S: Source>(words: &mut WordReader, input: &mut S) -> Next<Framed, Packet>
-    ensures { GivesNextPacket S.Source 0 words.old words.new input.old input.new result }
-{
-    next_packet(words, 0, input)
-}
-
-// What comes next, taken apart and put together: so what comes from out of line is copied, and a packet that
-// is read in the loop needs no place in memory that both share.
-#[inline(always)]
-fn apart<A, I>(next: Next<A, I>) -> Next<A, I>
-    ensures { result ≡ next }
-{
-    match next {
-        Next::Item { at, item } => Next::Item { at, item },
-        Next::End => Next::End,
-        Next::Refused { reason, offset } => Next::Refused { reason, offset },
-        Next::Failed => Next::Failed,
-    }
-}
-
 /// Gives out the packets of a recording.
 #[derive(Drop)]
 pub struct PacketReader {
@@ -107,11 +85,6 @@ impl Items<Framed, Packet> for PacketReader {
     #[inline(always)]
     fn needs_input(&self) -> bool {
         self.words.needs_input()
-    }
-
-    #[inline(always)]
-    fn next_read<S: Source>(&mut self, input: &mut S) -> Next<Framed, Packet> {
-        apart(read_packet(&mut self.words, input))
     }
 
     ghost starts = { λ first all new. none_given first.words first.words.how 0 all new };

@@ -52,10 +52,5 @@ impl Items<u64, u8> for ByteReader {
         ByteReader::needs_input(self)
     }
 
-    #[inline(always)]
-    fn next_read<S: Source>(&mut self, input: &mut S) -> Next<u64, u8> {
-        Items::next(self, input)
-    }
-
     ghost starts = { λ first all new. none_given one_byte placed_at each_byte first all new };
 }

@@ -77,11 +77,6 @@ impl<I, H: Cut<Item = (I, u64)>> Items<u64, I> for EachItems<H> {
         self.reader.needs_input()
     }
 
-    #[inline(always)]
-    fn next_read<S: Source>(&mut self, input: &mut S) -> Next<u64, I> {
-        Items::next(self, input)
-    }
-
     ghost starts = { λ first all new.
         none_given (H.asked first.how) (after_offset (H.item_of first.how)) first.how first all new };
 }

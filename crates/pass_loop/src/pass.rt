@@ -53,16 +53,6 @@ pub trait Items<A, I> {
     /// Whether no whole item is held, so that `next` reads, unless the input has ended. No clause says it.
     fn needs_input(&self) -> bool;
 
-    /// The same as `next`, for calls where no whole item is held, which are few: a reader whose items are
-    /// many and large has it out of line, so that the loop of a pass has the reading of an item once.
-    fn next_read<S: Source>(&mut self, input: &mut S) -> Next<A, I>
-        ensures answer { (first : Self) (all : Option (List ℕ)) (items : List (A × I)) →
-            HasGiven first self.old (given all (S.left input.old) items) →
-            GivesNext (IsCut first) Promises (HasGiven first self.new)
-            (given all (S.left input.new) items) result }
-        ensures nearer { ComesNearer (to_go self.old) (to_go self.new) result }
-        ensures cause { NextCause (S.faults input.old) (S.faults input.new) result };
-
     /// A new reader has given nothing.
     ghost starts: { (first : Self) (all : Option (List ℕ)) → IsNew first →
         HasGiven first first (given all all []) };
@@ -142,9 +132,39 @@ pub fn write_out<S: Source, O: Outputs>(input: &S, outputs: &mut O)
     }
 }
 
+// What comes next, where it has to be read, out of line: so the loop of a pass has the reading of an item once.
+#[inline(never)]
+fn read_next<A, I, R: Items<A, I>, S: Source>(reader: &mut R, input: &mut S) -> Next<A, I>
+    ensures answer { (first : R) (all : Option (List ℕ)) (items : List (A × I)) →
+        R.HasGiven first reader.old (given all (S.left input.old) items) →
+        GivesNext (R.IsCut first) R.Promises (R.HasGiven first reader.new)
+        (given all (S.left input.new) items) result }
+    ensures nearer { ComesNearer (R.to_go reader.old) (R.to_go reader.new) result }
+    ensures cause { NextCause (S.faults input.old) (S.faults input.new) result }
+{
+    reader.next(input)
+}
+
+// The same, taken apart and put together: so what comes from out of line is copied, and an item that is
+// taken in the loop needs no place in memory that both share.
+#[inline(always)]
+fn next_read<A, I, R: Items<A, I>, S: Source>(reader: &mut R, input: &mut S) -> Next<A, I>
+    ensures answer { (first : R) (all : Option (List ℕ)) (items : List (A × I)) →
+        R.HasGiven first reader.old (given all (S.left input.old) items) →
+        GivesNext (R.IsCut first) R.Promises (R.HasGiven first reader.new)
+        (given all (S.left input.new) items) result }
+    ensures nearer { ComesNearer (R.to_go reader.old) (R.to_go reader.new) result }
+    ensures cause { NextCause (S.faults input.old) (S.faults input.new) result }
+{
+    match read_next(reader, input) {
+        Next::Item { at, item } => Next::Item { at, item },
+        Next::End => Next::End,
+        Next::Refused { reason, offset } => Next::Refused { reason, offset },
+        Next::Failed => Next::Failed,
+    }
+}
+
 /// What comes next. Where it has to be read, what was put is written out first, unless the input never waits.
-// Each arm has a call of its own, so that the first test of `next`,
-// which is the same, falls away where nothing is read.
 #[inline(always)]
 pub fn next_of<A, I, R: Items<A, I>, S: Source, O: Outputs>(
     reader: &mut R,
@@ -161,7 +181,7 @@ pub fn next_of<A, I, R: Items<A, I>, S: Source, O: Outputs>(
 {
     if reader.needs_input() {
         write_out(input, outputs);
-        return reader.next_read(input);
+        return next_read(reader, input);
     }
     reader.next(input)
 }

@@ -34,7 +34,9 @@ piece_is_put offset from group form bytes accepted = (_, _, (refl, refl))
 pub lowered_comes_down : (offset : ℕ) (from : DownState) (packet : Packet) (m : LoweredMessage) → IsDirectStep from packet m
     → PutsDown offset from packet from (in_output (lowered_bytes m) ∷ [])
 lowered_comes_down offset from packet m whole =
-    let step = whole.step offset (carried_as offset m whole.lane) (is_carried_as offset m whole.lane) in
+    let bytes : List ℕ = lowered_bytes m in
+    let carried = carried_as offset m.lane bytes m.has_attribute whole.lane in
+    let step = whole.step offset carried (is_carried_as offset m.lane bytes m.has_attribute whole.lane) in
     (sym (whole.after offset), ap piece_puts step.piece)
 
 -- what comes of packets that come after others

@@ -15,9 +15,10 @@ use Rattle.midi_meaning.specs.Styles.{Style, styled_over, styled_pair}
 use Rattle.midi_meaning.specs.Translation.{IsTranslation}
 use Rattle.down_translator.specs.declared.carried.Carried.{Carried}
 use Rattle.down_translator.specs.declared.lowered.LoweredMessage.{LoweredMessage}
+use Rattle.down_translator.specs.declared.shortened.ShortenedMessage.{ShortenedMessage}
 use Rattle.down_translator.specs.Carried.{line_in}
 use Rattle.down_translator.specs.Held.{DownState, limit_of, new_down, paired_of, refusal_in, style_of}
-use Rattle.down_translator.specs.Lowered.{attribute_line, lowered_bytes}
+use Rattle.down_translator.specs.Lowered.{attribute_line, lowered_bytes, shortened_bytes}
 use Rattle.down_translator.specs.Recording.{AreAccepted, AreInRange, packets_of, pair_put, state_of}
 use Rattle.down_translator.specs.Step.{IsStep}
 use Rattle.pass_loop.specs.Pass.{Takes, Work}
@@ -66,11 +67,16 @@ carrying options =
 abbrev pub puts_for : Carried → List Put
 puts_for carried = pair_puts (pair_put carried) ++ line_puts (option_to_list (line_in carried))
 
--- what is put for a message that alone carries a packet
+-- what is put for a message of these bytes that alone carries a packet
+abbrev pub message_puts : ℕ → ℕ → List ℕ → Bool → List Put
+message_puts offset lane bytes left_out =
+    in_lane lane bytes ∷ [] ++ line_puts (option_to_list (attribute_line offset lane left_out))
+
 abbrev pub lowered_puts : ℕ → LoweredMessage → List Put
-lowered_puts offset message =
-    in_lane message.lane (lowered_bytes message) ∷ []
-    ++ line_puts (option_to_list (attribute_line offset message.lane message.has_attribute))
+lowered_puts offset message = message_puts offset message.lane (lowered_bytes message) message.has_attribute
+
+abbrev pub shortened_puts : ℕ → ShortenedMessage → List Put
+shortened_puts offset message = message_puts offset message.lane (shortened_bytes message) message.has_attribute
 
 -- a packet is refused, or what is put for its answer is put, or one of these puts failed
 abbrev pub Carries : DownState → ℕ → Packet → Places → Places → Result (Unit {0}) RunEnd → Type 0

@@ -11,10 +11,10 @@ ghost use Rattle.pass_loop.specs.Pass.{seen};
 ghost use Rattle.pass_loop.specs.Places.{Puts};
 ghost use Rattle.pass_loop.specs.Put.{in_lane};
 ghost use Rattle.midi_meaning.specs.Listing.{groups};
-ghost use Rattle.down_translator.specs.Lowered.{attribute_line, lowered_bytes};
+ghost use Rattle.down_translator.specs.Lowered.{attribute_line, lowered_bytes, shortened_bytes};
 ghost use Rattle.down_translator.specs.Recording.{pair_put};
 ghost use Rattle.listing_lines.specs.Lines.{line_puts};
-ghost use Rattle.translation_passes.specs.Down.{Carries, HoldsDown, IsReadyDown, carrying, lowered_puts, down_options, pair_puts, puts_for};
+ghost use Rattle.translation_passes.specs.Down.{Carries, HoldsDown, IsReadyDown, carrying, lowered_puts, shortened_puts, down_options, pair_puts, puts_for};
 ghost use Rattle.listing_lines.specs.Open.{open_line, open_puts};
 ghost use Rattle.translation_passes.specs.DownMeans.{carries_named, carries_nothing, carries_means, ends_named};
 ghost use Rattle.packet_input.specs.Packets.{packet_cutting};
@@ -24,7 +24,7 @@ use down_translator::laws::{
     one_more_accepted_packet_adds_its_pair_and_line, spelled_packets_are_in_range,
     what_is_held_is_the_definition,
 };
-use down_translator::{Carried, Down, Kind, Listed, LoweredMessage, Style};
+use down_translator::{Carried, Down, Kind, Listed, LoweredMessage, ShortenedMessage, Style};
 use listing_lines::{OpenExclusives, list_open, put_line, put_listed, refused};
 use midi_edge::{Lanes, NoMemory, Sink, Source, U4};
 use midi_meaning::style_laws::styled_pairs_are_a_translation;
@@ -33,6 +33,7 @@ use pass_loop::{Engine, Outputs, RunEnd, drive};
 use std::alloc::Global;
 use std::marker::Model;
 use ump_words::{Framed, Order};
+use voice_messages::U7;
 
 /// A translation down that is ready to begin, with all its memory. A contract sees its options.
 #[derive(Drop)]
@@ -206,8 +207,17 @@ fn carry_encoded<O: Outputs>(
     }
 }
 
-// Puts a message of two bytes. Each of these arrays has a function of
+// Puts a message of one byte. Each of these arrays has a function of
 // its own, since it is cleared where its function begins.
+#[inline(always)]
+fn put_one<O: Outputs>(lane: U4, first: u8, outputs: &mut O) -> Result<(), RunEnd>
+    requires begun { (O.places outputs.old).begun ≡ true }
+    ensures { Puts (in_lane lane (first ∷ []) ∷ []) (O.places outputs.old) (O.places outputs.new) result }
+{
+    outputs.put_lane(lane, &[first])
+}
+
+// Puts a message of two bytes.
 #[inline(always)]
 fn put_two<O: Outputs>(lane: U4, status: u8, first: u8, outputs: &mut O) -> Result<(), RunEnd>
     requires begun { (O.places outputs.old).begun ≡ true }
@@ -233,6 +243,45 @@ fn put_three<O: Outputs>(
     outputs.put_lane(lane, &[status, first, second])
 }
 
+// Puts a message with its status byte.
+#[inline(always)]
+fn put_whole<O: Outputs>(
+    lane: U4,
+    status: u8,
+    first: U7,
+    second: Option<U7>,
+    outputs: &mut O,
+) -> Result<(), RunEnd>
+    requires begun { (O.places outputs.old).begun ≡ true }
+    ensures { Puts (in_lane lane (status ∷ first ∷ option_to_list second) ∷ [])
+        (O.places outputs.old) (O.places outputs.new) result }
+{
+    let first = first.get();
+    match second {
+        Some(second) => put_three(lane, status, first, second.get(), outputs),
+        None => put_two(lane, status, first, outputs),
+    }
+}
+
+// Puts the data bytes of a message alone.
+#[inline(always)]
+fn put_data<O: Outputs>(
+    lane: U4,
+    first: U7,
+    second: Option<U7>,
+    outputs: &mut O,
+) -> Result<(), RunEnd>
+    requires begun { (O.places outputs.old).begun ≡ true }
+    ensures { Puts (in_lane lane (first ∷ option_to_list second) ∷ [])
+        (O.places outputs.old) (O.places outputs.new) result }
+{
+    let first = first.get();
+    match second {
+        Some(second) => put_two(lane, first, second.get(), outputs),
+        None => put_one(lane, first, outputs),
+    }
+}
+
 // Puts a message that alone carries a packet into its lane.
 #[inline(always)]
 fn put_message<O: Outputs>(message: &LoweredMessage, outputs: &mut O) -> Result<(), RunEnd>
@@ -247,10 +296,26 @@ fn put_message<O: Outputs>(message: &LoweredMessage, outputs: &mut O) -> Result<
         second,
         ..
     } = *message;
-    let first = first.get();
-    match second {
-        Some(second) => put_three(lane, status, first, second.get(), outputs),
-        None => put_two(lane, status, first, outputs),
+    put_whole(lane, status, first, second, outputs)
+}
+
+// Puts a message of compact style into its lane.
+#[inline(always)]
+fn put_short_message<O: Outputs>(message: &ShortenedMessage, outputs: &mut O) -> Result<(), RunEnd>
+    requires begun { (O.places outputs.old).begun ≡ true }
+    ensures { Puts (in_lane message.now.lane (shortened_bytes message.now) ∷ [])
+        (O.places outputs.old) (O.places outputs.new) result }
+{
+    let ShortenedMessage {
+        lane,
+        status,
+        first,
+        second,
+        ..
+    } = *message;
+    match status {
+        Some(status) => put_whole(lane, status, first, second, outputs),
+        None => put_data(lane, first, second, outputs),
     }
 }
 
@@ -287,6 +352,46 @@ fn put_lowered<O: Outputs>(
     }
 }
 
+// Puts a message of compact style into its lane, and then the line of
+// the attribute that it leaves out, if it does.
+#[inline(always)]
+fn put_shortened<O: Outputs>(
+    message: &ShortenedMessage,
+    offset: u64,
+    outputs: &mut O,
+) -> Result<(), RunEnd>
+    requires begun { (O.places outputs.old).begun ≡ true }
+    ensures { Puts (shortened_puts offset message.now) (O.places outputs.old) (O.places outputs.new) result }
+{
+    put_short_message(message, outputs)?;
+    if message.has_attribute {
+        put_attribute(message.lane, offset, outputs)
+    } else {
+        Ok(())
+    }
+}
+
+// Takes one packet down that isn't carried by one message with all its bytes: puts its piece into the lane of
+// its group, and its line into the notes.
+#[inline(always)]
+fn carry_shortened<O: Outputs>(
+    down: &mut Down,
+    packet: &EncodedPacket,
+    offset: u64,
+    outputs: &mut O,
+) -> Result<(), RunEnd>
+    requires packet { IsPacket packet.now }
+    requires begun { (O.places outputs.old).begun ≡ true }
+    ensures behind { down.new ≡ down_after offset packet.now down.old }
+    ensures carries { Carries down.old offset packet.now
+        (O.places outputs.old) (O.places outputs.new) result }
+{
+    match down.shortened(packet) {
+        Some(message) => put_shortened(&message, offset, outputs),
+        None => carry_encoded(down, packet, offset, outputs),
+    }
+}
+
 // Takes one packet down: puts its piece into the lane of its group, and its line into the notes.
 fn carry<O: Outputs>(
     down: &mut Down,
@@ -302,6 +407,6 @@ fn carry<O: Outputs>(
 {
     match down.lowered(packet) {
         Some(message) => put_lowered(&message, offset, outputs),
-        None => carry_encoded(down, packet, offset, outputs),
+        None => carry_shortened(down, packet, offset, outputs),
     }
 }

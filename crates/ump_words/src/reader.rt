@@ -1,7 +1,7 @@
 // A reader of packets from a source.
-ghost use Rattle.std.specs.Prelude.{◌≡◌, ◌≤◌, ◌<◌, ◌↔◌, ◌^◌, length, IfOk, IfSome, IsTrue};
+ghost use Rattle.std.specs.Prelude.{◌≡◌, ◌≤◌, ◌^◌, length, IfOk, IfSome};
 ghost use Rattle.item_reader.specs.Cut.{IsItem};
-ghost use Rattle.item_reader.specs.Reading.{ReadCause, answer_of, cursor, new_reading};
+ghost use Rattle.item_reader.specs.Reading.{ReadCause, answer_of, cursor, needs_input, new_reading};
 ghost use Rattle.ump_words.specs.Cut.{IsWhole, bytes_asked, framed_at};
 ghost use Rattle.ump_words.specs.Lengths.{packet_lengths};
 ghost use Rattle.ump_words.specs.Reader.{Answers};
@@ -87,11 +87,11 @@ impl WordReader {
         self.packets.next(src)
     }
 
-    /// No whole packet is held (M2-104-UM, message types), so that
-    /// `next` asks the source, unless the packets have ended.
+    /// No whole packet (M2-104-UM, message types) is held within the limit, so
+    /// that `next` asks the source, unless the packets have ended.
     #[inline(always)]
     pub fn needs_input(&self) -> bool
-        ensures { IsTrue result ↔ (length self.now.pending < bytes_asked self.now.how self.now.pending) }
+        ensures { result ≡ needs_input (bytes_asked self.now.how) self.now }
     {
         self.packets.needs_input()
     }

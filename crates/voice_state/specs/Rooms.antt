@@ -1,5 +1,5 @@
 -- Where a message adds to a list of a channel that is full.
-use Rattle.std.specs.Prelude.{ℕ, ◌≡◌, ◌≤◌, ◌<◌, false, List, length, slice_index_or, Option, MatchOption, Result, Err}
+use Rattle.std.specs.Prelude.{ℕ, ◌≡◌, ◌≤◌, ◌<◌, ◌-◌, ◌^◌, false, List, length, slice_index_or, Option, MatchOption, Result, Err}
 use Rattle.voice_messages.specs.declared.voice1.Voice1.{Voice1}
 use Rattle.voice_messages.specs.declared.voice1.Voice1.TheVariants as voice1
 use Rattle.voice_messages.specs.declared.voice2.Voice2.{Voice2}
@@ -88,6 +88,10 @@ IsPacketFull (packets.Voice2 group message) kept = GroupIs kept group (IsGroupFu
 IsPacketFull _ kept = ⊥
 
 -- ---- the room itself
+
+-- the room where there is no limit: no list of values in memory is as long
+abbrev pub no_limit : ℕ
+no_limit = 2 ^ 64 - 1
 
 abbrev pub ChannelsHaveRoom : Room → KeptGroup → Type 0
 ChannelsHaveRoom room kept = (channel : ℕ) → channel < 16 → ChannelIs kept channel (λ kept_at. kept_at.room ≡ room)

@@ -134,7 +134,8 @@ impl Group {
 
     /// Counts a system common message or an exclusive.
     pub(crate) fn count_common(&mut self)
-        ensures step { (scale : Scale) (state : GroupState) (message : Message) → KeepsGroup scale self.old state
+        ensures step { (scale : Scale) (state : GroupState) (message : Message)
+            → KeepsGroup scale self.old state
             → KeepsGroup scale self.new (with_common message state) }
         ensures rooms { KeepsRooms self.old self.new }
     {

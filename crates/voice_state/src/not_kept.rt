@@ -1,5 +1,6 @@
 // How much is kept, and why a message isn't.
 ghost use Rattle.std.specs.Prelude.{◌≡◌};
+ghost use Rattle.voice_state.specs.Rooms.{no_limit};
 
 /// Why a message isn't kept.
 #[derive(Clone, Copy, Debug, PartialEq, Eq)]
@@ -28,7 +29,9 @@ impl Room {
         }
     }
 
-    pub(crate) fn unlimited() -> Room {
+    pub(crate) fn unlimited() -> Room
+        ensures { result ≡ record { notes = no_limit; params = no_limit } }
+    {
         Room {
             notes: usize::MAX,
             params: usize::MAX,

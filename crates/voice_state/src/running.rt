@@ -6,7 +6,7 @@ ghost use Rattle.midi_meaning.specs.Messages.{Scale, as_they_come, raised};
 ghost use Rattle.midi_meaning.specs.State.{with_common, with_real_time};
 ghost use Rattle.voice_state.specs.Facts.{facts_of};
 ghost use Rattle.voice_state.specs.Kept.{Keeps};
-ghost use Rattle.voice_state.specs.Rooms.{GroupIs, HasRoom, IsFullWhere, IsGroupFull1, IsGroupFull2, IsPacketFull, KeepsAllRooms};
+ghost use Rattle.voice_state.specs.Rooms.{GroupIs, HasRoom, IsFullWhere, IsGroupFull1, IsGroupFull2, IsPacketFull, KeepsAllRooms, no_limit};
 ghost use Rattle.voice_state.specs.States.{States, after_message, after_packet, after_voice1, after_voice2, at_group, first_states, is_real_time};
 ghost use Rattle.voice_state.specs.Widths.{scale_of};
 
@@ -45,11 +45,12 @@ impl Model for VoiceState {
 }
 
 impl VoiceState {
-    /// The state before the first message or packet. Its lists take memory while they grow. `NoMemory` where
-    /// there is none for its tables.
+    /// The state before the first message or packet. Its lists have no limit and take memory while they grow.
+    /// `NoMemory` where there is none for its tables.
     pub fn new(alloc: Global) -> Result<VoiceState, NoMemory>
         ensures messages { IfOk result (λ state. Keeps as_they_come state (first_states as_they_come)) }
         ensures packets { IfOk result (λ state. Keeps raised state (first_states raised)) }
+        ensures room { IfOk result (HasRoom no_limit no_limit) }
     {
         VoiceState::made(alloc, 0, Room::none(), Room::unlimited())
     }

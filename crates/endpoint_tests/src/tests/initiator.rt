@@ -1,5 +1,6 @@
 // Messages by hand from the tables of M2-101-UM, and the most messages of a rehearsal. The rows of
 // `midi_commands_tests` tell of other rehearsals.
+use super::{has_text, is_same};
 use ci_initiator::{Ask, EventFault, Initiator, Noted, Rehearsal, Told, Watch, watches_differ};
 use ci_messages::laws::views_that_are_read_fit;
 use ci_messages::{Address, ProfileId, read};
@@ -23,15 +24,19 @@ fn opened(alloc: Global) -> Option<Rehearsal> {
 fn too_many_messages(rt: HostRuntime) {
     let mut rehearsal = opened(rt.alloc()).expect(&rt, "no memory");
     for _ in 0..1024 {
-        assert_eq!(rt; rehearsal.event(0, 0), Ok(Told::Asked));
+        is_same(&rt, &rehearsal.event(0, 0), &Ok(Told::Asked));
     }
-    assert_eq!(rt; rehearsal.event(0, 0), Err(EventFault::TooMany));
-    assert_eq!(rt; rehearsal.event(0, 2), Err(EventFault::BadEvent));
+    is_same(&rt, &rehearsal.event(0, 0), &Err(EventFault::TooMany));
+    is_same(&rt, &rehearsal.event(0, 2), &Err(EventFault::BadEvent));
     for _ in 0..1024 {
-        assert_eq!(rt; rehearsal.event(1, 0), Ok(Told::Heard(Heard::Answered)));
+        is_same(
+            &rt,
+            &rehearsal.event(1, 0),
+            &Ok(Told::Heard(Heard::Answered)),
+        );
     }
-    assert_eq!(rt; rehearsal.event(1, 0), Err(EventFault::TooMany));
-    assert_eq!(rt; rehearsal.event(1, 1024), Err(EventFault::BadEvent));
+    is_same(&rt, &rehearsal.event(1, 0), &Err(EventFault::TooMany));
+    is_same(&rt, &rehearsal.event(1, 1024), &Err(EventFault::BadEvent));
 }
 
 // ---- the initiator alone
@@ -129,9 +134,9 @@ fn watches_differ_in_the_group_the_address_or_the_id(rt: HostRuntime) {
         watch_of(1, channel_2(), profile_id()),
         watch_of(0, channel_2(), another_id()),
     ];
-    assert_eq!(rt; watches_differ(&differing), true);
+    assert!(rt; watches_differ(&differing));
     let twice = [watch_of_group(), watch_of_channel(), watch_of_group()];
-    assert_eq!(rt; watches_differ(&twice), false);
+    assert!(rt; !watches_differ(&twice));
 }
 
 // The same of an initiator.
@@ -147,47 +152,47 @@ fn held(initiator: &Initiator, k: usize) -> Option<bool> {
 fn the_first_device_that_replies_is_the_peer(rt: HostRuntime) {
     let mut initiator = watching(rt.alloc()).expect(&rt, "no memory");
     let report = came(0x02, 0x24, PEER, BROADCAST, &PROFILE);
-    assert_eq!(rt; noted(&mut initiator, &report), Some(Noted::Other));
+    is_same(&rt, &noted(&mut initiator, &report), &Some(Noted::Other));
     let own = came(0x7F, 0x71, OWN, OWN, &DISCOVERY_REPLY);
-    assert_eq!(rt; noted(&mut initiator, &own), Some(Noted::Other));
+    is_same(&rt, &noted(&mut initiator, &own), &Some(Noted::Other));
     let elsewhere = came(0x7F, 0x71, PEER, OTHER, &DISCOVERY_REPLY);
-    assert_eq!(rt; noted(&mut initiator, &elsewhere), Some(Noted::Other));
-    assert_eq!(rt; initiator.peer(), None);
+    is_same(&rt, &noted(&mut initiator, &elsewhere), &Some(Noted::Other));
+    is_same(&rt, &initiator.peer(), &None);
     let peer = came(0x7F, 0x71, PEER, OWN, &DISCOVERY_REPLY);
-    assert_eq!(rt; noted(&mut initiator, &peer), Some(Noted::Peer));
+    is_same(&rt, &noted(&mut initiator, &peer), &Some(Noted::Peer));
     let other = came(0x7F, 0x71, OTHER, OWN, &DISCOVERY_REPLY);
-    assert_eq!(rt; noted(&mut initiator, &other), Some(Noted::Other));
-    assert_eq!(rt; noted(&mut initiator, &peer), Some(Noted::Peer));
-    assert_eq!(rt; initiator.peer(), Some(300));
+    is_same(&rt, &noted(&mut initiator, &other), &Some(Noted::Other));
+    is_same(&rt, &noted(&mut initiator, &peer), &Some(Noted::Peer));
+    is_same(&rt, &initiator.peer(), &Some(300));
 }
 
 #[test]
 fn what_the_peer_reports_is_held(rt: HostRuntime) {
     let mut initiator = watching(rt.alloc()).expect(&rt, "no memory");
     let peer = came(0x7F, 0x71, PEER, OWN, &DISCOVERY_REPLY);
-    assert_eq!(rt; noted(&mut initiator, &peer), Some(Noted::Peer));
+    is_same(&rt, &noted(&mut initiator, &peer), &Some(Noted::Peer));
     let mut on = came(0x02, 0x24, PEER, BROADCAST, &PROFILE);
     on.version = 0;
-    assert_eq!(rt; noted(&mut initiator, &on), Some(Noted::Other));
+    is_same(&rt, &noted(&mut initiator, &on), &Some(Noted::Other));
     on.version = 2;
-    assert_eq!(rt; noted_on(&mut initiator, 1, &on), Some(Noted::Other));
-    assert_eq!(rt; held(&initiator, 0), None);
-    assert_eq!(rt; noted(&mut initiator, &on), Some(Noted::Told(0)));
-    assert_eq!(rt; held(&initiator, 0), Some(true));
-    assert_eq!(rt; held(&initiator, 1), None);
+    is_same(&rt, &noted_on(&mut initiator, 1, &on), &Some(Noted::Other));
+    is_same(&rt, &held(&initiator, 0), &None);
+    is_same(&rt, &noted(&mut initiator, &on), &Some(Noted::Told(0)));
+    is_same(&rt, &held(&initiator, 0), &Some(true));
+    is_same(&rt, &held(&initiator, 1), &None);
     for unheard in [
         came(0x02, 0x25, OTHER, BROADCAST, &PROFILE),
         came(0x02, 0x25, PEER, BROADCAST, &OTHER_PROFILE),
         came(0x03, 0x25, PEER, BROADCAST, &PROFILE),
         came(0x02, 0x22, PEER, OWN, &PROFILE),
     ] {
-        assert_eq!(rt; noted(&mut initiator, &unheard), Some(Noted::Other));
+        is_same(&rt, &noted(&mut initiator, &unheard), &Some(Noted::Other));
     }
-    assert_eq!(rt; held(&initiator, 0), Some(true));
+    is_same(&rt, &held(&initiator, 0), &Some(true));
     let off = came(0x7E, 0x25, PEER, BROADCAST, &PROFILE);
-    assert_eq!(rt; noted(&mut initiator, &off), Some(Noted::Told(1)));
-    assert_eq!(rt; held(&initiator, 0), Some(true));
-    assert_eq!(rt; held(&initiator, 1), Some(false));
+    is_same(&rt, &noted(&mut initiator, &off), &Some(Noted::Told(1)));
+    is_same(&rt, &held(&initiator, 0), &Some(true));
+    is_same(&rt, &held(&initiator, 1), &Some(false));
 }
 
 // A profile in both lists of an inventory is held on.
@@ -195,34 +200,34 @@ fn what_the_peer_reports_is_held(rt: HostRuntime) {
 fn inventories_are_of_a_place(rt: HostRuntime) {
     let mut initiator = watching(rt.alloc()).expect(&rt, "no memory");
     let peer = came(0x7F, 0x71, PEER, OWN, &DISCOVERY_REPLY);
-    assert_eq!(rt; noted(&mut initiator, &peer), Some(Noted::Peer));
+    is_same(&rt, &noted(&mut initiator, &peer), &Some(Noted::Peer));
     let both = came(0x02, 0x21, PEER, OWN, &ON_OFF);
-    assert_eq!(rt; noted(&mut initiator, &both), Some(Noted::Inventory));
-    assert_eq!(rt; held(&initiator, 0), Some(true));
-    assert_eq!(rt; held(&initiator, 1), None);
+    is_same(&rt, &noted(&mut initiator, &both), &Some(Noted::Inventory));
+    is_same(&rt, &held(&initiator, 0), &Some(true));
+    is_same(&rt, &held(&initiator, 1), &None);
     let off = came(0x02, 0x21, PEER, OWN, &OFF);
-    assert_eq!(rt; noted(&mut initiator, &off), Some(Noted::Inventory));
-    assert_eq!(rt; held(&initiator, 0), Some(false));
+    is_same(&rt, &noted(&mut initiator, &off), &Some(Noted::Inventory));
+    is_same(&rt, &held(&initiator, 0), &Some(false));
     let other = came(0x02, 0x21, OTHER, OWN, &ON_OFF);
-    assert_eq!(rt; noted(&mut initiator, &other), Some(Noted::Other));
-    assert_eq!(rt; held(&initiator, 0), Some(false));
+    is_same(&rt, &noted(&mut initiator, &other), &Some(Noted::Other));
+    is_same(&rt, &held(&initiator, 0), &Some(false));
 }
 
 #[test]
 fn nothing_is_held_of_a_peer_that_is_gone(rt: HostRuntime) {
     let mut initiator = watching(rt.alloc()).expect(&rt, "no memory");
     let peer = came(0x7F, 0x71, PEER, OWN, &DISCOVERY_REPLY);
-    assert_eq!(rt; noted(&mut initiator, &peer), Some(Noted::Peer));
+    is_same(&rt, &noted(&mut initiator, &peer), &Some(Noted::Peer));
     let on = came(0x02, 0x24, PEER, BROADCAST, &PROFILE);
-    assert_eq!(rt; noted(&mut initiator, &on), Some(Noted::Told(0)));
+    is_same(&rt, &noted(&mut initiator, &on), &Some(Noted::Told(0)));
     let another = came(0x7F, 0x7E, PEER, BROADCAST, &OTHER);
-    assert_eq!(rt; noted(&mut initiator, &another), Some(Noted::Other));
-    assert_eq!(rt; held(&initiator, 0), Some(true));
+    is_same(&rt, &noted(&mut initiator, &another), &Some(Noted::Other));
+    is_same(&rt, &held(&initiator, 0), &Some(true));
     let gone = came(0x7F, 0x7E, OTHER, BROADCAST, &PEER);
-    assert_eq!(rt; noted(&mut initiator, &gone), Some(Noted::Gone));
-    assert_eq!(rt; initiator.peer(), None);
-    assert_eq!(rt; held(&initiator, 0), None);
-    assert_eq!(rt; noted(&mut initiator, &on), Some(Noted::Other));
+    is_same(&rt, &noted(&mut initiator, &gone), &Some(Noted::Gone));
+    is_same(&rt, &initiator.peer(), &None);
+    is_same(&rt, &held(&initiator, 0), &None);
+    is_same(&rt, &noted(&mut initiator, &on), &Some(Noted::Other));
 }
 
 // Whether what is asked has these bytes.
@@ -246,7 +251,7 @@ fn the_messages_that_ask(rt: HostRuntime) {
     assert!(rt; is_asked(&initiator, Ask::Discover, &discovery));
     assert!(rt; !initiator.can_ask(Ask::On(0)));
     let peer = came(0x7F, 0x71, PEER, OWN, &DISCOVERY_REPLY);
-    assert_eq!(rt; noted(&mut initiator, &peer), Some(Noted::Peer));
+    is_same(&rt, &noted(&mut initiator, &peer), &Some(Noted::Peer));
     let inquiry = [
         0xF0, 0x7E, 0x02, 0x0D, 0x20, 0x02, 0x01, 0x00, 0x00, 0x00, 0x2C, 0x02, 0x00, 0x00, 0xF7,
     ];
@@ -281,8 +286,7 @@ fn each_fault_has_its_text(rt: HostRuntime) -> Result<(), Fail> {
             "the side that would send has sent 1,024 messages already",
         ),
     ] {
-        let shown = format!(in rt.alloc(); "{fault}")?;
-        assert_eq!(rt; shown.as_str(), text);
+        has_text(&rt, rt.alloc(), &fault, text)?;
     }
     Ok(())
 }

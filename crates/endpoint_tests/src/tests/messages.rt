@@ -3,6 +3,7 @@ ghost use Rattle.std.specs.Prelude.{◌≤◌, length};
 ghost use Rattle.ci_messages.specs.Fields.{IsData};
 ghost use Rattle.ci_messages.specs.Writing.{IsView, message_bytes};
 
+use super::has_text;
 use ci_messages::*;
 use endpoint_fixtures::{CiMessage, FIRST_MUID, PEER, framed, profile_id};
 use midi_edge::ShortList;
@@ -577,8 +578,7 @@ fn each_fault_has_its_text(rt: HostRuntime) -> Result<(), Fail> {
             "the source is a reserved or broadcast MUID",
         ),
     ] {
-        let shown = format!(in rt.alloc(); "{fault}")?;
-        assert_eq!(rt; shown.as_str(), text);
+        has_text(&rt, rt.alloc(), &fault, text)?;
     }
     Ok(())
 }

@@ -4,6 +4,7 @@ ghost use Rattle.std.specs.Prelude.{◌≤◌};
 ghost use Rattle.std.specs.Option.{IfSome};
 ghost use Rattle.ump_grammar.specs.Ranges.{IsPacket};
 
+use super::is_same;
 use endpoint_fixtures::{DEMO_SETUP, profile_id};
 use function_blocks::Setup;
 use midi_edge::U4;
@@ -69,18 +70,18 @@ fn ended(outcome: Outcome) -> Option<Result<Taken, BadStep>> {
 fn a_profile_is_switched_on(rt: HostRuntime) -> Result<(), Fail> {
     let alloc = rt.alloc();
     let mut endpoint = opened(alloc, 64)?;
-    assert_eq!(rt; endpoint.muid(0), Some(19088743));
-    assert_eq!(rt; endpoint.profile_is_on(&demo_profile()), Some(false));
+    is_same(&rt, &endpoint.muid(0), &Some(19088743));
+    is_same(&rt, &endpoint.profile_is_on(&demo_profile()), &Some(false));
     for words in [
         [0x30167E02u32, 0x0D220205],
         [0x30260000, 0x00670A0D],
         [0x3026097E, 0x00010100],
     ] {
-        assert_eq!(rt; taken(&mut endpoint, &words, 0), Some(Ok(NOTHING)));
+        is_same(&rt, &taken(&mut endpoint, &words, 0), &Some(Ok(NOTHING)));
     }
     let result = taken(&mut endpoint, &[0x30320100, 0], 24);
-    assert_eq!(rt; result, ended(Outcome::Heard(Heard::Answered)));
-    assert_eq!(rt; endpoint.profile_is_on(&demo_profile()), Some(true));
+    is_same(&rt, &result, &ended(Outcome::Heard(Heard::Answered)));
+    is_same(&rt, &endpoint.profile_is_on(&demo_profile()), &Some(true));
     let mut replies = endpoint.replies();
     for expected in [
         [0x30167E02u32, 0x0D240267],
@@ -89,7 +90,7 @@ fn a_profile_is_switched_on(rt: HostRuntime) -> Result<(), Fail> {
         [0x30320100, 0],
     ] {
         match replies.next() {
-            Some(words) => assert_eq!(rt; words, expected.as_slice()),
+            Some(words) => is_same(&rt, &words, &expected.as_slice()),
             None => assert!(rt; false, "a reply is missing"),
         }
     }
@@ -103,12 +104,12 @@ fn an_exclusive_past_the_room_is_refused(rt: HostRuntime) -> Result<(), Fail> {
     let mut endpoint = opened(alloc, 6)?;
     let begun = [0x30160102u32, 0x03040506];
     let result = taken(&mut endpoint, &begun, 0);
-    assert_eq!(rt; result, Some(Ok(NOTHING)));
-    assert_eq!(rt; endpoint.begun_at(U4::low_bits(0)), Some(0));
+    is_same(&rt, &result, &Some(Ok(NOTHING)));
+    is_same(&rt, &endpoint.begun_at(U4::low_bits(0)), &Some(0));
     let past = taken(&mut endpoint, &[0x30210700, 0], 0);
-    assert_eq!(rt; past, Some(Err(BadStep::ExclusiveTooLong)));
+    is_same(&rt, &past, &Some(Err(BadStep::ExclusiveTooLong)));
     assert!(rt; endpoint.begun_at(U4::low_bits(0)).is_none());
     let result = taken(&mut endpoint, &[0xF0050100, 0, 0, 0], 0);
-    assert_eq!(rt; result, ended(Outcome::Answered));
+    is_same(&rt, &result, &ended(Outcome::Answered));
     Ok(())
 }

@@ -1,5 +1,6 @@
 // Each rule by the smallest front of a setup that breaks it, and values past each border. The rows of
 // `midi_commands_tests` tell of the replies.
+use super::{has_text, is_same, is_same_in};
 use endpoint_fixtures::DEMO_SETUP;
 use function_blocks::*;
 use midi_edge::U4;
@@ -68,9 +69,9 @@ fn the_first_missing_key_is_told(rt: HostRuntime) {
         } else {
             Err(SetupFault::Field(*rule))
         };
-        assert_eq!(rt; front(rt.alloc(), count), expected, "{count} lines");
+        is_same_in(&rt, &count, &front(rt.alloc(), count), &expected);
     }
-    assert_eq!(rt; front(rt.alloc(), 29), Ok(()));
+    is_same(&rt, &front(rt.alloc(), 29), &Ok(()));
 }
 
 // Each row of a table has the index of a line of `DEMO_SETUP`, the number of the rule that is broken where
@@ -87,10 +88,11 @@ fn lines_break(rt: &impl Abort, alloc: Global, table: &str) -> Result<(), Fail> 
             number => Err(SetupFault::Field(number.parse::<u8>()?)),
         };
         let line = cells.next().unwrap_or("");
-        assert_eq!(rt;
-            with_line(alloc, index.parse::<usize>()?, line),
-            expected,
-            "{row}"
+        is_same_in(
+            rt,
+            &row,
+            &with_line(alloc, index.parse::<usize>()?, line),
+            &expected,
         );
     }
     Ok(())
@@ -263,15 +265,25 @@ fn many_profiles(alloc: Global, profiles: usize) -> Result<String, AllocError> {
 #[test]
 fn no_more_blocks_and_profiles_than_fit(rt: HostRuntime) -> Result<(), Fail> {
     let alloc = rt.alloc();
-    assert_eq!(rt; fault_of(setup_of(alloc, many_blocks(alloc, 32))), Ok(()));
-    assert_eq!(rt;
-        fault_of(setup_of(alloc, many_blocks(alloc, 33))),
-        Err(SetupFault::Field(11))
+    is_same(
+        &rt,
+        &fault_of(setup_of(alloc, many_blocks(alloc, 32))),
+        &Ok(()),
     );
-    assert_eq!(rt; fault_of(setup_of(alloc, many_profiles(alloc, 64))), Ok(()));
-    assert_eq!(rt;
-        fault_of(setup_of(alloc, many_profiles(alloc, 65))),
-        Err(SetupFault::Field(24))
+    is_same(
+        &rt,
+        &fault_of(setup_of(alloc, many_blocks(alloc, 33))),
+        &Err(SetupFault::Field(11)),
+    );
+    is_same(
+        &rt,
+        &fault_of(setup_of(alloc, many_profiles(alloc, 64))),
+        &Ok(()),
+    );
+    is_same(
+        &rt,
+        &fault_of(setup_of(alloc, many_profiles(alloc, 65))),
+        &Err(SetupFault::Field(24)),
     );
     Ok(())
 }
@@ -290,19 +302,22 @@ fn lines_that_are_no_toml(rt: HostRuntime) -> Result<(), Fail> {
 #[test]
 fn texts_that_are_no_toml(rt: HostRuntime) -> Result<(), Fail> {
     let alloc = rt.alloc();
-    assert_eq!(rt;
-        fault_of(Setup::read(alloc, b"[endpoint]\nname = \"\xFF\"")),
-        Err(SetupFault::Syntax)
+    is_same(
+        &rt,
+        &fault_of(Setup::read(alloc, b"[endpoint]\nname = \"\xFF\"")),
+        &Err(SetupFault::Syntax),
     );
     let blank = vec![in alloc; b' '; 65_536]?;
-    assert_eq!(rt;
-        fault_of(Setup::read(alloc, blank.as_slice())),
-        Err(SetupFault::Field(1))
+    is_same(
+        &rt,
+        &fault_of(Setup::read(alloc, blank.as_slice())),
+        &Err(SetupFault::Field(1)),
     );
     let too_long = vec![in alloc; 0xFF; 65_537]?;
-    assert_eq!(rt;
-        fault_of(Setup::read(alloc, too_long.as_slice())),
-        Err(SetupFault::Field(0))
+    is_same(
+        &rt,
+        &fault_of(Setup::read(alloc, too_long.as_slice())),
+        &Err(SetupFault::Field(0)),
     );
     Ok(())
 }
@@ -313,41 +328,41 @@ fn what_the_setup_says(rt: HostRuntime) {
         assert!(rt; false, "the setup is read");
         return;
     };
-    assert_eq!(rt; setup.block_count(), 1);
+    is_same(&rt, &setup.block_count(), &1);
     match setup.block(0) {
         Some(block) => {
-            assert_eq!(rt; block.name.as_slice(), b"Main".as_slice());
-            assert_eq!(rt; block.muids.as_slice(), [19_088_743, 300].as_slice());
+            is_same(&rt, &block.name.as_slice(), &b"Main".as_slice());
+            is_same(&rt, &block.muids.as_slice(), &[19_088_743, 300].as_slice());
             let keys = [block.hint, block.midi1, block.direction, block.first];
-            assert_eq!(rt; keys, [3, 0, 3, 0]);
-            assert_eq!(rt; [block.count, block.ci, block.sysex8], [1, 2, 0]);
+            is_same(&rt, &keys, &[3, 0, 3, 0]);
+            is_same(&rt, &[block.count, block.ci, block.sysex8], &[1, 2, 0]);
             assert!(rt; block.active);
         }
         None => assert!(rt; false, "block 0"),
     }
     assert!(rt; setup.block(1).is_none());
-    assert_eq!(rt; setup.profile_count(), 1);
+    is_same(&rt, &setup.profile_count(), &1);
     match setup.profile(0) {
         Some(profile) => {
             let place = Place::Channel(U4::low_bits(0), U4::low_bits(2));
             assert!(rt; profile.block == 0 && profile.place == place && !profile.on);
             let id = [126, 0, 1, 1, 0];
             for (k, number) in id.iter().enumerate() {
-                assert_eq!(rt; profile.id[k].get(), *number);
+                is_same(&rt, &profile.id[k].get(), number);
             }
         }
         None => assert!(rt; false, "profile 0"),
     }
     assert!(rt; setup.profile(1).is_none());
-    assert_eq!(rt; setup.product_id(), "SN-0001");
+    is_same(&rt, &setup.product_id(), &"SN-0001");
     let identity = Identity {
         manufacturer: [125, 0, 0],
         family: [1, 0],
         model: [2, 0],
         revision: [1, 0, 0, 0],
     };
-    assert_eq!(rt; setup.identity(), identity);
-    assert_eq!(rt; setup.config(), Config { protocol: 2 });
+    is_same(&rt, &setup.identity(), &identity);
+    is_same(&rt, &setup.config(), &Config { protocol: 2 });
 }
 
 #[test]
@@ -368,8 +383,7 @@ fn each_fault_has_its_text(rt: HostRuntime) -> Result<(), Fail> {
         ),
         (SetupFault::NoMemory, "there is no memory for the setup"),
     ] {
-        let shown = format!(in rt.alloc(); "{fault}")?;
-        assert_eq!(rt; shown.as_str(), text);
+        has_text(&rt, rt.alloc(), &fault, text)?;
     }
     Ok(())
 }

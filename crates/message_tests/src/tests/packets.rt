@@ -3,6 +3,7 @@
 ghost use Rattle.std.specs.Prelude.{◌≤◌, length, IfOk, IfSome};
 ghost use Rattle.ump_grammar.specs.Ranges.{IsPacket};
 
+use super::{has_text, is_same};
 use midi_edge::ShortList;
 use std::test::Fail;
 use ump_grammar::*;
@@ -578,7 +579,7 @@ fn replies_stand_one_after_the_other(rt: HostRuntime) {
 fn words_are_shown_as_a_list(rt: HostRuntime) -> Result<(), Fail> {
     let words = Words::from_slice(&[0x4090_3C00, 0xC924_0000]);
     let shown = format!(in rt.alloc(); "{words:?}")?;
-    assert_eq!(rt; shown.as_str(), "[1083194368, 3374579712]");
+    is_same(&rt, &shown.as_str(), &"[1083194368, 3374579712]");
     Ok(())
 }
 
@@ -591,8 +592,7 @@ fn each_refusal_has_its_text(rt: HostRuntime) -> Result<(), Fail> {
         ),
         (Bad::HighBit, "a data byte has its high bit set"),
     ] {
-        let shown = format!(in rt.alloc(); "{bad}")?;
-        assert_eq!(rt; shown.as_str(), text);
+        has_text(&rt, rt.alloc(), &bad, text)?;
     }
     Ok(())
 }

@@ -1,5 +1,6 @@
 // Worked rows of the slow program, and the parser beside it on bytes that look random. The rows of
 // `midi_commands_tests` tell of the parser.
+use super::{is_same, is_same_in};
 use midi1_bytes::slow::{SlowStep, slow_step};
 use midi1_bytes::*;
 use std::alloc::{AllocError, Global};
@@ -14,9 +15,9 @@ fn check_row(
     steps: &[SlowStep],
 ) -> Result<(), AllocError> {
     let mut past = Vec::new(alloc);
-    assert_eq!(rt; bytes.len(), steps.len());
+    is_same(rt, &bytes.len(), &steps.len());
     for (&byte, &step) in bytes.iter().zip(steps) {
-        assert_eq!(rt; slow_step(past.as_slice(), byte, 2), step, "at {byte}");
+        is_same_in(rt, &byte, &slow_step(past.as_slice(), byte, 2), &step);
         past.insert(0, byte)?;
     }
     Ok(())
@@ -102,10 +103,22 @@ fn the_low_bits_come_first(rt: HostRuntime) {
         channel: U4::low_bits(2),
         value: U14::low_bits(8192),
     };
-    assert_eq!(rt; write_voice(&centre).as_slice(), [0xe2, 0, 0x40].as_slice());
+    is_same(
+        &rt,
+        &write_voice(&centre).as_slice(),
+        &[0xe2, 0, 0x40].as_slice(),
+    );
     let position = System::Position(U14::low_bits(129));
-    assert_eq!(rt; write_system(&position).as_slice(), [0xf2, 1, 1].as_slice());
-    assert_eq!(rt; write_system(&System::Tune).as_slice(), [0xf6].as_slice());
+    is_same(
+        &rt,
+        &write_system(&position).as_slice(),
+        &[0xf2, 1, 1].as_slice(),
+    );
+    is_same(
+        &rt,
+        &write_system(&System::Tune).as_slice(),
+        &[0xf6].as_slice(),
+    );
 }
 
 // What the parser says, in the words of the slow program.
@@ -152,7 +165,7 @@ fn the_parser_says_what_the_slow_program_says(rt: HostRuntime) -> Result<(), Fai
             number = next(number);
             let byte = byte_of(number);
             let slow = slow_step(past.as_slice(), byte, 6);
-            assert_eq!(rt; told(&parser.byte(byte, offset)), slow, "byte {offset}");
+            is_same_in(&rt, &offset, &told(&parser.byte(byte, offset)), &slow);
             past.insert(0, byte)?;
         }
     }

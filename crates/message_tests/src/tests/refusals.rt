@@ -1,4 +1,5 @@
 // Refusals, as they are told.
+use super::has_text;
 use midi_meaning::BadStep;
 use std::test::Fail;
 
@@ -12,8 +13,7 @@ fn each_refusal_has_its_text(rt: HostRuntime) -> Result<(), Fail> {
             "an exclusive is longer than the limit",
         ),
     ] {
-        let shown = format!(in rt.alloc(); "{bad}")?;
-        assert_eq!(rt; shown.as_str(), text);
+        has_text(&rt, rt.alloc(), &bad, text)?;
     }
     Ok(())
 }

@@ -1,6 +1,8 @@
 // The roles of control changes and the registers of a channel, worked
 // by hand from the tables of the standards.
+use super::{is_same, is_same_in};
 use midi_meaning::{ControlRole, Registers, is_null_param};
+use std::process::Abort;
 use voice_messages::{Bank, Param, ParamKind, U7};
 
 fn u7(number: u32) -> U7 {
@@ -53,65 +55,92 @@ fn roles_of_controllers(rt: HostRuntime) {
         (127, ControlRole::ChannelMode),
     ];
     for (index, role) in rows {
-        assert_eq!(rt; ControlRole::of(u7(index)), role, "control {index}");
+        is_same_in(&rt, &index, &ControlRole::of(u7(index)), &role);
     }
 }
 
 #[test]
 fn halves_of_controllers_where_they_are_paired(rt: HostRuntime) {
-    assert_eq!(rt; ControlRole::Coarse.pairing(true), ControlRole::Coarse);
-    assert_eq!(rt; ControlRole::Coarse.pairing(false), ControlRole::Plain);
-    assert_eq!(rt; ControlRole::Fine.pairing(true), ControlRole::Fine);
-    assert_eq!(rt; ControlRole::Fine.pairing(false), ControlRole::Plain);
-    assert_eq!(rt; ControlRole::DataMsb.pairing(false), ControlRole::DataMsb);
+    for (role, paired, found) in [
+        (ControlRole::Coarse, true, ControlRole::Coarse),
+        (ControlRole::Coarse, false, ControlRole::Plain),
+        (ControlRole::Fine, true, ControlRole::Fine),
+        (ControlRole::Fine, false, ControlRole::Plain),
+        (ControlRole::DataMsb, false, ControlRole::DataMsb),
+    ] {
+        is_same(&rt, &role.pairing(paired), &found);
+    }
+}
+
+// What the registers tell: the MSB and the LSB of the bank, the bank, and the parameter that is selected.
+type Told = (Option<U7>, Option<U7>, Option<Bank>, Option<Param>);
+
+// What they tell after each control change of a table, one after the other.
+fn registers_tell(rt: &impl Abort, table: &[(u32, u32, Told)]) {
+    let mut registers = Registers::unset();
+    is_same(rt, &registers.bank(), &None);
+    for (index, value, told) in table {
+        registers.control(u7(*index), u7(*value));
+        let (msb, lsb) = (registers.bank_msb(), registers.bank_lsb());
+        let found = (msb, lsb, registers.bank(), registers.selected());
+        is_same_in(rt, index, &found, told);
+    }
+}
+
+fn whole_bank() -> Option<Bank> {
+    Some(bank(1, 2))
+}
+
+fn registered() -> Option<Param> {
+    Some(param(ParamKind::Registered, 0, 5))
+}
+
+fn assignable() -> Option<Param> {
+    Some(param(ParamKind::Assignable, 127, 126))
 }
 
 #[test]
 fn halves_of_registers(rt: HostRuntime) {
-    let mut registers = Registers::unset();
-    assert_eq!(rt; registers.bank(), None);
-    registers.control(u7(32), u7(2));
-    assert_eq!(rt; registers.bank_msb(), None);
-    assert_eq!(rt; registers.bank_lsb(), Some(u7(2)));
-    assert_eq!(rt; registers.bank(), Some(bank(0, 2)));
-    registers.control(u7(0), u7(1));
-    assert_eq!(rt; registers.bank(), Some(bank(1, 2)));
-    registers.control(u7(101), u7(0));
-    assert_eq!(rt; registers.selected(), None);
-    registers.control(u7(100), u7(5));
-    assert_eq!(rt;
-        registers.selected(),
-        Some(param(ParamKind::Registered, 0, 5))
-    );
-    registers.control(u7(7), u7(100));
-    registers.control(u7(6), u7(64));
-    assert_eq!(rt;
-        registers.selected(),
-        Some(param(ParamKind::Registered, 0, 5))
-    );
-    registers.control(u7(99), u7(127));
-    registers.control(u7(98), u7(127));
-    assert_eq!(rt; registers.selected(), None);
-    registers.control(u7(98), u7(126));
-    assert_eq!(rt;
-        registers.selected(),
-        Some(param(ParamKind::Assignable, 127, 126))
-    );
-    registers.control(u7(121), u7(0));
-    assert_eq!(rt; registers.selected(), None);
-    assert_eq!(rt; registers.bank_msb(), Some(u7(1)));
+    let table = [
+        (32, 2, (None, Some(u7(2)), Some(bank(0, 2)), None)),
+        (0, 1, (Some(u7(1)), Some(u7(2)), whole_bank(), None)),
+        (101, 0, (Some(u7(1)), Some(u7(2)), whole_bank(), None)),
+        (
+            100,
+            5,
+            (Some(u7(1)), Some(u7(2)), whole_bank(), registered()),
+        ),
+        (
+            7,
+            100,
+            (Some(u7(1)), Some(u7(2)), whole_bank(), registered()),
+        ),
+        (
+            6,
+            64,
+            (Some(u7(1)), Some(u7(2)), whole_bank(), registered()),
+        ),
+        (99, 127, (Some(u7(1)), Some(u7(2)), whole_bank(), None)),
+        (98, 127, (Some(u7(1)), Some(u7(2)), whole_bank(), None)),
+        (
+            98,
+            126,
+            (Some(u7(1)), Some(u7(2)), whole_bank(), assignable()),
+        ),
+        (121, 0, (Some(u7(1)), Some(u7(2)), whole_bank(), None)),
+    ];
+    registers_tell(&rt, &table);
 }
 
 #[test]
 fn the_null_parameter(rt: HostRuntime) {
-    let rows = [
+    for (bank, index, null) in [
         (127, 127, true),
         (127, 126, false),
         (126, 127, false),
         (0, 0, false),
-    ];
-    for (bank, index, null) in rows {
+    ] {
         let param = param(ParamKind::Assignable, bank, index);
-        assert_eq!(rt; is_null_param(&param), null, "{bank}/{index}");
+        is_same(&rt, &(param, is_null_param(&param)), &(param, null));
     }
 }

@@ -3,6 +3,7 @@ ghost use Rattle.std.specs.Prelude.{◌≡◌, ◌<◌, ◌^◌};
 ghost use Rattle.ump_grammar.specs.Ranges.{IsPacket};
 ghost use Rattle.system_stream.specs.Layout.{FitsPlaces, IsStream};
 
+use super::{has_text, is_same, is_same_in};
 use std::process::Abort;
 use std::test::Fail;
 use system_stream::*;
@@ -196,24 +197,23 @@ fn formats_and_unnamed_places(rt: HostRuntime) {
         0x000, 0x001, 0x002, 0x005, 0x006, 0x010, 0x011, 0x020, 0x021,
     ] {
         for format in 1..4u8 {
-            assert_eq!(rt; read(&stream(format, status, 0, 0, 0, 0)), Err(BadFormat));
+            is_same(
+                &rt,
+                &read(&stream(format, status, 0, 0, 0, 0)),
+                &Err(BadFormat),
+            );
         }
     }
-    assert_eq!(rt;
-        read(&stream(0, 0x022, 0, 0, 0, 0)),
-        Ok(StreamMessage::Other)
-    );
-    assert_eq!(rt;
-        read(&stream(2, 0x3FF, 0, 0, 0, 0)),
-        Ok(StreamMessage::Other)
-    );
+    let other = Ok(StreamMessage::Other);
+    is_same(&rt, &read(&stream(0, 0x022, 0, 0, 0, 0)), &other);
+    is_same(&rt, &read(&stream(2, 0x3FF, 0, 0, 0, 0)), &other);
     let full = stream(0, 0x000, 0x0102, 0xFFFF_FF03, u32::MAX, u32::MAX);
     let discovery = StreamMessage::Discovery {
         major: 1,
         minor: 2,
         filter: 3,
     };
-    assert_eq!(rt; read(&full), Ok(discovery));
+    is_same(&rt, &read(&full), &Ok(discovery));
     let full = stream(0, 0x001, 0, 0x00FF_FCFC, u32::MAX, u32::MAX);
     let info = StreamMessage::Info {
         major: 0,
@@ -225,7 +225,7 @@ fn formats_and_unnamed_places(rt: HostRuntime) {
         receives_jr: false,
         sends_jr: false,
     };
-    assert_eq!(rt; read(&full), Ok(info));
+    is_same(&rt, &read(&full), &Ok(info));
 }
 
 // Whether packet `k` of the text has these words, or there is none.
@@ -279,7 +279,7 @@ fn a_block_name_is_cut(rt: HostRuntime) {
 fn parts_answer(rt: &impl Abort, kind: TextKind, parts: &[(Form, u8, &[u8], Joined<'_>)]) {
     let mut join = TextJoin::new(kind);
     for (k, (form, block, bytes, answer)) in parts.iter().enumerate() {
-        assert_eq!(rt; join.part(*form, *block, bytes), *answer, "part {k}");
+        is_same_in(rt, &k, &join.part(*form, *block, bytes), answer);
     }
 }
 
@@ -374,7 +374,7 @@ fn the_limit_counts_whole_packets(rt: HostRuntime) {
         (TextKind::BlockName, 7, true),
         (TextKind::BlockName, 8, false),
     ] {
-        assert_eq!(rt; joins_packets(kind, count), Some(is_whole), "{count}");
+        is_same_in(&rt, &count, &joins_packets(kind, count), &Some(is_whole));
     }
 }
 
@@ -392,10 +392,6 @@ fn the_limit_counts_each_byte(rt: HostRuntime) {
 
 #[test]
 fn a_bad_format_has_its_text(rt: HostRuntime) -> Result<(), Fail> {
-    let shown = format!(in rt.alloc(); "{}", BadFormat)?;
-    assert_eq!(rt;
-        shown.as_str(),
-        "a stream message of one packet has a format other than complete"
-    );
-    Ok(())
+    let text = "a stream message of one packet has a format other than complete";
+    has_text(&rt, rt.alloc(), &BadFormat, text)
 }

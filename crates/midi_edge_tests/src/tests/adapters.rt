@@ -1,5 +1,6 @@
 // The adapters over a reader, a writer and files that fail as they are told to.
 use super::file_shelf::fetched;
+use super::is_same;
 use super::scripted::{Log, Scripted, ScriptedFiles, Step};
 use midi_edge::{
     BufferedSource, Failed, FolderLanes, Lanes, OpenFault, ReadSource, Sink, Source, WriteSink,
@@ -24,7 +25,7 @@ fn a_source_reads_again_after_a_signal(rt: HostRuntime) {
         source.take(&mut buf),
     ];
     assert!(rt; taken == [Ok(2), Err(Failed), Ok(3)]);
-    assert_eq!(rt; source.faults(), 1);
+    is_same(&rt, &source.faults(), &1);
 }
 
 // What each of four takes of three bytes answers, and whether the next one may wait.
@@ -65,7 +66,7 @@ fn a_source_that_reads_ahead_waits_only_where_it_holds_nothing(
             ]
     );
     assert!(rt; log.counts() == [4, 0, 0]);
-    assert_eq!(rt; source.faults(), 1);
+    is_same(&rt, &source.faults(), &1);
     let log = Log::new();
     let mut file = BufferedSource::of_file(rt.alloc(), Scripted::new(&steps, b"", &log))?;
     assert!(rt; !file.may_wait());
@@ -172,7 +173,7 @@ fn what_is_gathered_is_written_out_before_its_time(rt: HostRuntime) {
     let mut sink = WriteSink::new(Scripted::new(&steps, b"one ", &log));
     let counts = writes_out(&mut sink, &log);
     assert!(rt; counts == Ok([[2, 0, 3], [3, 1, 4], [3, 2, 4]]));
-    assert_eq!(rt; sink.faults(), 0);
+    is_same(&rt, &sink.faults(), &0);
 }
 
 // Whether a source that fails so tells it at once.
@@ -226,7 +227,7 @@ fn only_a_lack_of_memory_is_told_apart(rt: HostRuntime) {
         (ErrorKind::Interrupted, OpenFault::Failed),
     ] {
         let files = ScriptedFiles::Fails(kind);
-        assert_eq!(rt; fetched(files, 4, &mut into), Err(fault));
-        assert_eq!(rt; lanes_answer(files, rt.alloc()), Err(fault));
+        is_same(&rt, &fetched(files, 4, &mut into), &Err(fault));
+        is_same(&rt, &lanes_answer(files, rt.alloc()), &Err(fault));
     }
 }

@@ -1,4 +1,5 @@
 // The texts of the errors.
+use super::is_same;
 use midi_edge::{Failed, NoMemory, OpenFault, ReadStop};
 use std::alloc::Global;
 use std::fmt::Display;
@@ -37,6 +38,6 @@ fn each_error_has_its_text(rt: HostRuntime) {
         ),
         shows(alloc, &OpenFault::NoMemory, "out of memory"),
     ];
-    assert_eq!(rt; stops, [true; 3]);
-    assert_eq!(rt; others, [true; 4]);
+    is_same(&rt, &stops, &[true; 3]);
+    is_same(&rt, &others, &[true; 4]);
 }

@@ -1,6 +1,7 @@
 // What a shelf over files fetches.
 use super::fetching::fetches;
 use super::folders::new_folder;
+use super::is_same;
 use super::scripted::{Log, Scripted, ScriptedFiles, Step};
 use midi_edge::{FileShelf, OpenFault, Shelf};
 use std::fs;
@@ -42,7 +43,7 @@ fn a_file_is_fetched_up_to_the_limit(rt: HostRuntime) -> Result<(), Fail> {
     let missing = format!(in rt.alloc(); "{folder}/missing")?;
     let rows = are_rows(&rt, folder.as_str(), file.as_str(), missing.as_str())?;
     fs::remove_dir_all(&rt, folder.as_str())?;
-    assert_eq!(rt; rows, [true; 6]);
+    is_same(&rt, &rows, &[true; 6]);
     Ok(())
 }
 

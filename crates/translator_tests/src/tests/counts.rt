@@ -1,4 +1,5 @@
 // The counts of a few seeds, and the first packets of seed 0.
+use super::is_same_in;
 use midi_edge::U4;
 use self_test::{Generator, count};
 use std::alloc::Global;
@@ -7,7 +8,8 @@ use std::test::Fail;
 use ump_grammar::Packet;
 use voice_messages::{U7, Voice2};
 
-// The counts of these packets, which a slow model of the same rules in another language has found.
+// How many packets are carried and listed, and how many bytes there are on the way down and again, of these
+// packets: a slow model of the same rules in another language has found them.
 fn counts_are(
     rt: &impl Abort,
     alloc: Global,
@@ -16,10 +18,8 @@ fn counts_are(
     counts: [u64; 4],
 ) -> Result<(), Fail> {
     let found = count(alloc, seed, packets)?;
-    assert_eq!(rt; found.carried, counts[0], "carried of {seed}");
-    assert_eq!(rt; found.listed, counts[1], "listed of {seed}");
-    assert_eq!(rt; found.bytes, counts[2], "bytes of {seed}");
-    assert_eq!(rt; found.again, counts[3], "again of {seed}");
+    let found = [found.carried, found.listed, found.bytes, found.again];
+    is_same_in(rt, &seed, &found, &counts);
     Ok(())
 }
 

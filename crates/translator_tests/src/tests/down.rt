@@ -3,6 +3,7 @@
 ghost use Rattle.std.specs.Prelude.{IfSome};
 ghost use Rattle.ump_grammar.specs.Ranges.{IsPacket};
 
+use super::{is_same, is_same_in};
 use down_translator::*;
 use midi_edge::U4;
 use std::alloc::Global;
@@ -33,7 +34,7 @@ fn rows_follow(rt: &impl Abort, alloc: Global, down: &mut Down, table: &str) -> 
         let (offset, words) = packet.split_once(' ').unwrap_or((packet, ""));
         let words = words_of(alloc, words)?;
         let told = told_of(alloc, down, offset.parse::<u64>()?, words.as_slice())?;
-        assert_eq!(rt; told.as_str(), gives, "{row}");
+        is_same_in(rt, &row, &told.as_str(), &gives);
     }
     Ok(())
 }
@@ -111,7 +112,7 @@ fn exclusives_of_two_groups(rt: HostRuntime) -> Result<(), Fail> {
     let alloc = rt.alloc();
     let mut down = Down::new(alloc, 1_048_576, Style::Plain, false).expect(&rt, "memory is ample");
     rows_follow(&rt, alloc, &mut down, TWO_GROUPS)?;
-    assert_eq!(rt; down.begun_at(U4::low_bits(0)), None);
+    is_same(&rt, &down.begun_at(U4::low_bits(0)), &None);
     Ok(())
 }
 
@@ -126,7 +127,7 @@ fn cut_stray_and_open_exclusives(rt: HostRuntime) -> Result<(), Fail> {
     let alloc = rt.alloc();
     let mut down = Down::new(alloc, 1_048_576, Style::Plain, false).expect(&rt, "memory is ample");
     rows_follow(&rt, alloc, &mut down, CUT_STRAY_OPEN)?;
-    assert_eq!(rt; down.begun_at(U4::low_bits(0)), Some(24));
+    is_same(&rt, &down.begun_at(U4::low_bits(0)), &Some(24));
     Ok(())
 }
 
@@ -165,11 +166,11 @@ fn refusals_and_what_stands_after_them(rt: HostRuntime) -> Result<(), Fail> {
     let alloc = rt.alloc();
     let mut down = Down::new(alloc, 6, Style::Plain, false).expect(&rt, "memory is ample");
     rows_follow(&rt, alloc, &mut down, OPEN_AFTER_REFUSALS)?;
-    assert_eq!(rt; down.begun_at(U4::low_bits(0)), Some(8));
+    is_same(&rt, &down.begun_at(U4::low_bits(0)), &Some(8));
     let too_long = "32 30310700 00000000 -> ExclusiveTooLong";
     rows_follow(&rt, alloc, &mut down, too_long)?;
-    assert_eq!(rt; down.begun_at(U4::low_bits(0)), None);
-    assert_eq!(rt; down.begun_at(U4::low_bits(1)), Some(16));
+    is_same(&rt, &down.begun_at(U4::low_bits(0)), &None);
+    is_same(&rt, &down.begun_at(U4::low_bits(1)), &Some(16));
     Ok(())
 }
 

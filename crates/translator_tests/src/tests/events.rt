@@ -1,4 +1,5 @@
 // Reading on after a failed read, and what is told to people. The rows of `midi_commands_tests` tell of the rest.
+use super::is_same;
 use midi_edge::{Failed, MemSource, ReadStop, U4};
 use std::test::Fail;
 use usb_midi1::*;
@@ -36,7 +37,7 @@ fn a_failed_take_loses_no_event(rt: HostRuntime) -> Result<(), Fail> {
     ];
     let mut reader = EventReader::new(8);
     for answer in &answers {
-        assert_eq!(&rt; reader.next(&mut source), *answer);
+        is_same(&rt, &reader.next(&mut source), answer);
     }
     Ok(())
 }
@@ -44,6 +45,10 @@ fn a_failed_take_loses_no_event(rt: HostRuntime) -> Result<(), Fail> {
 #[test]
 fn too_long_has_its_text(rt: HostRuntime) -> Result<(), Fail> {
     let shown = format!(in rt.alloc(); "{}", TooLong)?;
-    assert_eq!(rt; shown.as_str(), "an exclusive is longer than the limit");
+    is_same(
+        &rt,
+        &shown.as_str(),
+        &"an exclusive is longer than the limit",
+    );
     Ok(())
 }

@@ -1,4 +1,5 @@
 // Bytes that come after one that is refused. The rows of `midi_commands_tests` tell of the rest.
+use super::is_same;
 use midi_edge::U4;
 use std::alloc::Global;
 use std::process::Abort;
@@ -24,13 +25,13 @@ fn refusal(up: &mut Up, bytes: &[u8]) -> Option<(u64, BadStep)> {
 fn refused_bytes(rt: HostRuntime) {
     let mut up = new_up(&rt, rt.alloc());
     let increment = refusal(&mut up, &[0xB0, 0x60, 0x00]);
-    assert_eq!(rt; increment, Some((2, BadStep::DataIncrement)));
+    is_same(&rt, &increment, &Some((2, BadStep::DataIncrement)));
     // running status goes on
     let decrement = refusal(&mut up, &[0x61, 0x00]);
-    assert_eq!(rt; decrement, Some((1, BadStep::DataDecrement)));
+    is_same(&rt, &decrement, &Some((1, BadStep::DataDecrement)));
     let long = [
         0xF0, 1, 2, 3, 4, 5, 6, 7, 8, 9, 10, 11, 12, 13, 14, 15, 16, 17, 18,
     ];
     let too_long = refusal(&mut up, &long);
-    assert_eq!(rt; too_long, Some((17, BadStep::ExclusiveTooLong)));
+    is_same(&rt, &too_long, &Some((17, BadStep::ExclusiveTooLong)));
 }

@@ -1,4 +1,5 @@
 // What ends a selection, and what leaves it. The rows of `midi_commands_tests` tell of the other control changes.
+use super::is_same_in;
 use midi_edge::U4;
 use param_collector::*;
 use std::process::Abort;
@@ -17,7 +18,12 @@ fn gives(
         U7::low_bits(index),
         U7::low_bits(value),
     );
-    assert_eq!(rt; given, wanted, "control {index} {value} on {channel}");
+    is_same_in(
+        rt,
+        &index,
+        &(channel, value, given),
+        &(channel, value, wanted),
+    );
 }
 
 // Halves that are held until they are used.

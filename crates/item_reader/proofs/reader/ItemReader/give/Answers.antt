@@ -8,4 +8,4 @@ item-item-requires g c =
     let sees = (rw (← c.self.view_is) at c.requires.seen) in
     let how = c.self.inside.how in
     subst (λ (xs : List ℕ). IsItem (g.H.Cut.asked how) (take c.args.size xs)) (sym c.bytes.ensures.bytes)
-    (item_seen (g.H.Cut.asked how) (g.met.H.Cut.lengths how) c.self.inside.window _ c.args.size sees)
+    (item_seen (g.H.Cut.asked how) (g.met.H.Cut.lengths how) c.self.inside.window.bytes _ c.args.size sees)

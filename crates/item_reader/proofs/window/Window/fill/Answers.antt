@@ -4,6 +4,7 @@ use Rattle.std.proofs.Math.Seq.{take-append-add}
 use Rattle.std.proofs.lemmas.List.{length-drop, take_at, take-append-le, append_assoc, length-take-le}
 use borrow.Rule.Slice.PartMut.{put_mid, post_of}
 use Rattle.midi_edge.specs.Outside.{Loses, ahead}
+use Rattle.item_reader.specs.Window.{Held}
 use Rattle.item_reader.proofs.window.Window.fill.Goals as goal
 
 -- what stands at the front of the buffer after the move
@@ -28,6 +29,9 @@ ahead-append bytes chunk (Some old) (Some new) lost = ap Some (append_assoc byte
 ahead-append bytes chunk None (Some new) lost = absurd lost
 ahead-append bytes chunk (Some old) None lost = absurd lost
 
+abbrev bytes_of : Held → List ℕ
+bytes_of held = held.bytes
+
 window_after : (start end n k : ℕ) (bytes front buf value : List ℕ) → start ≤ end → end ≤ length bytes → n ≤ length buf
     → length front ≡ length bytes → front ≡ copy_within bytes start end 0
     → take (end - start) (drop start bytes) ≡ value → take (end - start + n - 0) (put_mid (end - start) k front buf) ≡ value ++ take n buf
@@ -39,17 +43,17 @@ pub returns-clause-ahead : goal.returns-clause-ahead
 returns-clause-ahead g c =
     let view =
     window_after c.self.inside.start c.self.inside.end c.in_ok-count.count (4096 - (c.self.inside.end - c.self.inside.start))
-    c.self.inside.bytes c.copy_within.new.self c.take.new.buf c.args.self.now
-    (omega arith) (omega arith) c.in_ok-count.ensures.bound c.copy_within.ensures.len c.copy_within.ensures.after c.self.view_is in
+    c.self.inside.bytes c.copy_within.new.self c.take.new.buf c.args.self.now.bytes
+    (omega arith) (omega arith) c.in_ok-count.ensures.bound c.copy_within.ensures.len c.copy_within.ensures.after (ap bytes_of c.self.view_is) in
     ap (λ xs. ahead xs (g.S.Source.left c.take.new.self)) view
-    ∙ ahead-append c.args.self.now _ _ _ c.in_ok-count.ensures.bytes.0
+    ∙ ahead-append c.args.self.now.bytes _ _ _ c.in_ok-count.ensures.bytes.0
 
 pub returns-clause-kept : goal.returns-clause-kept
 returns-clause-kept g c = (
   take c.in_ok-count.count c.take.new.buf,
   window_after c.self.inside.start c.self.inside.end c.in_ok-count.count (4096 - (c.self.inside.end - c.self.inside.start))
-      c.self.inside.bytes c.copy_within.new.self c.take.new.buf c.args.self.now
-      (omega arith) (omega arith) c.in_ok-count.ensures.bound c.copy_within.ensures.len c.copy_within.ensures.after c.self.view_is,
+      c.self.inside.bytes c.copy_within.new.self c.take.new.buf c.args.self.now.bytes
+      (omega arith) (omega arith) c.in_ok-count.ensures.bound c.copy_within.ensures.len c.copy_within.ensures.after (ap bytes_of c.self.view_is),
 )
 
 pub returns-in_err-count-clause-kept : goal.returns-in_err-count-clause-kept
@@ -58,9 +62,9 @@ returns-in_err-count-clause-kept g c =
     let held : ℕ = i.end - i.start in
     let front : List ℕ = c.copy_within.new.self in
     let same : held + 0 ≡ held = omega arith in
-    let P : ℕ → Type 0 = λ n. take (n - 0) (put_mid held (4096 - held) front c.take.new.buf) ≡ c.args.self.now ++ take 0 c.take.new.buf in (
+    let P : ℕ → Type 0 = λ n. take (n - 0) (put_mid held (4096 - held) front c.take.new.buf) ≡ c.args.self.now.bytes ++ take 0 c.take.new.buf in (
       take 0 c.take.new.buf,
       subst P same
-          (window_after i.start i.end 0 (4096 - held) i.bytes front c.take.new.buf c.args.self.now
-          (omega arith) (omega arith) (omega arith) c.copy_within.ensures.len c.copy_within.ensures.after c.self.view_is),
+          (window_after i.start i.end 0 (4096 - held) i.bytes front c.take.new.buf c.args.self.now.bytes
+          (omega arith) (omega arith) (omega arith) c.copy_within.ensures.len c.copy_within.ensures.after (ap bytes_of c.self.view_is)),
     )

@@ -20,7 +20,7 @@ use Rattle.ump_endpoint.specs.Held.{EndpointState, held_over}
 use Rattle.endpoint_pass.specs.Answering.{block_line_of}
 use Rattle.endpoint_pass.specs.Held.{held_closing}
 use Rattle.endpoint_pass.proofs.ClosingLaws.{blocks_are}
-use Rattle.endpoint_pass.proofs.endpoint.EndpointEngineEngineFramedPacket.close.Goals as goal
+use Rattle.endpoint_pass.proofs.endpoint.EndpointEngineEngineFramedEncodedPacket.close.Goals as goal
 
 pub returns : goal.returns
 returns g c = λ first past holds.

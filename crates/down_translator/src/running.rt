@@ -1,0 +1,82 @@
+// The running status of a lane.
+ghost use Rattle.std.specs.Prelude.{◌≡◌, Some, None};
+ghost use Rattle.midi1_bytes.specs.RunningStatus.{is_running};
+
+use std::marker::Model;
+
+/// The running status of a lane, or none, as one number, so that one comparison tells whether a status byte
+/// is it. A contract sees the status byte, if there is one.
+#[derive(Drop)]
+pub struct RunningStatus {
+    // The status byte; 256 where there is none.
+    number: u16,
+}
+
+impl Model for RunningStatus {
+    ghost use Rattle.std.specs.Prelude.{◌≤◌, ℕ, Option};
+    ghost use Rattle.down_translator.specs.Running.{running_by};
+
+    ghost Value = { Option ℕ };
+
+    ghost view = { λ running. running_by running.number };
+
+    ghost invariant = { λ running. running.number ≤ 256 };
+}
+
+impl RunningStatus {
+    /// None.
+    #[inline(always)]
+    pub fn none() -> RunningStatus
+        ensures { result ≡ None }
+    {
+        RunningStatus { number: 256 }
+    }
+
+    /// This status byte.
+    #[tactic(auto, using(crate::proofs::RunningLaws::some_running))]
+    #[inline(always)]
+    pub fn some(status: u8) -> RunningStatus
+        ensures { result ≡ Some status }
+    {
+        RunningStatus {
+            number: u16::from(status),
+        }
+    }
+
+    /// This status byte, or none.
+    #[inline(always)]
+    pub fn of(status: Option<u8>) -> RunningStatus
+        ensures { result ≡ status }
+    {
+        match status {
+            Some(status) => RunningStatus::some(status),
+            None => RunningStatus::none(),
+        }
+    }
+
+    /// The status byte, if there is one.
+    #[inline(always)]
+    pub fn get(&self) -> Option<u8>
+        ensures { result ≡ self.now }
+    {
+        if self.number == 256 {
+            None
+        } else {
+            Some(self.number as u8)
+        }
+    }
+
+    /// Whether it is this status byte; from now on it is (MIDI 1.0 Detailed Specification, running status).
+    #[tactic(auto, using(crate::proofs::RunningLaws::same_running, crate::proofs::RunningLaws::some_running))]
+    #[inline(always)]
+    pub fn take(&mut self, status: u8) -> bool
+        ensures running { result ≡ is_running self.old status }
+        ensures after { self.new ≡ Some status }
+    {
+        let is_running = self.number == u16::from(status);
+        if !is_running {
+            self.number = u16::from(status);
+        }
+        is_running
+    }
+}
