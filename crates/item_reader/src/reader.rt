@@ -207,7 +207,8 @@ fn look_ahead<H: Cut, S: Source>(
     ensures kept { Keeps window.old.bytes window.new.bytes }
     ensures seen { IfOk result (λ front. Sees (H.asked how.now) window.new.bytes room front) }
     ensures end { IfOk result (λ front. front ≡ Front.Partial → IsUsedUp (S.left src.new)) }
-    ensures err { OnErr result (IsRest (H.asked how.now) window.new.bytes × (length window.new.bytes ≤ room)) }
+    ensures err { OnErr result (IsRest (H.asked how.now) window.new.bytes
+        × (length window.new.bytes ≤ room)) }
     ensures held { H.asked how.now window.old.bytes ≤ length window.old.bytes → src.new ≡ src.old }
     ensures cause { HasCause (S.faults src.old) (S.faults src.new) result }
 {
@@ -229,7 +230,8 @@ fn take_more<H: Cut, S: Source>(
     ensures kept { Keeps window.old.bytes window.new.bytes }
     ensures seen { IfOk result (λ front. Sees (H.asked how.now) window.new.bytes room front) }
     ensures end { IfOk result (λ front. front ≡ Front.Partial → IsUsedUp (S.left src.new)) }
-    ensures err { OnErr result (IsRest (H.asked how.now) window.new.bytes × (length window.new.bytes ≤ room)) }
+    ensures err { OnErr result (IsRest (H.asked how.now) window.new.bytes
+        × (length window.new.bytes ≤ room)) }
     ensures cause { HasCause (S.faults src.old) (S.faults src.new) result }
 {
     loop {

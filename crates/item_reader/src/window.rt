@@ -88,8 +88,8 @@ impl Window {
         self.start += count;
     }
 
-    /// Takes more bytes by one `take`, of which none is allowed yet. The answer is
-    /// false at the end of the source. After an `Err` all is as it was.
+    /// Takes more bytes by one `take`. The answer is false at the end of the source. After an `Err` the bytes
+    /// are as they were. How many are allowed isn't said until `allow` is called.
     #[inline(never)]
     pub fn fill<S: Source>(&mut self, source: &mut S) -> Result<bool, Failed>
         requires { length self.old.bytes < 4096 }

@@ -132,7 +132,8 @@ pub fn write_out<S: Source, O: Outputs>(input: &S, outputs: &mut O)
     }
 }
 
-// What comes next, where it has to be read, out of line: so the loop of a pass has the reading of an item once.
+// What comes next, where it has to be read, out of line: so the loop
+// of a pass has the reading of an item once.
 #[inline(never)]
 fn read_next<A, I, R: Items<A, I>, S: Source>(reader: &mut R, input: &mut S) -> Next<A, I>
     ensures answer { (first : R) (all : Option (List ℕ)) (items : List (A × I)) →
