@@ -129,7 +129,7 @@ impl Engine<Framed, EncodedPacket> for EndpointEngine {
         outputs: &mut O,
     ) -> Result<(), RunEnd> {
         answers_are_those_of_the_history();
-        self.take_encoded(at.offset, item, outputs)
+        self.take_packet(at.offset, item, outputs)
     }
 
     fn close<O: Outputs>(&self, outputs: &mut O) -> Result<(), RunEnd> {
@@ -188,10 +188,10 @@ fn put_blocks<O: Outputs>(setup: &Setup, endpoint: &Endpoint, outputs: &mut O) -
 }
 
 impl EndpointEngine {
-    // The same as `take_packet`. Most packets are direct messages, which have
-    // no reply and no line, so these aren't taken apart.
+    // Takes one more packet: puts the words of the replies to it in the output, and its lines in the notes.
+    // Only exclusives and stream messages have any; most packets are direct messages, which aren't decoded.
     #[inline(always)]
-    fn take_encoded<O: Outputs>(
+    fn take_packet<O: Outputs>(
         &mut self,
         offset: u64,
         packet: &EncodedPacket,
@@ -205,29 +205,18 @@ impl EndpointEngine {
     {
         match packet.direct_message() {
             Some(_) => Ok(()),
-            None => self.take_apart(offset, packet, outputs),
+            None => match packet.decode() {
+                packet @ (Packet::Exclusive { .. } | Packet::Stream { .. }) => {
+                    self.take_decoded(offset, &packet, outputs)
+                }
+                _ => Ok(()),
+            },
         }
     }
 
-    // The same of any packet, out of line, so that the loop stays small.
+    // The same of a decoded packet, out of line, so that the loop stays small.
     #[inline(never)]
-    fn take_apart<O: Outputs>(
-        &mut self,
-        offset: u64,
-        packet: &EncodedPacket,
-        outputs: &mut O,
-    ) -> Result<(), RunEnd>
-        requires packet { IsPacket packet.now }
-        ensures order { self.new.order ≡ self.old.order }
-        ensures held { self.new.endpoint.held ≡ after_packet offset packet.now self.old.endpoint.held }
-        ensures takes { TakesPacket self.old.order self.old.endpoint.held offset packet.now
-            (O.places outputs.old) (O.places outputs.new) result }
-    {
-        self.take_packet(offset, &packet.decode(), outputs)
-    }
-
-    // Takes one more packet: puts the words of the replies to it in the output, and its lines in the notes.
-    fn take_packet<O: Outputs>(
+    fn take_decoded<O: Outputs>(
         &mut self,
         offset: u64,
         packet: &Packet,

@@ -154,22 +154,12 @@ fn failing_put(text: &str) -> Result<(u64, usize), Fail> {
 // Adds bytes, each of two hexadecimal digits, in groups.
 fn push_hex(bytes: &mut Vec<u8>, text: &str) -> Result<(), Fail> {
     for group in text.split_whitespace() {
-        for pair in group.as_bytes().chunks(2) {
-            let [high, low] = pair else {
-                return Err(Fail::new("a byte has two digits"));
-            };
-            bytes.push(digit(*high)? << 4 | digit(*low)?)?;
-        }
+        let digits = group.as_bytes();
+        let end = bytes.len();
+        bytes.resize(end + digits.len() / 2, 0)?;
+        hex::decode_to_slice(digits, &mut bytes[end..])?;
     }
     Ok(())
-}
-
-fn digit(code: u8) -> Result<u8, Fail> {
-    match code {
-        b'0'..=b'9' => Ok(code - b'0'),
-        b'A'..=b'F' => Ok(code - b'A' + 10),
-        _ => Err(Fail::new("that is no hexadecimal digit")),
-    }
 }
 
 // The words of a command line; two quotes are an empty one.
@@ -222,16 +212,22 @@ fn form_of(words: &str) -> Form {
 
 // What is left, as a row says it behind `leaves`.
 fn told_of(alloc: Global, form: Form, left: &Left) -> Result<String, Fail> {
-    let mut told = format!(in alloc; "{:?}", left.status)?;
-    push_pieces(&mut told, &left.lanes)?;
+    let mut told = String::new(alloc);
+    tell(&mut told, form, left)?;
+    Ok(told)
+}
+
+// Adds what is left. The text is another function's, so that each way out of this one has none to drop.
+fn tell(told: &mut String, form: Form, left: &Left) -> Result<(), Fail> {
+    write!(told, "{:?}", left.status)?;
+    push_pieces(told, &left.lanes)?;
     let output = left.output.held();
     match form {
-        Form::Text => push_lines(&mut told, "output", output)?,
-        Form::Words => push_bytes(&mut told, 4, output)?,
-        Form::Bytes => push_bytes(&mut told, 1, output)?,
+        Form::Text => push_lines(told, "output", output)?,
+        Form::Words => push_bytes(told, 4, output)?,
+        Form::Bytes => push_bytes(told, 1, output)?,
     }
-    push_lines(&mut told, "note", left.notes.held())?;
-    Ok(told)
+    push_lines(told, "note", left.notes.held())
 }
 
 // A line for each piece of the lanes.

@@ -23,7 +23,7 @@ use Rattle.endpoint_pass.proofs.endpoint.EndpointEngineEngineFramedEncodedPacket
 pub returns : goal.returns
 returns g c = λ first past holds asks.
     let old = g.O.Outputs.places c.args.outputs.now in
-    let new = g.O.Outputs.places c.take_encoded.new.outputs in
+    let new = g.O.Outputs.places c.take_packet.new.outputs in
     let laws = c.answers_are_those_of_the_history.ensures in
     let item : Framed × Packet = (c.args.at.now, c.args.item.now) in
     let offset : ℕ = c.args.at.now.offset in
@@ -33,9 +33,9 @@ returns g c = λ first past holds asks.
     let setup : SetupData = first.endpoint.held.setup in
     let room : ℕ = first.endpoint.held.exclusives.room in
     let held : EndpointState = held_over setup room before in
-    let O : Order → Type 0 = λ order. TakesPacket order c.args.self.now.endpoint.held offset packet old new c.take_encoded.result in
-    let H : EndpointState → Type 0 = λ held. TakesPacket first.order held offset packet old new c.take_encoded.result in
-    let takes = subst H holds.held_is (subst O holds.order_is c.take_encoded.ensures.takes) in
+    let O : Order → Type 0 = λ order. TakesPacket order c.args.self.now.endpoint.held offset packet old new c.take_packet.result in
+    let H : EndpointState → Type 0 = λ held. TakesPacket first.order held offset packet old new c.take_packet.result in
+    let takes = subst H holds.held_is (subst O holds.order_is c.take_packet.ensures.takes) in
     let outcome = laws.outcome setup room before holds.least holds.packets placed in
     let listed = laws.listed setup room before holds.least holds.packets placed in
     let lines : lines_in held offset packet ≡ packet_lines setup room before placed =
@@ -44,18 +44,18 @@ returns g c = λ first past holds asks.
     let R : List Packet → Type 0 = λ replies. AreWrittenAndListed first.order replies (lines_in held offset packet) takes.0 in
     let L : List Put → Type 0 = λ lines. AreWrittenAndListed first.order (packet_replies setup room before placed) lines takes.0 in
     let put = subst L lines (subst R (laws.replies setup room before holds.least holds.packets placed) takes.1) in
-    let T : Option BadStep → Type 0 = λ refusal. Takes (refusal_by refusal offset) takes.0 old new c.take_encoded.result in
-    takes_steps (answering (endpoint_options first)) past item old new _ c.take_encoded.result takes.0
+    let T : Option BadStep → Type 0 = λ refusal. Takes (refusal_by refusal offset) takes.0 old new c.take_packet.result in
+    takes_steps (answering (endpoint_options first)) past item old new _ c.take_packet.result takes.0
     (subst T (laws.refusal setup room before holds.least holds.packets packet) takes.2)
     (λ fine. (
       put,
       record {
         least = holds.least;
         distinct = holds.distinct;
-        order_is = c.take_encoded.ensures.order ∙ holds.order_is;
+        order_is = c.take_packet.ensures.order ∙ holds.order_is;
         packets = (c.requires.item, holds.packets);
         held_is =
-            c.take_encoded.ensures.held
+            c.take_packet.ensures.held
             ∙ ap (after_packet offset packet) holds.held_is
             ∙ laws.after setup room before holds.least holds.packets holds.distinct placed;
       },
