@@ -140,13 +140,13 @@ def libraries(top):
 def check_building(room, program, top):
     """What the script says while rt fails, and while it builds; then the program is there."""
     crates = libraries(top)
-    os.mkdir(f"{room.at}/tools")
-    tools = {"PATH": f"{room.at}/tools:{WITHOUT_KIT}", "BUILT": program, "PROVED": " ".join(crates[:3]), "IN_WORK": crates[3]}
+    os.mkdir(f"{room.at}/stand-ins")
+    tools = {"PATH": f"{room.at}/stand-ins:{WITHOUT_KIT}", "BUILT": program, "PROVED": " ".join(crates[:3]), "IN_WORK": crates[3]}
     got = {}
     for text in (FAILS, STAND_IN):
-        with open(f"{room.at}/tools/rt", "w", encoding="utf-8") as it:
+        with open(f"{room.at}/stand-ins/rt", "w", encoding="utf-8") as it:
             it.write(text)
-        os.chmod(f"{room.at}/tools/rt", stat.S_IRWXU)
+        os.chmod(f"{room.at}/stand-ins/rt", stat.S_IRWXU)
         got[text] = script(room, "selftest", "7", **tools)
     code, output, errors = got[FAILS]
     if (code, output) != (126, "") or not errors.endswith("larboardyuzu: the program could not be built\n"):

@@ -35,17 +35,13 @@ def sources(pattern):
 
 
 def definitions():
-    """The public definitions of specs/, but for what serves proofs alone and the worked rows: name to whether it is a statement and where it
-    stands."""
+    """The public definitions of specs/, but for its folders, which hold what serves proofs alone and the worked rows: name to whether it is a
+    statement and where it stands."""
     found = collections.defaultdict(list)
     head = re.compile(rf"^ *(?:(?:abbrev|unfoldable) pub|pub (?:record|data)) ({WORD})(.*)$", re.M)
     for crate, path in sources("specs/*.antt"):
-        text = read(path)
-        name = os.path.basename(path)
-        if text.startswith("-- For proofs alone") or "Rows" in name:
-            continue
-        for one in head.finditer(text):
-            found[one[1]].append((one[1][0].isupper(), f"crates/{crate}/specs/{name}"))
+        for one in head.finditer(read(path)):
+            found[one[1]].append((one[1][0].isupper(), f"crates/{crate}/specs/{os.path.basename(path)}"))
     return found
 
 
@@ -94,7 +90,7 @@ def main():
             anywhere |= set(re.findall(WORD, span))
 
     known = set(FOREIGN)
-    for pattern in ("src/**/*.rt", "specs/*.antt", "proofs/**/*.antt", "must-fail/*.edit"):
+    for pattern in ("src/**/*.rt", "specs/**/*.antt", "proofs/**/*.antt", "must-fail/*.edit"):
         for path in glob.glob(f"{TOP}/crates/*/{pattern}", recursive=True):
             known |= set(re.findall(WORD, read(path))) | {os.path.basename(path).split(".")[0]}
     for pattern in ("crates/*", "include/*", "c/**/*", "examples/**/*", "docs/*", "completions/*", "*", ".ci/*"):

@@ -1,6 +1,6 @@
 use Rattle.std.proofs.Common.{ℕ, ◌+◌, ◌*◌, ◌-◌, ◌/◌, ◌^◌, ◌≡◌, ◌<◌, ◌≤◌, refl, arith, leb}
 use Rattle.std.proofs.lemmas.Bool.{cond_both, leb-true}
-use Rattle.bit_scaling.specs.Scaled.{down7_up, down14_up, release_down_up, velocity_down_up}
+use Rattle.bit_scaling.specs.ForProofs.Scaled.{down7_up, down14_up, release_down_up, velocity_down_up}
 use Rattle.bit_scaling.specs.Scaling.{up, IsIncreasing, KeepsEnds}
 
 -- raised and lowered again

@@ -1,2 +1,2 @@
-pub mod Scaled
+pub mod ForProofs
 pub mod Scaling

@@ -1,7 +1,7 @@
 -- A line of the listing as a caller gets it.
 use Rattle.std.specs.Prelude.{ℕ, List, [], ◌∷◌, Option, Some, None}
-use Rattle.midi_meaning.specs.declared.listed.Kind.{Kind}
-use Rattle.midi_meaning.specs.declared.listed.Listed.{Listed}
+use Rattle.listing_terms.specs.declared.listed.Kind.{Kind}
+use Rattle.listing_terms.specs.declared.listed.Listed.{Listed}
 use Rattle.c_answers.specs.Numbers.{kind_number}
 use Rattle.c_answers.specs.declared.line.ListingLine.{ListingLine}
 

@@ -1,7 +1,7 @@
 -- The numbers of the header.
 use Rattle.std.specs.Prelude.{ℕ}
-use Rattle.midi_meaning.specs.declared.listed.Kind.{Kind}
-use Rattle.midi_meaning.specs.declared.listed.Kind.TheVariants as kinds
+use Rattle.listing_terms.specs.declared.listed.Kind.{Kind}
+use Rattle.listing_terms.specs.declared.listed.Kind.TheVariants as kinds
 use Rattle.c_answers.specs.declared.status.Status.{Status}
 use Rattle.c_answers.specs.declared.status.Status.TheVariants as statuses
 

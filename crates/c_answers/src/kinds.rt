@@ -2,7 +2,7 @@
 ghost use Rattle.std.specs.Prelude.{◌≡◌};
 ghost use Rattle.c_answers.specs.Numbers.{kind_number};
 
-use midi_meaning::Kind;
+use listing_terms::Kind;
 
 /// The number of a kind, from 1 on.
 pub fn kind_number(kind: Kind) -> u8

@@ -3,7 +3,7 @@ ghost use Rattle.std.specs.Prelude.{◌≡◌};
 ghost use Rattle.c_answers.specs.Lines.{line_of, listed_line, no_line};
 
 use crate::kinds::kind_number;
-use midi_meaning::{Kind, Listed};
+use listing_terms::{Kind, Listed};
 
 /// A line of the listing.
 #[repr(C)]

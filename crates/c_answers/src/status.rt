@@ -3,7 +3,7 @@ ghost use Rattle.std.specs.Prelude.{◌≡◌};
 ghost use Rattle.c_answers.specs.Numbers.{number_of};
 ghost use Rattle.c_answers.specs.Refusals.{status_of_bad, status_of_step};
 
-use midi_meaning::BadStep;
+use listing_terms::BadStep;
 use ump_grammar::Bad;
 
 /// What a call answers: that it is done, or why it isn't.

@@ -1,10 +1,10 @@
 // The words of a packet, as a caller gives them.
 ghost use Rattle.std.specs.Prelude.{◌≡◌, MatchOption, true, false};
-ghost use Rattle.ump_words.specs.Cut.{IsWhole};
+ghost use Rattle.packet_words.specs.Words.{IsWhole};
 ghost use Rattle.c_answers.specs.Whole.{is_whole};
 
-use ump_words::words::words_in_packet;
-use ump_words::{Framed, Words};
+use packet_words::words::words_in_packet;
+use packet_words::{Framed, Words};
 
 /// The words as those of one packet, where they are as many as the
 /// message type of the first one has (M2-104-UM).

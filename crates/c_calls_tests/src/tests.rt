@@ -6,7 +6,7 @@ use c_streams::{
 use c_translators::{Block, Piece, RaisedWords, SizedDown, SizedUp};
 use c_voice_state::{ByteState, FactNumbers, PacketState};
 use down_translator::Style;
-use midi_edge::U4;
+use small_types::U4;
 use std::fmt::Debug;
 use std::process::Abort;
 use std::test::Fail;

@@ -6,7 +6,7 @@ use Rattle.ump_grammar.specs.Spelling.{Spells}
 use Rattle.ump_grammar.specs.declared.packet.Bad.{Bad}
 use Rattle.ump_grammar.specs.declared.packet.Packet.{Packet}
 use Rattle.ump_grammar.specs.declared.packet.Packet.TheVariants as packets
-use Rattle.midi_meaning.specs.declared.listed.BadStep.{BadStep}
+use Rattle.listing_terms.specs.declared.listed.BadStep.{BadStep}
 use Rattle.ump_endpoint.specs.Held.{EndpointState, after_packet, listed_in, outcome_in, refusal_in, replies_in}
 use Rattle.ump_endpoint.specs.declared.taken.Taken.{Taken}
 use Rattle.c_answers.specs.Fronts.{with_front}

@@ -12,7 +12,7 @@ use crate::replies::PacketReplies;
 use c_answers::{Status, framed, put_words};
 use ci_responder::ProfileId;
 use function_blocks::{Profile, Setup, SetupFault};
-use midi_edge::{NoMemory, U4};
+use small_types::{NoMemory, U4};
 use std::alloc::Global;
 use std::marker::Model;
 use ump_endpoint::{Endpoint, Key, MOST_REPLY_WORDS};

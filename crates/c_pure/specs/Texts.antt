@@ -4,7 +4,7 @@ use Rattle.ump_grammar.specs.Reason.{reason}
 use Rattle.ump_grammar.specs.Spelling.{Spells}
 use Rattle.ump_grammar.specs.declared.packet.Bad.{Bad}
 use Rattle.ump_grammar.specs.declared.packet.Packet.{Packet}
-use Rattle.midi_lines.specs.PacketLines.{packet_text}
+use Rattle.text_lines.specs.PacketLines.{packet_text}
 use Rattle.c_answers.specs.Fronts.{with_front}
 use Rattle.c_answers.specs.Numbers.{number_of}
 use Rattle.c_answers.specs.Refusals.{status_of_bad}

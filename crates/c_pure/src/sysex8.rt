@@ -4,7 +4,7 @@ ghost use Rattle.c_answers.specs.Numbers.{number_of};
 ghost use Rattle.c_pure.specs.Sysex8.{IsCut};
 
 use c_answers::{Status, put_words};
-use midi_edge::U4;
+use small_types::U4;
 use sysex8_packets::{part8, part8_words};
 
 /// The four words of a packet, counted from 0, of an 8-bit exclusive of a stream with these bytes (M2-104-UM,

@@ -4,7 +4,7 @@ ghost use Rattle.c_answers.specs.Numbers.{number_of};
 ghost use Rattle.c_pure.specs.Texts.{IsTold};
 
 use c_answers::{Status, framed, put_bytes};
-use midi_lines::packet_line;
+use text_lines::packet_line;
 use ump_grammar::decode;
 
 /// The most bytes of a line.

@@ -14,8 +14,8 @@ use Rattle.midi1_bytes.specs.declared.step.AfterCut.TheVariants as after
 use Rattle.midi_meaning.specs.declared.listed.Kind.{Kind}
 use Rattle.midi_meaning.specs.declared.listed.Listed.{Listed}
 use Rattle.midi_meaning.specs.StepListing.{kinds_of_step, line_up}
-use Rattle.up_translator.specs.declared.byte_lines.ByteLine as told
-use Rattle.up_translator.specs.ByteLines.{line_by, AreInOrder}
+use Rattle.listing_terms.specs.declared.byte_lines.ByteLine as told
+use Rattle.listing_terms.specs.ByteLines.{line_by, AreInOrder}
 use Rattle.usb_midi1.specs.Packed.{IsPacked, cable_in, events_from, events_in, whole_in, whole_of}
 use Rattle.usb_midi1.specs.Held.{PackerState, packer_after, step_in}
 use Rattle.usb_midi1.specs.Laws.{ExclusiveEventsComeInOrder}

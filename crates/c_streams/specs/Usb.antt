@@ -7,7 +7,7 @@ use Rattle.usb_midi1.specs.Events.{carried_by, event_of}
 use Rattle.usb_midi1.specs.Held.{PackerState, packer_after, step_in}
 use Rattle.usb_midi1.specs.Packing.{events_by}
 use Rattle.usb_midi1.specs.declared.event.Event.{Event}
-use Rattle.up_translator.specs.ByteLines.{first_in, second_in}
+use Rattle.listing_terms.specs.ByteLines.{first_in, second_in}
 use Rattle.usb_midi1.specs.Packed.{events_in}
 use Rattle.usb_midi1.specs.declared.packed.Packed.{Packed}
 use Rattle.c_answers.specs.Fronts.{with_front}

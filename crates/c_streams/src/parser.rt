@@ -13,12 +13,11 @@ ghost use Rattle.c_streams.specs.Parser.{most_spoken, spoken, IsByteParsed};
 use crate::outcome::ByteOutcome;
 use c_answers::laws::exclusives_stay_within_their_limit;
 use c_answers::{ListingLine, Status, put_bytes};
-use midi_edge::NoMemory;
-use midi_meaning::Kind;
+use midi_meaning::{Kind, kind_of_cut, kind_of_open};
 use midi1_bytes::{AfterCut, Parser, Step, System, write_system, write_voice};
+use small_types::NoMemory;
 use std::alloc::Global;
 use std::marker::Model;
-use up_translator::lines::{kind_of_cut, kind_of_open};
 
 // Writes the message that a step completes, with its status byte, and returns how many bytes it has.
 #[inline(always)]

@@ -1,6 +1,6 @@
 // The join of 8-bit exclusives.
 ghost use Rattle.std.specs.Prelude.{◌≡◌, ◌≤◌, true, false, length, IfOk, MatchOption};
-ghost use Rattle.ump_words.specs.Cut.{IsWhole};
+ghost use Rattle.packet_words.specs.Words.{IsWhole};
 ghost use Rattle.sysex8_streams.specs.Fed8.{fed8_view};
 ghost use Rattle.sysex8_streams.specs.History.{part_of};
 ghost use Rattle.sysex8_streams.specs.Reading.{Spells8};
@@ -10,12 +10,12 @@ ghost use Rattle.c_answers.specs.Numbers.{number_of};
 ghost use Rattle.c_streams.specs.Sysex8.{cut_by, ended_by, has_part, no_part, reply_number, status_of, IsBegun, IsJoined, IsPacketJoined};
 
 use c_answers::{Status, framed, put_bytes};
-use midi_edge::{NoMemory, U4};
+use packet_words::Words;
+use small_types::{NoMemory, U4};
 use std::alloc::Global;
 use std::marker::Model;
 use sysex8_streams::{Fed8, Part8, Streams, read8};
 use ump_grammar::fields::bits;
-use ump_words::Words;
 
 /// What a packet does to the 8-bit exclusive of its stream.
 #[repr(C)]

@@ -13,7 +13,7 @@ use crate::outcome::ByteOutcome;
 use c_answers::laws::exclusives_stay_within_their_limit;
 use c_answers::{ListingLine, Status, put_bytes};
 use item_reader::Cut;
-use midi_edge::{NoMemory, U4};
+use small_types::{NoMemory, U4};
 use std::alloc::Global;
 use std::marker::Model;
 use usb_midi1::laws::exclusive_events_come_in_order;

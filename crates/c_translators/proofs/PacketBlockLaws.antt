@@ -4,7 +4,7 @@ use Rattle.std.proofs.Common.{List, [], ◌∷◌, ◌++◌, length, take, drop,
 use Rattle.std.proofs.lemmas.Bool.{le-ltb, lt-ltb}
 use Rattle.std.proofs.lemmas.List.{length-take-le}
 use Rattle.std.specs.Prelude.{nat_lt, slice_index, slice_set}
-use Rattle.ump_words.specs.Cut.{words_asked}
+use Rattle.packet_words.specs.Words.{words_asked}
 use Rattle.ump_grammar.specs.Reason.{reason}
 use Rattle.ump_grammar.specs.declared.packet.Packet.{Packet}
 use Rattle.midi_meaning.specs.declared.listed.Listed.{Listed}

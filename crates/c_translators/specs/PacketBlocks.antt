@@ -1,6 +1,6 @@
 -- How far a call over many packets came, and what it leaves.
 use Rattle.std.specs.Prelude.{◌≡◌, ◌+◌, nat_lt, ℕ, Bool, true, false, List, [], ◌∷◌, length, take}
-use Rattle.ump_words.specs.Cut.{words_asked}
+use Rattle.packet_words.specs.Words.{words_asked}
 use Rattle.ump_grammar.specs.Reason.{reason}
 use Rattle.ump_grammar.specs.declared.packet.Packet.{Packet}
 use Rattle.down_translator.specs.Held.{DownState}

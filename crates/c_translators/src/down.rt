@@ -15,10 +15,10 @@ use crate::piece::Piece;
 use c_answers::{Status, framed, put_bytes};
 use direct_packets::EncodedPacket;
 use down_translator::{BadStep, Down, Kind, Listed, LoweredMessage, ShortenedMessage, Style};
-use midi_edge::{NoMemory, U4};
+use packet_words::words::words_in_packet;
+use small_types::{NoMemory, U4};
 use std::alloc::Global;
 use std::marker::Model;
-use ump_words::words::words_in_packet;
 
 /// The size of a buffer that takes any piece but that of an exclusive.
 const LEAST_SIZE: usize = 12;

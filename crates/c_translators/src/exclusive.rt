@@ -9,7 +9,7 @@ ghost use Rattle.c_answers.specs.Numbers.{number_of};
 ghost use Rattle.c_translators.specs.Exclusives.{IsCut, cuts};
 
 use c_answers::{Status, put_words};
-use midi_edge::{ShortList, U4};
+use small_types::{ShortList, U4};
 use sysex_groups::part;
 use ump_grammar::{Packet, encode};
 use voice_messages::Form;

@@ -3,8 +3,8 @@ ghost use Rattle.std.specs.Prelude.{◌≡◌};
 ghost use Rattle.c_translators.specs.Pieces.{asking, empty_piece, piece_shown};
 
 use c_answers::kind_number;
-use midi_edge::U4;
 use midi_meaning::Listed;
+use small_types::U4;
 
 /// The MIDI 1.0 bytes of a packet, and its line of the listing.
 #[repr(C)]

@@ -21,7 +21,7 @@ use crate::exclusive::exclusive_words;
 use crate::raised::RaisedWords;
 use c_answers::laws::exclusives_stay_within_their_limit;
 use c_answers::{ListingLine, Status, kind_number, put_words};
-use midi_edge::{NoMemory, U4};
+use small_types::{NoMemory, U4};
 use std::alloc::Global;
 use std::marker::Model;
 use sysex_groups::part;

@@ -9,7 +9,7 @@ ghost use Rattle.c_answers.specs.Numbers.{number_of};
 ghost use Rattle.c_voice_state.specs.Facts.{channel_of, counted, group_of, lsb_of, msb_of, nothing_at, numbers_of, parametrised, programmed, valued, AreTold};
 
 use c_answers::Status;
-use midi_edge::NoMemory;
+use small_types::NoMemory;
 use std::alloc::Global;
 use voice_messages::{Bank, Param, ParamKind, U4, U7};
 use voice_state::{Fact, VoiceState, most_facts};

@@ -14,7 +14,7 @@ ghost use Rattle.c_voice_state.specs.Kept.{kept_status, takes_part, Changes, IsP
 
 use crate::fact_numbers::{FactNumbers, tell_state, told_facts};
 use c_answers::{Status, framed};
-use midi_edge::{NoMemory, U4};
+use small_types::{NoMemory, U4};
 use std::alloc::Global;
 use std::marker::Model;
 use sysex_groups::{Fed, Groups};

@@ -14,7 +14,7 @@ use Rattle.function_blocks.specs.declared.setup.Place.TheVariants as place
 use Rattle.function_blocks.specs.declared.setup.Profile.{Profile}
 use Rattle.function_blocks.specs.Blocks.{IsBlock, muids_of}
 use Rattle.function_blocks.specs.Profiles.{is_same_profile, profiles_are_distinct, same_place}
-use Rattle.ci_responder.specs.SameKeys.{left, right}
+use Rattle.ci_responder.specs.ForProofs.SameKeys.{left, right}
 use Rattle.ci_initiator.specs.Known.{are_different, same_watch}
 use Rattle.ci_initiator.specs.Watching.{IsLeastUnnamed, first_unnamed, has_ci_at, is_named}
 use Rattle.ci_initiator.specs.Watching.{names_muid, own_muid, watch_at, watch_where, watched_block}

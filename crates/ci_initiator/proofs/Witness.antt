@@ -23,7 +23,7 @@ use Rattle.ci_responder.specs.declared.keys.Key.{Key}
 use Rattle.ci_responder.specs.History.{accepted_at, accepted_by, block_of, heard_at, heard_with, last_switch, muid_at}
 use Rattle.ci_responder.specs.History.{on_at, newer_or, reply_at, sender_at, sender_of_block, spent_at, states_at, switched}
 use Rattle.ci_responder.specs.Keys.{first_states, key_of, same_key, state_in}
-use Rattle.ci_responder.specs.SameKeys.{key-is, key-itself, left, right}
+use Rattle.ci_responder.specs.ForProofs.SameKeys.{key-is, key-itself, left, right}
 use Rattle.ci_responder.specs.Messages as said
 use Rattle.ci_responder.specs.Messages.{SaidToResponder, Received, key_at, place_at}
 use Rattle.ci_responder.specs.Replies.{Sender, payload as reply-bytes, reply_row, ids_of}

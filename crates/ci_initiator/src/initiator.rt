@@ -15,7 +15,7 @@ use crate::rows::{hold, noted_row};
 use crate::watch::{Watch, Watched};
 use ci_messages::{CiView, Muid};
 use ci_responder::CiMessage;
-use midi_edge::{NoMemory, ShortList};
+use small_types::{NoMemory, ShortList};
 use std::alloc::Global;
 use std::marker::Model;
 use voice_messages::U4;

@@ -17,7 +17,7 @@ ghost use Rattle.std.specs.Prelude.{
 ghost use Rattle.std.specs.Option.{option_map};
 
 use ci_responder::CiMessage;
-use midi_edge::NoMemory;
+use small_types::NoMemory;
 use std::alloc::Global;
 use std::marker::Model;
 use voice_messages::U4;

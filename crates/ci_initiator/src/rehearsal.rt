@@ -33,7 +33,7 @@ use ci_messages::laws::views_that_are_read_fit;
 use ci_messages::read;
 use ci_responder::{CiMessage, Heard, Key, Responder};
 use function_blocks::Setup;
-use midi_edge::NoMemory;
+use small_types::NoMemory;
 use std::alloc::Global;
 use std::marker::Model;
 use voice_messages::U4;

@@ -20,7 +20,7 @@ ghost use Rattle.ci_initiator.specs.Watching.{
 use crate::watch::Watch;
 use ci_messages::{Address, ProfileId};
 use function_blocks::{Block, Place, Profile, Setup};
-use midi_edge::NoMemory;
+use small_types::NoMemory;
 use std::alloc::Global;
 use voice_messages::{U4, U7};
 

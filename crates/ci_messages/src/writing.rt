@@ -19,7 +19,7 @@ ghost use Rattle.ci_messages.specs.Writing.{
 use crate::kind::Format;
 use crate::laws::written_messages_are_read_again;
 use crate::view::{Address, Body, CiView, ProfileId};
-use midi_edge::ShortList;
+use small_types::ShortList;
 use voice_messages::{END_OF_EXCLUSIVE, START_OF_EXCLUSIVE};
 
 /// The bytes of a message, from F0 to F7.

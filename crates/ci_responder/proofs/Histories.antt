@@ -13,7 +13,7 @@ use Rattle.ci_responder.specs.declared.heard.Heard.{Heard}
 use Rattle.ci_responder.specs.declared.heard.Heard.TheVariants as heard
 use Rattle.ci_responder.specs.declared.keys.Key.{Key}
 use Rattle.ci_responder.specs.Keys.{first_states, key_of, same_key, state_in}
-use Rattle.ci_responder.specs.SameKeys.{key-is}
+use Rattle.ci_responder.specs.ForProofs.SameKeys.{key-is}
 use Rattle.ci_responder.specs.Messages.{SaidToResponder, Received, discovery, endpoint, invalidate, profiles, switch, other, key_at}
 use Rattle.ci_responder.specs.Rows.{heard_by, loses_muid, names}
 use Rattle.ci_responder.specs.Replies.{replies_by, reply_by}

@@ -12,10 +12,10 @@ use Rattle.function_blocks.specs.declared.setup.Place.{Place}
 use Rattle.function_blocks.specs.declared.setup.Profile.{Profile}
 use Rattle.function_blocks.specs.Profiles.{is_same_profile, profiles_are_distinct}
 use Rattle.ci_responder.specs.declared.keys.Key.{Key}
-use Rattle.ci_responder.specs.Actions.{IsFirstOf}
+use Rattle.ci_responder.specs.ForProofs.Actions.{IsFirstOf}
 use Rattle.ci_responder.specs.Keys.{first_states, key_of, same_key, state_in}
 use Rattle.ci_responder.specs.Replies.{ids_of, listed}
-use Rattle.ci_responder.specs.SameKeys.{key-is, key-itself, left, right}
+use Rattle.ci_responder.specs.ForProofs.SameKeys.{key-is, key-itself, left, right}
 use Rattle.ci_responder.proofs.ListLaws.{got, take-next}
 
 -- the other way round

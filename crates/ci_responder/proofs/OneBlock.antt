@@ -7,7 +7,7 @@ use Rattle.function_blocks.specs.declared.setup.Block.{Block}
 use Rattle.function_blocks.specs.Blocks.{are_apart, has_ci, shares_group}
 use Rattle.function_blocks.specs.Setups.{SetupData}
 use Rattle.ci_responder.specs.History.{block_of, covers}
-use Rattle.ci_responder.specs.SameKeys.{left, right}
+use Rattle.ci_responder.specs.ForProofs.SameKeys.{left, right}
 use Rattle.ci_responder.proofs.ListLaws.{got}
 
 both : (a b : Bool) → a ≡ true → b ≡ true → (a && b) ≡ true

@@ -16,7 +16,7 @@ ghost use Rattle.ci_responder.specs.History.{kept};
 use crate::kept::CiBlock;
 use ci_messages::Muid;
 use function_blocks::Block;
-use midi_edge::{ShortList, U4};
+use small_types::{ShortList, U4};
 
 /// A block of the setup that has used up none of its MUIDs.
 pub(crate) fn kept_block(block: &Block) -> CiBlock

@@ -1,5 +1,5 @@
 // What is kept of a function block.
-use midi_edge::ShortList;
+use small_types::ShortList;
 
 /// A function block of the setup, with what MIDI-CI asks of it.
 #[derive(Debug, PartialEq, Eq, Drop)]

@@ -16,7 +16,7 @@ pub struct Key {
 
 impl PartialEq for Key {
     ghost use Rattle.ci_responder.specs.Keys.{same_key};
-    ghost use Rattle.ci_responder.specs.SameKeys.{same_key_laws};
+    ghost use Rattle.ci_responder.specs.ForProofs.SameKeys.{same_key_laws};
 
     ghost eq = { same_key };
 
@@ -28,7 +28,7 @@ impl PartialEq for Key {
 }
 
 impl Eq for Key {
-    ghost use Rattle.ci_responder.specs.SameKeys.{key-equivalence};
+    ghost use Rattle.ci_responder.specs.ForProofs.SameKeys.{key-equivalence};
 
     ghost laws = { key-equivalence };
 }
@@ -36,7 +36,7 @@ impl Eq for Key {
 impl Hash for Key {
     ghost use Rattle.std.specs.Prelude.{◌++◌, ◌∷◌, []};
     ghost use Rattle.std.specs.Hash as fed;
-    ghost use Rattle.ci_responder.specs.SameKeys.{same_hash};
+    ghost use Rattle.ci_responder.specs.ForProofs.SameKeys.{same_hash};
 
     ghost hash_input = { λ key. fed.u8 key.block ++ (key.id.bytes ∷ []) };
 

@@ -5,7 +5,7 @@ ghost use Rattle.ci_responder.specs.Replies.{IsMessage, message_of_payload, payl
 
 use ci_messages::laws::written_messages_are_read_again;
 use ci_messages::{CiView, write};
-use midi_edge::ShortList;
+use small_types::ShortList;
 use std::marker::Model;
 
 /// A message of MIDI-CI from F0 to F7 (M2-101-UM), of at most 344 bytes, that `ci_messages::read` takes. To a

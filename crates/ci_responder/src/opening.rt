@@ -12,7 +12,7 @@ use crate::keys::Key;
 use ci_messages::ProfileId;
 use function_blocks::{Block, Place, Profile, Setup};
 use indexmap::IndexMap;
-use midi_edge::NoMemory;
+use small_types::NoMemory;
 use std::alloc::Global;
 
 // Adds a block at the end.

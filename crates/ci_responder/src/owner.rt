@@ -2,7 +2,7 @@
 ghost use Rattle.std.specs.Prelude.{◌<◌};
 
 use ci_messages::Muid;
-use midi_edge::U4;
+use small_types::U4;
 
 /// The function block that a message is for, with its MUID in force, and the group on which it replies.
 #[derive(Clone, Copy, Debug, PartialEq, Eq)]

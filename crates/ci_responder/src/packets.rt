@@ -5,7 +5,7 @@ ghost use Rattle.ci_messages.specs.Fields.{IsData};
 ghost use Rattle.ci_responder.specs.Replies.{message_of_payload, packets_of};
 
 use crate::message::CiMessage;
-use midi_edge::U4;
+use small_types::U4;
 use sysex_groups::part;
 use ump_grammar::{Packet, Replies};
 

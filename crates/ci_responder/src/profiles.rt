@@ -4,7 +4,7 @@ ghost use Rattle.std.specs.Map.{set_value};
 ghost use Rattle.ci_messages.specs.Fields.{IsData};
 ghost use Rattle.function_blocks.specs.Profiles.{same_place};
 ghost use Rattle.ci_responder.specs.declared.keys.Key.{Key};
-ghost use Rattle.ci_responder.specs.Actions.{IsFirstOf};
+ghost use Rattle.ci_responder.specs.ForProofs.Actions.{IsFirstOf};
 ghost use Rattle.ci_responder.specs.Keys.{same_key, state_in};
 ghost use Rattle.ci_responder.specs.Messages.{place_at};
 ghost use Rattle.ci_responder.specs.Replies.{ids_of, listed};
@@ -13,7 +13,7 @@ use crate::keys::Key;
 use ci_messages::{Address, ProfileId};
 use function_blocks::Place;
 use indexmap::IndexMap;
-use midi_edge::ShortList;
+use small_types::ShortList;
 use voice_messages::U4;
 
 /// The place of an address (M2-101-UM, device id).

@@ -2,7 +2,7 @@
 ghost use Rattle.std.specs.Prelude.{◌≡◌, ◌<◌, ◌≤◌, [], true, length, is_some, IfOk, IfSome};
 ghost use Rattle.ump_grammar.specs.Replies.{AddsPackets};
 ghost use Rattle.ci_messages.specs.Writing.{IsView};
-ghost use Rattle.ci_responder.specs.Actions.{Suits, heard_of};
+ghost use Rattle.ci_responder.specs.ForProofs.Actions.{Suits, heard_of};
 ghost use Rattle.ci_responder.specs.Held.{
   after,
   blocks_by,
@@ -33,7 +33,7 @@ use crate::profiles::{set, state};
 use ci_messages::CiView;
 use function_blocks::{Identity, Setup};
 use indexmap::IndexMap;
-use midi_edge::{NoMemory, ShortList, U4};
+use small_types::{NoMemory, ShortList, U4};
 use std::alloc::Global;
 use std::marker::Model;
 use ump_grammar::Replies;

@@ -1,7 +1,7 @@
 // What is done with a message, by its row.
 ghost use Rattle.std.specs.Prelude.{◌≡◌, ◌==◌, false};
 ghost use Rattle.ci_messages.specs.Writing.{IsView};
-ghost use Rattle.ci_responder.specs.Actions.{IsSwitchOf, Suits, heard_of};
+ghost use Rattle.ci_responder.specs.ForProofs.Actions.{IsSwitchOf, Suits, heard_of};
 ghost use Rattle.ci_responder.specs.Messages.{key_at, said_in, received_of, viewed_message};
 ghost use Rattle.ci_responder.specs.Rows.{
   heard_row,

@@ -1,3 +1,3 @@
+pub mod ForProofs
 pub mod Names
-pub mod ProfileLaws
 pub mod Profiles

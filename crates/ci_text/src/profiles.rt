@@ -7,8 +7,8 @@ ghost use Rattle.ci_text.specs.Profiles.{profile_line_of, profile_lines, put_at}
 
 use ci_responder::{Key, ProfileId, Responder};
 use function_blocks::{Profile, Setup};
-use midi_lines::profile_line;
 use pass_loop::{Outputs, RunEnd};
+use text_lines::profile_line;
 
 /// Where a line is put.
 #[derive(Clone, Copy, Debug, PartialEq, Eq)]

@@ -4,15 +4,15 @@ use Rattle.std.proofs.Common.{Option, None, Some, refl, ap, sym, ◌∙◌, subs
 use Rattle.std.specs.Prelude.{IfSome}
 use Rattle.std.proofs.lemmas.List.{length-append, take_at}
 use Rattle.midi_clip.specs.Header.{HasTaken, header_bytes}
-use Rattle.midi_edge.specs.Outside.{Loses, ahead}
-use Rattle.pass_loop.specs.Borrowed.{ends_as, ends_keep, given_back, seen_back}
-use Rattle.pass_loop.specs.DoneLaws.{is_done_unless}
-use Rattle.pass_loop.specs.NamedLaws.{stands_ends}
+use Rattle.outside.specs.Outside.{Loses, ahead}
+use Rattle.pass_loop.specs.ForProofs.Borrowed.{ends_as, ends_keep, given_back, seen_back}
+use Rattle.pass_loop.specs.ForProofs.DoneLaws.{is_done_unless}
+use Rattle.pass_loop.specs.ForProofs.NamedLaws.{stands_ends}
 use Rattle.pass_loop.specs.Pass.{CutsOnce, HasNoRefusal, IsDoneUnless, IsFirstRefusal, NothingFails, Seen, Stands}
 use Rattle.pass_loop.specs.Places.{Places}
-use Rattle.pass_loop.specs.PutLaws.{over_puts-none}
+use Rattle.pass_loop.specs.ForProofs.PutLaws.{over_puts-none}
 use Rattle.pass_loop.specs.Refused.{HasFirstRefusal, IsRefusedWhere}
-use Rattle.pass_loop.specs.RefusedLaws.{is_refused_where}
+use Rattle.pass_loop.specs.ForProofs.RefusedLaws.{is_refused_where}
 use Rattle.pass_loop.specs.declared.ends.Reason.{Reason}
 use Rattle.pass_loop.specs.declared.ends.Reason.TheVariants as reason
 use Rattle.pass_loop.specs.declared.ends.RunEnd.{RunEnd}

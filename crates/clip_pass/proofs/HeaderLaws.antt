@@ -4,7 +4,7 @@ use Rattle.std.proofs.Common.{Option, None, Some, refl, ap, sym, ◌∙◌, subs
 use Rattle.std.specs.Prelude.{IfSome, ◌⊎◌, reverse}
 use Rattle.std.proofs.lemmas.List.{append_assoc, length-append}
 use Rattle.midi_clip.specs.Header.{header_bytes}
-use Rattle.midi_edge.specs.Outside.{ahead}
+use Rattle.outside.specs.Outside.{ahead}
 use Rattle.item_reader.specs.SoFar.{Given, given}
 use Rattle.ump_words.specs.Reader.{Reading}
 use Rattle.ump_words.specs.declared.words.Framed.{Framed}
@@ -13,10 +13,10 @@ use Rattle.ump_grammar.specs.declared.packet.Packet.{Packet}
 use Rattle.pass_loop.specs.Pass.{CutsOnce, HasGivenUp, IsFront, Tail}
 use Rattle.pass_loop.specs.declared.ends.Reason.TheVariants.{NotClip, Truncated}
 use Rattle.packet_input.specs.Packets.{GivenBehind, room_behind, words_behind}
-use Rattle.packet_input.specs.Starting as starting
+use Rattle.packet_input.specs.ForProofs.Starting as starting
 use Rattle.clip_pass.specs.Cutting.{CutsBehind, clip_cutting}
 use Rattle.clip_pass.specs.Clipping.{size_over}
-use Rattle.pass_loop.specs.PassLaws.{reverse-push}
+use Rattle.pass_loop.specs.ForProofs.PassLaws.{reverse-push}
 
 -- ---- a clip file is cut in one way
 

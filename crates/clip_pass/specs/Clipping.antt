@@ -8,7 +8,7 @@ use Rattle.midi_clip.specs.declared.step.ClipFault.{ClipFault}
 use Rattle.midi_clip.specs.declared.step.ClipFault.TheVariants as fault
 use Rattle.midi_clip.specs.declared.step.ClipStep.{ClipStep}
 use Rattle.midi_clip.specs.declared.step.ClipStep.TheVariants.{Before, Began, Event, Delta, Ended}
-use Rattle.midi_lines.specs.PacketLines.{packet_text}
+use Rattle.text_lines.specs.PacketLines.{packet_text}
 use Rattle.pass_loop.specs.Pass.{Tail, Work}
 use Rattle.pass_loop.specs.Put.{Put, in_output, output_in}
 use Rattle.pass_loop.specs.declared.ends.Reason.{Reason}

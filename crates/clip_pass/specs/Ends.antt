@@ -4,7 +4,7 @@ use Rattle.ump_words.specs.declared.words.Framed.{Framed}
 use Rattle.ump_grammar.specs.declared.packet.Packet.{Packet}
 use Rattle.midi_clip.specs.Header.{HasTaken, header_bytes}
 use Rattle.midi_clip.specs.History.{is_ended}
-use Rattle.midi_edge.specs.Outside.{Loses, Rose, ahead}
+use Rattle.outside.specs.Outside.{Loses, Rose, ahead}
 use Rattle.pass_loop.specs.Pass.{Ends, IsWork, Seen}
 use Rattle.pass_loop.specs.Places.{over_puts}
 use Rattle.pass_loop.specs.Put.{Put}

@@ -14,10 +14,10 @@ ghost use Rattle.clip_pass.specs.Ends.{ClipEnds, with_header};
 use crate::laws::clip_files_are_cut_once;
 use crate::lines::{fill_end_line, fill_event_line, fill_resolution_line};
 use midi_clip::{Clip, ClipFault, ClipStep, HEADER_SIZE, clips_are_the_definition, header};
-use midi_edge::{Lanes, Sink, Source};
-use midi_lines::Line;
+use outside::{Lanes, Sink, Source};
 use packet_input::next_packet;
 use pass_loop::{Borrowed, LIMIT, Next, Outputs, Reason, RunEnd, write_out};
+use text_lines::Line;
 use ump_grammar::Packet;
 use ump_words::{Framed, Order, WordReader};
 

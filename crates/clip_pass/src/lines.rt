@@ -3,7 +3,7 @@ ghost use Rattle.std.specs.Prelude.{◌≡◌, ◌<◌, ◌≤◌, length};
 ghost use Rattle.clip_pass.specs.Clipping.{event_text};
 ghost use Rattle.clip_pass.specs.Lines.{end_text, resolution_text};
 
-use midi_lines::{Line, put_decimal, put_packet_line, put_text};
+use text_lines::{Line, put_decimal, put_packet_line, put_text};
 use ump_grammar::Packet;
 use ump_words::Framed;
 

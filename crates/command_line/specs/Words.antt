@@ -8,8 +8,8 @@ use Rattle.command_line.specs.declared.subcommand.Argument.{Argument}
 use Rattle.command_line.specs.declared.subcommand.Argument.TheVariants.{Positional, Option, Flag}
 use Rattle.command_line.specs.declared.subcommand.Subcommand.{Subcommand}
 use Rattle.clap.specs.declared.builder.ArgAction.TheVariants.{Set, SetTrue}
-use Rattle.ump_words.specs.declared.words.Order.{Order}
-use Rattle.ump_words.specs.declared.words.Order.TheVariants.{Big, Little}
+use Rattle.packet_words.specs.declared.words.Order.{Order}
+use Rattle.packet_words.specs.declared.words.Order.TheVariants.{Big, Little}
 
 -- a word that stands by its place and must be given
 abbrev pub positional : Text → Rule

@@ -10,7 +10,7 @@ use crate::matches::{text, word_order};
 use crate::numbers::room;
 use crate::subcommand::{Argument, Subcommand};
 use clap::ArgMatches;
-use ump_words::Order;
+use packet_words::Order;
 
 /// What `endpoint` is asked for.
 #[derive(Clone, Copy, Debug, PartialEq, Eq)]

@@ -3,7 +3,7 @@ ghost use Rattle.std.specs.Prelude.{◌≡◌, Some, None, true, false, codes, [
 ghost use Rattle.command_line.specs.Asked.{down, up, back, show, show_bytes, endpoint, usb_split, usb_pack, sysex8, rehearse, clip, self_test};
 ghost use Rattle.command_line.specs.Rules.{command_of};
 ghost use Rattle.command_line.specs.declared.translate.LaneStyle.TheVariants.{Plain, Compact};
-ghost use Rattle.ump_words.specs.declared.words.Order.TheVariants.{Big, Little};
+ghost use Rattle.packet_words.specs.declared.words.Order.TheVariants.{Big, Little};
 
 /// `translate down` with its folder, alone and with all that may be left out.
 pub fn down_is_taken()

@@ -11,8 +11,8 @@ use crate::command::WordsFault;
 use crate::parser::parser;
 use clap::ArgMatches;
 use clap::error::ErrorKind;
+use packet_words::Order;
 use std::alloc::Global;
-use ump_words::Order;
 
 // The matches of the words.
 pub fn matches_of<'a>(alloc: Global, words: &'a [String]) -> Result<ArgMatches<'a>, WordsFault>

@@ -5,7 +5,7 @@ ghost use Rattle.std.specs.List.{list_all};
 ghost use Rattle.std.specs.Char.{is_ascii_digit};
 ghost use Rattle.command_line.specs.Numbers.{IsRoom, cable_in, group_in, number_of, number_or as number_or_absent, room_in};
 
-use midi_edge::U4;
+use small_types::U4;
 
 fn is_digits(text: &str) -> bool
     ensures { result ≡ list_all is_ascii_digit text.now }

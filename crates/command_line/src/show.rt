@@ -10,7 +10,7 @@ use crate::matches::{is_flag_set, text, word_order};
 use crate::numbers::room;
 use crate::subcommand::{Argument, Subcommand};
 use clap::ArgMatches;
-use ump_words::Order;
+use packet_words::Order;
 
 /// What `show` is asked for.
 #[derive(Clone, Copy, Debug, PartialEq, Eq)]

@@ -11,7 +11,7 @@ use crate::matches::{text, word_order};
 use crate::numbers::number_or;
 use crate::subcommand::{Argument, Subcommand};
 use clap::ArgMatches;
-use ump_words::Order;
+use packet_words::Order;
 
 /// What `sysex8` is asked for.
 #[derive(Clone, Copy, Debug, PartialEq, Eq)]

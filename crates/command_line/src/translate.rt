@@ -10,8 +10,8 @@ use crate::matches::{is_flag_set, is_given, text, word_order};
 use crate::numbers::{group, room};
 use crate::subcommand::{Argument, Subcommand};
 use clap::ArgMatches;
-use midi_edge::U4;
-use ump_words::Order;
+use packet_words::Order;
+use small_types::U4;
 
 /// How messages are written in the lanes of `translate down`.
 #[derive(Clone, Copy, Debug, PartialEq, Eq)]

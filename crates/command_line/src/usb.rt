@@ -10,7 +10,7 @@ use crate::matches::{is_given, text};
 use crate::numbers::{cable, room};
 use crate::subcommand::{Argument, Subcommand};
 use clap::ArgMatches;
-use midi_edge::U4;
+use small_types::U4;
 
 /// What `usb pack` is asked for.
 #[derive(Clone, Copy, Debug, PartialEq, Eq)]

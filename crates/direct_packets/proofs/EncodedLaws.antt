@@ -2,7 +2,7 @@
 use Rattle.std.proofs.Common.{◌≡◌, ℕ, List, Option, None, sym, subst}
 use Rattle.std.specs.Coded.{Coded, Coded-set, codes, coded_ℕ}
 use mathlib.Core.Logic.{∥∥₁_elim}
-use Rattle.ump_words.specs.Cut.{IsWhole}
+use Rattle.packet_words.specs.Words.{IsWhole}
 use Rattle.ump_grammar.specs.declared.packet.Bad.{Bad}
 use Rattle.ump_grammar.specs.declared.packet.Packet.{Packet}
 use Rattle.ump_grammar.specs.Ranges.{IsPacket}

@@ -10,7 +10,7 @@ use mathlib.Core.Logic.{∥∥₁_elim}
 use Rattle.ump_grammar.specs.declared.packet.Bad.TheVariants.{BadCount, HighBit}
 use Rattle.voice_messages.specs.declared.voice2.Form.{Form}
 use Rattle.voice_messages.specs.declared.voice2.Form.TheVariants as form
-use Rattle.ump_words.specs.Cut.{IsWhole}
+use Rattle.packet_words.specs.Words.{IsWhole}
 use Rattle.ump_grammar.specs.declared.packet.Packet.{Packet}
 use Rattle.ump_grammar.specs.declared.packet.Packet.TheVariants as packet
 use Rattle.ump_grammar.specs.WordFields.{byte, count_of, group_of, opcode_of, type_of}

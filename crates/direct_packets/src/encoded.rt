@@ -1,6 +1,6 @@
 // A packet as its words.
 ghost use Rattle.std.specs.Prelude.{◌≡◌, ◌≤◌, ◌%◌, ◌==◌, ◌&&◌, ◌<◌, true, false, All, Ok, IfOk, MatchOption, length, take};
-ghost use Rattle.ump_words.specs.Cut.{IsWhole};
+ghost use Rattle.packet_words.specs.Words.{IsWhole};
 ghost use Rattle.ump_grammar.specs.WordFields.{byte as place, count_of, field, group_of, opcode_of, type_of, word};
 ghost use Rattle.ump_grammar.specs.Ranges.{IsPacket};
 ghost use Rattle.ump_grammar.specs.Reading.{Decodes};
@@ -13,12 +13,12 @@ ghost use Rattle.direct_packets.specs.DirectMessages.{IsDirectMessage, has_direc
 
 use crate::direct_message::{DirectKind, DirectMessage};
 use crate::exclusive_part::ExclusivePart;
+use packet_words::{Framed, Words};
 use std::marker::Model;
 use ump_grammar::decoding::form_of;
 use ump_grammar::fields::{bits, byte, nibble};
 use ump_grammar::laws::{spelled_packets_fit, words_spell_one_packet};
 use ump_grammar::{Bad, Packet, decode};
-use ump_words::{Framed, Words};
 use voice_messages::U7;
 
 /// A packet as the words that encode it (M2-104-UM). A contract sees the packet.

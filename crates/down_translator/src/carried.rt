@@ -2,8 +2,8 @@
 ghost use Rattle.std.specs.Prelude.{◌==◌, if◌then◌else◌, length};
 
 use crate::pieces::Piece;
-use midi_edge::{LentU4, U4};
 use midi_meaning::{Kind, Listed};
+use small_types::{LentU4, U4};
 
 // A line of the listing. What is lent holds no type that contracts
 // see as another value, as `Listed` holds one.

@@ -6,8 +6,8 @@ ghost use Rattle.midi_meaning.specs.Registers.{is_null};
 ghost use Rattle.midi_meaning.specs.Controllers.{pairing, role_of};
 ghost use Rattle.midi_meaning.specs.Listing.{attribute_kind, control_kind, voice_kind};
 
-use midi_edge::U4;
 use midi_meaning::{ControlRole, Kind, Listed, is_null_param};
+use small_types::U4;
 use voice_messages::{Param, U7, Voice2};
 
 fn attribute_kind(attribute_type: u8) -> Option<Kind>

@@ -6,7 +6,7 @@ ghost use Rattle.down_translator.specs.Lowered.{lowered_bytes, first_by, has_att
 
 use bit_scaling::{down7, down14, velocity_down};
 use direct_packets::{DirectKind, DirectMessage};
-use midi_edge::U4;
+use small_types::U4;
 use voice_messages::U7;
 
 /// A MIDI 1.0 channel voice message, which alone carries a message of

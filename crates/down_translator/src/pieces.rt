@@ -18,9 +18,9 @@ use crate::voice::{
     lower_bend, lower_control, lower_note_off, lower_note_on, lower_poly_pressure, lower_pressure,
 };
 use bit_scaling::down14;
-use midi_edge::{ShortList, U4};
 use midi_meaning::{BadStep, ControlRole, is_null_param};
 use midi1_bytes::write_system as spell_system;
+use small_types::{ShortList, U4};
 use voice_messages::{Bank, Param, ParamKind, System, U7, U14, Voice1, Voice2};
 
 /// The bytes of at most four messages.

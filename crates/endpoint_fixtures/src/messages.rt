@@ -3,7 +3,7 @@ ghost use Rattle.ci_messages.specs.Fields.{IsData};
 ghost use Rattle.ci_messages.specs.Reading.{IsExclusive};
 
 use ci_messages::ProfileId;
-use midi_edge::ShortList;
+use small_types::ShortList;
 use voice_messages::U7;
 
 /// A MUID as a message spells it: four data bytes, the low seven bits first.

@@ -3,14 +3,14 @@ use Rattle.std.proofs.Common.{◌≡◌, ℕ, List, [], ◌++◌, Option, None, 
 use Rattle.std.specs.Prelude.{IfSome, reverse}
 use Rattle.std.proofs.lemmas.List.{append-nil, reverse-reverse}
 use Rattle.std.proofs.lemmas.List.Concat.{flat_map-append}
-use Rattle.ump_words.specs.declared.words.Framed.{Framed}
+use Rattle.packet_words.specs.declared.words.Framed.{Framed}
 use Rattle.ump_grammar.specs.declared.packet.Packet.{Packet}
 use Rattle.pass_loop.specs.Places.{Places, with_more}
 use Rattle.pass_loop.specs.Put.{notes_in, notes_of, output_in, output_of}
 use Rattle.packet_input.specs.Packets.{packet_cutting}
-use Rattle.packet_output.specs.Packets.{all_placed}
+use Rattle.packet_input.specs.Placed.{all_placed}
 use Rattle.endpoint_pass.specs.Answering.{packet_lines_over}
-use Rattle.endpoint_pass.specs.AnsweringMeans.{closing_output}
+use Rattle.endpoint_pass.specs.ForProofs.AnsweringMeans.{closing_output}
 use Rattle.endpoint_pass.specs.Laws.{DoneAnswersTheInput}
 
 pub answers_the_input : DoneAnswersTheInput

@@ -3,17 +3,17 @@ use Rattle.std.proofs.Common.{◌≡◌, ◌<◌, ℕ, List, [], ◌∷◌, ◌+
 use Rattle.std.specs.Prelude.{Result, Ok, Err, slice_index}
 use Rattle.std.specs.List.{flat_map}
 use Rattle.std.proofs.lemmas.List.{append_assoc, append-nil}
-use Rattle.ump_words.specs.Cut.{word_bytes, words_asked}
-use Rattle.ump_words.specs.declared.words.Order.{Order}
+use Rattle.packet_words.specs.Words.{word_bytes, words_asked}
+use Rattle.packet_words.specs.declared.words.Order.{Order}
 use Rattle.ump_grammar.specs.declared.packet.Packet.{Packet}
 use Rattle.ump_grammar.specs.Reading.{Encodes}
 use Rattle.ump_grammar.specs.Replies.{AddsPackets}
 use Rattle.pass_loop.specs.Places.{FailsAt, Places, over_puts}
 use Rattle.pass_loop.specs.Put.{Put, in_output}
-use Rattle.pass_loop.specs.PutLaws.{over_puts-none, stops_more, then_puts}
+use Rattle.pass_loop.specs.ForProofs.PutLaws.{over_puts-none, stops_more, then_puts}
 use Rattle.pass_loop.specs.declared.ends.RunEnd.{RunEnd}
-use Rattle.packet_output.specs.Written.{AreWritten}
-use Rattle.endpoint_pass.specs.Taking.{PutsPackets}
+use Rattle.packet_input.specs.Written.{AreWritten}
+use Rattle.endpoint_pass.specs.ForProofs.Taking.{PutsPackets}
 
 -- ---- the words of the first packet, and those of the others
 

@@ -2,16 +2,16 @@
 use Rattle.std.proofs.Common.{◌≡◌, ℕ, Bool, true, false, List, [], ◌++◌, Option, None, Some, refl, ap, sym, subst}
 use Rattle.std.specs.Prelude.{Result, Ok, Err}
 use Rattle.std.specs.Option.{option_to_list}
-use Rattle.ump_words.specs.declared.words.Order.{Order}
+use Rattle.packet_words.specs.declared.words.Order.{Order}
 use Rattle.voice_messages.specs.declared.voice2.Form.{Form}
 use Rattle.ump_grammar.specs.declared.packet.Packet.{Packet}
 use Rattle.ump_grammar.specs.declared.packet.Packet.TheVariants as packets
 use Rattle.ump_grammar.specs.Replies.{AddsPackets}
-use Rattle.midi_meaning.specs.declared.listed.BadStep.{BadStep}
+use Rattle.listing_terms.specs.declared.listed.BadStep.{BadStep}
 use Rattle.pass_loop.specs.Pass.{Takes}
 use Rattle.pass_loop.specs.Places.{Places, Puts}
 use Rattle.pass_loop.specs.Put.{Put}
-use Rattle.pass_loop.specs.PutLaws.{over_puts-none, stops_more, then_puts}
+use Rattle.pass_loop.specs.ForProofs.PutLaws.{over_puts-none, stops_more, then_puts}
 use Rattle.pass_loop.specs.declared.ends.RunEnd.{RunEnd}
 use Rattle.pass_loop.specs.declared.ends.RunEnd.TheVariants.{Refused}
 use Rattle.listing_lines.specs.Lines.{line_puts}
@@ -19,7 +19,7 @@ use Rattle.listing_lines.specs.Refusal.{reason_of, refusal_by}
 use Rattle.ump_endpoint.specs.Held.{EndpointState, after_packet, refusal_in, replies_in, taken_by, taken_in}
 use Rattle.ump_endpoint.specs.declared.taken.Taken.{Taken}
 use Rattle.endpoint_pass.specs.Answering.{outcome_lines}
-use Rattle.endpoint_pass.specs.Taking.{PutsPackets, TakesPacket, lines_in}
+use Rattle.endpoint_pass.specs.ForProofs.Taking.{PutsPackets, TakesPacket, lines_in}
 use Rattle.endpoint_pass.proofs.ReplyLaws.{can_be_written}
 
 abbrev is_taken : Result Taken BadStep → Bool

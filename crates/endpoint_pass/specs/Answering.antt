@@ -2,7 +2,7 @@
 -- exclusives that are open, of the protocol in force, and of the blocks and profiles.
 use Rattle.std.specs.Prelude.{◌≡◌, ℕ, false, List, [], ◌∷◌, ◌++◌, Option, None, Some, if◌then◌else◌}
 use Rattle.std.specs.Option.{option_to_list}
-use Rattle.ump_words.specs.declared.words.Framed.{Framed}
+use Rattle.packet_words.specs.declared.words.Framed.{Framed}
 use Rattle.ump_grammar.specs.declared.packet.Packet.{Packet}
 use Rattle.function_blocks.specs.Blocks.{has_ci}
 use Rattle.function_blocks.specs.Setups.{SetupData}
@@ -13,19 +13,19 @@ use Rattle.ci_responder.specs.History.{muid_at, on_at}
 use Rattle.ci_text.specs.Names.{name_of_heard}
 use Rattle.ci_text.specs.Profiles.{profile_lines}
 use Rattle.ci_text.specs.declared.profiles.LinePlace.TheVariants.{Notes}
-use Rattle.midi_meaning.specs.Listing.{end_lines}
-use Rattle.midi_meaning.specs.Parts.{Placed, group_of, part_of, parts_of}
-use Rattle.midi_meaning.specs.Refusal.{bad_part}
-use Rattle.midi_lines.specs.EndpointLines.{block_text, endpoint_text, protocol_text}
-use Rattle.midi_lines.specs.declared.endpoint.OutcomeName.{OutcomeName}
-use Rattle.midi_lines.specs.declared.endpoint.OutcomeName.TheVariants as names
+use Rattle.listing_terms.specs.ExclusiveLines.{end_lines}
+use Rattle.listing_terms.specs.Parts.{Placed, group_of, part_of, parts_of}
+use Rattle.listing_terms.specs.ExclusiveLines.{bad_part}
+use Rattle.text_lines.specs.EndpointLines.{block_text, endpoint_text, protocol_text}
+use Rattle.text_lines.specs.declared.endpoint.OutcomeName.{OutcomeName}
+use Rattle.text_lines.specs.declared.endpoint.OutcomeName.TheVariants as names
 use Rattle.pass_loop.specs.Each.{for_each}
 use Rattle.pass_loop.specs.Pass.{Work}
 use Rattle.pass_loop.specs.Put.{Put, in_notes, notes_in, output_in}
 use Rattle.listing_lines.specs.Lines.{line_puts}
 use Rattle.listing_lines.specs.Refusal.{refusal_by}
-use Rattle.packet_output.specs.Packets.{all_placed, placed_of}
-use Rattle.packet_output.specs.Written.{AreWritten, AreWrittenAndListed, output_and_notes}
+use Rattle.packet_input.specs.Placed.{all_placed, placed_of}
+use Rattle.packet_input.specs.Written.{AreWritten, AreWrittenAndListed, output_and_notes}
 use Rattle.ump_endpoint.specs.Answers.{in_force, packet_listed, packet_outcome, packet_replies, received_in_packets}
 use Rattle.ump_endpoint.specs.declared.taken.Outcome.{Outcome}
 use Rattle.ump_endpoint.specs.declared.taken.Outcome.TheVariants as outcomes

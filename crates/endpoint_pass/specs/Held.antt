@@ -1,18 +1,18 @@
 -- The engine by what its endpoint holds, from the first packet to the last.
 use Rattle.std.specs.Prelude.{◌≡◌, refl, ◌≤◌, true, List, [], ◌∷◌, ◌++◌}
-use Rattle.ump_words.specs.declared.words.Framed.{Framed}
+use Rattle.packet_words.specs.declared.words.Framed.{Framed}
 use Rattle.ump_grammar.specs.declared.packet.Packet.{Packet}
 use Rattle.function_blocks.specs.Profiles.{profiles_are_distinct}
 use Rattle.ci_responder.specs.Held.{muid_in}
 use Rattle.ci_responder.specs.Keys.{state_in}
 use Rattle.ci_text.specs.Profiles.{profile_lines}
 use Rattle.ci_text.specs.declared.profiles.LinePlace.TheVariants.{Notes}
-use Rattle.midi_meaning.specs.Listing.{groups}
-use Rattle.midi_lines.specs.EndpointLines.{protocol_text}
+use Rattle.listing_terms.specs.ExclusiveLines.{groups}
+use Rattle.text_lines.specs.EndpointLines.{protocol_text}
 use Rattle.pass_loop.specs.Each.{for_each}
 use Rattle.pass_loop.specs.Put.{Put, in_notes}
 use Rattle.listing_lines.specs.Open.{open_puts}
-use Rattle.packet_output.specs.Packets.{all_placed}
+use Rattle.packet_input.specs.Placed.{all_placed}
 use Rattle.ump_endpoint.specs.Held.{EndpointState, held_over, new_endpoint}
 use Rattle.ump_endpoint.specs.Laws.{ArePackets}
 use Rattle.endpoint_pass.specs.Answering.{block_line_of}

@@ -1,12 +1,12 @@
 -- What a pass that is done leaves, by the whole input.
 use Rattle.std.specs.Prelude.{◌≡◌, ℕ, List, [], ◌++◌, reverse, None, Some}
-use Rattle.ump_words.specs.declared.words.Framed.{Framed}
+use Rattle.packet_words.specs.declared.words.Framed.{Framed}
 use Rattle.ump_grammar.specs.declared.packet.Packet.{Packet}
 use Rattle.pass_loop.specs.Pass.{IsDone, Seen}
 use Rattle.pass_loop.specs.Places.{with_more}
 use Rattle.pass_loop.specs.Put.{notes_in}
 use Rattle.packet_input.specs.Packets.{packet_cutting}
-use Rattle.packet_output.specs.Packets.{all_placed}
+use Rattle.packet_input.specs.Placed.{all_placed}
 use Rattle.endpoint_pass.specs.Answering.{AreBytesOf, answering, closing_lines, packet_lines_over, replies_over}
 use Rattle.endpoint_pass.specs.Options.{EndpointOptions}
 

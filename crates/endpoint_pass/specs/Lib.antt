@@ -1,6 +1,5 @@
 pub mod Answering
-pub mod AnsweringMeans
+pub mod ForProofs
 pub mod Held
 pub mod Laws
 pub mod Options
-pub mod Taking

@@ -2,7 +2,7 @@
 ghost use Rattle.std.specs.Prelude.{◌≡◌, ◌≤◌, [], ◌∷◌, ◌++◌, IfOk};
 ghost use Rattle.ci_responder.specs.Held.{muid_in};
 ghost use Rattle.ci_responder.specs.Keys.{state_in};
-ghost use Rattle.midi_lines.specs.EndpointLines.{protocol_text};
+ghost use Rattle.text_lines.specs.EndpointLines.{protocol_text};
 ghost use Rattle.pass_loop.specs.Each.{for_each};
 ghost use Rattle.pass_loop.specs.PassEnds.{PassEnds};
 ghost use Rattle.pass_loop.specs.Pass.{seen};
@@ -12,7 +12,7 @@ ghost use Rattle.ump_grammar.specs.Ranges.{IsPacket};
 ghost use Rattle.ump_endpoint.specs.Held.{after_packet};
 ghost use Rattle.packet_input.specs.Packets.{packet_cutting};
 ghost use Rattle.endpoint_pass.specs.Answering.{answering, block_line_of};
-ghost use Rattle.endpoint_pass.specs.AnsweringMeans.{answers_last_named, answers_mean, answers_named};
+ghost use Rattle.endpoint_pass.specs.ForProofs.AnsweringMeans.{answers_last_named, answers_mean, answers_named};
 ghost use Rattle.endpoint_pass.specs.Held.{
   HoldsEndpoint,
   IsReadyEndpoint,
@@ -21,7 +21,7 @@ ghost use Rattle.endpoint_pass.specs.Held.{
   endpoint_options,
   setup_lines,
 };
-ghost use Rattle.endpoint_pass.specs.Taking.{TakesPacket};
+ghost use Rattle.endpoint_pass.specs.ForProofs.Taking.{TakesPacket};
 
 use crate::lines::put_taken;
 use crate::replies::put_replies;
@@ -29,15 +29,16 @@ use ci_text::{LinePlace, ProfileStates, put_profiles};
 use direct_packets::EncodedPacket;
 use function_blocks::{Block, Setup};
 use listing_lines::{OpenExclusives, list_open, refused};
-use midi_edge::{Lanes, NoMemory, Sink, Source, U4};
-use midi_lines::{Line, block_line, protocol_line};
+use outside::{Lanes, Sink, Source};
 use packet_input::{EncodedReader, packets_are_cut_once};
+use packet_words::{Framed, Order};
 use pass_loop::{Engine, Outputs, RunEnd, drive};
+use small_types::{NoMemory, U4};
 use std::alloc::Global;
 use std::marker::Model;
+use text_lines::{Line, block_line, protocol_line};
 use ump_endpoint::{Endpoint, Key, answers_are_those_of_the_history};
 use ump_grammar::Packet;
-use ump_words::{Framed, Order};
 
 /// An endpoint that is ready to answer, with all its memory. A contract sees its options.
 #[derive(Drop)]

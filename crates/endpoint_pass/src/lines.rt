@@ -3,14 +3,14 @@ ghost use Rattle.std.specs.Prelude.{◌≡◌, ◌++◌};
 ghost use Rattle.std.specs.Option.{option_to_list};
 ghost use Rattle.listing_lines.specs.Lines.{line_puts};
 ghost use Rattle.pass_loop.specs.Places.{Puts};
-ghost use Rattle.midi_meaning.specs.Parts.{group_of as group_in};
+ghost use Rattle.listing_terms.specs.Parts.{group_of as group_in};
 ghost use Rattle.endpoint_pass.specs.Answering.{name_of as name_in, name_of_fault as fault_name, outcome_lines};
 
 use ci_text::name_of_heard;
 use listing_lines::put_listed;
-use midi_edge::U4;
-use midi_lines::{Line, OutcomeName, fill_endpoint_line};
 use pass_loop::{Outputs, RunEnd};
+use small_types::U4;
+use text_lines::{Line, OutcomeName, fill_endpoint_line};
 use ump_endpoint::{CiFault, Outcome, Taken};
 use ump_grammar::Packet;
 

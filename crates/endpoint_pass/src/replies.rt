@@ -2,12 +2,12 @@
 ghost use Rattle.std.specs.Prelude.{List, []};
 ghost use Rattle.ump_grammar.specs.Replies.{AddsPackets};
 ghost use Rattle.ump_grammar.specs.declared.packet.Packet.{Packet};
-ghost use Rattle.endpoint_pass.specs.Taking.{PutsPackets};
+ghost use Rattle.endpoint_pass.specs.ForProofs.Taking.{PutsPackets};
 
-use packet_output::put_encoded;
+use packet_input::put_encoded;
+use packet_words::Order;
 use pass_loop::{Outputs, RunEnd};
 use ump_endpoint::ReplyPackets;
-use ump_words::Order;
 
 /// Puts the words of the packets in the output, one packet after the other.
 pub(crate) fn put_replies<O: Outputs>(

@@ -15,7 +15,7 @@ use Rattle.system_stream.specs.Cut.{form_at, packet_at, part_bytes, part_count}
 use Rattle.system_stream.specs.Texts.{limit_of, part_message, part_size}
 use Rattle.function_blocks.specs.declared.setup.Block.{Block}
 use Rattle.function_blocks.specs.Replies.{asked, block_replies, first_packets, replies_from, text_packets}
-use Rattle.function_blocks.specs.Pushing.{Pushes}
+use Rattle.function_blocks.specs.ForProofs.Pushing.{Pushes}
 
 -- the packet of a message has four words
 pub four_words : (m : StreamMessage) → FitsPlaces m → word_count (packet_of m) ≡ 4

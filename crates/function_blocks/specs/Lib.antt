@@ -1,9 +1,9 @@
 pub mod Blocks
 pub mod Endpoints
+pub mod ForProofs
 pub mod InForce
 pub mod Keys
 pub mod Profiles
-pub mod Pushing
 pub mod Replies
 pub mod Rules
 pub mod Setups

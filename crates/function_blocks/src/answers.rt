@@ -4,7 +4,7 @@ ghost use Rattle.std.specs.List.{All};
 ghost use Rattle.system_stream.specs.Layout.{FitsPlaces, flag, packet_of};
 ghost use Rattle.system_stream.specs.Texts.{limit_of};
 ghost use Rattle.function_blocks.specs.Blocks.{IsBlock};
-ghost use Rattle.function_blocks.specs.Pushing.{Pushes};
+ghost use Rattle.function_blocks.specs.ForProofs.Pushing.{Pushes};
 ghost use Rattle.function_blocks.specs.Replies.{
   asked,
   block_info_of,

@@ -20,7 +20,7 @@ ghost use Rattle.function_blocks.specs.declared.rules.Rule.TheVariants as rule;
 use crate::keys::{entries_at, flag_at, limited_text_at, number_at, short_numbers_at};
 use crate::rules::{Rule, SetupFault, broken};
 use crate::setup::Block;
-use midi_edge::ShortList;
+use small_types::ShortList;
 use std::alloc::Global;
 use toml::{Table, Value};
 

@@ -8,7 +8,7 @@ ghost use Rattle.function_blocks.specs.Endpoints.{IsEndpoint, endpoint_of, is_su
 use crate::keys::{flag_at, limited_text_at, number_at, numbers_at, table_at};
 use crate::rules::{Rule, SetupFault, broken};
 use crate::setup::Endpoint;
-use midi_edge::ShortList;
+use small_types::ShortList;
 use toml::Table;
 
 // Whether each byte is a printable character of ASCII.

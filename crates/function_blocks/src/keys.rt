@@ -37,7 +37,7 @@ ghost use Rattle.function_blocks.specs.Keys.{
 };
 
 use crate::rules::{Rule, SetupFault, broken};
-use midi_edge::ShortList;
+use small_types::ShortList;
 use toml::{Table, Value};
 
 fn value_at<'a>(table: &'a Table, key: &str) -> Option<&'a Value>

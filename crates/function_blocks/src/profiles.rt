@@ -47,7 +47,7 @@ ghost use Rattle.function_blocks.specs.declared.rules.Rule.TheVariants as rule;
 use crate::keys::{entries_at, flag_at, number_at, numbers_at, text_at};
 use crate::rules::{Rule, SetupFault, broken};
 use crate::setup::{Block, Place, Profile};
-use midi_edge::ShortList;
+use small_types::ShortList;
 use std::alloc::Global;
 use toml::{Table, Value};
 use voice_messages::{U4, U7};

@@ -1,7 +1,7 @@
 // What a setup says.
 ghost use Rattle.std.specs.Prelude.{◌≡◌};
 
-use midi_edge::ShortList;
+use small_types::ShortList;
 use voice_messages::{U4, U7};
 
 /// The endpoint's own keys, within the ranges of the rules.

@@ -4,8 +4,8 @@ use Rattle.std.proofs.Common.{Option, None, Some, refl, ap, sym, ◌∙◌, arit
 use Rattle.std.proofs.lemmas.List.{append_assoc, length-take-le, take-append-drop}
 use Rattle.std.proofs.Math.Nat.{min-le_left, min-le_right}
 use Rattle.item_reader.specs.Cut.{IsItem, IsLength}
-use Rattle.item_reader.specs.Front.{Sees}
-use Rattle.midi_edge.specs.Outside.{Loses, ahead}
+use Rattle.item_reader.specs.ForProofs.Front.{Sees}
+use Rattle.outside.specs.Outside.{Loses, ahead}
 use Rattle.item_reader.specs.Reading.{Reading, Gives, cursor, allowed_by, allowed_bytes}
 use Rattle.item_reader.specs.declared.cutting.Tail.{Tail}
 use Rattle.item_reader.specs.declared.reader.Front.TheVariants.{Item as FrontItem, TooLong as FrontTooLong}

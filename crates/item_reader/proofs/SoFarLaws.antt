@@ -5,9 +5,9 @@ use Rattle.std.specs.List.{concat, AllByRecursion}
 use Rattle.std.proofs.lemmas.List.{append_assoc, append-nil, length-append, nil_from_length}
 use Rattle.item_reader.specs.Cut.{IsItem, IsCutInto, IsLength, items_from, Ends}
 use Rattle.item_reader.specs.CutLaws.{ItemsAreReadInOrder}
-use Rattle.midi_edge.specs.Outside.{Loses, ahead}
+use Rattle.outside.specs.Outside.{Loses, ahead}
 use Rattle.item_reader.specs.Reading.{Reading, Gives, Waits, Finishes, cursor}
-use Rattle.midi_edge.specs.Runs.{runs_are_lost}
+use Rattle.outside.specs.Runs.{runs_are_lost}
 use Rattle.item_reader.specs.SoFar.{ReadSoFar, StandsBehind, given}
 use Rattle.item_reader.specs.declared.cutting.Tail.{Tail}
 use Rattle.item_reader.specs.declared.cutting.Tail.TheVariants.{End}

@@ -1,7 +1,6 @@
 pub mod ByteReader
 pub mod Cut
 pub mod CutLaws
-pub mod Front
+pub mod ForProofs
 pub mod Reading
 pub mod SoFar
-pub mod Window

@@ -2,11 +2,11 @@
 use Rattle.std.specs.Prelude.{◌≡◌, ℕ, ◌+◌, ◌-◌, ◌≤◌, min, nat_lt, Bool, List, [], ◌++◌, length, take}
 use Rattle.std.specs.Prelude.{Option, None, Some, Result, Ok, Err, IfSome}
 use Rattle.item_reader.specs.Cut.{IsItem, IsRest, Ends}
-use Rattle.midi_edge.specs.Outside.{Loses, Rose, ahead}
+use Rattle.outside.specs.Outside.{Loses, Rose, ahead}
 use Rattle.item_reader.specs.declared.cutting.Tail.{Tail}
 use Rattle.item_reader.specs.declared.cutting.Tail.TheVariants.{End, Truncated, TooLong}
-use Rattle.midi_edge.specs.declared.outside.ReadStop.{ReadStop}
-use Rattle.midi_edge.specs.declared.outside.ReadStop.TheVariants.{Read, Truncated as StopTruncated, TooLong as StopTooLong}
+use Rattle.outside.specs.declared.objects.ReadStop.{ReadStop}
+use Rattle.outside.specs.declared.objects.ReadStop.TheVariants.{Read, Truncated as StopTruncated, TooLong as StopTooLong}
 
 -- A reader: how it cuts, the bytes that it took and has not given out, the offset of the next item, and its last answer
 -- where there was one.

@@ -4,9 +4,9 @@ use Rattle.std.specs.List.{concat, AllByRecursion}
 use Rattle.std.proofs.Common.{subst}
 use Rattle.std.proofs.Math.Nat.{le-add_right, zero-add}
 use Rattle.item_reader.specs.Cut.{IsItem, IsCutInto, items_from}
-use Rattle.midi_edge.specs.Outside.{Loses, ahead}
+use Rattle.outside.specs.Outside.{Loses, ahead}
 use Rattle.item_reader.specs.Reading.{Reading, new_reading}
-use Rattle.midi_edge.specs.Runs.{runs_are_lost}
+use Rattle.outside.specs.Runs.{runs_are_lost}
 use Rattle.item_reader.specs.declared.cutting.Tail.{Tail}
 
 -- What a reader has given of a stream: all that the source had at first, where it tells that, what it has left, and the items given.

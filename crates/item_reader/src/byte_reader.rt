@@ -5,7 +5,7 @@ ghost use Rattle.item_reader.specs.Reading.{Answers, ReadCause, answer_of, curso
 
 use crate::cutting::Cut;
 use crate::reader::ItemReader;
-use midi_edge::{ReadStop, Source};
+use outside::{ReadStop, Source};
 use std::marker::Model;
 
 /// Each byte is an item.

@@ -1,13 +1,13 @@
 // A reader of items from a source.
 ghost use Rattle.std.specs.Prelude.{◌≡◌, ◌≤◌, ◌<◌, ◌+◌, ◌-◌, ◌==◌, ◌^◌, None, length, take, drop, IfSome, IfOk, OnErr, if◌then◌else◌};
 ghost use Rattle.item_reader.specs.Cut.{IsRest};
-ghost use Rattle.item_reader.specs.Front.{Sees};
-ghost use Rattle.midi_edge.specs.Outside.{ahead, HasCause, IsUsedUp};
+ghost use Rattle.item_reader.specs.ForProofs.Front.{Sees};
+ghost use Rattle.outside.specs.Outside.{ahead, HasCause, IsUsedUp};
 ghost use Rattle.item_reader.specs.Reading.{Answers, Keeps, ReadCause, answer_of, cursor, needs_input, new_reading};
 
 use crate::cutting::{Cut, Tail};
 use crate::window::Window;
-use midi_edge::{Failed, ReadStop, Source};
+use outside::{Failed, ReadStop, Source};
 use std::marker::Model;
 
 /// Cuts the bytes of a source into items. To a contract it is its `Reading`.

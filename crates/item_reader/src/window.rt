@@ -1,9 +1,9 @@
 // A buffer between a source and its reader.
 ghost use Rattle.std.specs.Prelude.{◌≡◌, ◌+◌, ◌-◌, ◌<◌, ◌≤◌, [], drop, length, min, take, OnErr, IfOk, MatchBool};
-ghost use Rattle.midi_edge.specs.Outside.{HasCause, IsUsedUp, ahead};
+ghost use Rattle.outside.specs.Outside.{HasCause, IsUsedUp, ahead};
 ghost use Rattle.item_reader.specs.Reading.{Keeps};
 
-use midi_edge::{Failed, Source};
+use outside::{Failed, Source};
 use std::marker::Model;
 
 const SIZE: usize = 4096;
@@ -21,7 +21,7 @@ pub struct Window {
 
 impl Model for Window {
     ghost use Rattle.std.specs.Prelude.{◌-◌, ◌≤◌, take, drop};
-    ghost use Rattle.item_reader.specs.Window.{Held};
+    ghost use Rattle.item_reader.specs.ForProofs.Window.{Held};
 
     ghost Value = { Held };
 

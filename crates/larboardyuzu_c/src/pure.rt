@@ -3,9 +3,9 @@ ghost use Rattle.std.specs.Prelude.{◌≡◌};
 ghost use Rattle.c_pure.specs.Scaling.{IsLowered, IsRaised};
 ghost use Rattle.c_pure.specs.Texts.{IsTold};
 ghost use Rattle.c_translators.specs.Exclusives.{IsCut};
-ghost use Rattle.ump_words.specs.Cut.{words_asked};
+ghost use Rattle.packet_words.specs.Words.{words_asked};
 
-use ump_words::words::words_in_packet;
+use packet_words::words::words_in_packet;
 
 /// The version of the library: the major number times 65,536, the minor one times 256, and the patch.
 #[unsafe(no_mangle)]

@@ -5,7 +5,7 @@ ghost use Rattle.larboardyuzu_c.specs.UpCalls.{AreAnswered, HasEnd, IsOpened, Is
 use c_answers::{ListingLine, Status};
 use c_handles::{Engine, Handle};
 use c_translators::{Block, RaisedWords, SizedUp};
-use midi_edge::U4;
+use small_types::U4;
 use std::alloc::Global;
 
 /// Opens a handle: a translator up into a group, 0 to 15, with paired controllers or without. `room` is the

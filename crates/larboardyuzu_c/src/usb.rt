@@ -6,7 +6,7 @@ ghost use Rattle.larboardyuzu_c.specs.UsbCalls.{HasEnd, IsByteTaken, IsOpened};
 use c_answers::{ListingLine, Status};
 use c_handles::{Engine, Handle};
 use c_streams::{ByteOutcome, CarriedBytes, UsbPacker, split_event};
-use midi_edge::U4;
+use small_types::U4;
 use std::alloc::Global;
 
 /// Opens a handle: a packer into the events of a cable, 0 to 15. `room` is the limit of an exclusive, 6 to

@@ -2,8 +2,9 @@
 ghost use Rattle.std.specs.Prelude.{◌≡◌, true};
 
 use down_translator::{Down, Style};
-use midi_edge::{Lanes, MemLanes, MemSink, MemSource};
+use midi_edge::{MemLanes, MemSink, MemSource};
 use midi1_bytes::{Parser, Step, U4, U7, Voice1};
+use outside::Lanes;
 use std::alloc::Global;
 use std::test::Fail;
 use ump_grammar::decode;

@@ -1,5 +1,4 @@
-pub mod LineLaws
+pub mod ForProofs
 pub mod Lines
 pub mod Open
-pub mod OpenLaws
 pub mod Refusal

@@ -3,8 +3,8 @@ use Rattle.std.specs.Prelude.{ℕ, List, Option, Some}
 use Rattle.std.specs.List.{flat_map}
 use Rattle.std.specs.Option.{option_map, option_to_list}
 use Rattle.sysex_groups.specs.Table.{Table, begun_in}
-use Rattle.midi_meaning.specs.declared.listed.Kind.TheVariants as kinds
-use Rattle.midi_meaning.specs.declared.listed.Listed.{Listed}
+use Rattle.listing_terms.specs.declared.listed.Kind.TheVariants as kinds
+use Rattle.listing_terms.specs.declared.listed.Listed.{Listed}
 use Rattle.pass_loop.specs.Put.{Put}
 use Rattle.listing_lines.specs.Lines.{line_puts}
 

@@ -2,8 +2,8 @@
 use Rattle.std.specs.Prelude.{ℕ, Option, None, Some}
 use Rattle.std.specs.Option.{option_map}
 use Rattle.midi1_bytes.specs.Steps.{Step, too_long}
-use Rattle.midi_meaning.specs.declared.listed.BadStep.{BadStep}
-use Rattle.midi_meaning.specs.declared.listed.BadStep.TheVariants as bad
+use Rattle.listing_terms.specs.declared.listed.BadStep.{BadStep}
+use Rattle.listing_terms.specs.declared.listed.BadStep.TheVariants as bad
 use Rattle.pass_loop.specs.Pass.{Tail}
 use Rattle.pass_loop.specs.declared.ends.Reason.{Reason}
 use Rattle.pass_loop.specs.declared.ends.Reason.TheVariants as reasons

@@ -2,13 +2,12 @@
 ghost use Rattle.std.specs.Prelude.{◌∷◌, []};
 ghost use Rattle.std.specs.Option.{option_to_list};
 ghost use Rattle.pass_loop.specs.Places.{Puts};
-ghost use Rattle.up_translator.specs.ByteLines.{lines_in};
+ghost use Rattle.listing_terms.specs.ByteLines.{lines_in};
 ghost use Rattle.listing_lines.specs.Lines.{line_puts};
 
-use midi_lines::{Line, fill_listing_line};
-use midi_meaning::Listed;
+use listing_terms::{ByteLines, Listed};
 use pass_loop::{Outputs, RunEnd};
-use up_translator::ByteLines;
+use text_lines::{Line, fill_listing_line};
 
 /// Puts a line of the listing in the notes. An `Err` is `NoteFault`, and
 /// comes only where the count of the notes' faults rose.

@@ -3,14 +3,14 @@ ghost use Rattle.std.specs.Prelude.{◌≡◌};
 ghost use Rattle.std.specs.Option.{option_map, option_to_list};
 ghost use Rattle.sysex_groups.specs.Table.{Table, begun_in};
 ghost use Rattle.pass_loop.specs.Places.{Puts};
-ghost use Rattle.midi_meaning.specs.Listing.{groups};
+ghost use Rattle.listing_terms.specs.ExclusiveLines.{groups};
 ghost use Rattle.listing_lines.specs.Lines.{line_puts};
 ghost use Rattle.listing_lines.specs.Open.{open_line, open_puts};
 
 use crate::lines::put_line;
-use midi_edge::U4;
-use midi_meaning::{Kind, Listed};
+use listing_terms::{Kind, Listed};
 use pass_loop::{Outputs, RunEnd};
+use small_types::U4;
 
 /// Tells what groups have open.
 pub trait OpenExclusives {

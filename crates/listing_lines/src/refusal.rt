@@ -2,7 +2,7 @@
 ghost use Rattle.std.specs.Prelude.{◌≡◌};
 ghost use Rattle.listing_lines.specs.Refusal.{reason_of};
 
-use midi_meaning::BadStep;
+use listing_terms::BadStep;
 use pass_loop::{Reason, RunEnd};
 
 /// The end at the packet or byte of this offset, which is refused.

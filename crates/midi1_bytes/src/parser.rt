@@ -7,7 +7,7 @@ ghost use Rattle.midi1_bytes.specs.Sorts.{count_of, data_byte, one, sort_of, two
 use crate::begun::{Begun, Running};
 use crate::spoken::{CommonBytes, RealTimeByte, VoiceBytes};
 use crate::step::{AfterCut, CutKind, Step};
-use midi_edge::NoMemory;
+use small_types::NoMemory;
 use std::alloc::Global;
 use std::marker::Model;
 use voice_messages::{END_OF_EXCLUSIVE, START_OF_EXCLUSIVE};

@@ -2,7 +2,7 @@
 ghost use Rattle.std.specs.Prelude.{◌≡◌, ◌≤◌, ◌+◌, ◌%◌, ◌/◌, [], ◌∷◌};
 ghost use Rattle.midi1_bytes.specs.Messages.{spelled_voice, spelled_system};
 
-use midi_edge::ShortList;
+use small_types::ShortList;
 use voice_messages::{System, U4, U7, U14, Voice1};
 
 #[inline(always)]

@@ -4,8 +4,8 @@ use Rattle.std.proofs.Common.{drop, Option, None, Some, false, arith, ap, subst,
 use Rattle.std.proofs.lemmas.List.{append-nil, length-drop, length-take-le, take-append-le}
 use Rattle.std.proofs.Math.Seq.{take-append-add}
 use borrow.Rule.Slice.PartMut.{put_mid, post_of, same_len_mid}
-use Rattle.midi_edge.specs.Outside.{IsUsedUp, Loses}
-use Rattle.midi_edge.specs.Runs.{runs_are_lost}
+use Rattle.outside.specs.Outside.{IsUsedUp, Loses}
+use Rattle.outside.specs.Runs.{runs_are_lost}
 use Rattle.midi_clip.specs.Header.{HasTaken}
 
 -- the bytes before a place, and then what was taken there

@@ -1,7 +1,7 @@
 -- The header of a clip file (own rule): the eight characters SMF2CLIP.
 use Rattle.std.specs.Prelude.{◌≡◌, ◌↔◌, ◌<◌, ◌≤◌, ℕ, Bool, true, List, length, codes, Option, Result, MatchResult}
-use Rattle.midi_edge.specs.Outside.{IsUsedUp, Loses}
-use Rattle.midi_edge.specs.declared.outside.Failed.{Failed}
+use Rattle.outside.specs.Outside.{IsUsedUp, Loses}
+use Rattle.outside.specs.declared.objects.Failed.{Failed}
 
 abbrev pub header_bytes : List ℕ
 header_bytes = codes "SMF2CLIP"

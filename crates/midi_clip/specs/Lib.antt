@@ -2,5 +2,5 @@ pub mod Header
 pub mod History
 pub mod Laws
 pub mod Roles
-pub mod Rows
 pub mod Stages
+pub mod Worked

@@ -1,8 +1,8 @@
 // The header of a clip file.
-ghost use Rattle.midi_edge.specs.Outside.{HasCause};
+ghost use Rattle.outside.specs.Outside.{HasCause};
 ghost use Rattle.midi_clip.specs.Header.{TakesHeader};
 
-use midi_edge::{Failed, Source};
+use outside::{Failed, Source};
 
 /// How many bytes the header of a clip file has (own rule).
 pub const HEADER_SIZE: u64 = 8;

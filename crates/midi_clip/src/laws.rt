@@ -1,6 +1,6 @@
 // Laws over the definitions alone.
 ghost use Rattle.midi_clip.specs.Laws.{ClipsAreTheDefinition};
-ghost use Rattle.midi_clip.specs.Rows.{WorkedRows};
+ghost use Rattle.midi_clip.specs.Worked.Rows.{WorkedRows};
 
 /// Taking any packets one by one agrees with the definition that looks back over them: where the clip started
 /// and ended, what one more packet is to it, at the sum of the Delta Clockstamps since its start, and at how

@@ -4,8 +4,8 @@ use Rattle.std.specs.Prelude.{Result, Ok, Err, IsOk, OnErr, OnOk, MatchOption}
 use Rattle.std.specs.Io.KnownBytes.{Keeps}
 use Rattle.std.proofs.KnownBytes.{Appends-kept, Keeps-refl, Keeps-trans}
 use Rattle.midi_edge.specs.Adapters.{Accepts}
-use Rattle.midi_edge.specs.Outside.{HasCause, Rose}
-use Rattle.midi_edge.specs.declared.outside.Failed.{Failed}
+use Rattle.outside.specs.Outside.{HasCause, Rose}
+use Rattle.outside.specs.declared.objects.Failed.{Failed}
 use Rattle.pass_loop.specs.Places.{Counts}
 use Rattle.midi_commands.specs.Ending.{AcceptsLast, EndsAs, PutsLast, WritesBoth}
 use Rattle.midi_commands.specs.LastLine.{last_line_text}

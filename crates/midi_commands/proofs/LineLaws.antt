@@ -1,6 +1,6 @@
 -- A line that is put in the output alone.
 use Rattle.std.proofs.Common.{◌≡◌, ℕ, List, [], ◌∷◌, ◌++◌, ap, ◌∙◌, subst}
-use Rattle.midi_edge.specs.Outside.{Rose}
+use Rattle.outside.specs.Outside.{Rose}
 use Rattle.pass_loop.specs.Places.{Places, Fails, FailsAt}
 use Rattle.pass_loop.specs.Put.{Put, fault_of, in_output}
 use Rattle.pass_loop.specs.declared.ends.RunEnd.{RunEnd}

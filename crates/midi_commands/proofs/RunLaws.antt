@@ -1,7 +1,7 @@
 -- What is done before the last line is done with it.
 use Rattle.std.proofs.Common.{◌≡◌, ℕ, List, Option, None, Some, sym, subst, arith}
 use Rattle.std.specs.Prelude.{◌⊎◌, IfSome, Result, Ok, Err}
-use Rattle.midi_edge.specs.Outside.{Rose}
+use Rattle.outside.specs.Outside.{Rose}
 use Rattle.command_line.specs.Asked.{Asked}
 use Rattle.function_blocks.specs.Setups.{SetupData, setup_of}
 use Rattle.pass_loop.specs.Pass.{HasNoRefusal, NothingFails, Pass, Seen}

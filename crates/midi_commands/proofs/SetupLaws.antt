@@ -4,7 +4,7 @@ use Rattle.std.proofs.Common.{None, Some, refl, ap, sym, ◌∙◌, subst, inl, 
 use Rattle.std.specs.Prelude.{Result, Err, ◌⊎◌}
 use Rattle.std.proofs.lemmas.Bool.{lt-leb}
 use Rattle.std.proofs.lemmas.List.{take_all, length-take}
-use Rattle.midi_edge.specs.Outside.{Fetches, kept_bytes}
+use Rattle.outside.specs.Outside.{Fetches, kept_bytes}
 use Rattle.function_blocks.specs.Rules.{broken, holds}
 use Rattle.function_blocks.specs.Setups.{setup_at, setup_of, tree_of}
 use Rattle.function_blocks.specs.Setups.{SetupData}

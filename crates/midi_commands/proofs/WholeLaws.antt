@@ -10,13 +10,13 @@ use Rattle.function_blocks.specs.Setups.{SetupData}
 use Rattle.pass_loop.specs.Pass.{Ends, IsDone, Pass, Seen}
 use Rattle.pass_loop.specs.Places.{Places, Puts}
 use Rattle.pass_loop.specs.Put.{Put}
-use Rattle.pass_loop.specs.PutLaws.{over_puts-none}
+use Rattle.pass_loop.specs.ForProofs.PutLaws.{over_puts-none}
 use Rattle.pass_loop.specs.declared.ends.RunEnd.{RunEnd}
 use Rattle.pass_loop.specs.declared.ends.RunEnd.TheVariants as end
 use Rattle.rehearsal_pass.specs.Laws.{DoneRehearsesTheInput}
 use Rattle.sysex8_pass.specs.Laws.{DoneJoinsTheInput}
 use Rattle.translation_passes.specs.Laws.{DoneCarriesTheInput, DoneRaisesTheInput, DoneReturnsTheInput}
-use Rattle.translation_passes.specs.Laws.{DoneShowsTheRecording, DoneShowsTheStream}
+use Rattle.show_pass.specs.Laws.{DoneShowsTheRecording, DoneShowsTheStream}
 use Rattle.usb_passes.specs.Laws.{DonePacksTheInput, DoneSplitsTheInput}
 use Rattle.usb_passes.specs.Split.{splitting}
 use Rattle.midi_commands.specs.Command.{back_pass, back_pass_options, called_event_pass, down_pass, down_pass_options}

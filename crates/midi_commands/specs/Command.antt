@@ -12,8 +12,8 @@ use Rattle.command_line.specs.declared.translate.LaneStyle.{LaneStyle}
 use Rattle.command_line.specs.declared.translate.LaneStyle.TheVariants as lane_style
 use Rattle.command_line.specs.declared.translate.UpOptions.{UpOptions}
 use Rattle.command_line.specs.declared.usb.PackOptions.{PackOptions}
-use Rattle.ump_words.specs.declared.words.Framed.{Framed}
-use Rattle.ump_words.specs.declared.words.Order.{Order}
+use Rattle.packet_words.specs.declared.words.Framed.{Framed}
+use Rattle.packet_words.specs.declared.words.Order.{Order}
 use Rattle.ump_grammar.specs.declared.packet.Packet.{Packet}
 use Rattle.function_blocks.specs.Setups.{SetupData}
 use Rattle.down_translator.specs.KeptLanes.{style_in}
@@ -25,15 +25,15 @@ use Rattle.clip_pass.specs.Clipping.{clipping}
 use Rattle.clip_pass.specs.Cutting.{clip_cutting}
 use Rattle.translation_passes.specs.Back.{returning}
 use Rattle.translation_passes.specs.Down.{carrying}
-use Rattle.translation_passes.specs.Options.{BackOptions as BackPassOptions, ByteLineOptions as ByteLinePassOptions}
-use Rattle.translation_passes.specs.Options.{DownOptions as DownPassOptions, PacketLineOptions as PacketLinePassOptions}
+use Rattle.translation_passes.specs.Options.{BackOptions as BackPassOptions, DownOptions as DownPassOptions}
 use Rattle.translation_passes.specs.Options.{UpOptions as UpPassOptions}
 use Rattle.endpoint_pass.specs.Answering.{answering}
 use Rattle.endpoint_pass.specs.Options.{EndpointOptions as EndpointPassOptions}
 use Rattle.packet_input.specs.Packets.{packet_cutting}
-use Rattle.translation_passes.specs.ShowBytes.{showing_bytes}
-use Rattle.translation_passes.specs.ShowPackets.{showing}
 use Rattle.translation_passes.specs.Up.{raising}
+use Rattle.show_pass.specs.Options.{ByteLineOptions as ByteLinePassOptions, PacketLineOptions as PacketLinePassOptions}
+use Rattle.show_pass.specs.ShowBytes.{showing_bytes}
+use Rattle.show_pass.specs.ShowPackets.{showing}
 use Rattle.rehearsal_pass.specs.declared.event.CalledEvent.{CalledEvent}
 use Rattle.rehearsal_pass.specs.Events.{called_cutting}
 use Rattle.rehearsal_pass.specs.Rehearse.{rehearsing}

@@ -2,10 +2,10 @@
 use Rattle.std.specs.Prelude.{◌≡◌, ◌≢◌, ◌⊎◌, ℕ, List, Option, IsOk, OnErr, Result, MatchOption}
 use Rattle.std.specs.Io.KnownBytes.{Keeps}
 use Rattle.midi_edge.specs.Adapters.{Accepts}
-use Rattle.midi_edge.specs.Outside.{HasCause, Rose}
-use Rattle.midi_edge.specs.declared.outside.Failed.{Failed}
-use Rattle.midi_edge.specs.declared.outside.Lanes as lanes
-use Rattle.midi_edge.specs.declared.outside.Sink as sink
+use Rattle.outside.specs.Outside.{HasCause, Rose}
+use Rattle.outside.specs.declared.objects.Failed.{Failed}
+use Rattle.outside.specs.declared.objects.Lanes as lanes
+use Rattle.outside.specs.declared.objects.Sink as sink
 use Rattle.pass_loop.specs.Places.{Counts, places}
 use Rattle.midi_commands.specs.LastLine.{last_line_text}
 use Rattle.midi_commands.specs.declared.status.Status.{Status}

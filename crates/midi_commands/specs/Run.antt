@@ -1,10 +1,10 @@
 -- What a run says, by what its words ask for and by its status.
 use Rattle.std.specs.Prelude.{◌≡◌, ◌⊎◌, ℕ, true, List, [], ◌∷◌, Option, Some, None, IfSome, Result, Ok, Err}
-use Rattle.midi_edge.specs.Outside.{Rose, kept_bytes}
-use Rattle.midi_edge.specs.declared.outside.Lanes as lanes
-use Rattle.midi_edge.specs.declared.outside.Shelf as shelf
-use Rattle.midi_edge.specs.declared.outside.Sink as sink
-use Rattle.midi_edge.specs.declared.outside.Source as source
+use Rattle.outside.specs.Outside.{Rose, kept_bytes}
+use Rattle.outside.specs.declared.objects.Lanes as lanes
+use Rattle.outside.specs.declared.objects.Shelf as shelf
+use Rattle.outside.specs.declared.objects.Sink as sink
+use Rattle.outside.specs.declared.objects.Source as source
 use Rattle.command_line.specs.Asked.{Asked}
 use Rattle.function_blocks.specs.Setups.{SetupData, setup_of}
 use Rattle.function_blocks.specs.declared.rules.SetupFault.TheVariants as fault

@@ -7,7 +7,8 @@ use Rattle.clip_pass.specs.Laws.{IsShownClip}
 use Rattle.endpoint_pass.specs.Laws.{AnswersTheInput}
 use Rattle.rehearsal_pass.specs.Laws.{RehearsesTheInput}
 use Rattle.sysex8_pass.specs.Laws.{JoinsTheInput}
-use Rattle.translation_passes.specs.Laws.{CarriesTheInput, RaisesTheInput, ReturnsTheInput, ShowsTheRecording, ShowsTheStream}
+use Rattle.translation_passes.specs.Laws.{CarriesTheInput, RaisesTheInput, ReturnsTheInput}
+use Rattle.show_pass.specs.Laws.{ShowsTheRecording, ShowsTheStream}
 use Rattle.usb_passes.specs.Laws.{PacksTheInput, SplitsTheInput}
 use Rattle.midi_commands.specs.Command.{back_pass_options, show_bytes_pass_options, down_pass_options, endpoint_pass_options, pack_pass_options}
 use Rattle.midi_commands.specs.Command.{show_pass_options, plan_of, sysex8_pass_options, up_pass_options}

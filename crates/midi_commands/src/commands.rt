@@ -8,7 +8,7 @@ ghost use Rattle.command_line.specs.Sysex8.{IsSysex8};
 ghost use Rattle.command_line.specs.Translate.{IsBack, IsDown, IsUp};
 ghost use Rattle.command_line.specs.Usb.{IsPack};
 ghost use Rattle.usb_passes.specs.Split.{splitting};
-ghost use Rattle.midi_edge.specs.Outside.{Fetches, HasOpenCause, kept_bytes};
+ghost use Rattle.outside.specs.Outside.{Fetches, HasOpenCause, kept_bytes};
 ghost use Rattle.pass_loop.specs.Pass.{seen};
 ghost use Rattle.pass_loop.specs.Places.{places};
 ghost use Rattle.midi_commands.specs.Command.{
@@ -59,15 +59,16 @@ use command_line::{
 use down_translator::Style;
 use endpoint_pass::{EndpointRun, run_endpoint};
 use function_blocks::{MOST_BYTES, Setup, SetupFault};
-use midi_edge::{Lanes, OpenFault, Shelf, Sink, Source};
+use outside::{Lanes, OpenFault, Shelf, Sink, Source};
+use packet_words::Order;
 use pass_loop::RunEnd;
 use pass_loop::places::put_output;
 use rehearsal_pass::{RehearseRun, run_rehearse};
 use self_test::count;
+use show_pass::{ShowRun, run_show};
 use std::alloc::Global;
 use sysex8_pass::{Sysex8Run, run_sysex8};
-use translation_passes::{BackRun, DownRun, ShowRun, UpRun, run_back, run_down, run_show, run_up};
-use ump_words::Order;
+use translation_passes::{BackRun, DownRun, UpRun, run_back, run_down, run_up};
 use usb_passes::{PackRun, run_pack, run_split};
 
 /// Does what the words of a command line, without the program's name, ask for (own rules). The lanes have no

@@ -7,7 +7,8 @@ ghost use Rattle.midi_commands.specs.ExitCode.{exit_code_of};
 
 use crate::last_line::last_line;
 use crate::status::Status;
-use midi_edge::{FolderLanes, Lanes, Sink, WriteSink};
+use midi_edge::{FolderLanes, WriteSink};
+use outside::{Lanes, Sink};
 use std::io::{ErrorKind, Write};
 use std::rt::Files;
 

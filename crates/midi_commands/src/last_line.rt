@@ -7,8 +7,8 @@ ghost use Rattle.pass_loop.specs.Put.{in_notes};
 ghost use Rattle.pass_loop.specs.declared.ends.RunEnd.{RunEnd};
 
 use crate::status::Status;
-use midi_edge::{Lanes, Sink};
 use midi_lines::{Line, put_decimal, put_text};
+use outside::{Lanes, Sink};
 use pass_loop::places::put_notes;
 use pass_loop::{Reason, RunEnd};
 

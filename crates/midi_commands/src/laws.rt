@@ -4,11 +4,13 @@ ghost use Rattle.midi_commands.specs.WholeInput.{DoneLeavesTheWhole};
 use clip_pass::laws::a_clip_that_is_done_is_that_of_the_input;
 use endpoint_pass::laws::a_conversation_that_is_done_is_that_of_the_input;
 use rehearsal_pass::laws::a_rehearsal_that_is_done_is_that_of_the_input;
+use show_pass::laws::{
+    a_recording_that_is_shown_is_that_of_the_input, a_stream_that_is_shown_is_that_of_the_input,
+};
 use sysex8_pass::laws::a_join_that_is_done_is_that_of_the_input;
 use translation_passes::laws::{
     a_recording_that_is_carried_is_that_of_the_input,
-    a_recording_that_is_shown_is_that_of_the_input, a_stream_that_comes_back_is_that_of_the_input,
-    a_stream_that_is_raised_is_that_of_the_input, a_stream_that_is_shown_is_that_of_the_input,
+    a_stream_that_comes_back_is_that_of_the_input, a_stream_that_is_raised_is_that_of_the_input,
 };
 use usb_passes::laws::{
     a_packing_that_is_done_is_that_of_the_input, a_split_that_is_done_is_that_of_the_input,

@@ -1,7 +1,7 @@
 // How a run ends.
 ghost use Rattle.std.specs.Prelude.{◌≡◌, ◌≢◌, OnOk, OnErr};
 
-use midi_edge::Failed;
+use outside::Failed;
 use pass_loop::Reason;
 
 /// How a run ends.

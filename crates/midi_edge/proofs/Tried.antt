@@ -2,7 +2,7 @@
 use Rattle.std.proofs.Common.{◌≡◌, ℕ, zero, suc, ◌+◌, ◌≤◌, List, [], ◌∷◌, length, refl}
 use Rattle.std.proofs.Common.{subst, arith, add-one, inl, inr, slice_index_or, slice_set}
 use Rattle.std.specs.Prelude.{◌⊎◌, Result, Ok, Err, OnOk, OnErr}
-use Rattle.midi_edge.specs.Outside.{Rose}
+use Rattle.outside.specs.Outside.{Rose}
 use Rattle.midi_edge.specs.Adapters.{TriesEach, unwritten}
 use Rattle.midi_edge.specs.declared.adapters.write_sink.WriteSink.{WriteSink}
 

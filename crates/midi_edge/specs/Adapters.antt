@@ -4,7 +4,7 @@ use Rattle.std.specs.Prelude.{take, Option, Result, MatchResult, Some, slice_get
 use Rattle.std.specs.List.{AllZip}
 use Rattle.std.specs.Io.Buffered.{reader_buffer, reader_remaining}
 use Rattle.std.specs.Io.KnownBytes.{Appends, Keeps, append_known}
-use Rattle.midi_edge.specs.Outside.{Rose}
+use Rattle.outside.specs.Outside.{Rose}
 use Rattle.midi_edge.specs.declared.adapters.write_sink.WriteSink.{WriteSink}
 use Rattle.midi_edge.specs.declared.adapters.folder_lanes.FolderLanes.{FolderLanes}
 use Rattle.midi_edge.specs.declared.adapters.buffered_source.BufferedSource.{BufferedSource}

@@ -5,6 +5,6 @@ pub mod MemLanes
 pub mod MemShelf
 pub mod MemSink
 pub mod MemSource
-pub mod Outside
-pub mod Runs
 pub mod Script
+pub use Rattle.outside.specs.Outside
+pub use Rattle.outside.specs.Runs

@@ -1,7 +1,7 @@
 -- Lanes in memory that fail as they are told to.
 use Rattle.std.specs.Prelude.{ℕ, ◌+◌, ◌-◌, min, nat_le, nat_lt, ◌&&◌, Bool, true, false}
 use Rattle.std.specs.Prelude.{if◌then◌else◌, List, [], ◌∷◌, ◌++◌, length, take, Option, None, Some}
-use Rattle.midi_edge.specs.Outside.{kept_bytes}
+use Rattle.outside.specs.Outside.{kept_bytes}
 use Rattle.midi_edge.specs.Script.{one_more, kept_at}
 
 -- what was put, how many bytes that is, for how many bytes and pieces there is

@@ -3,7 +3,7 @@ use Rattle.std.specs.Prelude.{ℕ, ◌||◌, Bool, if◌then◌else◌, is_none,
 use Rattle.std.specs.Option.{option_map}
 use Rattle.std.specs.Str.{bytes_eq}
 use Rattle.std.specs.declared.alloc.Global.{Global}
-use Rattle.midi_edge.specs.Outside.{kept_bytes}
+use Rattle.outside.specs.Outside.{kept_bytes}
 use Rattle.midi_edge.specs.Script.{one_more, is_listed}
 
 -- the name that was asked for, the texts, which calls fail, and its counts

@@ -1,7 +1,7 @@
 // The objects of the outside over real readers, writers, folders and files. They tell no content.
 ghost use Rattle.std.specs.Prelude.{◌≡◌, ◌≢◌, ◌≤◌, Ok, IsErr, MatchResult};
 ghost use Rattle.std.specs.IoError.{error_kind};
-ghost use Rattle.midi_edge.specs.Outside.{HasCause, HasOpenCause, Rose};
+ghost use Rattle.outside.specs.Outside.{HasCause, HasOpenCause, Rose};
 
 mod buffered_source;
 mod file_shelf;
@@ -14,7 +14,7 @@ pub use crate::adapters::file_shelf::FileShelf;
 pub use crate::adapters::folder_lanes::FolderLanes;
 pub use crate::adapters::read_source::ReadSource;
 pub use crate::adapters::write_sink::WriteSink;
-use crate::outside::{Failed, OpenFault};
+use outside::{Failed, OpenFault};
 use std::io::{self, ErrorKind};
 
 // How many bytes are gathered in a buffer.

@@ -1,6 +1,6 @@
 // The first bytes of a text, kept without taking memory.
 ghost use Rattle.std.specs.Prelude.{◌≡◌, None, Some};
-ghost use Rattle.midi_edge.specs.Outside.{kept_bytes};
+ghost use Rattle.outside.specs.Outside.{kept_bytes};
 
 use std::marker::Model;
 

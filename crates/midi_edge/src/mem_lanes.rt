@@ -2,12 +2,12 @@
 ghost use Rattle.std.specs.Prelude.{◌≡◌, ◌+◌, ◌<◌, ◌≤◌, [], ◌∷◌, ◌++◌, length, true, false, None, Some, Ok, is_ok, OnOk, OnErr, vec_len, vec_capacity, IfOk, MatchOption, slice_get};
 ghost use Rattle.midi_edge.specs.Entries.{AreWithin, pieces_in};
 ghost use Rattle.midi_edge.specs.MemLanes.{after_put, after_begin};
-ghost use Rattle.midi_edge.specs.Outside.{PutsPair, HasCause, HasOpenCause, kept_bytes};
+ghost use Rattle.outside.specs.Outside.{PutsPair, HasCause, HasOpenCause, kept_bytes};
 
-use crate::few_bits::U4;
 use crate::kept_text::KeptText;
-use crate::outside::{Failed, Lanes, NoMemory, OpenFault};
 use crate::script::kept_at;
+use outside::{Failed, Lanes, OpenFault};
+use small_types::{NoMemory, U4};
 use std::alloc::Global;
 use std::marker::Model;
 

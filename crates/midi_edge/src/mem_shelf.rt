@@ -1,10 +1,10 @@
 // A shelf in memory.
 ghost use Rattle.std.specs.Prelude.{◌≡◌, ◌≢◌, ℕ, List, ◌++◌, None, Some, Err, MatchBool, OnOk, OnErr, option_copied, take};
-ghost use Rattle.midi_edge.specs.Outside.{HasOpenCause, Fetches, kept_bytes};
+ghost use Rattle.outside.specs.Outside.{HasOpenCause, Fetches, kept_bytes};
 ghost use Rattle.midi_edge.specs.MemShelf.{text_named as first_named, is_failing, after_fetch};
 
 use crate::kept_text::KeptText;
-use crate::outside::{OpenFault, Shelf};
+use outside::{OpenFault, Shelf};
 use std::marker::Model;
 
 // The first text of a name.

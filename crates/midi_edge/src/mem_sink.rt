@@ -1,10 +1,11 @@
 // A sink in memory.
 ghost use Rattle.std.specs.Prelude.{◌≡◌, ◌<◌, [], length, is_ok, IfOk};
-ghost use Rattle.midi_edge.specs.Outside.{PutsPiece, HasCause};
+ghost use Rattle.outside.specs.Outside.{PutsPiece, HasCause};
 ghost use Rattle.midi_edge.specs.MemSink.{after_put};
 
-use crate::outside::{Failed, NoMemory, Sink};
 use crate::script::kept_at;
+use outside::{Failed, Sink};
+use small_types::NoMemory;
 use std::alloc::Global;
 use std::marker::Model;
 

@@ -1,10 +1,10 @@
 // Sources in memory.
 ghost use Rattle.std.specs.Prelude.{◌≡◌, ◌<◌, ◌≤◌, [], ◌++◌, length, take, drop, Some, Ok, vec_len, IfOk, min};
 ghost use Rattle.std.specs.Result.{result_ok};
-ghost use Rattle.midi_edge.specs.Outside.{Takes, HasCause};
+ghost use Rattle.outside.specs.Outside.{Takes, HasCause};
 ghost use Rattle.midi_edge.specs.MemSource.{after_take};
 
-use crate::outside::{Failed, Source};
+use outside::{Failed, Source};
 use std::marker::Model;
 
 // Copies a front of what is left, at most this many bytes, and says how many.

@@ -1,5 +1,0 @@
-pub mod DecimalText
-pub mod Numbers
-pub mod Overwriting
-pub mod Pairs
-pub mod Pieces

@@ -1,13 +1,10 @@
 // The lines of what is told of a state.
 ghost use Rattle.std.specs.Prelude.{◌≡◌, ◌<◌, ◌≤◌, ◌+◌, ◌*◌, ◌++◌, length, codes};
 ghost use Rattle.midi_lines.specs.FactLines.{address_words, bank_words, fact_text, fact_words, loose_word, of_channel, of_group, param_words, spaced, two_numbers, value_word};
-ghost use Rattle.midi_lines.specs.Voice2Lines.{kind_word};
-ghost use Rattle.midi_lines.specs.Room.{AddsAtMost, HasRoom, HasRoomForEnd, before_kind, behind_channel, longest_field, longest_value, longest_word};
+ghost use Rattle.text_lines.specs.Voice2Lines.{kind_word};
+ghost use Rattle.text_lines.specs.Room.{AddsAtMost, HasRoom, HasRoomForEnd, before_kind, behind_channel, longest_field, longest_value, longest_word};
 
-use crate::decimal::{put_decimal, put_number};
-use crate::line::Line;
-use crate::put::put_text;
-use crate::voice2::kind_name;
+use text_lines::{Line, kind_name, put_decimal, put_number, put_text};
 use voice_messages::{Bank, Param, ParamKind, U4, U7};
 use voice_state::Fact;
 

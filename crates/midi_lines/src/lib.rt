@@ -1,28 +1,12 @@
-//! The lines of text that the program writes.
+//! The lines of text that the program writes: those of what is told of a state, and all of `text_lines`.
 #![tactic(auto)]
 
-mod decimal;
-mod endpoint;
 mod facts;
-mod line;
-mod listing;
-mod packets;
-mod put;
-mod steps;
-mod texts;
-mod voice;
-mod voice1;
-mod voice2;
 
-pub use crate::decimal::put_decimal;
-pub use crate::endpoint::{
-    OutcomeName, block_line, endpoint_line, fill_endpoint_line, profile_line, protocol_line,
-    word_of,
-};
 pub use crate::facts::{fact_line, fill_fact_line};
-pub use crate::line::Line;
-pub use crate::listing::{byte_listing, fill_byte_listing, fill_listing_line, listing_line};
-pub use crate::packets::{fill_packet_line, packet_line, put_packet_line};
-pub use crate::put::put_text;
-pub use crate::steps::{fill_step_line, step_line};
-pub use crate::texts::{fill_text_line, text_line};
+pub use text_lines::{
+    Line, OutcomeName, block_line, byte_listing, endpoint_line, fill_byte_listing,
+    fill_endpoint_line, fill_listing_line, fill_packet_line, fill_step_line, fill_text_line,
+    listing_line, packet_line, profile_line, protocol_line, put_decimal, put_packet_line, put_text,
+    step_line, text_line, word_of,
+};

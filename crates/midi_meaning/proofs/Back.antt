@@ -24,7 +24,7 @@ use Rattle.midi_meaning.specs.Registers.{selected}
 use Rattle.midi_meaning.specs.Controllers.{Role, data_msb, data_lsb, role_of, pairing}
 use Rattle.midi_meaning.specs.State.{Channel, GroupState, same_param}
 use Rattle.midi_meaning.specs.Messages.{of_bytes, as_they_come, enter_msb, enter_lsb, control, voice_at, channel_of, step1, meaning1}
-use Rattle.midi_meaning.specs.Parts.{group_of, is_group, whole_of}
+use Rattle.listing_terms.specs.Parts.{group_of, is_group, whole_of}
 use Rattle.midi_meaning.specs.Packets.{IsInRange}
 use Rattle.midi_meaning.specs.Agreement.{ChannelAgrees}
 use Rattle.midi_meaning.specs.Listing.{is_carried}

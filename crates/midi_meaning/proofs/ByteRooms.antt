@@ -17,8 +17,8 @@ use Rattle.voice_messages.specs.declared.voice1.System.TheVariants as system
 use Rattle.midi1_bytes.specs.Stream.{without_real_time, last_status, last_data, open_under, open_by, open_in, start_in, Open}
 use Rattle.midi1_bytes.specs.Steps.{Step, held, completes, stray, undefined, too_long, cut_or}
 use Rattle.midi1_bytes.specs.Steps.{end_by, data_under, data_by, step_under, step_of, completed_by}
-use Rattle.midi_meaning.specs.declared.listed.BadStep.TheVariants as bad
-use Rattle.midi_meaning.specs.declared.listed.Listed.{Listed}
+use Rattle.listing_terms.specs.declared.listed.BadStep.TheVariants as bad
+use Rattle.listing_terms.specs.declared.listed.Listed.{Listed}
 use Rattle.midi_meaning.specs.Messages.{meaning1}
 use Rattle.midi_meaning.specs.Raising.{raised_step, packets_up}
 use Rattle.midi_meaning.specs.StepListing.{kinds_up, line_up, kinds_at_end, lines_up, lines_up_to_end}

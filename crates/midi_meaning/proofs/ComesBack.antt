@@ -12,11 +12,11 @@ use Rattle.voice_messages.specs.declared.voice2.Form.TheVariants as form
 use Rattle.ump_grammar.specs.declared.packet.Packet.{Packet}
 use Rattle.ump_grammar.specs.declared.packet.Packet.TheVariants as packet
 use Rattle.sysex_groups.specs.Exclusives.{Part, joined, opened, started, start_of, bytes_of, goes_on, passes_by, passes_room, ended_by}
-use Rattle.midi_meaning.specs.declared.listed.Kind.{Kind}
-use Rattle.midi_meaning.specs.declared.listed.Kind.TheVariants as kinds
-use Rattle.midi_meaning.specs.declared.listed.Listed.{Listed}
-use Rattle.midi_meaning.specs.declared.listed.BadStep.TheVariants as bad
-use Rattle.midi_meaning.specs.Parts.{Placed, part_of, parts_of}
+use Rattle.listing_terms.specs.declared.listed.Kind.{Kind}
+use Rattle.listing_terms.specs.declared.listed.Kind.TheVariants as kinds
+use Rattle.listing_terms.specs.declared.listed.Listed.{Listed}
+use Rattle.listing_terms.specs.declared.listed.BadStep.TheVariants as bad
+use Rattle.listing_terms.specs.Parts.{Placed, part_of, parts_of}
 use Rattle.midi_meaning.specs.Listing.{exclusive_kind, line_offset, lines_over, end_line, end_lines, groups}
 use Rattle.midi_meaning.specs.Rooms.{AreWithinRoom}
 use Rattle.midi_meaning.specs.Raising.{packets_up}

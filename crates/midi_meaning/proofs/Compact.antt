@@ -26,7 +26,7 @@ use Rattle.midi1_bytes.specs.Steps.{ReadsAs}
 use Rattle.midi1_bytes.specs.Stream.{open_in, running}
 use Rattle.midi_meaning.specs.Registers.{Pair, Registers, is_null}
 use Rattle.midi_meaning.specs.Controllers.{Role, channel_mode, reset_all, coarse, plain, role_of, pairing}
-use Rattle.midi_meaning.specs.Parts.{whole_of}
+use Rattle.listing_terms.specs.Parts.{whole_of}
 use Rattle.midi_meaning.specs.State.{GroupState}
 use Rattle.midi_meaning.specs.Messages.{meaning1, step1}
 use Rattle.midi_meaning.specs.Packets.{meaning2, step2, IsInRange}

@@ -4,9 +4,9 @@ use Rattle.bit_scaling.specs.Scaling.{up, down7, down14, release_down, velocity_
 use Rattle.midi1_bytes.specs.Sorts.{sort_of}
 use Rattle.midi_meaning.specs.Controllers.{role_of}
 use Rattle.midi_meaning.specs.Styles.{compact_style, styled_pairs}
-use Rattle.midi_meaning.specs.Rows.{mixed_protocols}
-use Rattle.midi_meaning.specs.CompactRows.{notes_across_a_reset, notes_and_sets, notes_around_a_clock_and_an_exclusive, program_twice}
-use Rattle.midi_meaning.specs.CompactRows.{programs_of_two_banks, selected_before, sets_across_a_reset, sets_of_two_groups}
+use Rattle.midi_meaning.specs.Worked.Rows.{mixed_protocols}
+use Rattle.midi_meaning.specs.Worked.CompactRows.{notes_across_a_reset, notes_and_sets, notes_around_a_clock_and_an_exclusive, program_twice}
+use Rattle.midi_meaning.specs.Worked.CompactRows.{programs_of_two_banks, selected_before, sets_across_a_reset, sets_of_two_groups}
 
 pub notes_and_sets_pieces : styled_pairs false compact_style notes_and_sets
     ≡ (0, 0x90 ∷ 0x3c ∷ 0x64 ∷ []) ∷ (0, 0x3e ∷ 0x64 ∷ []) ∷ (0, 0xf6 ∷ []) ∷ (0, 0x90 ∷ 0x40 ∷ 0x64 ∷ [])

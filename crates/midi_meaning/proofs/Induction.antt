@@ -23,11 +23,11 @@ use Rattle.midi_meaning.specs.Registers.{is_null}
 use Rattle.midi_meaning.specs.Controllers.{Role, reset_all, channel_mode, coarse, plain}
 use Rattle.midi_meaning.specs.Controllers.{role_of, pairing, number_msb_index, number_lsb_index}
 use Rattle.midi_meaning.specs.Messages.{as_they_come, start, step1, meaning1}
-use Rattle.midi_meaning.specs.Parts.{group_of, is_group, whole_of}
+use Rattle.listing_terms.specs.Parts.{group_of, is_group, whole_of}
 use Rattle.midi_meaning.specs.Packets.{meaning2, step2, IsInRange}
 use Rattle.midi_meaning.specs.Plain.{control_messages, voice_messages, ended_messages, plain_messages, plain_piece}
 use Rattle.midi_meaning.specs.Lanes.{Denotes, lane_after}
-use Rattle.bit_scaling.specs.Scaled.{down7_fits, down14_fits, release_down_fits, velocity_down_fits}
+use Rattle.bit_scaling.specs.ForProofs.Scaled.{down7_fits, down14_fits, release_down_fits, velocity_down_fits}
 use Rattle.midi_meaning.proofs.Pairs.{pair_below}
 use Rattle.midi_meaning.proofs.Packets.{GroupMatches, matches-packet}
 use Rattle.midi_meaning.proofs.Joined.{whole_data}

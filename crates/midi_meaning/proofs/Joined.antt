@@ -14,7 +14,7 @@ use Rattle.ump_grammar.specs.declared.packet.Packet.{Packet}
 use Rattle.ump_grammar.specs.declared.packet.Packet.TheVariants as packet
 use Rattle.sysex_groups.specs.Exclusives.{Part, of_group, since_start, since_start_by, bytes_of, within, joined, ended_by}
 use Rattle.midi1_bytes.specs.Messages.{AreData}
-use Rattle.midi_meaning.specs.Parts.{Placed, part_of, parts_of, packet_parts, whole_of}
+use Rattle.listing_terms.specs.Parts.{Placed, part_of, parts_of, packet_parts, whole_of}
 use Rattle.midi_meaning.specs.Packets.{IsInRange}
 
 -- ---- they are data

@@ -30,7 +30,7 @@ use Rattle.midi_meaning.specs.Registers.{Pair, Registers, unset_registers, is_nu
 use Rattle.midi_meaning.specs.Controllers.{Role, bank_msb, bank_lsb, data_msb, data_lsb, data_increment}
 use Rattle.midi_meaning.specs.Controllers.{data_decrement, number_msb, number_lsb, reset_all, channel_mode, coarse}
 use Rattle.midi_meaning.specs.Controllers.{fine, plain, role_of, pairing, number_msb_index, number_lsb_index}
-use Rattle.midi_meaning.specs.Parts.{group_of, is_group, whole_of}
+use Rattle.listing_terms.specs.Parts.{group_of, is_group, whole_of}
 use Rattle.midi_meaning.specs.Roles.{registers_after}
 use Rattle.midi_meaning.specs.State.{Channel, GroupState, at_channel}
 use Rattle.midi_meaning.specs.Messages.{of_bytes, voice_at, channel_of, meaning1, step1}

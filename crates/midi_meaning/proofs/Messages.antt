@@ -17,7 +17,7 @@ use Rattle.midi_meaning.specs.State.{Act, on, off, mode, Channel, with_act, with
 use Rattle.midi_meaning.specs.Messages.{of_packets, of_bytes, as_they_come, raised, reset}
 use Rattle.midi_meaning.specs.Messages.{enter_msb, enter_lsb, with_fine, control, voice_at}
 use Rattle.midi_meaning.specs.Agreement.{controller_down, lowered, value_down}
-use Rattle.bit_scaling.specs.Scaled.{down7_up, down14_up, release_down_up, velocity_down_up}
+use Rattle.bit_scaling.specs.ForProofs.Scaled.{down7_up, down14_up, release_down_up, velocity_down_up}
 use Rattle.midi_meaning.proofs.Pairs.{pair_coarse, pair_value}
 use Rattle.midi_meaning.proofs.Changes.{Follows, follows-act, follows-poly, follows-controller, follows-pressure, follows-bend}
 use Rattle.midi_meaning.proofs.Changes.{follows-program, follows-registers, follows-param, follows-value, follows-reset}

@@ -31,7 +31,7 @@ use Rattle.midi_meaning.specs.Messages.{with_coarse, with_fine, voice_at, channe
 use Rattle.midi_meaning.specs.Packets.{control2, set_param, program2, channel2, voice2_at, with_ended, step2, IsInRange}
 use Rattle.midi_meaning.specs.Agreement.{controller_down, value_down}
 use Rattle.midi_meaning.specs.Plain.{set_messages, control_messages, voice_messages, ended_messages, plain_messages}
-use Rattle.bit_scaling.specs.Scaled.{down7_fits, down14_fits, velocity_down_above_zero}
+use Rattle.bit_scaling.specs.ForProofs.Scaled.{down7_fits, down14_fits, velocity_down_above_zero}
 use Rattle.midi_meaning.proofs.Pairs.{pair_fine}
 use Rattle.midi_meaning.proofs.Changes.{follows-poly, follows-controller, follows-pressure}
 use Rattle.midi_meaning.proofs.Changes.{follows-bend, follows-program, follows-param, follows-loose}

@@ -3,7 +3,7 @@ use Rattle.std.proofs.Common.{ℕ, ◌+◌, ◌-◌, ◌≡◌, ◌<◌, ◌≤�
 use Rattle.std.proofs.lemmas.Bool.{agree_below, agree_below_at}
 use Rattle.std.proofs.lemmas.Bool.Decides.{nat_tests}
 use Rattle.bit_scaling.specs.Scaling.{up}
-use Rattle.bit_scaling.specs.Scaled.{down14_up}
+use Rattle.bit_scaling.specs.ForProofs.Scaled.{down14_up}
 use Rattle.midi_meaning.specs.Agreement.{controller_down, value_down}
 use Rattle.midi_meaning.specs.Registers.{Registers}
 use Rattle.midi_meaning.specs.Controllers.{Role, coarse, fine, pairing, role_of}

@@ -20,7 +20,7 @@ use Rattle.voice_messages.specs.declared.voice2.ParamKind.TheVariants.{Registere
 use Rattle.voice_messages.specs.declared.voice2.Param.{Param}
 use Rattle.voice_messages.specs.Ranges.{IsVoice1, IsVoice2, IsBank, IsParam, IsSystem}
 use Rattle.bit_scaling.specs.Scaling.{up}
-use Rattle.bit_scaling.specs.Scaled.{up_7_16_fits, up_7_32_fits, up_14_32_fits}
+use Rattle.bit_scaling.specs.ForProofs.Scaled.{up_7_16_fits, up_7_32_fits, up_14_32_fits}
 use Rattle.ump_grammar.specs.declared.packet.Packet.{Packet}
 use Rattle.ump_grammar.specs.declared.packet.Packet.TheVariants as packet
 use Rattle.ump_grammar.specs.Ranges.{IsPacket}

@@ -15,7 +15,7 @@ use Rattle.voice_messages.specs.declared.voice2.Param.{Param}
 use Rattle.voice_messages.specs.declared.voice2.Bank.{Bank}
 use Rattle.voice_messages.specs.Ranges.{IsVoice1}
 use Rattle.bit_scaling.specs.Scaling.{up, release_down}
-use Rattle.bit_scaling.specs.Scaled.{down7_up, down14_up, release_down_up, velocity_down_up}
+use Rattle.bit_scaling.specs.ForProofs.Scaled.{down7_up, down14_up, release_down_up, velocity_down_up}
 use Rattle.midi_meaning.specs.Registers.{Registers, bank_of, bank_by, number_of, selected, selected_by, selected_of, is_null}
 use Rattle.midi_meaning.specs.Controllers.{Role, bank_msb, bank_lsb, data_msb, data_lsb, data_increment, data_decrement}
 use Rattle.midi_meaning.specs.Controllers.{number_msb, number_lsb, reset_all, channel_mode, coarse, fine, plain, role_of, pairing}

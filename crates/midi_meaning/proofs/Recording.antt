@@ -21,7 +21,7 @@ use Rattle.midi1_bytes.specs.Messages.{Message, system_message, spelled, spelled
 use Rattle.midi1_bytes.specs.Laws.{WrittenMessagesAreReadAgain}
 use Rattle.midi_meaning.specs.Registers.{is_null}
 use Rattle.midi_meaning.specs.Controllers.{Role, channel_mode, reset_all, coarse, plain, role_of, pairing}
-use Rattle.midi_meaning.specs.Parts.{group_of, is_group, whole_of}
+use Rattle.listing_terms.specs.Parts.{group_of, is_group, whole_of}
 use Rattle.midi_meaning.specs.Messages.{mean1}
 use Rattle.midi_meaning.specs.Packets.{mean2, IsInRange}
 use Rattle.midi_meaning.specs.Agreement.{Agrees}

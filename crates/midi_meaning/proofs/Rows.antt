@@ -3,12 +3,12 @@ use Rattle.std.proofs.Common.{◌≡◌, refl, [], ◌∷◌, Some, None, false}
 use Rattle.std.specs.Prelude.{map}
 use Rattle.bit_scaling.specs.Scaling.{down14}
 use Rattle.midi1_bytes.specs.Sorts.{sort_of}
-use Rattle.midi_meaning.specs.declared.listed.Kind.TheVariants as kinds
+use Rattle.listing_terms.specs.declared.listed.Kind.TheVariants as kinds
 use Rattle.midi_meaning.specs.Controllers.{role_of}
 use Rattle.midi_meaning.specs.Messages.{mean1}
 use Rattle.midi_meaning.specs.Listing.{listing_of}
 use Rattle.midi_meaning.specs.Lanes.{plain_pairs, lane_bytes}
-use Rattle.midi_meaning.specs.Rows.{exclusives_of_two_groups, cut_stray_and_open, mixed_protocols, registered}
+use Rattle.midi_meaning.specs.Worked.Rows.{exclusives_of_two_groups, cut_stray_and_open, mixed_protocols, registered}
 
 pub joined_by_group : plain_pairs false exclusives_of_two_groups
     ≡ (1, 0xf0 ∷ 0x11 ∷ 0x12 ∷ 0xf7 ∷ []) ∷ (0, 0xf0 ∷ 1 ∷ 2 ∷ 3 ∷ 4 ∷ 5 ∷ 6 ∷ 7 ∷ 0xf7 ∷ []) ∷ []

@@ -28,7 +28,7 @@ use Rattle.midi_meaning.specs.Registers.{selected}
 use Rattle.midi_meaning.specs.Controllers.{Role, data_msb, data_lsb, reset_all, channel_mode, coarse, fine, plain, role_of, pairing}
 use Rattle.midi_meaning.specs.State.{Channel, GroupState}
 use Rattle.midi_meaning.specs.Messages.{channel_of, meaning1}
-use Rattle.midi_meaning.specs.Parts.{group_of, part_of, packet_parts}
+use Rattle.listing_terms.specs.Parts.{group_of, part_of, packet_parts}
 use Rattle.midi_meaning.specs.Listing.{is_carried_role, is_carried_voice, voice_kind}
 use Rattle.midi_meaning.specs.Refusal.{bad_role, bad_voice2}
 use Rattle.midi_meaning.specs.Raising.{raised_entry, raised_control, raised_voice, exclusive_packet}

@@ -11,7 +11,7 @@ use mathlib.Core.List.{reverse_aux}
 use Rattle.ump_grammar.specs.declared.packet.Packet.{Packet}
 use Rattle.midi1_bytes.specs.Laws.{StatusesThatRunCanBeLeftOut, WrittenMessagesAreReadAgain}
 use Rattle.midi1_bytes.specs.Stream.{open_in}
-use Rattle.midi_meaning.specs.Parts.{group_of, is_group, whole_of}
+use Rattle.listing_terms.specs.Parts.{group_of, is_group, whole_of}
 use Rattle.midi_meaning.specs.Messages.{mean1, meaning1}
 use Rattle.midi_meaning.specs.Packets.{mean2, meaning2, step2, IsInRange}
 use Rattle.midi_meaning.specs.Agreement.{Agrees, SameRegisters}

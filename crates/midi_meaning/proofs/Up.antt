@@ -28,7 +28,7 @@ use Rattle.midi_meaning.specs.Registers.{selected}
 use Rattle.midi_meaning.specs.Controllers.{Role, data_msb, data_lsb, reset_all, channel_mode, coarse, fine, plain, role_of, pairing}
 use Rattle.midi_meaning.specs.State.{Channel, GroupState, at_channel, with_common, with_real_time}
 use Rattle.midi_meaning.specs.Messages.{of_packets, of_bytes, as_they_come, channel_of, voice_at, step_at, step1, start, meaning1}
-use Rattle.midi_meaning.specs.Parts.{group_of, is_group, packet_parts, whole_of}
+use Rattle.listing_terms.specs.Parts.{group_of, is_group, packet_parts, whole_of}
 use Rattle.midi_meaning.specs.Packets.{channel2, voice2_at, with_ended, step2, meaning2}
 use Rattle.midi_meaning.specs.Agreement.{Agrees}
 use Rattle.midi_meaning.specs.Raising.{raised_entry, raised_control, raised_voice, exclusive_packet, first_exclusive_packets}

@@ -6,16 +6,16 @@ use Rattle.voice_messages.specs.declared.voice2.Form.TheVariants as form
 use Rattle.ump_grammar.specs.declared.packet.Packet.TheVariants as packet
 use Rattle.bit_scaling.specs.Scaling.{up, down14, release_down}
 use Rattle.midi1_bytes.specs.Sorts.{sort_of}
-use Rattle.midi_meaning.specs.declared.listed.Kind.TheVariants as kinds
-use Rattle.midi_meaning.specs.declared.listed.BadStep.TheVariants as bad
+use Rattle.listing_terms.specs.declared.listed.Kind.TheVariants as kinds
+use Rattle.listing_terms.specs.declared.listed.BadStep.TheVariants as bad
 use Rattle.midi_meaning.specs.Controllers.{role_of}
 use Rattle.midi_meaning.specs.Raising.{packets_of_bytes}
 use Rattle.midi_meaning.specs.StepListing.{listing_of_bytes}
 use Rattle.midi_meaning.specs.Back.{back_of_bytes}
 use Rattle.midi_meaning.specs.UpRefusal.{refusal_up}
-use Rattle.midi_meaning.specs.Rows.{registered, notes_and_a_clock, entry_of_both_halves, entry_after_reset}
-use Rattle.midi_meaning.specs.Rows.{note_on_of_velocity_zero, controller_and_bend, entries_of_two_parameters, program_alone}
-use Rattle.midi_meaning.specs.Rows.{program_with_bank, long_exclusive, strays_and_cuts, cuts_by_stray_bytes, exclusive_without_end}
+use Rattle.midi_meaning.specs.Worked.Rows.{registered, notes_and_a_clock, entry_of_both_halves, entry_after_reset}
+use Rattle.midi_meaning.specs.Worked.Rows.{note_on_of_velocity_zero, controller_and_bend, entries_of_two_parameters, program_alone}
+use Rattle.midi_meaning.specs.Worked.Rows.{program_with_bank, long_exclusive, strays_and_cuts, cuts_by_stray_bytes, exclusive_without_end}
 
 pub notes_up : packets_of_bytes false None 0 notes_and_a_clock
     ≡ packet.Voice2 0 (voice2.NoteOn 0 0x3c 0xc924 0 0) ∷ packet.System 0 system.Clock ∷ packet.Voice2 0 (voice2.NoteOn 0 0x3e 0xc924 0 0)

@@ -6,7 +6,7 @@ use Rattle.ump_grammar.specs.declared.packet.Packet.{Packet}
 use Rattle.ump_grammar.specs.declared.packet.Packet.TheVariants as packet
 use Rattle.midi1_bytes.specs.Stream.{Room}
 use Rattle.midi_meaning.specs.State.{Channel, GroupState}
-use Rattle.midi_meaning.specs.Parts.{Placed, parts_of, whole_by, whole_of}
+use Rattle.listing_terms.specs.Parts.{Placed, parts_of, whole_by, whole_of}
 use Rattle.midi_meaning.specs.Listing.{is_carried, line_of}
 use Rattle.midi_meaning.specs.Plain.{plain_piece}
 use Rattle.midi_meaning.specs.Refusal.{bad_step}

@@ -13,7 +13,7 @@ use Rattle.midi1_bytes.specs.RunningStatus.{running_over, written_under}
 use Rattle.midi_meaning.specs.Registers.{Registers, unset_registers, with_bank, with_selected, without_selection, is_null}
 use Rattle.midi_meaning.specs.Controllers.{Role, reset_all, role_of}
 use Rattle.midi_meaning.specs.Roles.{registers_after}
-use Rattle.midi_meaning.specs.Parts.{group_of, is_group, whole_of}
+use Rattle.listing_terms.specs.Parts.{group_of, is_group, whole_of}
 use Rattle.midi_meaning.specs.Plain.{plain_messages}
 use Rattle.midi_meaning.specs.Compact.{needed_messages}
 

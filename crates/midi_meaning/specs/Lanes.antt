@@ -6,7 +6,7 @@ use Rattle.voice_messages.specs.declared.voice2.Param.{Param}
 use Rattle.ump_grammar.specs.declared.packet.Packet.{Packet}
 use Rattle.midi1_bytes.specs.Stream.{open_in}
 use Rattle.midi_meaning.specs.Messages.{meaning1}
-use Rattle.midi_meaning.specs.Parts.{group_of, is_group, whole_of}
+use Rattle.listing_terms.specs.Parts.{group_of, is_group, whole_of}
 use Rattle.midi_meaning.specs.Packets.{meaning2}
 use Rattle.midi_meaning.specs.Agreement.{Agrees, SameRegisters}
 use Rattle.midi_meaning.specs.Listing.{is_carried}

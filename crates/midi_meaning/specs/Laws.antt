@@ -6,7 +6,7 @@ use Rattle.sysex_groups.specs.Exclusives.{Part, joined, opened, ended, passes_ro
 use Rattle.midi_meaning.specs.Lanes.{plain_pairs}
 use Rattle.midi_meaning.specs.Listing.{is_carried}
 use Rattle.midi_meaning.specs.Packets.{IsInRange}
-use Rattle.midi_meaning.specs.Parts.{Placed, parts_of, packet_parts}
+use Rattle.listing_terms.specs.Parts.{Placed, parts_of, packet_parts}
 use Rattle.midi_meaning.specs.Plain.{plain_piece}
 use Rattle.midi_meaning.specs.Rooms.{AreWithinRoom}
 use Rattle.midi_meaning.specs.Translation.{IsTranslation}

@@ -1,18 +1,14 @@
 pub mod Agreement
 pub mod Back
 pub mod Compact
-pub mod CompactRows
 pub mod Controllers
 pub mod Indexes
 pub mod LaneState
 pub mod Lanes
 pub mod Laws
 pub mod Listing
-pub mod MeaningRows
 pub mod Messages
 pub mod Packets
-pub mod PairedRows
-pub mod Parts
 pub mod Plain
 pub mod Raising
 pub mod Refusal
@@ -20,7 +16,6 @@ pub mod Registers
 pub mod Relied
 pub mod Roles
 pub mod Rooms
-pub mod Rows
 pub mod State
 pub mod StepListing
 pub mod StyleLaws
@@ -28,3 +23,5 @@ pub mod Styles
 pub mod Translation
 pub mod UpLaws
 pub mod UpRefusal
+pub mod Worked
+pub use Rattle.listing_terms.specs.Parts

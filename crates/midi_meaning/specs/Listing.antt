@@ -1,22 +1,20 @@
 -- Which packets are carried to MIDI 1.0, and how the others are listed (M2-104-UM, default translation; what it leaves out is
 -- listed by own rule).
 use Rattle.std.specs.Prelude.{ℕ, ◌==◌, not, if◌then◌else◌, Bool, true, false, List, [], ◌∷◌, ◌++◌, reverse, Option, Some, None, is_some}
-use Rattle.std.specs.List.{flat_map}
 use Rattle.std.specs.Option.{option_map, option_to_list}
-use Rattle.voice_messages.specs.declared.voice2.Form.{Form}
-use Rattle.voice_messages.specs.declared.voice2.Form.TheVariants as form
 use Rattle.voice_messages.specs.declared.voice2.Voice2.{Voice2}
 use Rattle.voice_messages.specs.declared.voice2.Voice2.TheVariants as voice2
 use Rattle.ump_grammar.specs.declared.packet.Packet.{Packet}
 use Rattle.ump_grammar.specs.declared.packet.Packet.TheVariants as packet
-use Rattle.sysex_groups.specs.Exclusives.{Part, Room, started}
-use Rattle.midi_meaning.specs.declared.listed.Kind.{Kind}
-use Rattle.midi_meaning.specs.declared.listed.Kind.TheVariants as kinds
-use Rattle.midi_meaning.specs.declared.listed.Listed.{Listed}
+use Rattle.sysex_groups.specs.Exclusives.{Part, Room}
+use Rattle.listing_terms.specs.declared.listed.Kind.{Kind}
+use Rattle.listing_terms.specs.declared.listed.Kind.TheVariants as kinds
+use Rattle.listing_terms.specs.declared.listed.Listed.{Listed}
 use Rattle.midi_meaning.specs.Registers.{is_null}
 use Rattle.midi_meaning.specs.Controllers.{Role, data_increment, data_decrement, reset_all}
 use Rattle.midi_meaning.specs.Controllers.{channel_mode, coarse, fine, plain, role_of, pairing}
-use Rattle.midi_meaning.specs.Parts.{Placed, group_of, parts_of}
+use Rattle.listing_terms.specs.Parts.{Placed, group_of, parts_of}
+pub use Rattle.listing_terms.specs.ExclusiveLines.{begun_before, end_line, end_lines, exclusive_kind, groups, line_offset}
 
 -- ---- carried
 
@@ -44,38 +42,6 @@ control_kind role = if is_misplaced role then Some kinds.MisplacedController els
 
 abbrev pub attribute_kind : ℕ → Option Kind
 attribute_kind attribute_type = if attribute_type == 0 then None else Some kinds.NoteAttribute
-
--- an exclusive that is open is cut where another one begins; a part that continues or ends one is stray where none is open
-abbrev pub exclusive_kind : Form → Option ℕ → Option Kind
-exclusive_kind form.Complete (Some start) = Some kinds.CutExclusive
-exclusive_kind form.Start (Some start) = Some kinds.CutExclusive
-exclusive_kind form.Continue None = Some kinds.StrayExclusive
-exclusive_kind form.End None = Some kinds.StrayExclusive
-exclusive_kind _ _ = None
-
--- a line has the packet's offset, or that of the packet that began what is cut
-abbrev pub line_offset : Kind → Option ℕ → ℕ → ℕ
-line_offset kinds.CutExclusive (Some start) offset = start
-line_offset _ begun offset = offset
-
--- where the exclusive that the packet's group has open started; only packets of exclusives ask for it
-abbrev pub begun_before : Room → List Part → Packet → Option ℕ
-begun_before room parts (packet.Exclusive group form bytes) = started room group parts
-begun_before room parts _ = None
-
--- ---- at the end of input
-
--- the line of a group at the end of input, where an exclusive is still open
-abbrev pub end_line : Room → List Part → ℕ → Option Listed
-end_line room parts group =
-    option_map (λ start. record { offset = start; group = Some group; kind = kinds.OpenExclusive })
-    (started room group parts)
-
-abbrev pub groups : List ℕ
-groups = 0 ∷ 1 ∷ 2 ∷ 3 ∷ 4 ∷ 5 ∷ 6 ∷ 7 ∷ 8 ∷ 9 ∷ 10 ∷ 11 ∷ 12 ∷ 13 ∷ 14 ∷ 15 ∷ []
-
-abbrev pub end_lines : Room → List Part → List Listed
-end_lines room parts = flat_map (λ group. option_to_list (end_line room parts group)) groups
 
 -- ---- with paired controllers or without
 

@@ -15,6 +15,7 @@ use Rattle.midi_meaning.specs.Controllers.{Role, bank_msb, bank_lsb, data_msb, d
 use Rattle.midi_meaning.specs.Controllers.{number_msb, number_lsb, reset_all, channel_mode, coarse, fine, plain, role_of, pairing}
 use Rattle.midi_meaning.specs.State.{Act, on, off, mode, Channel, GroupState, empty, with_act, with_poly, with_controller, with_pressure}
 use Rattle.midi_meaning.specs.State.{with_bend, with_program, at_registers, with_value, with_param, at_channel, with_common, with_real_time}
+pub use Rattle.listing_terms.specs.Channels.{channel_of}
 
 -- How values are kept, from those of MIDI 1.0: velocities; controllers by their index; pressures and mode values; values of
 -- fourteen bits, and these back again. Own rule: where controllers are paired, the MSB and the LSB of a controller are one value
@@ -120,15 +121,6 @@ control scale fine index value channel = with_fine scale (index - 32) value chan
 control scale plain index value channel = with_controller index (scale.controller index value) channel
 
 -- ---- voice messages
-
-abbrev pub channel_of : Voice1 → ℕ
-channel_of (voice1.NoteOff channel note velocity) = channel
-channel_of (voice1.NoteOn channel note velocity) = channel
-channel_of (voice1.PolyPressure channel note value) = channel
-channel_of (voice1.Control channel index value) = channel
-channel_of (voice1.Program channel program) = channel
-channel_of (voice1.Pressure channel value) = channel
-channel_of (voice1.Bend channel value) = channel
 
 -- a note on of velocity 0 is a note off; own rule: of velocity 64
 abbrev pub note_on : Scale → ℕ → ℕ → Act

@@ -13,7 +13,8 @@ use Rattle.midi_meaning.specs.Controllers.{Role, reset_all, channel_mode, coarse
 use Rattle.midi_meaning.specs.State.{on, off, mode, Channel, GroupState, with_act, with_poly, with_controller, with_pressure}
 use Rattle.midi_meaning.specs.State.{with_bend, with_program, at_registers, with_param, with_looseness, at_channel, with_common}
 use Rattle.midi_meaning.specs.Messages.{raised, of_packets, reset, step_at, start}
-use Rattle.midi_meaning.specs.Parts.{group_of, is_group, whole_of}
+use Rattle.listing_terms.specs.Parts.{group_of, is_group, whole_of}
+pub use Rattle.listing_terms.specs.Channels.{channel2}
 
 -- A control change of MIDI 2.0: the indexes of banks, data entry and parameter numbers have packets of their own. Own rule: so
 -- has the LSB of a controller, where controllers are paired, in the packet of its MSB.
@@ -32,20 +33,6 @@ set_param param value channel = at_registers (with_selected param) (with_param p
 abbrev pub program2 : Option Bank → ℕ → Channel → Channel
 program2 None program channel = with_program program channel
 program2 (Some bank) program channel = with_program program (at_registers (with_bank bank) channel)
-
-abbrev pub channel2 : Voice2 → ℕ
-channel2 (voice2.NoteOff channel note velocity attribute_type attribute) = channel
-channel2 (voice2.NoteOn channel note velocity attribute_type attribute) = channel
-channel2 (voice2.PolyPressure channel note value) = channel
-channel2 (voice2.Control channel index value) = channel
-channel2 (voice2.Set channel param value) = channel
-channel2 (voice2.Shift channel param value) = channel
-channel2 (voice2.Program channel program bank) = channel
-channel2 (voice2.Pressure channel value) = channel
-channel2 (voice2.Bend channel value) = channel
-channel2 (voice2.NoteController channel kind note index value) = channel
-channel2 (voice2.NoteBend channel note value) = channel
-channel2 (voice2.NoteManagement channel note flags) = channel
 
 abbrev pub with_ended : Option (List ℕ) → GroupState → GroupState
 with_ended None group = group

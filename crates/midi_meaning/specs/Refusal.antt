@@ -1,16 +1,17 @@
 -- The packets that the way down refuses (own rules).
-use Rattle.std.specs.Prelude.{ℕ, if◌then◌else◌, List, Option, Some, None}
+use Rattle.std.specs.Prelude.{ℕ, List, Option, Some, None}
 use Rattle.voice_messages.specs.declared.voice1.Voice1.{Voice1}
 use Rattle.voice_messages.specs.declared.voice1.Voice1.TheVariants as voice1
 use Rattle.voice_messages.specs.declared.voice2.Voice2.{Voice2}
 use Rattle.voice_messages.specs.declared.voice2.Voice2.TheVariants as voice2
 use Rattle.ump_grammar.specs.declared.packet.Packet.{Packet}
 use Rattle.ump_grammar.specs.declared.packet.Packet.TheVariants as packet
-use Rattle.sysex_groups.specs.Exclusives.{Part, Room, passes_room}
-use Rattle.midi_meaning.specs.declared.listed.BadStep.{BadStep}
-use Rattle.midi_meaning.specs.declared.listed.BadStep.TheVariants as bad
+use Rattle.sysex_groups.specs.Exclusives.{Part, Room}
+use Rattle.listing_terms.specs.declared.listed.BadStep.{BadStep}
+use Rattle.listing_terms.specs.declared.listed.BadStep.TheVariants as bad
 use Rattle.midi_meaning.specs.Controllers.{Role, data_increment, data_decrement, role_of}
-use Rattle.midi_meaning.specs.Parts.{part_of}
+use Rattle.listing_terms.specs.Parts.{part_of}
+pub use Rattle.listing_terms.specs.ExclusiveLines.{bad_part}
 
 -- data increment and data decrement
 abbrev pub bad_role : Role → Option BadStep
@@ -28,10 +29,6 @@ bad_voice1 _ = None
 abbrev pub bad_voice2 : Voice2 → Option BadStep
 bad_voice2 (voice2.Control channel index value) = bad_control index
 bad_voice2 _ = None
-
-abbrev pub bad_part : Room → List Part → Option Part → Option BadStep
-bad_part room parts None = None
-bad_part room parts (Some part) = if passes_room room parts part then Some bad.ExclusiveTooLong else None
 
 -- why a packet is refused after these parts of exclusives, newest first, if it is refused
 abbrev pub bad_step : Room → List Part → Packet → Option BadStep

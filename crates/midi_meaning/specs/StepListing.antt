@@ -11,13 +11,14 @@ use Rattle.midi1_bytes.specs.declared.step.AfterCut.TheVariants as after
 use Rattle.midi1_bytes.specs.Messages.{Message, voice}
 use Rattle.midi1_bytes.specs.Stream.{Room, open_at_end}
 use Rattle.midi1_bytes.specs.Steps.{Step, stray, undefined, cut, completed_by, step_of}
-use Rattle.midi_meaning.specs.declared.listed.Kind.{Kind}
-use Rattle.midi_meaning.specs.declared.listed.Kind.TheVariants as kinds
-use Rattle.midi_meaning.specs.declared.listed.Listed.{Listed}
+use Rattle.listing_terms.specs.declared.listed.Kind.{Kind}
+use Rattle.listing_terms.specs.declared.listed.Kind.TheVariants as kinds
+use Rattle.listing_terms.specs.declared.listed.Listed.{Listed}
 use Rattle.midi_meaning.specs.Registers.{selected}
 use Rattle.midi_meaning.specs.Controllers.{Role, data_msb, data_lsb, role_of}
 use Rattle.midi_meaning.specs.State.{Channel, GroupState}
 use Rattle.midi_meaning.specs.Messages.{channel_of, meaning1}
+pub use Rattle.listing_terms.specs.ByteLines.{line_up}
 
 -- ---- of a step
 
@@ -75,10 +76,6 @@ abbrev pub kinds_up : GroupState → Step → ℕ → List (Kind × ℕ)
 kinds_up state step offset = kinds_of_step step offset ++ kinds_of_message state (completed_by step) offset
 
 -- ---- of the bytes of a stream, `past` being those so far, newest first
-
--- a line has the group into which the bytes are raised
-abbrev pub line_up : ℕ → Kind × ℕ → Listed
-line_up group told = record { offset = told.1; group = Some group; kind = told.0 }
 
 -- what is open at the end, and where it starts
 abbrev pub open_pair : Room → List ℕ → Option (ℕ × CutKind)

@@ -22,7 +22,7 @@ use Rattle.midi_meaning.specs.Lanes.{lane_bytes, pairs_over}
 use Rattle.midi_meaning.specs.Listing.{is_carried}
 use Rattle.midi_meaning.specs.Messages.{mean1}
 use Rattle.midi_meaning.specs.Packets.{mean2, IsInRange}
-use Rattle.midi_meaning.specs.Parts.{whole_of}
+use Rattle.listing_terms.specs.Parts.{whole_of}
 use Rattle.midi_meaning.specs.Plain.{plain_messages, plain_piece}
 use Rattle.midi_meaning.specs.Registers.{is_null}
 use Rattle.midi_meaning.specs.Relied.{IsLaneOf, IsRelied}

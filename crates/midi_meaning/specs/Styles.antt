@@ -1,7 +1,7 @@
 -- A recording in either style: the pairs of lane and piece, where a piece may depend on the bytes of its lane so far.
 use Rattle.std.specs.Prelude.{ℕ, List, [], ◌∷◌, ◌++◌, reverse, Option, Some, None, Bool}
 use Rattle.ump_grammar.specs.declared.packet.Packet.{Packet}
-use Rattle.midi_meaning.specs.Parts.{group_of, whole_of}
+use Rattle.listing_terms.specs.Parts.{group_of, whole_of}
 use Rattle.midi_meaning.specs.Listing.{is_carried}
 use Rattle.midi_meaning.specs.Plain.{plain_piece}
 use Rattle.midi_meaning.specs.Lanes.{pair_by, lane_bytes}

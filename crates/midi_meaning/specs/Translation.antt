@@ -2,7 +2,7 @@
 use Rattle.std.specs.Prelude.{◌≡◌, ℕ, Bool, true, List, [], ◌∷◌, ◌++◌, length, take, map, reverse, Option, Some}
 use Rattle.ump_grammar.specs.declared.packet.Packet.{Packet}
 use Rattle.midi_meaning.specs.Messages.{mean1}
-use Rattle.midi_meaning.specs.Parts.{group_of, whole_of}
+use Rattle.listing_terms.specs.Parts.{group_of, whole_of}
 use Rattle.midi_meaning.specs.Packets.{mean2}
 use Rattle.midi_meaning.specs.Agreement.{Agrees}
 use Rattle.midi_meaning.specs.Listing.{is_carried}

@@ -13,7 +13,7 @@ use Rattle.midi_meaning.specs.Lanes.{lane_bytes, plain_pairs}
 use Rattle.midi_meaning.specs.Listing.{lines_over, end_lines}
 use Rattle.midi_meaning.specs.Messages.{meaning1, mean1}
 use Rattle.midi_meaning.specs.Packets.{meaning2, mean2, IsInRange}
-use Rattle.midi_meaning.specs.Parts.{Placed, parts_of}
+use Rattle.listing_terms.specs.Parts.{Placed, parts_of}
 use Rattle.midi_meaning.specs.Raising.{packets_at, packets_up, packets_of_bytes, exclusive_packet}
 use Rattle.midi_meaning.specs.StepListing.{lines_up, lines_up_to_end}
 use Rattle.midi_meaning.specs.UpRefusal.{AreStepsWithinRoom, AreAcceptedUp}

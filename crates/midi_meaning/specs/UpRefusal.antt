@@ -3,8 +3,8 @@ use Rattle.std.specs.Prelude.{◌≡◌, ◌≢◌, ℕ, List, [], ◌∷◌, Op
 use Rattle.midi1_bytes.specs.Messages.{Message, voice}
 use Rattle.midi1_bytes.specs.Stream.{Room}
 use Rattle.midi1_bytes.specs.Steps.{Step, too_long, completed_by, step_of}
-use Rattle.midi_meaning.specs.declared.listed.BadStep.{BadStep}
-use Rattle.midi_meaning.specs.declared.listed.BadStep.TheVariants as bad
+use Rattle.listing_terms.specs.declared.listed.BadStep.{BadStep}
+use Rattle.listing_terms.specs.declared.listed.BadStep.TheVariants as bad
 use Rattle.midi_meaning.specs.Refusal.{bad_voice1}
 
 -- data increment and data decrement

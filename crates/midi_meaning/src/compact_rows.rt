@@ -1,8 +1,8 @@
 // Worked rows of the compact style.
 ghost use Rattle.std.specs.Prelude.{false, ◌≡◌, [], ◌∷◌};
 ghost use Rattle.midi_meaning.specs.Styles.{compact_style, styled_pairs};
-ghost use Rattle.midi_meaning.specs.Rows.{mixed_protocols};
-ghost use Rattle.midi_meaning.specs.CompactRows.{
+ghost use Rattle.midi_meaning.specs.Worked.Rows.{mixed_protocols};
+ghost use Rattle.midi_meaning.specs.Worked.CompactRows.{
   notes_across_a_reset,
   notes_and_sets,
   notes_around_a_clock_and_an_exclusive,

@@ -3,7 +3,7 @@ ghost use Rattle.std.specs.Prelude.{◌≡◌, ℕ, Bool, false, List, [], ◌�
 ghost use Rattle.std.specs.List.{AllByRecursion};
 ghost use Rattle.ump_grammar.specs.declared.packet.Packet.{Packet};
 ghost use Rattle.sysex_groups.specs.Exclusives.{joined};
-ghost use Rattle.midi_meaning.specs.declared.listed.Kind.TheVariants as kinds;
+ghost use Rattle.listing_terms.specs.declared.listed.Kind.TheVariants as kinds;
 ghost use Rattle.midi_meaning.specs.Agreement.{Agrees};
 ghost use Rattle.midi_meaning.specs.Laws.{
   CarriedPacketsHaveAPiece,
@@ -15,7 +15,7 @@ ghost use Rattle.midi_meaning.specs.Lanes.{Denotes, lane_after, lane_bytes, pair
 ghost use Rattle.midi_meaning.specs.Listing.{listing_of};
 ghost use Rattle.midi_meaning.specs.Messages.{mean1};
 ghost use Rattle.midi_meaning.specs.Packets.{mean2, IsInRange};
-ghost use Rattle.midi_meaning.specs.Rows.{
+ghost use Rattle.midi_meaning.specs.Worked.Rows.{
   exclusives_of_two_groups,
   cut_stray_and_open,
   mixed_protocols,

@@ -5,7 +5,7 @@
 pub mod compact_rows;
 pub mod direct_controls;
 pub mod laws;
-pub mod listed;
+pub mod lines;
 pub mod meaning_rows;
 pub mod paired_rows;
 pub mod registers;
@@ -15,6 +15,7 @@ pub mod up_laws;
 pub mod up_rows;
 
 pub use crate::direct_controls::DirectControls;
-pub use crate::listed::{BadStep, Kind, Listed};
+pub use crate::lines::{kind_of_cut, kind_of_open};
 pub use crate::registers::{Registers, is_null_param};
 pub use crate::role::ControlRole;
+pub use listing_terms::{BadStep, Kind, Listed, listed};

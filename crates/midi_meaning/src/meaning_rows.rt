@@ -2,10 +2,10 @@
 ghost use Rattle.std.specs.Prelude.{◌≡◌, [], ◌∷◌, ◌++◌, Some, None, true, false};
 ghost use Rattle.voice_messages.specs.declared.voice1.System.TheVariants as system;
 ghost use Rattle.midi1_bytes.specs.Messages.{common, exclusive};
-ghost use Rattle.midi_meaning.specs.declared.listed.Kind.TheVariants as kinds;
+ghost use Rattle.listing_terms.specs.declared.listed.Kind.TheVariants as kinds;
 ghost use Rattle.midi_meaning.specs.Listing.{listing_of};
 ghost use Rattle.midi_meaning.specs.Messages.{mean1};
-ghost use Rattle.midi_meaning.specs.MeaningRows.{
+ghost use Rattle.midi_meaning.specs.Worked.MeaningRows.{
   over_bytes,
   over_packets,
   assignable,
@@ -34,7 +34,7 @@ ghost use Rattle.midi_meaning.specs.MeaningRows.{
 };
 ghost use Rattle.midi_meaning.specs.Packets.{mean2};
 ghost use Rattle.midi_meaning.specs.Registers.{bank_of, selected};
-ghost use Rattle.midi_meaning.specs.Rows.{registered};
+ghost use Rattle.midi_meaning.specs.Worked.Rows.{registered};
 ghost use Rattle.midi_meaning.specs.State.{mode, off, on};
 
 /// Control change 121 in a stream of bytes (RP-015): expression is at its greatest, modulation and the pedals

@@ -2,13 +2,13 @@
 ghost use Rattle.std.specs.Prelude.{◌≡◌, [], ◌∷◌, map, true, false, Some, None};
 ghost use Rattle.voice_messages.specs.declared.voice2.Voice2.TheVariants as voice2;
 ghost use Rattle.ump_grammar.specs.declared.packet.Packet.TheVariants as packet;
-ghost use Rattle.midi_meaning.specs.declared.listed.Kind.TheVariants as kinds;
+ghost use Rattle.listing_terms.specs.declared.listed.Kind.TheVariants as kinds;
 ghost use Rattle.midi_meaning.specs.Back.{back_of_bytes};
 ghost use Rattle.midi_meaning.specs.Lanes.{plain_pairs};
 ghost use Rattle.midi_meaning.specs.Listing.{listing_of};
 ghost use Rattle.midi_meaning.specs.Messages.{mean1};
 ghost use Rattle.midi_meaning.specs.Packets.{mean2};
-ghost use Rattle.midi_meaning.specs.PairedRows.{
+ghost use Rattle.midi_meaning.specs.Worked.PairedRows.{
   a_new_msb,
   both_halves,
   control_of,
@@ -21,7 +21,7 @@ ghost use Rattle.midi_meaning.specs.PairedRows.{
   volume_twice,
 };
 ghost use Rattle.midi_meaning.specs.Raising.{packets_of_bytes};
-ghost use Rattle.midi_meaning.specs.Rows.{registered};
+ghost use Rattle.midi_meaning.specs.Worked.Rows.{registered};
 ghost use Rattle.midi_meaning.specs.Styles.{compact_style, styled_pairs};
 
 /// A MIDI 2.0 control change of a pair is written as MSB and LSB, also

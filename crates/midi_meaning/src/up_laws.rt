@@ -26,7 +26,7 @@ ghost use Rattle.midi1_bytes.specs.Messages.{exclusive};
 ghost use Rattle.midi1_bytes.specs.Steps.{step_of, completed_by};
 ghost use Rattle.midi1_bytes.specs.Stream.{Room};
 ghost use Rattle.midi_meaning.specs.Back.{pieces_of, back, back_at, back_of_bytes};
-ghost use Rattle.midi_meaning.specs.Parts.{whole_of};
+ghost use Rattle.listing_terms.specs.Parts.{whole_of};
 ghost use Rattle.midi_meaning.specs.Messages.{meaning1, step1};
 ghost use Rattle.midi_meaning.specs.Plain.{plain_piece};
 ghost use Rattle.midi_meaning.specs.Registers.{bank_of, selected};

@@ -4,11 +4,11 @@ ghost use Rattle.voice_messages.specs.declared.voice1.System.TheVariants as syst
 ghost use Rattle.voice_messages.specs.declared.voice2.Form.TheVariants as form;
 ghost use Rattle.voice_messages.specs.declared.voice2.Voice2.TheVariants as voice2;
 ghost use Rattle.ump_grammar.specs.declared.packet.Packet.TheVariants as packet;
-ghost use Rattle.midi_meaning.specs.declared.listed.BadStep.TheVariants as bad;
-ghost use Rattle.midi_meaning.specs.declared.listed.Kind.TheVariants as kinds;
+ghost use Rattle.listing_terms.specs.declared.listed.BadStep.TheVariants as bad;
+ghost use Rattle.listing_terms.specs.declared.listed.Kind.TheVariants as kinds;
 ghost use Rattle.midi_meaning.specs.Back.{back_of_bytes};
 ghost use Rattle.midi_meaning.specs.Raising.{packets_of_bytes};
-ghost use Rattle.midi_meaning.specs.Rows.{
+ghost use Rattle.midi_meaning.specs.Worked.Rows.{
   registered,
   notes_and_a_clock,
   note_on_of_velocity_zero,

@@ -3,7 +3,8 @@
 #![tactic(auto)]
 
 use midi_commands::{finish, run, unread_words};
-use midi_edge::{BufferedSource, FileShelf, FolderLanes, NoMemory, WriteSink};
+use midi_edge::{BufferedSource, FileShelf, FolderLanes, WriteSink};
+use small_types::NoMemory;
 use std::fs::{self, File};
 use std::io::{ErrorKind, Stdin};
 use std::process::ExitCode;

@@ -6,16 +6,16 @@ use Rattle.item_reader.specs.Reading.{ReadCause, answer_of, cursor}
 use Rattle.item_reader.specs.SoFar.{given}
 use Rattle.item_reader.specs.declared.cutting.Tail as tails
 use Rattle.item_reader.specs.declared.cutting.Tail.TheVariants as tail
-use Rattle.midi_edge.specs.declared.outside.ReadStop.{ReadStop}
-use Rattle.midi_edge.specs.declared.outside.ReadStop.TheVariants as stop
-use Rattle.midi_edge.specs.declared.outside.Source as source
+use Rattle.outside.specs.declared.objects.ReadStop.{ReadStop}
+use Rattle.outside.specs.declared.objects.ReadStop.TheVariants as stop
+use Rattle.outside.specs.declared.objects.Source as source
 use Rattle.pass_loop.specs.Items.{limit}
 use Rattle.pass_loop.specs.Next.{ComesNearer, GivesNext, NextCause}
 use Rattle.pass_loop.specs.declared.ends.Reason.TheVariants.{Truncated}
 use Rattle.pass_loop.specs.declared.pass.Next.{Next}
 use Rattle.pass_loop.specs.declared.pass.Next.TheVariants as next
 use Rattle.ump_words.specs.Cut.{bytes_asked}
-use Rattle.ump_words.specs.Lengths.{size_in}
+use Rattle.ump_words.specs.ForProofs.Lengths.{size_in}
 use Rattle.ump_words.specs.Reader.{Answers, GivesPacket, Reading}
 use Rattle.ump_words.specs.declared.words.Framed.{Framed}
 use Rattle.ump_words.specs.declared.words.Order.{Order}

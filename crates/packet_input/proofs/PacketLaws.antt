@@ -10,9 +10,9 @@ use Rattle.item_reader.specs.Reading.{Gives, cursor}
 use Rattle.item_reader.specs.SoFar.{ReadSoFar, StandsBehind, given}
 use Rattle.item_reader.specs.declared.cutting.Tail as tails
 use Rattle.item_reader.specs.declared.cutting.Tail.TheVariants as tail
-use Rattle.midi_edge.specs.Outside.{Loses, ahead}
+use Rattle.outside.specs.Outside.{Loses, ahead}
 use Rattle.ump_words.specs.Cut.{IsPacket, IsRest, bytes_asked, first_words, word_at, words_asked, words_of}
-use Rattle.ump_words.specs.Lengths.{size_in}
+use Rattle.ump_words.specs.ForProofs.Lengths.{size_in}
 use Rattle.ump_words.specs.Reader.{Reading, GivesPacket, Finishes, Waits}
 use Rattle.ump_words.specs.declared.words.Framed.{Framed}
 use Rattle.ump_words.specs.declared.words.Order.{Order}

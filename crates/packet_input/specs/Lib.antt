@@ -1,2 +1,4 @@
+pub mod ForProofs
 pub mod Packets
-pub mod Starting
+pub mod Placed
+pub mod Written

@@ -17,9 +17,9 @@ use Rattle.ump_grammar.specs.declared.packet.Packet.{Packet}
 use Rattle.ump_grammar.specs.Ranges.{IsPacket}
 use Rattle.ump_grammar.specs.Reason.{reason as reason_of}
 use Rattle.ump_grammar.specs.Spelling.{Spells}
-use Rattle.midi_edge.specs.declared.outside.ReadStop.{ReadStop}
-use Rattle.midi_edge.specs.declared.outside.ReadStop.TheVariants as stop
-use Rattle.midi_edge.specs.declared.outside.Source as source
+use Rattle.outside.specs.declared.objects.ReadStop.{ReadStop}
+use Rattle.outside.specs.declared.objects.ReadStop.TheVariants as stop
+use Rattle.outside.specs.declared.objects.Source as source
 use Rattle.pass_loop.specs.Items.{limit}
 use Rattle.pass_loop.specs.Next.{ComesNearer, GivesNext, NextCause}
 use Rattle.pass_loop.specs.Pass.{Cutting, Tail}

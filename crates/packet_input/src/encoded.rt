@@ -1,7 +1,7 @@
 // The packets of a recording, one by one, as the words that encode them.
 ghost use Rattle.std.specs.Prelude.{◌≡◌, ◌≤◌, ◌-◌, ℕ, List, Option, None};
 ghost use Rattle.item_reader.specs.SoFar.{Given, given};
-ghost use Rattle.midi_edge.specs.Outside.{ahead};
+ghost use Rattle.outside.specs.Outside.{ahead};
 ghost use Rattle.pass_loop.specs.Items.{limit};
 ghost use Rattle.pass_loop.specs.Next.{ComesNearer, GivesNext, NextCause};
 ghost use Rattle.ump_grammar.specs.Ranges.{IsPacket};
@@ -9,14 +9,14 @@ ghost use Rattle.ump_grammar.specs.declared.packet.Packet.{Packet};
 ghost use Rattle.ump_words.specs.declared.words.Framed.{Framed};
 ghost use Rattle.ump_words.specs.declared.words.Order.{Order};
 ghost use Rattle.packet_input.specs.Packets.{GivenSoFar, GivesNextPacket, new_words, packet_cutting};
-ghost use Rattle.packet_input.specs.Starting.{none_given};
+ghost use Rattle.packet_input.specs.ForProofs.Starting.{none_given};
 
 use crate::endings::{refused, stopped};
 use direct_packets::EncodedPacket;
 use item_reader::items_are_read_in_order;
-use midi_edge::Source;
+use outside::Source;
 use pass_loop::{Items, LIMIT, Next};
-use ump_words::{Framed, Order, WordReader};
+use ump_words::{Framed, Order, Packets, WordReader};
 
 /// The next packet, as its words (M2-104-UM, message types), of an input in which `before` bytes stand before
 /// the first word. They count in each offset and in the limit of the whole input, 4,294,967,296 bytes (own
@@ -32,7 +32,7 @@ pub fn next_encoded<S: Source>(
     requires { before ≤ limit }
     ensures { GivesNextPacket S.Source before words.old words.new input.old input.new result }
 {
-    items_are_read_in_order::<Order, Framed>();
+    items_are_read_in_order::<Packets, Framed>();
     match words.next(input) {
         Ok(Some(mut framed)) => {
             // Both are within the limit, so that the sum is never cut.

@@ -3,7 +3,7 @@ ghost use Rattle.std.specs.Prelude.{◌≡◌};
 ghost use Rattle.pass_loop.specs.declared.pass.Next.TheVariants as next;
 ghost use Rattle.packet_input.specs.Packets.{next_of_stop, reason_for};
 
-use midi_edge::ReadStop;
+use outside::ReadStop;
 use pass_loop::{LIMIT, Next, Reason};
 use ump_grammar::Bad;
 use ump_words::Framed;

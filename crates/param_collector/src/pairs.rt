@@ -4,7 +4,7 @@ ghost use Rattle.param_collector.specs.Holding.{pair_count};
 ghost use Rattle.param_collector.specs.Msbs.{pair_place, zeros};
 
 use crate::msbs::zeros;
-use midi_edge::{NoMemory, U4};
+use small_types::{NoMemory, U4};
 use std::alloc::Global;
 use std::marker::Model;
 use voice_messages::U7;

@@ -5,7 +5,7 @@ use Rattle.std.specs.List.{concat}
 use Rattle.std.proofs.lemmas.List.{append_assoc, append-nil}
 use Rattle.item_reader.specs.Cut.{IsCutInto, IsRest}
 use Rattle.item_reader.specs.CutLaws.{ItemsAreReadInOrder}
-use Rattle.midi_edge.specs.Outside.{Loses, ahead}
+use Rattle.outside.specs.Outside.{Loses, ahead}
 use Rattle.item_reader.specs.Reading.{Cursor, Reading, Gives, Finishes, Waits, cursor}
 use Rattle.item_reader.specs.SoFar.{ReadSoFar, given}
 use Rattle.item_reader.specs.declared.cutting.Tail.{Tail}

@@ -1,7 +1,7 @@
 -- What a reader of items gives next.
 use Rattle.std.specs.Prelude.{◌≡◌, ℕ, ◌<◌, List, [], ◌∷◌, ◌++◌, reverse, None, Some, IfSome}
 use Rattle.item_reader.specs.SoFar.{Given}
-use Rattle.midi_edge.specs.Outside.{Rose}
+use Rattle.outside.specs.Outside.{Rose}
 use Rattle.pass_loop.specs.Pass.{Cutting, IsFront, HasGivenUp}
 use Rattle.pass_loop.specs.declared.pass.Next.{Next}
 use Rattle.pass_loop.specs.declared.pass.Next.TheVariants.{Item, End, Refused, Failed}

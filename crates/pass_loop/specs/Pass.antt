@@ -1,9 +1,9 @@
 -- A pass over an input: how the input is cut into items, what is done with each, and what stands at each end.
 use Rattle.std.specs.Prelude.{◌≡◌, ◌⊎◌, ℕ, Bool, true, false, List, [], ◌∷◌, ◌++◌, reverse, Option, None, Some, IfSome, Result, Ok, Err}
-use Rattle.midi_edge.specs.Outside.{Rose}
-use Rattle.midi_edge.specs.declared.outside.Lanes as lanes
-use Rattle.midi_edge.specs.declared.outside.Sink as sink
-use Rattle.midi_edge.specs.declared.outside.Source as source
+use Rattle.outside.specs.Outside.{Rose}
+use Rattle.outside.specs.declared.objects.Lanes as lanes
+use Rattle.outside.specs.declared.objects.Sink as sink
+use Rattle.outside.specs.declared.objects.Source as source
 use Rattle.pass_loop.specs.Named.{Named, SparesOthers}
 use Rattle.pass_loop.specs.Places.{Places, places, over_puts, FailsAt, Puts}
 use Rattle.pass_loop.specs.Put.{Put}

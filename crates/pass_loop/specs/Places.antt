@@ -1,8 +1,8 @@
 -- What the places that a pass writes to tell and count, and what puts do to them.
 use Rattle.std.specs.Prelude.{◌≡◌, ℕ, Bool, List, ◌∷◌, ◌++◌, Option, None, Some, Result, Ok, Err}
-use Rattle.midi_edge.specs.Outside.{Rose}
-use Rattle.midi_edge.specs.declared.outside.Lanes as lanes
-use Rattle.midi_edge.specs.declared.outside.Sink as sink
+use Rattle.outside.specs.Outside.{Rose}
+use Rattle.outside.specs.declared.objects.Lanes as lanes
+use Rattle.outside.specs.declared.objects.Sink as sink
 use Rattle.pass_loop.specs.Put.{Put, pairs_in, output_in, notes_in, IsPartOf, fault_of}
 use Rattle.pass_loop.specs.declared.ends.RunEnd.{RunEnd}
 use Rattle.pass_loop.specs.declared.ends.RunEnd.TheVariants.{Done, Refused, ReadFault, LaneFault, OutputFault, NoteFault, NoMemory}

@@ -1,18 +1,18 @@
 // The bytes of a stream, one by one.
 ghost use Rattle.std.specs.Prelude.{◌≡◌, ◌-◌, ℕ, List, Option, length, None, Some};
-ghost use Rattle.midi_edge.specs.Outside.{ahead};
+ghost use Rattle.outside.specs.Outside.{ahead};
 ghost use Rattle.item_reader.specs.ByteReader.{each_byte, new_bytes, one_byte};
 ghost use Rattle.item_reader.specs.SoFar.{Given, given};
 ghost use Rattle.pass_loop.specs.Bytes.{GivenSoFar, byte_cutting, limit, placed_at};
 ghost use Rattle.pass_loop.specs.Next.{ComesNearer, GivesNext, NextCause};
 ghost use Rattle.pass_loop.specs.Pass.{Cutting};
-ghost use Rattle.pass_loop.specs.Starting.{none_given};
+ghost use Rattle.pass_loop.specs.ForProofs.Starting.{none_given};
 
 use crate::ends::Reason;
 use crate::laws::items_are_taken_in_order;
 use crate::pass::{Items, Next};
 use item_reader::{ByteReader, EachByte};
-use midi_edge::{ReadStop, Source};
+use outside::{ReadStop, Source};
 
 /// The most bytes that an input may have.
 pub const LIMIT: u64 = 4_294_967_296;

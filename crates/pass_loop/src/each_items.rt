@@ -1,19 +1,19 @@
 // The items of a stream, one by one, each after its offset.
 ghost use Rattle.std.specs.Prelude.{◌≡◌, ◌-◌, ℕ, List, Option, None};
-ghost use Rattle.midi_edge.specs.Outside.{ahead};
+ghost use Rattle.outside.specs.Outside.{ahead};
 ghost use Rattle.item_reader.specs.Reading.{new_reading};
 ghost use Rattle.item_reader.specs.SoFar.{Given, ReadSoFar, given};
 ghost use Rattle.pass_loop.specs.Items.{after_offset, item_cutting, limit};
 ghost use Rattle.pass_loop.specs.Next.{ComesNearer, GivesNext, NextCause};
 ghost use Rattle.pass_loop.specs.Pass.{Cutting};
-ghost use Rattle.pass_loop.specs.Starting.{none_given};
+ghost use Rattle.pass_loop.specs.ForProofs.Starting.{none_given};
 
 use crate::bytes::LIMIT;
 use crate::ends::Reason;
 use crate::laws::items_are_taken_in_order;
 use crate::pass::{Items, Next};
 use item_reader::{Cut, ItemReader};
-use midi_edge::{ReadStop, Source};
+use outside::{ReadStop, Source};
 use std::marker::Model;
 
 /// Gives out the items of a stream that is cut in some way, each

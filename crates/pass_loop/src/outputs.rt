@@ -4,7 +4,8 @@ ghost use Rattle.pass_loop.specs.Places.{Places, Puts, borrowed, places};
 ghost use Rattle.pass_loop.specs.Put.{in_lane, in_notes, in_output};
 
 use crate::ends::RunEnd;
-use midi_edge::{Lanes, Sink, U4};
+use outside::{Lanes, Sink};
+use small_types::U4;
 
 /// Where a pass puts what it puts: lanes, an output and notes.
 pub trait Outputs {

@@ -9,7 +9,7 @@ ghost use Rattle.pass_loop.specs.Put.{Put};
 
 use crate::ends::{Reason, RunEnd};
 use crate::outputs::{Borrowed, Outputs};
-use midi_edge::{Lanes, Sink, Source};
+use outside::{Lanes, Sink, Source};
 
 /// What comes next of an input.
 #[derive(Debug, Drop)]

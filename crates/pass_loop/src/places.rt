@@ -4,7 +4,7 @@ ghost use Rattle.pass_loop.specs.Places.{Puts, places};
 ghost use Rattle.pass_loop.specs.Put.{in_notes, in_output};
 
 use crate::ends::RunEnd;
-use midi_edge::{Lanes, Sink};
+use outside::{Lanes, Sink};
 
 /// Puts text, which isn't empty, in the output. At an `Err`, which comes only where the count of the output's
 /// faults rose and is `OutputFault`, the output gained at most a front of the text that isn't all of it.

@@ -1,5 +1,5 @@
 pub mod EventBytes
 pub mod Events
-pub mod Rehearse
-pub mod RehearseMeans
+pub mod ForProofs
 pub mod Laws
+pub mod Rehearse

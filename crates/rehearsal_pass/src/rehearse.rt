@@ -15,7 +15,7 @@ ghost use Rattle.rehearsal_pass.specs.Rehearse.{
   rehearsing,
   told_text,
 };
-ghost use Rattle.rehearsal_pass.specs.RehearseMeans.{
+ghost use Rattle.rehearsal_pass.specs.ForProofs.RehearseMeans.{
   HoldsRehearsal,
   IsReadyRehearsal,
   closing_named,
@@ -32,8 +32,9 @@ use ci_initiator::{EventFault, Rehearsal, Told};
 use ci_responder::Key;
 use ci_text::{LinePlace, ProfileStates, put_profiles};
 use function_blocks::Setup;
-use midi_edge::{Lanes, NoMemory, Sink, Source};
+use outside::{Lanes, Sink, Source};
 use pass_loop::{EachItems, Engine, Outputs, Reason, RunEnd, drive};
+use small_types::NoMemory;
 use std::alloc::Global;
 use std::marker::Model;
 
@@ -45,7 +46,7 @@ pub struct RehearseRun {
 
 impl Model for RehearseRun {
     ghost use Rattle.function_blocks.specs.Setups.{SetupData};
-    ghost use Rattle.rehearsal_pass.specs.RehearseMeans.{IsFirstRehearsal};
+    ghost use Rattle.rehearsal_pass.specs.ForProofs.RehearseMeans.{IsFirstRehearsal};
 
     ghost Value = { SetupData };
 

@@ -38,7 +38,7 @@ use Rattle.midi_meaning.specs.Styles.{plain_style}
 use Rattle.down_translator.specs.Held.{DownState, down_after, new_down, refusal_in, unless_refused, whole_in}
 use Rattle.down_translator.specs.KeptLanes.{lanes_after, new_lanes}
 use Rattle.down_translator.specs.Step.{piece_of}
-use Rattle.self_test.specs.Held.{ComesBack, HasReturned}
+use Rattle.self_test.specs.ForProofs.Held.{ComesBack, HasReturned}
 use Rattle.self_test.specs.Played.{ArePlayed, IsPlayedStep}
 use Rattle.self_test.proofs.PlayedLaws.{piece_short}
 

@@ -26,7 +26,7 @@ use Rattle.down_translator.specs.Step.{IsStep, piece_of}
 use Rattle.self_test.specs.declared.counts.Counts.{Counts}
 use Rattle.self_test.specs.declared.course.Course.{Course}
 use Rattle.self_test.specs.Counts.{bytes_over, counts_with}
-use Rattle.self_test.specs.Held.{ComesBack, HasReturned, HasTaken}
+use Rattle.self_test.specs.ForProofs.Held.{ComesBack, HasReturned, HasTaken}
 use Rattle.self_test.specs.Played.{ArePlayed, IsPlayed}
 use Rattle.self_test.proofs.BackLaws.{IsReturned, returned_after, returned_piece, returned_short, steps_within}
 use Rattle.self_test.proofs.PlayedLaws.{IsRead, messages_played, read_all}

@@ -6,7 +6,7 @@ use Rattle.ump_grammar.specs.declared.packet.Packet.TheVariants as packet
 use Rattle.midi_meaning.specs.Controllers.{Role, role_of}
 use Rattle.midi_meaning.specs.Refusal.{bad_control, bad_role}
 use Rattle.self_test.specs.declared.generator.Draws.{Draws}
-use Rattle.self_test.specs.Draws.{AreDrawn}
+use Rattle.self_test.specs.ForProofs.Draws.{AreDrawn}
 use Rattle.self_test.specs.Generator.{HasGiven, after_draw, draw_at, generated, drawn_message, number_over, upper_half}
 
 number_over_more : (seed place : ℕ) → number_over seed (suc place) ≡ after_draw (number_over seed place)

@@ -11,7 +11,7 @@ use Rattle.voice_messages.specs.declared.voice2.ParamKind.TheVariants.{Registere
 use Rattle.voice_messages.specs.declared.voice2.Voice2.{Voice2}
 use Rattle.voice_messages.specs.declared.voice2.Voice2.TheVariants as voice2
 use Rattle.voice_messages.specs.Ranges.{IsVoice1, IsVoice2}
-use Rattle.bit_scaling.specs.Scaled.{down7_fits, down14_fits, release_down_fits, velocity_down_fits}
+use Rattle.bit_scaling.specs.ForProofs.Scaled.{down7_fits, down14_fits, release_down_fits, velocity_down_fits}
 use Rattle.midi1_bytes.specs.Sorts.{one, two, data_byte, voice_status, sort_of}
 use Rattle.midi1_bytes.specs.Messages.{Message, voice, common, exclusive, real_time, spelled}
 use Rattle.midi1_bytes.specs.Messages.{spelled_voice, voice_of, voice_of_one, voice_of_two}

@@ -1,5 +1,4 @@
 pub mod Counts
-pub mod Draws
+pub mod ForProofs
 pub mod Generator
-pub mod Held
 pub mod Played

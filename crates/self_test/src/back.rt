@@ -4,7 +4,7 @@ ghost use Rattle.ump_grammar.specs.Ranges.{IsPacket};
 ghost use Rattle.down_translator.specs.Held.{down_after, refusal_in};
 ghost use Rattle.down_translator.specs.Step.{piece_of};
 ghost use Rattle.midi1_bytes.specs.Steps.{step_of};
-ghost use Rattle.self_test.specs.Held.{ComesBack, HasReturned};
+ghost use Rattle.self_test.specs.ForProofs.Held.{ComesBack, HasReturned};
 ghost use Rattle.self_test.specs.Played.{ArePlayed, IsPlayedStep};
 
 use down_translator::Down;

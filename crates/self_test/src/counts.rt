@@ -4,7 +4,7 @@ ghost use Rattle.self_test.specs.Counts.{counted};
 
 use crate::course::Course;
 use crate::generator::Generator;
-use midi_edge::NoMemory;
+use small_types::NoMemory;
 use std::alloc::Global;
 
 /// What a test counts.

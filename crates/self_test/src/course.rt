@@ -4,15 +4,15 @@ ghost use Rattle.std.specs.Option.{option_to_list};
 ghost use Rattle.midi_meaning.specs.Parts.{Placed};
 ghost use Rattle.down_translator.specs.Carried.{line_in};
 ghost use Rattle.self_test.specs.Counts.{counts_of, counts_with};
-ghost use Rattle.self_test.specs.Held.{HasTaken};
+ghost use Rattle.self_test.specs.ForProofs.Held.{HasTaken};
 ghost use Rattle.self_test.specs.Played.{IsPlayed};
 
 use crate::back::bring_back;
 use crate::counts::Counts;
 use down_translator::{Carried, Down, Style};
-use midi_edge::{NoMemory, U4};
 use midi_meaning::laws::carried_packets_have_a_piece;
 use midi_meaning::up_laws::rooms_that_are_not_reached_do_not_matter_in_bytes;
+use small_types::{NoMemory, U4};
 use std::alloc::Global;
 use ump_grammar::Packet;
 use up_translator::Up;

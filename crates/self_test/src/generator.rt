@@ -4,7 +4,7 @@ ghost use Rattle.voice_messages.specs.Ranges.{IsBank, IsVoice2};
 ghost use Rattle.midi_meaning.specs.Refusal.{bad_voice2};
 ghost use Rattle.self_test.specs.Generator.{bank_of, drawn_message};
 
-use midi_edge::U4;
+use small_types::U4;
 use std::marker::Model;
 use ump_grammar::Packet;
 use voice_messages::{Bank, Param, ParamKind, U7, Voice2};
@@ -135,7 +135,7 @@ impl Model for Generator {
 
 impl Generator {
     ghost use Rattle.std.specs.Prelude.{◌≡◌, ◌+◌, ℕ};
-    ghost use Rattle.self_test.specs.Draws.{AreDrawn};
+    ghost use Rattle.self_test.specs.ForProofs.Draws.{AreDrawn};
     ghost use Rattle.self_test.specs.Generator.{after_draw, generated, HasGiven, upper_half};
     ghost use Rattle.self_test.specs.Played.{IsPlayed};
 

@@ -6,7 +6,7 @@ ghost use Rattle.ump_grammar.specs.Spelling.{form_number};
 ghost use Rattle.sysex8_streams.specs.Reading.{data_places};
 ghost use Rattle.sysex8_packets.specs.Cut8.{part8_at, stream_of, Encodes8};
 
-use midi_edge::{ShortList, U4};
+use small_types::{ShortList, U4};
 use sysex8_streams::Part8;
 use ump_grammar::encoding::form_bits;
 use voice_messages::Form;

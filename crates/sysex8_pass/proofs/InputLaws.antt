@@ -4,7 +4,7 @@ use Rattle.std.specs.Prelude.{IfSome, reverse}
 use Rattle.std.specs.List.{flat_map}
 use Rattle.std.proofs.lemmas.List.{append-nil, reverse-reverse}
 use Rattle.std.proofs.lemmas.List.Concat.{flat_map-append}
-use Rattle.ump_words.specs.declared.words.Framed.{Framed}
+use Rattle.packet_words.specs.declared.words.Framed.{Framed}
 use Rattle.ump_grammar.specs.declared.packet.Packet.{Packet}
 use Rattle.pass_loop.specs.Places.{Places, with_more}
 use Rattle.pass_loop.specs.Put.{Put, notes_in, notes_of, pair_of, pairs_in}

@@ -6,7 +6,7 @@ use Rattle.std.proofs.lemmas.List.{append_assoc, append-nil}
 use Rattle.std.proofs.lemmas.List.Concat.{flat_map-append}
 use Rattle.pass_loop.specs.Places.{Places, FailsAt, over_puts}
 use Rattle.pass_loop.specs.Put.{Put}
-use Rattle.pass_loop.specs.PutLaws.{over_puts-none, stops_more, then_put, then_stops}
+use Rattle.pass_loop.specs.ForProofs.PutLaws.{over_puts-none, stops_more, then_put, then_stops}
 use Rattle.pass_loop.specs.declared.ends.RunEnd.{RunEnd}
 use Rattle.sysex8_pass.specs.Listing.{below}
 

@@ -1,7 +1,7 @@
 -- What is put for a packet by what the streams hold, and what they hold after it.
 use Rattle.std.specs.Prelude.{◌≡◌, ◌≤◌, ℕ, List, [], length, Option, None, Some}
 use Rattle.std.specs.Option.{option_map}
-use Rattle.ump_words.specs.declared.words.Framed.{Framed}
+use Rattle.packet_words.specs.declared.words.Framed.{Framed}
 use Rattle.ump_grammar.specs.declared.packet.Packet.{Packet}
 use Rattle.ump_grammar.specs.declared.packet.Packet.TheVariants as packet
 use Rattle.sysex8_streams.specs.declared.part8.Part8.{Part8}

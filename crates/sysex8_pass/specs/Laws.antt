@@ -1,7 +1,7 @@
 -- What a join that is done leaves, by the whole input.
 use Rattle.std.specs.Prelude.{◌≡◌, ℕ, List, [], ◌++◌, reverse, None, Some}
 use Rattle.std.specs.List.{flat_map}
-use Rattle.ump_words.specs.declared.words.Framed.{Framed}
+use Rattle.packet_words.specs.declared.words.Framed.{Framed}
 use Rattle.ump_grammar.specs.declared.packet.Packet.{Packet}
 use Rattle.pass_loop.specs.Pass.{IsDone, Seen}
 use Rattle.pass_loop.specs.Places.{with_more}

@@ -1,7 +1,7 @@
 pub mod Completed
+pub mod ForProofs
 pub mod Held
 pub mod Joining
-pub mod JoiningMeans
 pub mod Laws
 pub mod Lines
 pub mod Listing

@@ -1,7 +1,7 @@
 -- What the pass over 8-bit exclusives may be asked for.
 use Rattle.std.specs.Prelude.{ℕ, length}
-use Rattle.ump_words.specs.declared.words.Order.{Order}
-use Rattle.ump_words.specs.declared.words.Order.TheVariants.{Big}
+use Rattle.packet_words.specs.declared.words.Order.{Order}
+use Rattle.packet_words.specs.declared.words.Order.TheVariants.{Big}
 use Rattle.sysex8_streams.specs.Table.{Table8}
 
 -- A recording whose words have this order. `slots` is the most streams that are begun at once, and `room` the most bytes that an

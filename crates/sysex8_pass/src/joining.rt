@@ -1,6 +1,6 @@
 // From packets to 8-bit exclusives.
 ghost use Rattle.std.specs.Prelude.{◌≡◌, ◌≤◌, IfOk, Some, None, true};
-ghost use Rattle.ump_words.specs.Cut.{IsWhole};
+ghost use Rattle.packet_words.specs.Words.{IsWhole};
 ghost use Rattle.ump_grammar.specs.WordFields.{type_of};
 ghost use Rattle.ump_grammar.specs.Ranges.{IsPacket};
 ghost use Rattle.pass_loop.specs.PassEnds.{PassEnds};
@@ -31,19 +31,20 @@ ghost use Rattle.sysex8_pass.specs.Joining.{
 ghost use Rattle.sysex8_pass.specs.Lines.{kind_text, whole_text};
 ghost use Rattle.sysex8_pass.specs.Options.{options8};
 ghost use Rattle.sysex8_pass.specs.Parts.{part_in};
-ghost use Rattle.sysex8_pass.specs.JoiningMeans.{joins_mean, joins_named, open_named};
+ghost use Rattle.sysex8_pass.specs.ForProofs.JoiningMeans.{joins_mean, joins_named, open_named};
 
 use crate::lines::{Kind8, kind_line, whole_line};
 use listing_lines::refused;
-use midi_edge::{Lanes, NoMemory, Sink, Source, U4};
-use midi_meaning::BadStep;
+use listing_terms::BadStep;
+use outside::{Lanes, Sink, Source};
 use packet_input::{PacketReader, packets_are_cut_once};
+use packet_words::{Framed, Order, Words};
 use pass_loop::{Engine, Outputs, RunEnd, drive};
+use small_types::{NoMemory, U4};
 use std::alloc::Global;
 use std::marker::Model;
 use sysex8_streams::{Fed8, Streams, fed_streams_are_the_definition, read8};
 use ump_grammar::Packet;
-use ump_words::{Framed, Order, Words};
 
 /// A join of 8-bit exclusives that is ready to begin, with all its memory. A contract sees its options.
 #[derive(Drop)]

@@ -2,8 +2,8 @@
 ghost use Rattle.std.specs.Prelude.{◌≡◌, ◌<◌, length};
 ghost use Rattle.sysex8_pass.specs.Lines.{kind_text, whole_text, word8};
 
-use midi_edge::U4;
-use midi_lines::{Line, put_decimal, put_text};
+use small_types::U4;
+use text_lines::{Line, put_decimal, put_text};
 
 /// What is listed of a type 5 packet.
 #[derive(Clone, Copy)]

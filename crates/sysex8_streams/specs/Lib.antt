@@ -3,6 +3,6 @@ pub mod History
 pub mod Laws
 pub mod Lend
 pub mod Reading
-pub mod Rows
 pub mod Slots
 pub mod Table
+pub mod Worked

@@ -1,6 +1,6 @@
 // Laws over the definitions alone.
 ghost use Rattle.sysex8_streams.specs.Laws.{FedStreamsAreTheDefinition};
-ghost use Rattle.sysex8_streams.specs.Rows.{WorkedRows};
+ghost use Rattle.sysex8_streams.specs.Worked.Rows.{WorkedRows};
 
 use sysex_groups::parts_of_one_group;
 

@@ -1,13 +1,13 @@
 // The part of an 8-bit exclusive in a packet.
 ghost use Rattle.std.specs.Prelude.{◌≡◌, length};
-ghost use Rattle.ump_words.specs.Cut.{IsWhole};
+ghost use Rattle.packet_words.specs.Words.{IsWhole};
 ghost use Rattle.ump_grammar.specs.WordFields.{type_of};
 ghost use Rattle.sysex8_streams.specs.Reading.{Reads8, data_places as places_of};
 
-use midi_edge::{ShortList, U4};
+use packet_words::Words;
+use small_types::{ShortList, U4};
 use ump_grammar::decoding::form_of;
 use ump_grammar::fields::{bits, byte, nibble};
-use ump_words::Words;
 use voice_messages::Form;
 
 /// What one packet has of the exclusive of a stream, which is named by a group and a stream id.

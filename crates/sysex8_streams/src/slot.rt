@@ -15,7 +15,7 @@ ghost use Rattle.sysex8_streams.specs.History.{key_of};
 
 use crate::fed8::Fed8;
 use crate::part8::Part8;
-use midi_edge::U4;
+use small_types::U4;
 use std::alloc::{AllocError, Global};
 use sysex_groups::reserved::append;
 use voice_messages::Form;

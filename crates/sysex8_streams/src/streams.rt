@@ -7,7 +7,7 @@ ghost use Rattle.sysex8_streams.specs.Table.{is_of};
 use crate::fed8::Fed8;
 use crate::part8::Part8;
 use crate::slot::Slot;
-use midi_edge::{NoMemory, ShortList, U4};
+use small_types::{NoMemory, ShortList, U4};
 use std::alloc::Global;
 use std::marker::Model;
 use voice_messages::Form;

@@ -3,7 +3,7 @@ ghost use Rattle.std.specs.Prelude.{◌≡◌};
 ghost use Rattle.std.specs.Fork.{slice_chunk};
 ghost use Rattle.sysex_groups.specs.Cut.{part_at};
 
-use midi_edge::ShortList;
+use small_types::ShortList;
 use voice_messages::Form;
 
 /// The most bytes of an exclusive that a packet carries.

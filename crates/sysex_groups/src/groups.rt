@@ -4,7 +4,7 @@ ghost use Rattle.sysex_groups.specs.Exclusives.{IsData, LendsData, ended_by};
 
 use crate::buffer::Buffer;
 use crate::fed::Fed;
-use midi_edge::{NoMemory, U4};
+use small_types::{NoMemory, U4};
 use std::alloc::Global;
 use std::marker::Model;
 use voice_messages::Form;

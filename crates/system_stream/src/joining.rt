@@ -3,7 +3,7 @@ ghost use Rattle.std.specs.Prelude.{◌≡◌, IsTrue, is_some};
 
 use crate::joined::Joined;
 use crate::texts::{TextKind, without_trailing_zeros};
-use midi_edge::ShortList;
+use small_types::ShortList;
 use std::marker::Model;
 use voice_messages::Form;
 

@@ -1,48 +1,36 @@
 -- What is put for the items of an input is what the definitions of the whole input tell.
-use Rattle.std.proofs.Common.{◌≡◌, ℕ, Bool, false, List, [], ◌∷◌, ◌++◌, length, map, take, Option, None, Some, refl, ap, sym, ◌∙◌, subst}
+use Rattle.std.proofs.Common.{◌≡◌, ℕ, Bool, List, [], ◌∷◌, ◌++◌, map, take, Option, None, Some, refl, ap, sym, ◌∙◌, subst}
 use Rattle.std.specs.Prelude.{IfSome, reverse}
 use Rattle.std.specs.List.{flat_map}
-use Rattle.std.specs.Option.{option_map}
-use Rattle.std.proofs.lemmas.List.{append-nil, length-map, map-append, reverse-append, reverse-reverse}
+use Rattle.std.proofs.lemmas.List.{append-nil, map-append, reverse-append, reverse-reverse}
 use Rattle.std.proofs.lemmas.List.Concat.{flat_map-append}
-use Rattle.ump_words.specs.declared.words.Framed.{Framed}
+use Rattle.packet_words.specs.declared.words.Framed.{Framed}
 use Rattle.ump_grammar.specs.declared.packet.Packet.{Packet}
-use Rattle.midi1_bytes.specs.Steps.{Step, step_of}
-use Rattle.midi1_bytes.specs.Stream.{Open, open_at_end}
 use Rattle.midi_meaning.specs.declared.listed.Listed.{Listed}
 use Rattle.midi_meaning.specs.Agreement.{Agrees}
 use Rattle.midi_meaning.specs.Back.{SameState, back, back_of_bytes}
 use Rattle.midi_meaning.specs.Listing.{end_lines, lines_over}
-use Rattle.midi_meaning.specs.Messages.{as_they_come, mean1, meaning1, raised}
-use Rattle.midi_meaning.specs.Packets.{mean2, meaning2}
+use Rattle.midi_meaning.specs.Messages.{mean1}
+use Rattle.midi_meaning.specs.Packets.{mean2}
 use Rattle.midi_meaning.specs.Parts.{Placed, parts_of}
 use Rattle.midi_meaning.specs.Raising.{packets_of_bytes, packets_up}
 use Rattle.midi_meaning.specs.StepListing.{kinds_at_end, line_up, lines_up, lines_up_to_end, listing_of_bytes, open_pair}
 use Rattle.midi_meaning.specs.Styles.{styled_over, styled_pairs}
 use Rattle.midi_meaning.specs.Translation.{IsTranslation}
-use Rattle.voice_state.specs.Facts.{facts_of}
-use Rattle.voice_state.specs.States.{states_of_stream}
-use Rattle.voice_state.specs.declared.fact.Fact.{Fact}
-use Rattle.midi_lines.specs.ListingLines.{listing_text}
+use Rattle.text_lines.specs.ListingLines.{listing_text}
 use Rattle.down_translator.specs.Recording.{packets_of}
 use Rattle.pass_loop.specs.Bytes.{byte_cutting, bytes_read}
 use Rattle.pass_loop.specs.Places.{Places, with_more}
 use Rattle.pass_loop.specs.Put.{Put, in_lane, in_notes, in_output, notes_in, notes_of, output_in, output_of, pair_of, pairs_in}
-use Rattle.listing_lines.specs.LineLaws.{notes-lines, output-lines, pairs-lines}
+use Rattle.listing_lines.specs.ForProofs.LineLaws.{notes-lines, output-lines, pairs-lines}
 use Rattle.packet_input.specs.Packets.{packet_cutting}
-use Rattle.packet_output.specs.Packets.{all_placed, placed_of}
-use Rattle.packet_output.specs.Written.{AreWritten}
-use Rattle.translation_passes.specs.KeptState.{state_puts}
-use Rattle.translation_passes.specs.Laws.{DoneCarriesTheInput, DoneRaisesTheInput, DoneReturnsTheInput}
-use Rattle.translation_passes.specs.Laws.{DoneShowsTheRecording, DoneShowsTheStream, packets_in}
+use Rattle.packet_input.specs.Placed.{all_placed, placed_of}
+use Rattle.packet_input.specs.Written.{AreWritten}
+use Rattle.translation_passes.specs.Laws.{DoneCarriesTheInput, DoneRaisesTheInput, DoneReturnsTheInput, packets_in}
 use Rattle.translation_passes.specs.Raised.{last_lines, output_puts}
-use Rattle.translation_passes.specs.ShowBytes.{open_puts}
-use Rattle.translation_passes.specs.ShowMeans.{output-listing, output-state}
-use Rattle.translation_passes.specs.ShownLines.{shown_bytes, shown_items, shown_packets, shown_stream}
-use Rattle.translation_passes.specs.ShownLines.{shown_open, shown_step}
 use Rattle.translation_passes.specs.Up.{RaisedMean}
 use Rattle.translation_passes.specs.Back.{ReturnedMean}
-use Rattle.translation_passes.proofs.StreamInput.{ArePlaced, are-placed, turned-bytes}
+use Rattle.pass_loop.proofs.StreamInput.{turned-bytes}
 
 -- ---- packets
 
@@ -98,24 +86,6 @@ carries_the_input = λ options bytes old new told done.
           ∙ ap (λ xs. flat_map listing_text (lines_over options.paired (Some options.room) (all_placed past)) ++ xs) (notes-lines last)
           ∙ sym (flat_map-append listing_text (lines_over options.paired (Some options.room) (all_placed past)) last)
           ∙ ap (λ xs. flat_map listing_text (L xs)) (placed-turned done.items));
-      left = cut.1;
-    }
-
-pub shows_the_recording : DoneShowsTheRecording
-shows_the_recording = λ options bytes old new told done.
-    let C : Option (List ℕ) → Type 0 = λ left. IfSome left (λ b. packet_cutting options.order b done.items None × (new.left ≡ Some [])) in
-    let cut = subst C told done.cut in
-    let past : List (Framed × Packet) = reverse done.items in
-    let facts : List Fact = facts_of raised (meaning2 false (packets_of (all_placed past))) in
-    record {
-      items = done.items;
-      cut = cut.0;
-      output =
-          ap (λ (s : Places). s.output) done.places
-          ∙ ap (with_more old.places.output)
-          (flat_map-append output_of done.puts done.last
-          ∙ ap (λ xs. xs ++ output_in done.last) done.done.meaning
-          ∙ ap (λ xs. shown_packets past ++ xs) (ap output_in done.at_end ∙ output-state options.state facts));
       left = cut.1;
     }
 
@@ -202,39 +172,5 @@ returns_the_input = λ options bytes old new told done.
           ap (λ (s : Places). s.notes) done.places
           ∙ ap (with_more old.places.notes)
           (listed-all options.paired options.room options.group past bytes done.puts done.last turned meaning.2 done.at_end);
-      left = cut.1;
-    }
-
--- a byte's offset is the number of bytes before it
-same-lines : (room : ℕ) (past : List (ℕ × ℕ)) → ArePlaced past → shown_items room past ≡ shown_bytes room (bytes_read past)
-same-lines room [] placed = refl
-same-lines room (item ∷ past) placed =
-    let step : Step = step_of (Some room) (bytes_read past) item.1 in
-    let at : item.0 ≡ length (bytes_read past) = placed.0 ∙ sym (length-map past (λ (i : ℕ × ℕ). i.1)) in
-    ap (λ xs. xs ++ shown_step step item.0) (same-lines room past placed.1)
-    ∙ ap (λ n. shown_bytes room (bytes_read past) ++ shown_step step n) at
-
-pub shows_the_stream : DoneShowsTheStream
-shows_the_stream = λ options bytes old new told done.
-    let C : Option (List ℕ) → Type 0 = λ left. IfSome left (λ b. byte_cutting b done.items None × (new.left ≡ Some [])) in
-    let cut = subst C told done.cut in
-    let past : List (ℕ × ℕ) = reverse done.items in
-    let turned : bytes_read past ≡ reverse bytes = turned-bytes bytes done.items cut.0 in
-    let begun : Option Open = open_at_end (Some options.room) (bytes_read past) in
-    let facts : List Fact = facts_of as_they_come (states_of_stream (meaning1 false (bytes_read past))) in
-    record {
-      output =
-          ap (λ (s : Places). s.output) done.places
-          ∙ ap (with_more old.places.output)
-          (flat_map-append output_of done.puts done.last
-          ∙ ap (λ xs. xs ++ output_in done.last)
-          (done.done.meaning ∙ same-lines options.room past (are-placed bytes done.items cut.0))
-          ∙ ap (λ xs. shown_bytes options.room (bytes_read past) ++ xs)
-          (ap output_in done.at_end
-          ∙ flat_map-append output_of (open_puts begun) (state_puts options.state facts)
-          ∙ ap (λ xs. xs ++ output_in (state_puts options.state facts))
-          (output-listing (kinds_at_end (option_map (λ b. (b.start, b.kind)) begun)))
-          ∙ ap (λ xs. shown_open begun ++ xs) (output-state options.state facts))
-          ∙ ap (shown_stream options.room options.state) turned);
       left = cut.1;
     }

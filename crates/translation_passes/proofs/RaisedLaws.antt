@@ -19,8 +19,8 @@ use Rattle.pass_loop.specs.Pass.{Steps, Tail, Takes, Work}
 use Rattle.pass_loop.specs.Places.{Places, Puts, over_puts}
 use Rattle.pass_loop.specs.Put.{Put}
 use Rattle.pass_loop.specs.declared.ends.RunEnd.{RunEnd}
-use Rattle.pass_loop.specs.StepLaws.{takes_steps}
-use Rattle.pass_loop.specs.PutLaws.{stops_more, then_put, then_stops}
+use Rattle.pass_loop.specs.ForProofs.StepLaws.{takes_steps}
+use Rattle.pass_loop.specs.ForProofs.PutLaws.{stops_more, then_put, then_stops}
 use Rattle.listing_lines.specs.Lines.{line_puts}
 use Rattle.translation_passes.specs.Raised.{Answers, AreDone, AreTaken, ByteIsDone, CanBeDone, CarriesOut, Doing, Task}
 

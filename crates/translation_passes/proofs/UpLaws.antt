@@ -2,7 +2,7 @@
 use Rattle.std.proofs.Common.{◌≡◌, ℕ, Bool, List, [], ◌∷◌, take, refl, ap, sym, ◌∙◌, subst}
 use Rattle.std.specs.Prelude.{reverse}
 use Rattle.std.specs.List.{AllByRecursion}
-use Rattle.ump_words.specs.declared.words.Order.{Order}
+use Rattle.packet_words.specs.declared.words.Order.{Order}
 use Rattle.ump_grammar.specs.declared.packet.Packet.{Packet}
 use Rattle.ump_grammar.specs.Ranges.{IsPacket}
 use Rattle.ump_grammar.specs.Reading.{ExclusivesHaveWords}
@@ -14,7 +14,7 @@ use Rattle.pass_loop.specs.Put.{Put}
 use Rattle.translation_passes.specs.declared.up.WordOutput.{WordOutput}
 use Rattle.translation_passes.specs.Raised.{AreDone, AreTaken, CanBeDone, Doing}
 use Rattle.translation_passes.specs.Up.{RaisedBytesMean}
-use Rattle.packet_output.specs.Written.{AreWritten, IsWritten}
+use Rattle.packet_input.specs.Written.{AreWritten, IsWritten}
 use Rattle.translation_passes.proofs.StreamLaws.{front_accepted}
 
 abbrev pub AcceptsWords : WordOutput → Packet → Type 0

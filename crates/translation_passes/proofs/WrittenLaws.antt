@@ -1,8 +1,8 @@
 -- The words of a packet are put as a packet is written.
 use Rattle.std.proofs.Common.{◌≡◌, ℕ, List, [], ◌∷◌, length, refl, slice_index, arith}
 use Rattle.std.specs.List.{flat_map}
-use Rattle.ump_words.specs.Cut.{word_bytes}
-use Rattle.ump_words.specs.declared.words.Order.{Order}
+use Rattle.packet_words.specs.Words.{word_bytes}
+use Rattle.packet_words.specs.declared.words.Order.{Order}
 use Rattle.ump_grammar.specs.Reading.{Encodes}
 use Rattle.ump_grammar.specs.declared.packet.Packet.{Packet}
 use Rattle.std.specs.Prelude.{Result, Ok, Err}
@@ -10,7 +10,7 @@ use Rattle.pass_loop.specs.Places.{Places, Puts}
 use Rattle.pass_loop.specs.Put.{in_output}
 use Rattle.pass_loop.specs.declared.ends.RunEnd.{RunEnd}
 use Rattle.translation_passes.specs.Raised.{CarriesOut}
-use Rattle.packet_output.specs.Written.{IsWritten}
+use Rattle.packet_input.specs.Written.{IsWritten}
 
 pub words_carry_out : {Held : Type 0} (from : Held) (order : Order) (packet : Packet) (words : List ℕ) → Encodes packet words
     → (old new : Places) (result : Result (Unit {0}) RunEnd)

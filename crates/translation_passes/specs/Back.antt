@@ -12,7 +12,7 @@ use Rattle.midi_meaning.specs.Raising.{packets_up}
 use Rattle.midi_meaning.specs.StepListing.{lines_up}
 use Rattle.midi_meaning.specs.Styles.{plain_style}
 use Rattle.midi_meaning.specs.UpRefusal.{AreAcceptedUp}
-use Rattle.midi_lines.specs.ListingLines.{listing_text}
+use Rattle.text_lines.specs.ListingLines.{listing_text}
 use Rattle.up_translator.specs.Held.{UpState}
 use Rattle.up_translator.specs.Recording.{HoldsUp}
 use Rattle.down_translator.specs.Held.{DownState, down_after, refusal_in}
@@ -23,7 +23,7 @@ use Rattle.pass_loop.specs.Pass.{Work}
 use Rattle.pass_loop.specs.Put.{Put, in_output, notes_in, output_in}
 use Rattle.translation_passes.specs.Options.{BackOptions}
 use Rattle.translation_passes.specs.Raised.{byte_lines, byte_packets, last_lines, refusal_at}
-use Rattle.packet_output.specs.Written.{output_and_notes}
+use Rattle.packet_input.specs.Written.{output_and_notes}
 
 -- a piece is put in the output, unless it is empty
 abbrev pub piece_puts : List ℕ → List Put

@@ -3,10 +3,10 @@
 use Rattle.std.specs.Prelude.{◌≡◌, ℕ, Bool, true, false, ◌≤◌, List, [], ◌∷◌, ◌++◌, map, reverse, None, Some, Result}
 use Rattle.std.specs.List.{flat_map}
 use Rattle.std.specs.Option.{option_to_list}
-use Rattle.ump_words.specs.declared.words.Framed.{Framed}
-use Rattle.ump_words.specs.declared.words.Order.TheVariants.{Big}
+use Rattle.packet_words.specs.declared.words.Framed.{Framed}
+use Rattle.packet_words.specs.declared.words.Order.TheVariants.{Big}
 use Rattle.ump_grammar.specs.declared.packet.Packet.{Packet}
-use Rattle.midi_lines.specs.ListingLines.{listing_text}
+use Rattle.text_lines.specs.ListingLines.{listing_text}
 use Rattle.midi_meaning.specs.Listing.{end_lines, line_of, lines_over}
 use Rattle.midi_meaning.specs.Parts.{Placed, parts_of}
 use Rattle.midi_meaning.specs.Refusal.{bad_step}
@@ -28,7 +28,7 @@ use Rattle.pass_loop.specs.declared.ends.RunEnd.{RunEnd}
 use Rattle.listing_lines.specs.Lines.{line_puts}
 use Rattle.listing_lines.specs.Refusal.{refusal_by}
 use Rattle.translation_passes.specs.Options.{DownOptions}
-use Rattle.packet_output.specs.Packets.{all_placed, placed_of}
+use Rattle.packet_input.specs.Placed.{all_placed, placed_of}
 
 -- the puts of pairs
 abbrev pub pair_puts : List (ℕ × List ℕ) → List Put

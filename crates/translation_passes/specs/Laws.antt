@@ -1,7 +1,7 @@
 -- What a pass that is done leaves, by the whole input.
-use Rattle.std.specs.Prelude.{◌≡◌, ℕ, List, [], map, reverse, take, None, Some}
+use Rattle.std.specs.Prelude.{◌≡◌, ℕ, List, [], map, take, None, Some}
 use Rattle.std.specs.List.{flat_map}
-use Rattle.ump_words.specs.declared.words.Framed.{Framed}
+use Rattle.packet_words.specs.declared.words.Framed.{Framed}
 use Rattle.ump_grammar.specs.declared.packet.Packet.{Packet}
 use Rattle.midi_meaning.specs.Agreement.{Agrees}
 use Rattle.midi_meaning.specs.Back.{SameState, back_of_bytes}
@@ -12,20 +12,17 @@ use Rattle.midi_meaning.specs.Raising.{packets_of_bytes}
 use Rattle.midi_meaning.specs.StepListing.{listing_of_bytes}
 use Rattle.midi_meaning.specs.Styles.{styled_pairs}
 use Rattle.midi_meaning.specs.Translation.{IsTranslation}
-use Rattle.midi_lines.specs.ListingLines.{listing_text}
+use Rattle.text_lines.specs.ListingLines.{listing_text}
 use Rattle.pass_loop.specs.Bytes.{byte_cutting}
 use Rattle.pass_loop.specs.Pass.{IsDone, Seen}
 use Rattle.pass_loop.specs.Places.{with_more}
 use Rattle.pass_loop.specs.Put.{Put, output_in}
 use Rattle.packet_input.specs.Packets.{packet_cutting}
-use Rattle.packet_output.specs.Packets.{all_placed}
-use Rattle.packet_output.specs.Written.{AreWritten}
+use Rattle.packet_input.specs.Placed.{all_placed}
+use Rattle.packet_input.specs.Written.{AreWritten}
 use Rattle.translation_passes.specs.Back.{returning}
 use Rattle.translation_passes.specs.Down.{carrying}
-use Rattle.translation_passes.specs.Options.{BackOptions, ByteLineOptions, DownOptions, PacketLineOptions, UpOptions}
-use Rattle.translation_passes.specs.ShowBytes.{showing_bytes}
-use Rattle.translation_passes.specs.ShowPackets.{showing}
-use Rattle.translation_passes.specs.ShownLines.{shown_recording, shown_stream}
+use Rattle.translation_passes.specs.Options.{BackOptions, DownOptions, UpOptions}
 use Rattle.translation_passes.specs.Up.{raising}
 
 -- ---- packets
@@ -43,13 +40,6 @@ pub record CarriesTheInput (options : DownOptions) (bytes : List ℕ) (old new :
   pub translation : IsTranslation options.paired (packets_in items) (styled_pairs options.paired options.style (packets_in items))
   pub notes : new.places.notes
       ≡ with_more old.places.notes (flat_map listing_text (listing_of options.paired (Some options.room) (all_placed items)))
-  pub left : new.left ≡ Some []
-
--- The input is cut into these packets. The output gained their lines, and those of what they mean, where they are asked for.
-pub record ShowsTheRecording (options : PacketLineOptions) (bytes : List ℕ) (old new : Seen) : Type 0 where
-  pub items : List (Framed × Packet)
-  pub cut : packet_cutting options.order bytes items None
-  pub output : new.places.output ≡ with_more old.places.output (shown_recording options.state (reverse items))
   pub left : new.left ≡ Some []
 
 -- ---- bytes
@@ -80,22 +70,12 @@ pub record ReturnsTheInput (options : BackOptions) (bytes : List ℕ) (old new :
       (flat_map listing_text (listing_of_bytes options.paired (Some options.room) options.group bytes))
   pub left : new.left ≡ Some []
 
--- The output gained the lines of the bytes of the input, and those of what they mean, where they are asked for.
-pub record ShowsTheStream (options : ByteLineOptions) (bytes : List ℕ) (old new : Seen) : Type 0 where
-  pub output : new.places.output ≡ with_more old.places.output (shown_stream options.room options.state (reverse bytes))
-  pub left : new.left ≡ Some []
-
 -- ---- each pass
 
 abbrev pub DoneCarriesTheInput : Type 0
 DoneCarriesTheInput =
     (options : DownOptions) (bytes : List ℕ) (old new : Seen) → old.left ≡ Some bytes →
     IsDone (packet_cutting options.order) (carrying options) old new → CarriesTheInput options bytes old new
-
-abbrev pub DoneShowsTheRecording : Type 0
-DoneShowsTheRecording =
-    (options : PacketLineOptions) (bytes : List ℕ) (old new : Seen) → old.left ≡ Some bytes →
-    IsDone (packet_cutting options.order) (showing options) old new → ShowsTheRecording options bytes old new
 
 abbrev pub DoneRaisesTheInput : Type 0
 DoneRaisesTheInput =
@@ -106,8 +86,3 @@ abbrev pub DoneReturnsTheInput : Type 0
 DoneReturnsTheInput =
     (options : BackOptions) (bytes : List ℕ) (old new : Seen) → old.left ≡ Some bytes →
     IsDone byte_cutting (returning options) old new → ReturnsTheInput options bytes old new
-
-abbrev pub DoneShowsTheStream : Type 0
-DoneShowsTheStream =
-    (options : ByteLineOptions) (bytes : List ℕ) (old new : Seen) → old.left ≡ Some bytes →
-    IsDone byte_cutting (showing_bytes options) old new → ShowsTheStream options bytes old new

@@ -1,14 +1,14 @@
 -- A stream of bytes that is raised: the words of the packets of each byte, and its lines; at the end the line of what is open.
 use Rattle.std.specs.Prelude.{◌≡◌, ℕ, Bool, false, ◌<◌, List, reverse, take, None, Some}
 use Rattle.std.specs.List.{flat_map}
-use Rattle.ump_words.specs.declared.words.Order.{Order}
+use Rattle.packet_words.specs.declared.words.Order.{Order}
 use Rattle.midi_meaning.specs.Agreement.{Agrees}
 use Rattle.midi_meaning.specs.Messages.{mean1}
 use Rattle.midi_meaning.specs.Packets.{mean2}
 use Rattle.midi_meaning.specs.Raising.{packets_of_bytes, packets_up}
 use Rattle.midi_meaning.specs.StepListing.{lines_up}
 use Rattle.midi_meaning.specs.UpRefusal.{AreAcceptedUp}
-use Rattle.midi_lines.specs.ListingLines.{listing_text}
+use Rattle.text_lines.specs.ListingLines.{listing_text}
 use Rattle.up_translator.specs.Held.{UpState}
 use Rattle.up_translator.specs.Recording.{HoldsUp}
 use Rattle.pass_loop.specs.Bytes.{bytes_read}
@@ -16,7 +16,7 @@ use Rattle.pass_loop.specs.Pass.{Work}
 use Rattle.pass_loop.specs.Put.{notes_in}
 use Rattle.translation_passes.specs.Options.{UpOptions}
 use Rattle.translation_passes.specs.Raised.{byte_lines, byte_packets, last_lines, output_puts, refusal_at}
-use Rattle.packet_output.specs.Written.{AreWritten, AreWrittenAndListed, output_and_notes}
+use Rattle.packet_input.specs.Written.{AreWritten, AreWrittenAndListed, output_and_notes}
 
 module _ (paired : Bool) where
   -- after each of these bytes, the newest first, the packets so far mean what the bytes so far mean

@@ -8,21 +8,22 @@ ghost use Rattle.pass_loop.specs.Pass.{seen};
 ghost use Rattle.pass_loop.specs.Places.{Puts};
 ghost use Rattle.translation_passes.specs.Back.{HoldsBack, ComesDown, back_options, piece_puts, PutsDown, returning};
 ghost use Rattle.translation_passes.specs.Raised.{CarriesOut};
-ghost use Rattle.translation_passes.specs.BackMeans.{returned_means, returns_named};
-ghost use Rattle.translation_passes.specs.RaisedMeans.{last_named};
+ghost use Rattle.translation_passes.specs.ForProofs.BackMeans.{returned_means, returns_named};
+ghost use Rattle.translation_passes.specs.ForProofs.RaisedMeans.{last_named};
 
 use crate::raised::{PacketWork, put_byte, put_open};
 use down_translator::laws::what_is_held_is_the_definition;
 use down_translator::{Down, LoweredMessage, Style};
 use item_reader::ByteReader;
-use midi_edge::{Lanes, NoMemory, Sink, Source, U4};
 use midi_meaning::up_laws::{
     bytes_that_come_back_mean_the_same, raised_packets_are_in_range,
     raised_packets_come_back_in_silence, rooms_that_are_not_reached_do_not_matter_in_bytes,
 };
 use midi1_bytes::laws::parsed_bytes_are_the_definition;
+use outside::{Lanes, Sink, Source};
 use pass_loop::laws::bytes_are_cut_once;
 use pass_loop::{Engine, LIMIT, Outputs, RunEnd, drive};
+use small_types::{NoMemory, U4};
 use std::alloc::Global;
 use std::marker::Model;
 use up_translator::laws::raised_bytes_are_the_definition;

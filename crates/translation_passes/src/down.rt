@@ -16,7 +16,7 @@ ghost use Rattle.down_translator.specs.Recording.{pair_put};
 ghost use Rattle.listing_lines.specs.Lines.{line_puts};
 ghost use Rattle.translation_passes.specs.Down.{Carries, HoldsDown, IsReadyDown, carrying, lowered_puts, shortened_puts, down_options, pair_puts, puts_for};
 ghost use Rattle.listing_lines.specs.Open.{open_line, open_puts};
-ghost use Rattle.translation_passes.specs.DownMeans.{carries_named, carries_nothing, carries_means, ends_named};
+ghost use Rattle.translation_passes.specs.ForProofs.DownMeans.{carries_named, carries_nothing, carries_means, ends_named};
 ghost use Rattle.packet_input.specs.Packets.{packet_cutting};
 
 use direct_packets::EncodedPacket;
@@ -26,13 +26,14 @@ use down_translator::laws::{
 };
 use down_translator::{Carried, Down, Kind, Listed, LoweredMessage, ShortenedMessage, Style};
 use listing_lines::{OpenExclusives, list_open, put_line, put_listed, refused};
-use midi_edge::{Lanes, NoMemory, Sink, Source, U4};
 use midi_meaning::style_laws::styled_pairs_are_a_translation;
+use outside::{Lanes, Sink, Source};
 use packet_input::{EncodedReader, packets_are_cut_once};
+use packet_words::{Framed, Order};
 use pass_loop::{Engine, Outputs, RunEnd, drive};
+use small_types::{NoMemory, U4};
 use std::alloc::Global;
 use std::marker::Model;
-use ump_words::{Framed, Order};
 use voice_messages::U7;
 
 /// A translation down that is ready to begin, with all its memory. A contract sees its options.

@@ -7,13 +7,9 @@ ghost use Rattle.translation_passes.specs.Laws.{
   DoneCarriesTheInput,
   DoneRaisesTheInput,
   DoneReturnsTheInput,
-  DoneShowsTheRecording,
-  DoneShowsTheStream,
 };
-ghost use Rattle.translation_passes.specs.Options.{BackOptions, ByteLineOptions, DownOptions, PacketLineOptions, UpOptions};
+ghost use Rattle.translation_passes.specs.Options.{BackOptions, DownOptions, UpOptions};
 ghost use Rattle.packet_input.specs.Packets.{packet_cutting};
-ghost use Rattle.translation_passes.specs.ShowBytes.{showing_bytes};
-ghost use Rattle.translation_passes.specs.ShowPackets.{showing};
 ghost use Rattle.translation_passes.specs.Up.{raising};
 
 use packet_input::packets_are_cut_once;
@@ -22,17 +18,14 @@ use pass_loop::laws::bytes_are_cut_once;
 /// A recording has one first refusal: after packets that are accepted it is refused at one offset and for one
 /// reason, whichever cutting tells it.
 pub fn a_recording_has_one_first_refusal()
-    ensures carried { (options : DownOptions) →
+    ensures { (options : DownOptions) →
         HasOneFirstRefusal (packet_cutting options.order) (carrying options) }
-    ensures shown { (options : PacketLineOptions) →
-        HasOneFirstRefusal (packet_cutting options.order) (showing options) }
 {
     packets_are_cut_once();
 }
 
-/// So has a stream of bytes.
+/// So has a stream of bytes, raised or brought back.
 pub fn a_stream_has_one_first_refusal()
-    ensures shown { (options : ByteLineOptions) → HasOneFirstRefusal byte_cutting (showing_bytes options) }
     ensures raised { (options : UpOptions) → HasOneFirstRefusal byte_cutting (raising options) }
     ensures returned { (options : BackOptions) → HasOneFirstRefusal byte_cutting (returning options) }
 {
@@ -59,17 +52,4 @@ pub fn a_stream_that_is_raised_is_that_of_the_input()
 /// The notes gained exactly the lines of the listing of the whole stream.
 pub fn a_stream_that_comes_back_is_that_of_the_input()
     ensures { DoneReturnsTheInput }
-{}
-
-/// Where `show` is done, the output gained exactly the lines of the packets of the whole input, in their
-/// order, and after them those of what the packets mean, where the state is asked for.
-pub fn a_recording_that_is_shown_is_that_of_the_input()
-    ensures { DoneShowsTheRecording }
-{}
-
-/// Where `show --bytes` is done, the output gained exactly the lines of the bytes of the whole input, in
-/// their order, then that of what is open at the end, and those of what the bytes mean, where the state is
-/// asked for.
-pub fn a_stream_that_is_shown_is_that_of_the_input()
-    ensures { DoneShowsTheStream }
 {}

@@ -10,8 +10,8 @@ ghost use Rattle.pass_loop.specs.Places.{Puts};
 ghost use Rattle.translation_passes.specs.Raised.{Answers, AreDone, AreTaken, ByteIsDone, CanBeDone, CarriesOut, Doing, byte_task, open_puts};
 
 use listing_lines::{put_lines, put_listed, refused};
-use midi_edge::U4;
 use pass_loop::{Outputs, RunEnd};
+use small_types::U4;
 use sysex_groups::part;
 use up_translator::{Raised, RaisedPacket, Up};
 

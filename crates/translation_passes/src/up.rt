@@ -1,7 +1,7 @@
 // From a stream of MIDI 1.0 bytes to packets.
 ghost use Rattle.std.specs.Prelude.{◌≡◌, ◌≤◌, ◌<◌, [], ◌∷◌, IfOk, length, refl};
 ghost use Rattle.std.specs.List.{flat_map};
-ghost use Rattle.ump_words.specs.Cut.{word_bytes};
+ghost use Rattle.packet_words.specs.Words.{word_bytes};
 ghost use Rattle.pass_loop.specs.PassEnds.{PassEnds};
 ghost use Rattle.pass_loop.specs.Places.{Puts};
 ghost use Rattle.pass_loop.specs.Put.{in_output};
@@ -9,25 +9,26 @@ ghost use Rattle.ump_grammar.specs.Ranges.{IsPacket};
 ghost use Rattle.pass_loop.specs.Bytes.{byte_cutting};
 ghost use Rattle.pass_loop.specs.Pass.{seen};
 ghost use Rattle.translation_passes.specs.Up.{HoldsRaised, up_options, raising};
-ghost use Rattle.packet_output.specs.Written.{IsWritten};
-ghost use Rattle.translation_passes.specs.RaisedMeans.{last_named};
-ghost use Rattle.translation_passes.specs.UpMeans.{raised_means, raises_named};
+ghost use Rattle.packet_input.specs.Written.{IsWritten};
+ghost use Rattle.translation_passes.specs.ForProofs.RaisedMeans.{last_named};
+ghost use Rattle.translation_passes.specs.ForProofs.UpMeans.{raised_means, raises_named};
 
 use crate::raised::{PacketWork, put_byte, put_open};
 use item_reader::ByteReader;
-use midi_edge::{Lanes, NoMemory, Sink, Source, U4};
 use midi_meaning::up_laws::{
     raised_packets_are_in_range, raised_packets_mean_the_bytes,
     rooms_that_are_not_reached_do_not_matter_in_bytes,
 };
 use midi1_bytes::laws::parsed_bytes_are_the_definition;
-use packet_output::put_encoded;
+use outside::{Lanes, Sink, Source};
+use packet_input::put_encoded;
+use packet_words::{Order, pair_bytes};
 use pass_loop::laws::bytes_are_cut_once;
 use pass_loop::{Engine, LIMIT, Outputs, RunEnd, drive};
+use small_types::{NoMemory, U4};
 use std::alloc::Global;
 use std::marker::Model;
 use ump_grammar::laws::exclusives_have_words;
-use ump_words::{Order, pair_bytes};
 use up_translator::laws::raised_bytes_are_the_definition;
 use up_translator::{RaisedPacket, Up};
 

@@ -20,10 +20,9 @@ use Rattle.sysex_groups.specs.Exclusives.{Part, Room, bytes_of, ended_by, fits, 
 use Rattle.sysex_groups.specs.Exclusives.{opened, passes_by, start_of, started, too_long, whole}
 use Rattle.sysex_groups.specs.Laws.{FedPartsAreTheDefinition}
 use Rattle.sysex_groups.specs.Table.{AreParts, Begun, Table, answer_of, answer_to, begun_over, begun_in, begun_of, table_over}
-use Rattle.midi_meaning.specs.Listing.{listed}
-use Rattle.midi_meaning.specs.Parts.{Placed, part_of, parts_of}
-use Rattle.midi_meaning.specs.Refusal.{bad_part}
-use Rattle.midi_meaning.specs.declared.listed.BadStep.TheVariants as bad
+use Rattle.listing_terms.specs.ExclusiveLines.{bad_part, exclusive_listed}
+use Rattle.listing_terms.specs.Parts.{Placed, part_of, parts_of}
+use Rattle.listing_terms.specs.declared.listed.BadStep.TheVariants as bad
 use Rattle.ump_endpoint.specs.Answers.{SaidOrFault, in_force, message_replies, outcome_by, packet_listed}
 use Rattle.ump_endpoint.specs.Answers.{packet_outcome, packet_replies, protocol_after_packet, said_by, said_in}
 use Rattle.ump_endpoint.specs.Answers.{said_outcome, stream_packet_replies, received_by, received_in_packets}
@@ -63,7 +62,8 @@ said_is_ended room (Some begun) group form.End bytes = by_fit (fits room (length
     by_fit false = refl
 
 lost_is_listed : (room : Room) (begun : Option Begun) (group offset : ℕ) (f : Form) (bytes : List ℕ)
-    → listed_of group offset (answer_of room begun f bytes) ≡ listed false (start_begun begun) offset (packets.Exclusive group f bytes)
+    → listed_of group offset (answer_of room begun f bytes)
+    ≡ exclusive_listed (start_begun begun) (record { group = group; form = f; bytes = bytes; offset = offset })
 lost_is_listed room None group offset form.Complete bytes = refl
 lost_is_listed room None group offset form.Start bytes = refl
 lost_is_listed room None group offset form.Continue bytes = refl
@@ -232,7 +232,7 @@ module _ (fed : FedPartsAreTheDefinition) (room : ℕ) (past : List Placed) (lea
     listed_is offset (packets.Exclusive g f b) =
         ap (listed_of g offset) (answer_is offset g f b)
         ∙ lost_is_listed (Some room) (begun_over (Some room) g parts) g offset f b
-        ∙ ap (λ start. listed false start offset (packets.Exclusive g f b)) (begun-start (opened (Some room) g parts))
+        ∙ ap (λ start. exclusive_listed start (record { group = g; form = f; bytes = b; offset = offset })) (begun-start (opened (Some room) g parts))
     listed_is offset (packets.Stream f s l w x y) = refl
     listed_is offset (packets.Utility s v) = refl
     listed_is offset (packets.System g m) = refl

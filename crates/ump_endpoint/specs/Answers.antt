@@ -1,5 +1,5 @@
 -- What an endpoint answers to a packet, by the packets before it, which are listed the newest first.
-use Rattle.std.specs.Prelude.{ℕ, false, List, [], ◌∷◌, ◌++◌, Option, None, Some, Result, Ok, Err, map, option_and_then}
+use Rattle.std.specs.Prelude.{ℕ, List, [], ◌∷◌, ◌++◌, Option, None, Some, Result, Ok, Err, map, option_and_then}
 use Rattle.std.specs.Option.{option_map, option_map_or}
 use Rattle.ump_grammar.specs.declared.packet.Packet.{Packet}
 use Rattle.ump_grammar.specs.declared.packet.Packet.TheVariants as packets
@@ -12,9 +12,9 @@ use Rattle.ci_messages.specs.declared.view.CiFault.{CiFault}
 use Rattle.ci_responder.specs.History.{heard_at, replies_at}
 use Rattle.ci_responder.specs.Messages.{Received}
 use Rattle.ci_responder.specs.Read.{received_in}
-use Rattle.midi_meaning.specs.declared.listed.Listed.{Listed}
-use Rattle.midi_meaning.specs.Listing.{line_of}
-use Rattle.midi_meaning.specs.Parts.{Placed, part_of, parts_of, whole_by}
+use Rattle.listing_terms.specs.declared.listed.Listed.{Listed}
+use Rattle.listing_terms.specs.ExclusiveLines.{exclusive_line}
+use Rattle.listing_terms.specs.Parts.{Placed, part_of, parts_of, whole_by}
 use Rattle.ump_endpoint.specs.declared.taken.Outcome.{Outcome}
 use Rattle.ump_endpoint.specs.declared.taken.Outcome.TheVariants as outcomes
 
@@ -107,4 +107,4 @@ module _ (setup : SetupData) (room : ℕ) (past : List Placed) (placed : Placed)
 -- the line of an exclusive packet that is stray or cuts another exclusive
 abbrev pub packet_listed : ℕ → List Placed → Placed → Option Listed
 packet_listed room past placed =
-    option_and_then (λ part. line_of false (Some room) (parts_of past) placed) (part_of 0 placed.packet)
+    option_and_then (exclusive_line (Some room) (parts_of past)) (part_of placed.offset placed.packet)

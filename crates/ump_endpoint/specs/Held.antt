@@ -9,11 +9,11 @@ use Rattle.sysex_groups.specs.Table.{Table, answer_to, empty_table, table_over, 
 use Rattle.function_blocks.specs.Setups.{SetupData}
 use Rattle.ci_responder.specs.Held.{Held, after, heard_in, replies_in as message_replies_in}
 use Rattle.ci_responder.specs.History.{responder_at}
-use Rattle.midi_meaning.specs.declared.listed.BadStep.{BadStep}
-use Rattle.midi_meaning.specs.declared.listed.BadStep.TheVariants as bad
-use Rattle.midi_meaning.specs.declared.listed.Kind.TheVariants as kinds
-use Rattle.midi_meaning.specs.declared.listed.Listed.{Listed}
-use Rattle.midi_meaning.specs.Parts.{Placed, part_of, parts_of}
+use Rattle.listing_terms.specs.declared.listed.BadStep.{BadStep}
+use Rattle.listing_terms.specs.declared.listed.BadStep.TheVariants as bad
+use Rattle.listing_terms.specs.declared.listed.Kind.TheVariants as kinds
+use Rattle.listing_terms.specs.declared.listed.Listed.{Listed}
+use Rattle.listing_terms.specs.Parts.{Placed, part_of, parts_of}
 use Rattle.ump_endpoint.specs.declared.taken.Outcome.{Outcome}
 use Rattle.ump_endpoint.specs.declared.taken.Outcome.TheVariants as outcomes
 use Rattle.ump_endpoint.specs.declared.taken.Taken.{Taken}

@@ -12,8 +12,8 @@ use Rattle.ci_responder.specs.Held.{muid_in}
 use Rattle.ci_responder.specs.History.{muid_at, on_at}
 use Rattle.ci_responder.specs.Keys.{state_in}
 use Rattle.ci_responder.specs.declared.keys.Key.{Key}
-use Rattle.midi_meaning.specs.Parts.{Placed, part_of, parts_of}
-use Rattle.midi_meaning.specs.Refusal.{bad_part}
+use Rattle.listing_terms.specs.Parts.{Placed, part_of, parts_of}
+use Rattle.listing_terms.specs.ExclusiveLines.{bad_part}
 use Rattle.ump_endpoint.specs.Answers.{packet_listed, packet_outcome, packet_replies, received_in_packets}
 use Rattle.ump_endpoint.specs.Held.{after_packet, held_over, listed_in, new_endpoint, outcome_in, refusal_in, replies_in}
 

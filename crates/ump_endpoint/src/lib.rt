@@ -14,4 +14,4 @@ pub use crate::replies::ReplyPackets;
 pub use crate::taken::{Outcome, Taken};
 pub use ci_messages::CiFault;
 pub use ci_responder::{Heard, Key, Place};
-pub use midi_meaning::{BadStep, Kind, Listed};
+pub use listing_terms::{BadStep, Kind, Listed};

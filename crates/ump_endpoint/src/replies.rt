@@ -1,9 +1,9 @@
 // The packets of replies, one after the other.
 ghost use Rattle.std.specs.Prelude.{◌≡◌, ◌<◌, ◌≤◌, ◌==◌, IfSome, drop, is_none, length, slice_index, take};
-ghost use Rattle.ump_words.specs.Cut.{words_asked};
+ghost use Rattle.packet_words.specs.Words.{words_asked};
 
+use packet_words::words::words_in_packet;
 use std::marker::Model;
-use ump_words::words::words_in_packet;
 
 /// The packets of replies that are yet to be given, lent from the endpoint that made them. A contract sees it
 /// as the list of their words.

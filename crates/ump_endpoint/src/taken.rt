@@ -1,7 +1,7 @@
 // What an endpoint did with a packet.
 use ci_messages::CiFault;
 use ci_responder::Heard;
-use midi_meaning::Listed;
+use listing_terms::Listed;
 
 /// What became of a message that a packet ended: of a stream message, or of a whole exclusive.
 #[derive(Clone, Copy, Debug, PartialEq, Eq)]

@@ -1,6 +1,6 @@
 -- How many words spell a packet.
 use Rattle.std.proofs.Common.{◌≡◌, ◌<◌, ℕ, ◌/◌, ◌^◌, List, length, get_or, sym, ◌∙◌, ap, arith}
-use Rattle.ump_words.specs.Cut.{IsWhole, word_counts}
+use Rattle.packet_words.specs.Words.{IsWhole, word_counts}
 use Rattle.ump_grammar.specs.declared.packet.Packet.{Packet}
 use Rattle.ump_grammar.specs.declared.packet.Packet.TheVariants as packet
 use Rattle.ump_grammar.specs.WordFields.{type_of}

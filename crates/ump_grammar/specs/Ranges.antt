@@ -1,7 +1,7 @@
 -- The packets that some words spell without a reason to refuse them: each field fits its place.
 use Rattle.std.specs.Prelude.{◌≡◌, ◌^◌, ◌<◌, ◌≤◌, false, length}
 use Rattle.std.specs.List.{All}
-use Rattle.ump_words.specs.Cut.{IsWhole}
+use Rattle.packet_words.specs.Words.{IsWhole}
 use Rattle.voice_messages.specs.Ranges.{IsVoice1, IsVoice2, IsSystem}
 use Rattle.ump_grammar.specs.declared.packet.Packet.{Packet}
 use Rattle.ump_grammar.specs.declared.packet.Packet.TheVariants as packet

@@ -1,6 +1,6 @@
 // From words to packets.
 ghost use Rattle.std.specs.Prelude.{◌≡◌, ◌<◌, length, false, IfOk, MatchOption};
-ghost use Rattle.ump_words.specs.Cut.{IsWhole};
+ghost use Rattle.packet_words.specs.Words.{IsWhole};
 ghost use Rattle.ump_grammar.specs.WordFields.{type_of};
 ghost use Rattle.ump_grammar.specs.Ranges.{IsPacket};
 ghost use Rattle.ump_grammar.specs.Reading.{Decodes};
@@ -16,8 +16,8 @@ use crate::fields::{bits, byte, half, nibble};
 use crate::packet::{Bad, Packet};
 use crate::voice1_rows::{system_message, voice1_message};
 use crate::voice2_rows::voice2_message;
-use midi_edge::ShortList;
-use ump_words::{Framed, Words};
+use packet_words::{Framed, Words};
+use small_types::ShortList;
 use voice_messages::Form;
 
 /// The packet that the words spell (M2-104-UM); they are as many as the type in the first one has.

@@ -1,6 +1,6 @@
 // From packets to words.
 ghost use Rattle.std.specs.Prelude.{◌≡◌, ◌≤◌, ◌<◌, ◌+◌, ◌*◌, ◌/◌, ◌%◌, ◌^◌, length, slice_index, [], ◌∷◌};
-ghost use Rattle.ump_words.specs.Cut.{IsWhole};
+ghost use Rattle.packet_words.specs.Words.{IsWhole};
 ghost use Rattle.ump_grammar.specs.WordFields.{
   field,
   word,
@@ -13,11 +13,11 @@ ghost use Rattle.ump_grammar.specs.WordFields.{
 };
 ghost use Rattle.ump_grammar.specs.Ranges.{IsPacket};
 ghost use Rattle.ump_grammar.specs.Reading.{Encodes};
-ghost use Rattle.voice_messages.specs.Kinds.{IsNote, IsOfOneNote, IsOfParam};
+ghost use Rattle.voice_messages.specs.ForProofs.Kinds.{IsNote, IsOfOneNote, IsOfParam};
 ghost use Rattle.ump_grammar.specs.Spelling.{Spells, form_number, kind_number, exclusive_places};
 
 use crate::packet::Packet;
-use ump_words::Words;
+use packet_words::Words;
 use voice_messages::{Bank, Form, ParamKind, System, U4, U7, U14, Voice1, Voice2};
 
 /// The words that spell the packet (M2-104-UM), with zeros in the places that its row doesn't name. The

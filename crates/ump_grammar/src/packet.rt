@@ -1,7 +1,7 @@
 // What a packet says.
-use midi_edge::ShortList;
+use packet_words::Words;
+use small_types::ShortList;
 use thiserror::Error;
-use ump_words::Words;
 use voice_messages::{Form, System, U4, Voice1, Voice2};
 
 /// A packet of the Universal MIDI Packet format (M2-104-UM).

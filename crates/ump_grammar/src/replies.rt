@@ -5,7 +5,7 @@ ghost use Rattle.ump_grammar.specs.Replies.{AddsPacket, word_count};
 
 use crate::encoding::encode;
 use crate::packet::Packet;
-use midi_edge::ShortList;
+use small_types::ShortList;
 use std::marker::Model;
 
 /// At most 1,024 words of packets that are to be sent, kept in place, without memory from an allocator. A

@@ -4,11 +4,11 @@ use Rattle.std.specs.Prelude.{IfOk, IfSome, Result, Ok, Err}
 use Rattle.item_reader.specs.Reading.{Answers, Cursor, answer_of}
 use Rattle.item_reader.specs.declared.cutting.Tail.{Tail}
 use Rattle.item_reader.specs.declared.cutting.Tail.TheVariants.{End, Truncated, TooLong}
-use Rattle.midi_edge.specs.declared.outside.ReadStop.{ReadStop}
+use Rattle.outside.specs.declared.objects.ReadStop.{ReadStop}
 use Rattle.ump_words.specs.Cut.{IsWhole, bytes_asked, framed_at}
-use Rattle.ump_words.specs.declared.words.Framed.{Framed}
-use Rattle.ump_words.specs.declared.words.Order.{Order}
-use Rattle.ump_words.proofs.Counts.{IsWhole-words_of}
+use Rattle.packet_words.specs.declared.words.Framed.{Framed}
+use Rattle.packet_words.specs.declared.words.Order.{Order}
+use Rattle.packet_words.proofs.Counts.{IsWhole-words_of}
 
 abbrev GivesWhole : Result (Option Framed) ReadStop → Type 0
 GivesWhole result = IfOk result (λ given. IfSome given (λ framed. IsWhole framed.words))

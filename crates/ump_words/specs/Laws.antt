@@ -4,7 +4,7 @@ use Rattle.item_reader.specs.CutLaws.{ItemsAreReadInOrder}
 use Rattle.item_reader.specs.declared.cutting.Tail.{Tail}
 use Rattle.item_reader.specs.declared.cutting.Tail.TheVariants.{End}
 use Rattle.ump_words.specs.Cut.{Cuts, bytes_asked, framed_at}
-use Rattle.ump_words.specs.declared.words.Order.{Order}
+use Rattle.packet_words.specs.declared.words.Order.{Order}
 
 -- What a reader has given of a recording are the packets at its front, with each one more; at the end they are all of its packets.
 abbrev pub PacketsAreReadInOrder : Type 0

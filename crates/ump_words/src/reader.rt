@@ -3,15 +3,30 @@ ghost use Rattle.std.specs.Prelude.{◌≡◌, ◌≤◌, ◌^◌, length, IfOk,
 ghost use Rattle.item_reader.specs.Cut.{IsItem};
 ghost use Rattle.item_reader.specs.Reading.{ReadCause, answer_of, cursor, needs_input, new_reading};
 ghost use Rattle.ump_words.specs.Cut.{IsWhole, bytes_asked, framed_at};
-ghost use Rattle.ump_words.specs.Lengths.{packet_lengths};
+ghost use Rattle.ump_words.specs.ForProofs.Lengths.{packet_lengths};
 ghost use Rattle.ump_words.specs.Reader.{Answers};
 
-use crate::words::{Framed, Order, word_in, words_in, words_in_packet};
 use item_reader::{Cut, ItemReader};
-use midi_edge::{ReadStop, Source};
+use outside::{ReadStop, Source};
+use packet_words::words::{word_in, words_in, words_in_packet};
+use packet_words::{Framed, Order};
 use std::marker::Model;
 
-impl Cut for Order {
+/// How packets are cut: by the order of the bytes, which is all of it to a contract.
+#[derive(Drop)]
+pub struct Packets {
+    order: Order,
+}
+
+impl Model for Packets {
+    ghost use Rattle.packet_words.specs.declared.words.Order.{Order};
+
+    ghost Value = { Order };
+
+    ghost view = { λ p. p.order };
+}
+
+impl Cut for Packets {
     type Item = Framed;
 
     ghost asked = { bytes_asked };
@@ -23,7 +38,7 @@ impl Cut for Order {
         if bytes.len() < 4 {
             4
         } else {
-            4 * words_in_packet(word_in(*self, bytes, 0))
+            4 * words_in_packet(word_in(self.order, bytes, 0))
         }
     }
 
@@ -31,7 +46,7 @@ impl Cut for Order {
     fn item(&self, offset: u64, bytes: &[u8]) -> Framed {
         Framed {
             offset,
-            words: words_in(*self, bytes),
+            words: words_in(self.order, bytes),
         }
     }
 
@@ -41,7 +56,7 @@ impl Cut for Order {
 /// Cuts the bytes of a source into packets. To a contract it is its `Reading`.
 #[derive(Drop)]
 pub struct WordReader {
-    packets: ItemReader<Order>,
+    packets: ItemReader<Packets>,
 }
 
 impl Model for WordReader {
@@ -60,7 +75,7 @@ impl WordReader {
         ensures { result ≡ new_reading order limit }
     {
         WordReader {
-            packets: ItemReader::new(order, limit),
+            packets: ItemReader::new(Packets { order }, limit),
         }
     }
 

@@ -10,7 +10,7 @@ use Rattle.midi1_bytes.specs.Parsing.{Parsing, parse, open_of}
 use Rattle.midi1_bytes.specs.Laws.{CompletedMessagesAreInRange, ParsedBytesAreTheDefinition}
 use Rattle.voice_messages.specs.declared.voice1.Voice1.TheVariants as voice1
 use Rattle.midi_meaning.specs.Controllers.{Role, pairing, role_of}
-use Rattle.midi_meaning.specs.declared.listed.BadStep.{BadStep}
+use Rattle.listing_terms.specs.declared.listed.BadStep.{BadStep}
 use Rattle.midi_meaning.specs.Messages.{as_they_come, start, step1, meaning1}
 use Rattle.midi_meaning.specs.State.{GroupState}
 use Rattle.midi_meaning.specs.StepListing.{kinds_at_end, line_up, open_pair}

@@ -1,12 +1,12 @@
 -- What the translator answers to one more byte of a stream, by all the bytes before, which are listed newest first.
 use Rattle.std.specs.Prelude.{◌≡◌, ℕ, Bool, List, Some, None, IfSome, Result, Ok, Err}
 use Rattle.midi1_bytes.specs.Messages.{AreData}
-use Rattle.midi_meaning.specs.declared.listed.BadStep.{BadStep}
+use Rattle.listing_terms.specs.declared.listed.BadStep.{BadStep}
 use Rattle.midi_meaning.specs.Raising.{packets_at}
 use Rattle.midi_meaning.specs.StepListing.{lines_at}
 use Rattle.midi_meaning.specs.UpRefusal.{refusal_up}
 use Rattle.up_translator.specs.declared.raised.Raised.{Raised}
-use Rattle.up_translator.specs.ByteLines.{lines_in}
+use Rattle.listing_terms.specs.ByteLines.{lines_in}
 use Rattle.up_translator.specs.Raised.{payload_in, packets_in}
 
 -- the byte is accepted with its packets and its lines

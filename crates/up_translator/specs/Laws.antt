@@ -2,7 +2,7 @@
 use Rattle.std.specs.Prelude.{◌≡◌, ℕ, Bool, List, ◌∷◌, length, map, Some, Result}
 use Rattle.std.specs.Option.{option_map}
 use Rattle.midi1_bytes.specs.Parsing.{open_of}
-use Rattle.midi_meaning.specs.declared.listed.BadStep.{BadStep}
+use Rattle.listing_terms.specs.declared.listed.BadStep.{BadStep}
 use Rattle.midi_meaning.specs.StepListing.{kinds_at_end, line_up, open_pair}
 use Rattle.midi_meaning.specs.UpRefusal.{AreStepsWithinRoom}
 use Rattle.up_translator.specs.declared.raised.Raised.{Raised}

@@ -1,13 +1,13 @@
-pub mod Direct
 pub mod Answers
-pub mod ByteLines
+pub mod Direct
+pub mod DirectWords
+pub mod ForProofs
 pub mod Held
 pub mod Laws
 pub mod Lend
-pub mod LendRaiser
 pub mod Outcome
 pub mod Raised
 pub mod RaisedPacket
 pub mod Recording
 pub mod Step
-pub mod DirectWords
+pub use Rattle.listing_terms.specs.ByteLines

@@ -7,8 +7,8 @@ use Rattle.voice_messages.specs.declared.voice2.Voice2.TheVariants as voice2
 use Rattle.voice_messages.specs.Ranges.{IsVoice2}
 use Rattle.direct_packets.specs.DirectMessages.{is_direct_voice}
 use Rattle.bit_scaling.specs.Scaling.{up}
-use Rattle.midi_meaning.specs.declared.listed.BadStep.{BadStep}
-use Rattle.midi_meaning.specs.declared.listed.BadStep.TheVariants as bad
+use Rattle.listing_terms.specs.declared.listed.BadStep.{BadStep}
+use Rattle.listing_terms.specs.declared.listed.BadStep.TheVariants as bad
 use Rattle.midi_meaning.specs.Controllers.{pairing, role_of}
 use Rattle.midi_meaning.specs.State.{GroupState}
 use Rattle.midi_meaning.specs.Messages.{channel_of}

@@ -3,7 +3,7 @@ use Rattle.std.specs.Prelude.{ℕ, List, [], ◌∷◌, Option, Some, None}
 use Rattle.std.specs.Option.{option_map}
 use Rattle.ump_grammar.specs.declared.packet.Packet.{Packet}
 use Rattle.midi_meaning.specs.Raising.{exclusive_packets}
-use Rattle.up_translator.specs.ByteLines.{group_of}
+use Rattle.listing_terms.specs.ByteLines.{group_of}
 use Rattle.up_translator.specs.declared.raised.Raised.{Raised}
 
 abbrev pub group_in : Raised → ℕ

@@ -3,7 +3,7 @@ use Rattle.std.specs.Prelude.{◌≡◌, ℕ, Bool, List, map, Option, Some, Non
 use Rattle.ump_grammar.specs.Ranges.{IsPacket}
 use Rattle.midi1_bytes.specs.Messages.{Message, exclusive, AreData}
 use Rattle.midi1_bytes.specs.Steps.{Step, completed_by}
-use Rattle.midi_meaning.specs.declared.listed.BadStep.{BadStep}
+use Rattle.listing_terms.specs.declared.listed.BadStep.{BadStep}
 use Rattle.midi_meaning.specs.State.{GroupState}
 use Rattle.midi_meaning.specs.Raising.{raised_step}
 use Rattle.midi_meaning.specs.StepListing.{kinds_up, line_up}
@@ -11,7 +11,7 @@ use Rattle.midi_meaning.specs.UpRefusal.{refusal_of_step}
 use Rattle.param_collector.specs.Holding.{Holding}
 use Rattle.param_collector.specs.Keeps.{Keeps}
 use Rattle.up_translator.specs.declared.raised.Raised.{Raised}
-use Rattle.up_translator.specs.ByteLines.{lines_in, IsInOrder}
+use Rattle.listing_terms.specs.ByteLines.{lines_in, IsInOrder}
 use Rattle.up_translator.specs.Raised.{group_in, packet_in, payload_in, packets_in, IsApart}
 use Rattle.up_translator.specs.Held.{UpState, step_in}
 

@@ -6,9 +6,9 @@ ghost use Rattle.direct_packets.specs.DirectMessages.{IsDirectMessage, direct_vo
 ghost use Rattle.up_translator.specs.DirectWords.{IsRaisedDirect, message_in, packet_of};
 
 use direct_packets::DirectMessage;
+use packet_words::Words;
 use std::marker::Model;
 use ump_grammar::fields::{byte, nibble};
-use ump_words::Words;
 use voice_messages::{U4, U7, Voice2};
 
 /// A direct message without an attribute, as the two words of its packet (M2-104-UM, MIDI 2.0 channel

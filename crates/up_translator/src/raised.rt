@@ -1,7 +1,7 @@
 // What comes of a byte.
-use crate::byte_lines::{ByteLine, ByteLines};
 use crate::raised_packet::RaisedPacket;
-use midi_edge::U4;
+use listing_terms::byte_lines::{ByteLine, ByteLines};
+use small_types::U4;
 
 /// What comes of a byte.
 #[derive(Clone, Copy, Debug)]
@@ -21,7 +21,7 @@ impl<'a> Raised<'a> {
     ghost use Rattle.midi1_bytes.specs.Answers.{framed, payload_of};
     ghost use Rattle.midi_meaning.specs.Raising.{exclusive_packets};
     ghost use Rattle.midi_meaning.specs.StepListing.{line_up};
-    ghost use Rattle.up_translator.specs.ByteLines.{lines_in, told_of, AreInOrder, IsInOrder};
+    ghost use Rattle.listing_terms.specs.ByteLines.{lines_in, told_of, AreInOrder, IsInOrder};
     ghost use Rattle.up_translator.specs.Raised.{
       group_in,
       packet_in,

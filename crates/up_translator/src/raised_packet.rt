@@ -9,10 +9,10 @@ ghost use Rattle.up_translator.specs.DirectWords.{IsRaisedDirect, packet_of};
 
 use crate::direct_words::DirectWords;
 use direct_packets::DirectMessage;
-use midi_edge::ShortList;
+use packet_words::Words;
+use small_types::ShortList;
 use std::marker::Model;
 use ump_grammar::{Packet, encode};
-use ump_words::Words;
 use voice_messages::{Form, System, U4, Voice2};
 
 // How a packet is held: each kind to which a message is raised.

@@ -9,12 +9,12 @@ ghost use Rattle.ump_grammar.specs.Ranges.{IsPacket};
 ghost use Rattle.ump_grammar.specs.declared.packet.Packet.TheVariants as packet;
 ghost use Rattle.voice_messages.specs.declared.voice2.Voice2.TheVariants as voice2;
 
-use crate::byte_lines::ByteLine;
 use crate::direct_message::{control_change, goes_direct, raise_direct};
-use crate::lines::ignored;
 use crate::outcome::{Outcome, raise};
 use crate::raised::Raised;
 use crate::raised_packet::RaisedPacket;
+use listing_terms::byte_lines::ByteLine;
+use midi_meaning::lines::ignored;
 use midi_meaning::{BadStep, DirectControls};
 use midi1_bytes::VoiceBytes;
 use param_collector::Collector;
@@ -71,9 +71,9 @@ impl Raiser {
     ghost use Rattle.std.specs.Borrow.{sem};
     ghost use Rattle.midi_meaning.specs.StepListing.{line_up};
     ghost use Rattle.up_translator.specs.Held.{KeepsAfter};
-    ghost use Rattle.up_translator.specs.LendRaiser.{KeepsRaiser};
+    ghost use Rattle.up_translator.specs.ForProofs.LendRaiser.{KeepsRaiser};
     ghost use Rattle.up_translator.specs.Outcome.{holding_with};
-    ghost use Rattle.up_translator.specs.ByteLines.{lines_in, told_of, IsInOrder};
+    ghost use Rattle.listing_terms.specs.ByteLines.{lines_in, told_of, IsInOrder};
     ghost use Rattle.up_translator.specs.Raised.{packet_in, payload_in, packets_in, group_in, IsApart};
     ghost use Rattle.up_translator.specs.Step.{RaisesStep};
 

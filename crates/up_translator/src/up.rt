@@ -7,14 +7,14 @@ ghost use Rattle.midi_meaning.specs.StepListing.{kinds_at_end, line_up};
 ghost use Rattle.param_collector.specs.Holding.{Holding};
 ghost use Rattle.up_translator.specs.Step.{Accepts};
 
-use crate::lines::{cut_off, kind_of_open, stray, undefined};
 use crate::raised::Raised;
 use crate::raiser::Raiser;
-use midi_edge::{NoMemory, U4};
+use midi_meaning::lines::{cut_off, kind_of_open, stray, undefined};
 use midi_meaning::{BadStep, Listed};
 use midi1_bytes::{AfterCut, Parser, Step, System};
 use param_collector::Collector;
 use param_collector::laws::other_messages_change_nothing_kept;
+use small_types::{NoMemory, U4};
 use std::alloc::Global;
 use std::marker::Model;
 use voice_messages::END_OF_EXCLUSIVE;

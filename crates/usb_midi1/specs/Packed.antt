@@ -5,7 +5,7 @@ use Rattle.midi1_bytes.specs.Answers.{framed}
 use Rattle.midi1_bytes.specs.Messages.{Message, exclusive}
 use Rattle.midi1_bytes.specs.Steps.{Step, completed_by, too_long}
 use Rattle.midi_meaning.specs.StepListing.{kinds_of_step, line_up}
-use Rattle.up_translator.specs.ByteLines.{group_of, lines_in, IsInOrder}
+use Rattle.listing_terms.specs.ByteLines.{group_of, lines_in, IsInOrder}
 use Rattle.usb_midi1.specs.Held.{PackerState, step_in}
 use Rattle.usb_midi1.specs.Packing.{events_by, exclusive_events}
 use Rattle.usb_midi1.specs.declared.packed.Packed.{Packed}

@@ -5,7 +5,8 @@ ghost use Rattle.usb_midi1.specs.Codes.{carried_count as count_by, is_reserved a
 ghost use Rattle.usb_midi1.specs.Events.{carried_by, event_at, event_length, four_bytes, new_events};
 
 use item_reader::{Cut, ItemReader};
-use midi_edge::{ReadStop, ShortList, Source, U4};
+use outside::{ReadStop, Source};
+use small_types::{ShortList, U4};
 use std::marker::Model;
 
 /// An event packet (USB Device Class Definition for MIDI Devices 1.0, event packets).

@@ -1,7 +1,7 @@
 // What comes of a byte.
-use midi_edge::U4;
+use listing_terms::{ByteLine, ByteLines};
+use small_types::U4;
 use thiserror::Error;
-use up_translator::{ByteLine, ByteLines};
 
 /// An exclusive has more bytes between F0 and F7 than the limit (own rule).
 #[derive(Clone, Copy, Debug, PartialEq, Eq, Error)]
@@ -25,7 +25,7 @@ impl<'a> Packed<'a> {
     ghost use Rattle.std.specs.Prelude.{◌≡◌, ◌++◌, [], ◌∷◌, map, Some, None};
     ghost use Rattle.std.specs.Option.{option_to_list};
     ghost use Rattle.midi_meaning.specs.StepListing.{line_up};
-    ghost use Rattle.up_translator.specs.ByteLines.{lines_in, told_of, AreInOrder, IsInOrder};
+    ghost use Rattle.listing_terms.specs.ByteLines.{lines_in, told_of, AreInOrder, IsInOrder};
     ghost use Rattle.usb_midi1.specs.Packed.{cable_in, events_in, whole_in, IsApart};
     ghost use Rattle.usb_midi1.specs.Packing.{exclusive_events};
 

@@ -7,12 +7,12 @@ ghost use Rattle.usb_midi1.specs.Packed.{IsPacked};
 
 use crate::packed::{Packed, TooLong};
 use crate::packing::{system_event, voice_event};
-use midi_edge::{NoMemory, U4};
 use midi_meaning::Listed;
+use midi_meaning::lines::{cut_off, kind_of_open, stray, undefined};
 use midi1_bytes::{AfterCut, CutKind, Parser, Step, System};
+use small_types::{NoMemory, U4};
 use std::alloc::Global;
 use std::marker::Model;
-use up_translator::lines::{cut_off, kind_of_open, stray, undefined};
 
 // What comes of a byte that cuts off what started at an offset.
 fn cut<'a>(cable: U4, start: u64, what: CutKind, after: AfterCut, offset: u64) -> Packed<'a>

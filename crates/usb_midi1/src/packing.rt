@@ -8,8 +8,8 @@ ghost use Rattle.usb_midi1.specs.Packing.{
   system_code as code_by,
 };
 
-use midi_edge::U4;
 use midi1_bytes::{System, Voice1, write_system, write_voice};
+use small_types::U4;
 
 // The code of an exclusive's three bytes that aren't its last.
 const EXCLUSIVE_GOES_ON: u8 = 4;

@@ -1,21 +1,21 @@
 -- What is put for the items of an input is what the definitions of the whole input tell.
-use Rattle.std.proofs.Common.{◌≡◌, ◌≢◌, ◌+◌, ℕ, List, [], ◌∷◌, ◌++◌, length, map, Option, None, Some, refl, ap, sym, ◌∙◌, subst, arith}
-use Rattle.std.specs.Prelude.{IfSome, reverse, slice_index}
+use Rattle.std.proofs.Common.{◌≡◌, ◌≢◌, ◌+◌, ℕ, List, [], ◌∷◌, ◌++◌, length, map, Option, None, Some, refl, ap, sym, ◌∙◌, subst}
+use Rattle.std.specs.Prelude.{IfSome, reverse}
 use Rattle.std.specs.List.{AllByRecursion, concat, flat_map}
-use Rattle.std.proofs.lemmas.List.{append_assoc, append-nil, length-map, map-append, reverse-append, reverse-reverse}
+use Rattle.std.proofs.lemmas.List.{append-nil, length-map, reverse-reverse}
 use Rattle.std.proofs.lemmas.List.Concat.{flat_map-append}
-use Rattle.item_reader.specs.ByteReader.{one_byte}
-use Rattle.item_reader.specs.Cut.{IsCutInto, IsItem, items_from}
+use Rattle.item_reader.specs.Cut.{IsItem, items_from}
 use Rattle.item_reader.specs.declared.cutting.Tail.{Tail}
 use Rattle.item_reader.specs.declared.cutting.Tail.TheVariants.{End, Truncated, TooLong}
 use Rattle.midi1_bytes.specs.Steps.{Step, completed_by, step_of}
 use Rattle.midi_meaning.specs.StepListing.{kinds_at_end, kinds_of_step, line_up, open_pair}
-use Rattle.midi_meaning.specs.declared.listed.Listed.{Listed}
-use Rattle.midi_lines.specs.ListingLines.{listing_text}
-use Rattle.pass_loop.specs.Bytes.{byte_cutting, bytes_read, placed_at as byte_placed_at}
+use Rattle.listing_terms.specs.declared.listed.Listed.{Listed}
+use Rattle.text_lines.specs.ListingLines.{listing_text}
+use Rattle.pass_loop.specs.Bytes.{byte_cutting, bytes_read}
 use Rattle.pass_loop.specs.Items.{limit, refusal_at}
 use Rattle.pass_loop.specs.Pass.{ArePut, IsDone, Seen}
 use Rattle.pass_loop.specs.Places.{Places, over_puts, with_more}
+use Rattle.pass_loop.proofs.StreamInput.{ArePlaced, are-placed, turned-bytes}
 use Rattle.pass_loop.specs.Put.{Put, notes_in, notes_of, output_in, output_of}
 use Rattle.usb_midi1.specs.Events.{event_at, event_of, four_bytes}
 use Rattle.usb_midi1.specs.Laws.{EventsAreThoseOfTheBytes}
@@ -25,7 +25,7 @@ use Rattle.usb_midi1.specs.declared.event.Event.{Event}
 use Rattle.usb_passes.specs.Events.{event_cutting, events_of, placed_at}
 use Rattle.usb_passes.specs.Laws.{DonePacksTheInput, DoneSplitsTheInput, PacksTheInput, lines_of, listing_of, reserved_from}
 use Rattle.usb_passes.specs.Options.{PackOptions}
-use Rattle.listing_lines.specs.LineLaws.{notes-lines, output-lines}
+use Rattle.listing_lines.specs.ForProofs.LineLaws.{notes-lines, output-lines}
 use Rattle.listing_lines.specs.Lines.{line_puts}
 use Rattle.usb_passes.specs.Pack.{CarryTheMessages, event_puts, packing}
 use Rattle.usb_passes.specs.Split.{reserved_lines}
@@ -92,53 +92,6 @@ splits_the_input law = λ bytes old new told done.
 
 -- ---- bytes
 
-one-byte : (chunk : List ℕ) → length chunk ≡ 1 → slice_index chunk 0 ∷ [] ≡ chunk
-one-byte [] one = absurd (omega (arith, one))
-one-byte (byte ∷ []) one = refl
-one-byte (byte ∷ other ∷ more) one = absurd (omega (arith, one))
-
-same-bytes : (at : ℕ) (chunks : List (List ℕ)) → AllByRecursion (IsItem one_byte) chunks
-    → bytes_read (items_from byte_placed_at at chunks) ≡ concat chunks
-same-bytes at [] each = refl
-same-bytes at (chunk ∷ chunks) each =
-    ap (λ xs. slice_index chunk 0 ∷ xs) (same-bytes (at + length chunk) chunks each.1)
-    ∙ ap (λ xs. xs ++ concat chunks) (one-byte chunk each.0)
-
--- each of these items has the number of those before it as its offset, the first of them this one
-abbrev AreNumbered : ℕ → List (ℕ × ℕ) → Type 0
-AreNumbered at [] = Unit {0}
-AreNumbered at (item ∷ items) = (item.0 ≡ at) × AreNumbered (at + 1) items
-
-are-numbered : (at : ℕ) (chunks : List (List ℕ)) → AllByRecursion (IsItem one_byte) chunks
-    → AreNumbered at (items_from byte_placed_at at chunks)
-are-numbered at [] each = tt
-are-numbered at (chunk ∷ chunks) each =
-    let N : ℕ → Type 0 = λ n. AreNumbered (at + 1) (items_from byte_placed_at (at + n) chunks) in
-    (refl, subst N (sym each.0) (are-numbered (at + 1) chunks each.1))
-
--- the same of items that are listed newest first
-abbrev ArePlaced : List (ℕ × ℕ) → Type 0
-ArePlaced [] = Unit {0}
-ArePlaced (item ∷ past) = (item.0 ≡ length past) × ArePlaced past
-
-placed-on : (past items : List (ℕ × ℕ)) → ArePlaced past → AreNumbered (length past) items → ArePlaced (reverse items ++ past)
-placed-on past [] are on = are
-placed-on past (item ∷ items) are on =
-    let A : List (ℕ × ℕ) → Type 0 = λ xs. ArePlaced xs in
-    let N : ℕ → Type 0 = λ n. AreNumbered n items in
-    let n : length past + 1 ≡ length (item ∷ past) = omega arith in
-    let turned : reverse items ++ (item ∷ past) ≡ reverse (item ∷ items) ++ past =
-    sym (append_assoc (reverse items) (item ∷ []) past) ∙ ap (λ xs. xs ++ past) (sym (reverse-append (item ∷ []) items)) in
-    subst A turned (placed-on (item ∷ past) items (on.0, are) (subst N n on.1))
-
-bytes-turned : (items : List (ℕ × ℕ)) → bytes_read (reverse items) ≡ reverse (bytes_read items)
-bytes-turned [] = refl
-bytes-turned (item ∷ items) =
-    ap bytes_read (reverse-append (item ∷ []) items)
-    ∙ map-append (λ (i : ℕ × ℕ). i.1) (reverse items) (item ∷ [])
-    ∙ ap (λ xs. xs ++ item.1 ∷ []) (bytes-turned items)
-    ∙ sym (reverse-append (item.1 ∷ []) (bytes_read items))
-
 notes-events : (events : List (List ℕ)) → notes_in (event_puts events) ≡ []
 notes-events [] = refl
 notes-events (event ∷ events) = notes-events events
@@ -169,18 +122,10 @@ module _ (options : PackOptions) where
   packs_input bytes old new told done =
       let C : Option (List ℕ) → Type 0 = λ left. IfSome left (λ b. byte_cutting b done.items None × (new.left ≡ Some [])) in
       let cut = subst C told done.cut in
-      let into = cut.0.1 in
-      let ends : into.cuts.rest ≡ [] = rest-none cut.0.0 into cut.0.2 in
       let items : List (ℕ × ℕ) = done.items in
       let past : List (ℕ × ℕ) = reverse items in
-      let whole : bytes ≡ concat into.chunks =
-      into.cuts.whole ∙ ap (λ xs. concat into.chunks ++ xs) ends ∙ append-nil (concat into.chunks) in
-      let same : bytes_read items ≡ bytes = ap bytes_read into.same ∙ same-bytes 0 into.chunks into.cuts.each ∙ sym whole in
-      let turned : bytes_read past ≡ reverse bytes = bytes-turned items ∙ ap reverse same in
-      let P : List (ℕ × ℕ) → Type 0 = λ xs. ArePlaced xs in
-      let N : List (ℕ × ℕ) → Type 0 = λ xs. AreNumbered 0 xs in
-      let placed : ArePlaced past =
-      subst P (append-nil past) (placed-on [] items tt (subst N (sym into.same) (are-numbered 0 into.chunks into.cuts.each))) in
+      let turned : bytes_read past ≡ reverse bytes = turned-bytes bytes items cut.0 in
+      let placed : ArePlaced past = are-placed bytes items cut.0 in
       let last : List Listed = map (line_up options.cable) (kinds_at_end (open_pair (Some options.room) (bytes_read past))) in
       let lines : List ℕ → List Listed = λ xs. listing_of options xs in
       let M : List ℕ → List ℕ → Type 0 = λ xs output. CarryTheMessages options.cable xs output in
@@ -208,12 +153,6 @@ module _ (options : PackOptions) where
             ∙ ap (λ xs. flat_map listing_text (lines xs)) turned);
         left = cut.1;
       }
-    where
-      rest-none : (tail : Tail) (into : IsCutInto one_byte byte_placed_at limit bytes done.items tail) → None ≡ refusal_at tail
-          → into.cuts.rest ≡ []
-      rest-none End into none = into.cuts.ends.0
-      rest-none (Truncated offset) into none = cc
-      rest-none TooLong into none = cc
 
 pub packs_the_input : DonePacksTheInput
 packs_the_input = λ options bytes old new told done. packs_input options bytes old new told done

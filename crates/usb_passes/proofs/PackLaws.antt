@@ -8,12 +8,12 @@ use Rattle.midi1_bytes.specs.Steps.{Step, completed_by, held, completes, stray, 
 use Rattle.pass_loop.specs.Pass.{Tail, Takes}
 use Rattle.pass_loop.specs.Places.{FailsAt, Places, Puts, over_puts}
 use Rattle.pass_loop.specs.Put.{Put, in_output}
-use Rattle.pass_loop.specs.PutLaws.{over_puts-none, stops_more, then_put, then_stops}
+use Rattle.pass_loop.specs.ForProofs.PutLaws.{over_puts-none, stops_more, then_put, then_stops}
 use Rattle.pass_loop.specs.declared.ends.Reason.TheVariants.{ExclusiveTooLong}
 use Rattle.pass_loop.specs.declared.ends.RunEnd.{RunEnd}
 use Rattle.pass_loop.specs.declared.ends.RunEnd.TheVariants.{Refused}
 use Rattle.usb_midi1.specs.Laws.{ExclusiveEventsComeInOrder}
-use Rattle.up_translator.specs.ByteLines.{lines_in}
+use Rattle.listing_terms.specs.ByteLines.{lines_in}
 use Rattle.usb_midi1.specs.Packed.{IsPacked, cable_in, events_from, events_in, whole_in, whole_of}
 use Rattle.usb_midi1.specs.Packing.{events_by, exclusive_events, first_event}
 use Rattle.usb_midi1.specs.declared.packed.Packed.{Packed}

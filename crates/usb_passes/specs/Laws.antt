@@ -4,8 +4,8 @@ use Rattle.std.specs.List.{concat, flat_map}
 use Rattle.midi1_bytes.specs.Steps.{step_of}
 use Rattle.midi1_bytes.specs.Stream.{Room}
 use Rattle.midi_meaning.specs.StepListing.{kinds_at_end, kinds_of_step, line_up, open_pair}
-use Rattle.midi_meaning.specs.declared.listed.Listed.{Listed}
-use Rattle.midi_lines.specs.ListingLines.{listing_text}
+use Rattle.listing_terms.specs.declared.listed.Listed.{Listed}
+use Rattle.text_lines.specs.ListingLines.{listing_text}
 use Rattle.pass_loop.specs.Bytes.{byte_cutting}
 use Rattle.pass_loop.specs.Pass.{IsDone, Seen}
 use Rattle.pass_loop.specs.Places.{with_more}

@@ -1,7 +1,6 @@
 pub mod Events
+pub mod ForProofs
 pub mod Laws
 pub mod Options
 pub mod Pack
-pub mod PackMeans
 pub mod Split
-pub mod SplitMeans

@@ -4,7 +4,7 @@ use Rattle.std.specs.List.{AllByRecursion, concat}
 use Rattle.midi1_bytes.specs.Steps.{Step, completed, completed_by, step_of}
 use Rattle.midi_meaning.specs.StepListing.{kinds_at_end, kinds_of_step, line_up, open_pair}
 use Rattle.midi_meaning.specs.UpRefusal.{AreStepsWithinRoom}
-use Rattle.midi_meaning.specs.declared.listed.Kind.{Kind}
+use Rattle.listing_terms.specs.declared.listed.Kind.{Kind}
 use Rattle.pass_loop.specs.Bytes.{bytes_read}
 use Rattle.pass_loop.specs.Pass.{Work}
 use Rattle.pass_loop.specs.Put.{Put, in_output, output_in}

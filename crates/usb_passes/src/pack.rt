@@ -7,22 +7,23 @@ ghost use Rattle.pass_loop.specs.Bytes.{byte_cutting};
 ghost use Rattle.pass_loop.specs.PassEnds.{PassEnds};
 ghost use Rattle.pass_loop.specs.Pass.{Takes, seen};
 ghost use Rattle.pass_loop.specs.Places.{Puts};
-ghost use Rattle.up_translator.specs.ByteLines.{lines_in};
+ghost use Rattle.listing_terms.specs.ByteLines.{lines_in};
 ghost use Rattle.usb_midi1.specs.Held.{packer_after, step_in};
 ghost use Rattle.usb_midi1.specs.Packed.{IsApart, events_in, whole_in};
 ghost use Rattle.usb_midi1.specs.Packing.{exclusive_events};
 ghost use Rattle.listing_lines.specs.Lines.{line_puts};
 ghost use Rattle.listing_lines.specs.Refusal.{refusal_of};
 ghost use Rattle.usb_passes.specs.Pack.{HoldsPacked, event_puts, open_lines, pack_options, packed_puts, packing};
-ghost use Rattle.usb_passes.specs.PackMeans.{last_named, packs_mean, packs_named};
+ghost use Rattle.usb_passes.specs.ForProofs.PackMeans.{last_named, packs_mean, packs_named};
 
 use item_reader::ByteReader;
 use listing_lines::{put_lines, put_listed, refused};
-use midi_edge::{Lanes, NoMemory, Sink, Source, U4};
-use midi_meaning::BadStep;
+use listing_terms::BadStep;
 use midi1_bytes::laws::parsed_bytes_are_the_definition;
+use outside::{Lanes, Sink, Source};
 use pass_loop::laws::bytes_are_cut_once;
 use pass_loop::{Engine, LIMIT, Outputs, RunEnd, drive};
+use small_types::{NoMemory, U4};
 use std::alloc::Global;
 use std::marker::Model;
 use usb_midi1::laws::{

@@ -6,12 +6,13 @@ ghost use Rattle.pass_loop.specs.Places.{Puts};
 ghost use Rattle.pass_loop.specs.Put.{in_notes};
 ghost use Rattle.usb_passes.specs.Events.{event_cutting};
 ghost use Rattle.usb_passes.specs.Split.{event_puts, reserved_text, splitting};
-ghost use Rattle.usb_passes.specs.SplitMeans.{none_named, splits_mean, splits_named};
+ghost use Rattle.usb_passes.specs.ForProofs.SplitMeans.{none_named, splits_mean, splits_named};
 
 use crate::laws::events_are_cut_once;
-use midi_edge::{Lanes, Sink, Source, U4};
-use midi_lines::{Line, put_decimal, put_text};
+use outside::{Lanes, Sink, Source};
 use pass_loop::{EachItems, Engine, Outputs, RunEnd, drive};
+use small_types::U4;
+use text_lines::{Line, put_decimal, put_text};
 use usb_midi1::{EachEvent, Event, carried, is_reserved};
 
 // Puts what each event carries in the lane of its cable, and in the

@@ -1,6 +1,6 @@
 // Messages of the MIDI 1.0 protocol.
 use crate::small::{U7, U14};
-use midi_edge::U4;
+use small_types::U4;
 
 /// A channel voice message of the MIDI 1.0 protocol (MIDI 1.0
 /// Detailed Specification, channel voice messages).

@@ -3,7 +3,7 @@ ghost use Rattle.std.specs.Prelude.{◌≡◌, ◌<◌};
 ghost use Rattle.voice_messages.specs.Forms.{form_at};
 
 use crate::small::U7;
-use midi_edge::U4;
+use small_types::U4;
 
 /// Which list of parameters or note controllers a number belongs to.
 #[derive(Clone, Copy, Debug, PartialEq, Eq)]

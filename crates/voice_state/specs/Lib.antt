@@ -1,5 +1,6 @@
 pub mod Acts
 pub mod Facts
+pub mod ForProofs
 pub mod Kept
 pub mod KeptParams
 pub mod Params
@@ -7,7 +8,6 @@ pub mod Rooms
 pub mod StateLaws
 pub mod States
 pub mod Tables
-pub mod Widths
 pub use Rattle.midi_meaning.specs.Agreement
 pub use Rattle.midi_meaning.specs.Controllers
 pub use Rattle.midi_meaning.specs.Listing

@@ -7,7 +7,7 @@ ghost use Rattle.voice_state.specs.Acts.{act_of};
 ghost use Rattle.voice_state.specs.Facts.{bend_facts, channel_facts, pressure_facts, program_fact, value_facts};
 ghost use Rattle.voice_state.specs.Kept.{KeepsChannel};
 ghost use Rattle.voice_state.specs.Rooms.{AreActsFull, IsFullWhere};
-ghost use Rattle.voice_state.specs.Widths.{scale_of};
+ghost use Rattle.voice_state.specs.ForProofs.Widths.{scale_of};
 
 use crate::acts::Acts;
 use crate::fact::{Fact, put};
@@ -16,8 +16,8 @@ use crate::note_act::NoteAct;
 use crate::params::Params;
 use crate::table::{Content, Table};
 use crate::width::Width;
-use midi_edge::{NoMemory, U4};
 use midi_meaning::Registers;
+use small_types::{NoMemory, U4};
 use std::alloc::Global;
 use voice_messages::{Bank, U7};
 

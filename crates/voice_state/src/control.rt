@@ -9,7 +9,7 @@ ghost use Rattle.midi_meaning.specs.Roles.{role_in};
 ghost use Rattle.midi_meaning.specs.State as definition;
 ghost use Rattle.voice_state.specs.Kept.{KeepsChannel, with_controllers_reset};
 ghost use Rattle.voice_state.specs.Rooms.{AreActsFull, IsControl2Full, IsControlFull, IsEntryFull, IsFullWhere};
-ghost use Rattle.voice_state.specs.Widths.{scale_of};
+ghost use Rattle.voice_state.specs.ForProofs.Widths.{scale_of};
 
 use crate::channel::Channel;
 use crate::not_kept::NotKept;

@@ -2,7 +2,7 @@
 ghost use Rattle.std.specs.Prelude.{◌≡◌, ◌++◌, OnOk};
 ghost use Rattle.std.specs.Option.{option_to_list};
 
-use midi_edge::NoMemory;
+use small_types::NoMemory;
 use voice_messages::{Bank, U4, U7};
 
 /// One thing that is told of what messages have left in a receiver: a note or a channel mode message that

@@ -11,13 +11,13 @@ ghost use Rattle.voice_state.specs.Facts.{count_facts, facts_of_channels, group_
 ghost use Rattle.voice_state.specs.Kept.{KeepsGroup};
 ghost use Rattle.voice_state.specs.Rooms.{ChannelsHaveRoom, IsFullWhere, IsGroupFull1, IsGroupFull2, KeepsRooms};
 ghost use Rattle.voice_state.specs.States.{after_voice1, after_voice2};
-ghost use Rattle.voice_state.specs.Widths.{scale_of};
+ghost use Rattle.voice_state.specs.ForProofs.Widths.{scale_of};
 
 use crate::channel::Channel;
 use crate::fact::{Fact, put};
 use crate::not_kept::{NotKept, Room};
 use crate::width::Width;
-use midi_edge::{NoMemory, U4};
+use small_types::{NoMemory, U4};
 use std::alloc::Global;
 use std::marker::Model;
 use voice_messages::{Voice1, Voice2};

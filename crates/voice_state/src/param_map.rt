@@ -8,7 +8,7 @@ ghost use Rattle.voice_state.specs.Rooms.{IsFullWhere};
 
 use crate::fact::{Fact, put};
 use crate::not_kept::NotKept;
-use midi_edge::{NoMemory, U4};
+use small_types::{NoMemory, U4};
 use std::alloc::Global;
 use std::marker::Model;
 use voice_messages::{ParamKind, U7};

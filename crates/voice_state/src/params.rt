@@ -10,7 +10,7 @@ ghost use Rattle.voice_state.specs.Rooms.{IsFullWhere};
 use crate::fact::Fact;
 use crate::not_kept::NotKept;
 use crate::param_map::{ParamMap, ParamState};
-use midi_edge::{NoMemory, U4};
+use small_types::{NoMemory, U4};
 use std::alloc::Global;
 use voice_messages::{Param, ParamKind};
 

@@ -8,13 +8,13 @@ ghost use Rattle.voice_state.specs.Facts.{facts_of};
 ghost use Rattle.voice_state.specs.Kept.{Keeps};
 ghost use Rattle.voice_state.specs.Rooms.{GroupIs, HasRoom, IsFullWhere, IsGroupFull1, IsGroupFull2, IsPacketFull, KeepsAllRooms, no_limit};
 ghost use Rattle.voice_state.specs.States.{States, after_message, after_packet, after_voice1, after_voice2, at_group, first_states, is_real_time};
-ghost use Rattle.voice_state.specs.Widths.{scale_of};
+ghost use Rattle.voice_state.specs.ForProofs.Widths.{scale_of};
 
 use crate::fact::Fact;
 use crate::group::Group;
 use crate::not_kept::{NotKept, Room};
 use crate::width::Width;
-use midi_edge::{NoMemory, U4};
+use small_types::{NoMemory, U4};
 use std::alloc::Global;
 use std::marker::Model;
 use ump_grammar::Packet;

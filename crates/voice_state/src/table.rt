@@ -6,7 +6,7 @@ ghost use Rattle.voice_state.specs.Facts.{in_order};
 ghost use Rattle.voice_state.specs.Tables.{at, table_fact};
 
 use crate::fact::{Fact, put};
-use midi_edge::{NoMemory, U4};
+use small_types::{NoMemory, U4};
 use std::alloc::Global;
 use std::marker::Model;
 use voice_messages::U7;

@@ -7,7 +7,7 @@ ghost use Rattle.midi_meaning.specs.State as definition;
 ghost use Rattle.voice_state.specs.Acts.{act_of};
 ghost use Rattle.voice_state.specs.Kept.{KeepsChannel};
 ghost use Rattle.voice_state.specs.Rooms.{IsFull1, IsFull2, IsFullWhere, IsParamFull};
-ghost use Rattle.voice_state.specs.Widths.{scale_of};
+ghost use Rattle.voice_state.specs.ForProofs.Widths.{scale_of};
 
 use crate::channel::Channel;
 use crate::not_kept::NotKept;

@@ -1,7 +1,7 @@
 // How wide the values are that are kept.
 ghost use Rattle.std.specs.Prelude.{◌≡◌, ◌*◌, ℕ};
 ghost use Rattle.midi_meaning.specs.Messages.{with_new_lsb};
-ghost use Rattle.voice_state.specs.Widths.{scale_of};
+ghost use Rattle.voice_state.specs.ForProofs.Widths.{scale_of};
 
 use bit_scaling::{down14, up7, up14, velocity_up};
 use voice_messages::{U7, U14};

@@ -1,6 +1,6 @@
 // States that messages and packets leave, and what is told of them,
 // worked by hand from the tables of the standards.
-use midi_edge::ShortList;
+use small_types::ShortList;
 use std::alloc::{AllocError, Global};
 use std::process::Abort;
 use std::test::Fail;

@@ -10,7 +10,7 @@ use endpoint_fixtures::{
     SECOND_MUID, profile_id,
 };
 use function_blocks::Setup;
-use midi_edge::ShortList;
+use small_types::ShortList;
 use std::alloc::Global;
 use std::test::Fail;
 use voice_messages::{U4, U7};

@@ -6,7 +6,7 @@ ghost use Rattle.ci_messages.specs.Writing.{IsView, message_bytes};
 use super::has_text;
 use ci_messages::*;
 use endpoint_fixtures::{CiMessage, FIRST_MUID, PEER, framed, profile_id};
-use midi_edge::ShortList;
+use small_types::ShortList;
 use std::test::Fail;
 use voice_messages::{U4, U7};
 

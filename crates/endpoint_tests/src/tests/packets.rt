@@ -7,13 +7,13 @@ ghost use Rattle.ump_grammar.specs.Ranges.{IsPacket};
 use super::is_same;
 use endpoint_fixtures::{DEMO_SETUP, profile_id};
 use function_blocks::Setup;
-use midi_edge::U4;
+use packet_words::words::words_in_packet;
+use packet_words::{Framed, Words};
+use small_types::U4;
 use std::alloc::Global;
 use std::test::Fail;
 use ump_endpoint::{BadStep, Endpoint, Heard, Key, Outcome, Place, Taken};
 use ump_grammar::{Packet, decode};
-use ump_words::words::words_in_packet;
-use ump_words::{Framed, Words};
 
 // A packet that neither ended a message nor lost anything.
 const NOTHING: Taken = Taken {

@@ -3,7 +3,7 @@
 use super::{has_text, is_same, is_same_in};
 use endpoint_fixtures::DEMO_SETUP;
 use function_blocks::*;
-use midi_edge::U4;
+use small_types::U4;
 use std::alloc::{AllocError, Global};
 use std::process::Abort;
 use std::test::Fail;

@@ -4,7 +4,7 @@ ghost use Rattle.std.specs.Prelude.{◌≤◌, length, IfOk, IfSome};
 ghost use Rattle.ump_grammar.specs.Ranges.{IsPacket};
 
 use super::{has_text, is_same};
-use midi_edge::ShortList;
+use small_types::ShortList;
 use std::test::Fail;
 use ump_grammar::*;
 use ump_words::words::words_in_packet;

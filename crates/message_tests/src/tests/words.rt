@@ -1,6 +1,7 @@
 // The worked rows of the reader.
 use super::is_same;
-use midi_edge::{MemSource, ReadStop};
+use midi_edge::MemSource;
+use outside::ReadStop;
 use std::test::Fail;
 use ump_words::{Order, WordReader, write_words};
 

@@ -3,7 +3,8 @@ ghost use Rattle.std.specs.Prelude.{◌≡◌};
 ghost use Rattle.ump_grammar.specs.declared.packet.Packet.TheVariants.{Stream, Utility};
 
 use midi_clip::{Clip, ClipFault, ClipStep, header};
-use midi_edge::{Failed, MemSource, Source};
+use midi_edge::MemSource;
+use outside::{Failed, Source};
 use std::alloc::{AllocError, Global};
 use std::test::Fail;
 use ump_grammar::Packet;

@@ -1,7 +1,9 @@
 // What comes after a run: what is gathered is written out, and the exit code.
 use midi_commands::{Status, finish, unread_words};
-use midi_edge::{FolderLanes, Lanes, Sink, U4, WriteSink};
+use midi_edge::{FolderLanes, WriteSink};
+use outside::{Lanes, Sink};
 use pass_loop::Reason;
+use small_types::U4;
 use std::io::ErrorKind;
 use std::os::unix::fs as unix_fs;
 use std::process::Abort;

@@ -1,7 +1,8 @@
 // The places of a pass.
 ghost use Rattle.std.specs.Prelude.{◌≡◌, true, IfOk};
 
-use midi_edge::{Lanes, MemLanes, MemSink};
+use midi_edge::{MemLanes, MemSink};
+use outside::Lanes;
 use std::alloc::Global;
 use std::test::Fail;
 

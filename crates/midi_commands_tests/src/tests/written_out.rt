@@ -1,7 +1,8 @@
 // What is put is written out before an input that may wait is read, and not before a file is.
 use super::places::begun_places;
 use clip_pass::run_clip;
-use midi_edge::{BufferedSource, U4, WriteSink};
+use midi_edge::{BufferedSource, WriteSink};
+use small_types::U4;
 use std::alloc::Global;
 use std::test::Fail;
 use usb_passes::{PackRun, run_pack};

@@ -3,11 +3,12 @@ ghost use Rattle.std.specs.Prelude.{◌≡◌, ◌≤◌, ◌<◌, None, IfOk, t
 ghost use Rattle.std.specs.Io.Buffered.{reader_remaining};
 ghost use Rattle.std.specs.Io.KnownBytes.{ReadConsumes};
 ghost use Rattle.midi_edge.specs.Adapters.{is_waiting, never_waits, to_be_given};
-ghost use Rattle.midi_edge.specs.Outside.{HasCause, Takes};
+ghost use Rattle.outside.specs.Outside.{HasCause, Takes};
 
 use super::counted;
 use super::read_source::read_once;
-use crate::outside::{Failed, NoMemory, Source};
+use outside::{Failed, Source};
+use small_types::NoMemory;
 use std::alloc::Global;
 use std::io::{BufReader, Read};
 

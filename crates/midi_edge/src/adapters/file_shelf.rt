@@ -1,10 +1,10 @@
 // A shelf over files.
 ghost use Rattle.std.specs.Prelude.{◌≡◌, ℕ, List, [], ◌++◌, None, Some, Err, OnOk, OnErr, IfSome, take};
-ghost use Rattle.midi_edge.specs.Outside.{HasOpenCause, Fetches, kept_bytes};
+ghost use Rattle.outside.specs.Outside.{HasOpenCause, Fetches, kept_bytes};
 
 use super::{counted_opening, fault_of};
 use crate::kept_text::KeptText;
-use crate::outside::{OpenFault, Shelf};
+use outside::{OpenFault, Shelf};
 use std::fs;
 use std::io::{self, Read};
 use std::rt::Files;

@@ -1,13 +1,13 @@
 // Lanes over a folder.
 ghost use Rattle.std.specs.Prelude.{◌≡◌, ◌<◌, ◌==◌, None, Err, true, false, [], All, length, vec_len, IfOk, OnOk, OnErr, Some};
 ghost use Rattle.midi_edge.specs.Adapters.{IsWrittenOut, AcceptsInLane, KeepsEach, KeepsLanes, TriesEach, TriesLanes, unwritten};
-ghost use Rattle.midi_edge.specs.Outside.{HasCause, HasOpenCause, PutsPair, kept_bytes};
+ghost use Rattle.outside.specs.Outside.{HasCause, HasOpenCause, PutsPair, kept_bytes};
 
 use super::write_sink::WriteSink;
 use super::{counted, counted_opening, fault_of};
-use crate::few_bits::U4;
 use crate::kept_text::KeptText;
-use crate::outside::{Failed, Lanes, OpenFault, Sink};
+use outside::{Failed, Lanes, OpenFault, Sink};
+use small_types::U4;
 use std::fs;
 use std::io::Write;
 use std::rt::Files;

@@ -3,10 +3,10 @@ ghost use Rattle.std.specs.Prelude.{◌≡◌, ◌≤◌, ◌<◌, None, IfOk, l
 ghost use Rattle.std.specs.Io.{ReadsAtMost};
 ghost use Rattle.std.specs.Io.KnownBytes.{ReadConsumes};
 ghost use Rattle.midi_edge.specs.Adapters.{to_come};
-ghost use Rattle.midi_edge.specs.Outside.{HasCause, Takes};
+ghost use Rattle.outside.specs.Outside.{HasCause, Takes};
 
 use super::counted;
-use crate::outside::{Failed, Source};
+use outside::{Failed, Source};
 use std::io;
 use std::io::{ErrorKind, Read};
 

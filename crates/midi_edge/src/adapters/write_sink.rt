@@ -3,11 +3,11 @@ ghost use Rattle.std.specs.Prelude.{◌≡◌, ◌<◌, ◌≤◌, [], length, t
 ghost use Rattle.std.specs.Io.{WritesAtMost};
 ghost use Rattle.std.specs.Io.KnownBytes.{Keeps, Appends, WriteAppends};
 ghost use Rattle.midi_edge.specs.Adapters.{unwritten, accepted, Accepts};
-ghost use Rattle.midi_edge.specs.Outside.{HasCause, PutsPiece};
+ghost use Rattle.outside.specs.Outside.{HasCause, PutsPiece};
 
 use super::{CAPACITY, counted};
-use crate::outside::{Failed, Sink};
-use crate::short_list::ShortList;
+use outside::{Failed, Sink};
+use small_types::ShortList;
 use std::io;
 use std::io::{ErrorKind, Write};
 

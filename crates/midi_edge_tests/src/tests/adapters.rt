@@ -2,9 +2,8 @@
 use super::file_shelf::fetched;
 use super::is_same;
 use super::scripted::{Log, Scripted, ScriptedFiles, Step};
-use midi_edge::{
-    BufferedSource, Failed, FolderLanes, Lanes, OpenFault, ReadSource, Sink, Source, WriteSink,
-};
+use midi_edge::{BufferedSource, FolderLanes, ReadSource, WriteSink};
+use outside::{Failed, Lanes, OpenFault, Sink, Source};
 use std::alloc::Global;
 use std::io::ErrorKind;
 use std::test::Fail;

@@ -1,6 +1,7 @@
 // What a reader of bytes answers, one call after the other.
 use item_reader::ByteReader;
-use midi_edge::{Failed, MemSource, PlainSource, ReadStop};
+use midi_edge::{MemSource, PlainSource};
+use outside::{Failed, ReadStop};
 use std::alloc::Global;
 use std::test::Fail;
 

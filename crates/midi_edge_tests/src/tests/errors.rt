@@ -1,6 +1,7 @@
 // The texts of the errors.
 use super::is_same;
-use midi_edge::{Failed, NoMemory, OpenFault, ReadStop};
+use outside::{Failed, OpenFault, ReadStop};
+use small_types::NoMemory;
 use std::alloc::Global;
 use std::fmt::Display;
 

@@ -1,7 +1,7 @@
 // What a shelf fetches behind two bytes that stand already.
 ghost use Rattle.std.specs.Prelude.{◌≡◌, None};
 
-use midi_edge::{OpenFault, Shelf};
+use outside::{OpenFault, Shelf};
 
 // Whether the shelf answers so, and these bytes stand then.
 pub(super) fn fetches<S: Shelf>(

@@ -2,7 +2,9 @@
 ghost use Rattle.std.specs.Prelude.{◌≡◌, ◌<◌, None, length};
 
 use super::folders::{holds, new_folder};
-use midi_edge::{Failed, FolderLanes, Lanes, OpenFault, U4};
+use midi_edge::FolderLanes;
+use outside::{Failed, Lanes, OpenFault};
+use small_types::U4;
 use std::fs;
 use std::os::unix::fs::symlink;
 use std::test::Fail;

@@ -2,7 +2,8 @@
 ghost use Rattle.std.specs.Prelude.{◌≡◌, IfOk, None};
 
 use super::fetching::fetches;
-use midi_edge::{MemShelf, OpenFault};
+use midi_edge::MemShelf;
+use outside::OpenFault;
 use std::alloc::Global;
 use std::test::Fail;
 

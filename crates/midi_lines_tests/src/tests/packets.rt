@@ -1,8 +1,8 @@
 // The lines of packets.
 use midi_lines::packet_line;
+use packet_words::words::words_in_packet;
+use packet_words::{Framed, Words};
 use ump_grammar::decode;
-use ump_words::words::words_in_packet;
-use ump_words::{Framed, Words};
 
 // Whether the words are one packet, and its line at the offset is the text.
 fn is_shown(offset: u64, words: &[u32], text: &str) -> bool {

@@ -1,7 +1,7 @@
 // The counts of a few seeds, and the first packets of seed 0.
 use super::is_same_in;
-use midi_edge::U4;
 use self_test::{Generator, count};
+use small_types::U4;
 use std::alloc::Global;
 use std::process::Abort;
 use std::test::Fail;

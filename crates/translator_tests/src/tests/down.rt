@@ -5,13 +5,13 @@ ghost use Rattle.ump_grammar.specs.Ranges.{IsPacket};
 
 use super::{is_same, is_same_in};
 use down_translator::*;
-use midi_edge::U4;
+use packet_words::words::words_in_packet;
+use packet_words::{Framed, Words};
+use small_types::U4;
 use std::alloc::Global;
 use std::process::Abort;
 use std::test::Fail;
 use ump_grammar::{Packet, decode};
-use ump_words::words::words_in_packet;
-use ump_words::{Framed, Words};
 
 // What a translator with a room of six bytes that has taken nothing makes of the packets.
 fn rows_hold(

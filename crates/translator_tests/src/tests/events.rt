@@ -1,6 +1,8 @@
 // Reading on after a failed read, and what is told to people. The rows of `midi_commands_tests` tell of the rest.
 use super::is_same;
-use midi_edge::{Failed, MemSource, ReadStop, U4};
+use midi_edge::MemSource;
+use outside::{Failed, ReadStop};
+use small_types::U4;
 use std::test::Fail;
 use usb_midi1::*;
 

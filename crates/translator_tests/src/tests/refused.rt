@@ -1,6 +1,6 @@
 // Bytes that come after one that is refused. The rows of `midi_commands_tests` tell of the rest.
 use super::is_same;
-use midi_edge::U4;
+use small_types::U4;
 use std::alloc::Global;
 use std::process::Abort;
 use up_translator::*;

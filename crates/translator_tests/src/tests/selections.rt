@@ -1,7 +1,7 @@
 // What ends a selection, and what leaves it. The rows of `midi_commands_tests` tell of the other control changes.
 use super::is_same_in;
-use midi_edge::U4;
 use param_collector::*;
+use small_types::U4;
 use std::process::Abort;
 use voice_messages::{Param, ParamKind, U7, U14};
 

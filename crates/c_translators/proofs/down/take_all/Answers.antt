@@ -3,7 +3,7 @@ use Rattle.std.proofs.Common.{length, length-drop, take, drop, sym, ap, subst, a
 use Rattle.std.proofs.lemmas.List.{set-get_or, take_all}
 use borrow.Rule.Slice.PartMut.{put_mid}
 use Rattle.std.specs.Prelude.{Ok, Err, slice_index, slice_set}
-use Rattle.ump_words.specs.Cut.{words_asked}
+use Rattle.packet_words.specs.Words.{words_asked}
 use Rattle.ump_grammar.specs.Reason.{reason}
 use Rattle.down_translator.specs.Step.{piece_of}
 use Rattle.c_answers.specs.Fronts.{with_front}

@@ -3,9 +3,9 @@ use Rattle.std.proofs.lemmas.Option.{slice_get_read}
 use Rattle.std.proofs.lemmas.Result.{err_from_is_err_and}
 use Rattle.pass_loop.specs.Places.{FailsAt, over_puts}
 use Rattle.pass_loop.specs.Put.{Put}
-use Rattle.pass_loop.specs.PutLaws.{stops_more, then_put, then_stops}
+use Rattle.pass_loop.specs.ForProofs.PutLaws.{stops_more, then_put, then_stops}
 use Rattle.pass_loop.specs.Each.{for_each}
-use Rattle.pass_loop.specs.EachLaws.{all_each, next_each}
+use Rattle.pass_loop.specs.ForProofs.EachLaws.{all_each, next_each}
 use Rattle.ci_text.specs.Profiles.{profile_line_of}
 use Rattle.ci_text.proofs.profiles.put_profiles.Goals as goal
 

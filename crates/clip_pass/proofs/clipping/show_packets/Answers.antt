@@ -3,11 +3,11 @@ use Rattle.std.specs.Prelude.{Result, Ok, Err, reverse}
 use Rattle.item_reader.specs.SoFar.{given}
 use Rattle.midi_clip.specs.declared.step.ClipFault.{ClipFault}
 use Rattle.midi_clip.specs.declared.step.ClipStep.{ClipStep}
-use Rattle.pass_loop.specs.PassLaws.{ends_at_close, ends_at_step, ends_failed, ends_refused, one_more, still}
+use Rattle.pass_loop.specs.ForProofs.PassLaws.{ends_at_close, ends_at_step, ends_failed, ends_refused, one_more, still}
 use Rattle.pass_loop.specs.Pass.{ClosesBy, Seen, Takes, seen_with}
 use Rattle.pass_loop.specs.Places.{Places}
-use Rattle.pass_loop.specs.PutLaws.{over_puts-none}
-use Rattle.pass_loop.specs.StepLaws.{takes_steps}
+use Rattle.pass_loop.specs.ForProofs.PutLaws.{over_puts-none}
+use Rattle.pass_loop.specs.ForProofs.StepLaws.{takes_steps}
 use Rattle.pass_loop.specs.declared.ends.Reason.TheVariants.{NoEnd}
 use Rattle.pass_loop.specs.declared.ends.RunEnd.{RunEnd}
 use Rattle.pass_loop.specs.declared.ends.RunEnd.TheVariants.{Refused, ReadFault, Done}

@@ -1,6 +1,6 @@
 use Rattle.std.proofs.Common.{◌-◌}
 use Rattle.item_reader.specs.SoFar.{given}
-use Rattle.pass_loop.specs.PassLaws.{SoFar}
+use Rattle.pass_loop.specs.ForProofs.PassLaws.{SoFar}
 use Rattle.pass_loop.specs.Pass.{seen_with}
 use Rattle.clip_pass.specs.Clipping.{clipping}
 use Rattle.clip_pass.specs.Ends.{with_header}

@@ -1,4 +1,4 @@
-use Rattle.pass_loop.specs.FirstRefusal.{one_refusal}
+use Rattle.pass_loop.specs.ForProofs.FirstRefusalLaws.{one_refusal}
 use Rattle.clip_pass.specs.Clipping.{clipping}
 use Rattle.clip_pass.specs.Cutting.{clip_cutting}
 use Rattle.clip_pass.proofs.laws.a_clip_file_has_one_first_refusal.Goals as goal

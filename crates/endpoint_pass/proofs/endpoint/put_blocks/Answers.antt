@@ -4,10 +4,10 @@ use Rattle.std.proofs.lemmas.Result.{err_from_is_err_and}
 use Rattle.ci_responder.specs.Held.{muid_in}
 use Rattle.pass_loop.specs.Places.{FailsAt, over_puts}
 use Rattle.pass_loop.specs.Put.{Put}
-use Rattle.pass_loop.specs.PutLaws.{stops_more, then_put, then_stops}
+use Rattle.pass_loop.specs.ForProofs.PutLaws.{stops_more, then_put, then_stops}
 use Rattle.pass_loop.specs.Each.{for_each}
 use Rattle.endpoint_pass.specs.Answering.{block_line_of}
-use Rattle.pass_loop.specs.EachLaws.{all_each, next_each}
+use Rattle.pass_loop.specs.ForProofs.EachLaws.{all_each, next_each}
 use Rattle.endpoint_pass.proofs.endpoint.put_blocks.Goals as goal
 
 pub loop-number-preserved : goal.loop-number-preserved

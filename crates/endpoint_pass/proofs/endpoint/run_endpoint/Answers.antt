@@ -1,5 +1,5 @@
 use Rattle.std.proofs.Common.{ap, subst}
-use Rattle.ump_words.specs.declared.words.Order.{Order}
+use Rattle.packet_words.specs.declared.words.Order.{Order}
 use Rattle.pass_loop.specs.PassEnds.{PassEnds}
 use Rattle.pass_loop.specs.Pass.{seen}
 use Rattle.packet_input.specs.Packets.{packet_cutting}

@@ -1,4 +1,4 @@
-use Rattle.pass_loop.specs.FirstRefusal.{one_refusal}
+use Rattle.pass_loop.specs.ForProofs.FirstRefusalLaws.{one_refusal}
 use Rattle.packet_input.specs.Packets.{packet_cutting}
 use Rattle.endpoint_pass.specs.Answering.{answering}
 use Rattle.endpoint_pass.proofs.laws.a_recording_of_a_peer_has_one_first_refusal.Goals as goal

@@ -1,5 +1,5 @@
 use Rattle.std.specs.Option.{option_to_list}
-use Rattle.pass_loop.specs.PutLaws.{then_puts}
+use Rattle.pass_loop.specs.ForProofs.PutLaws.{then_puts}
 use Rattle.listing_lines.specs.Lines.{line_puts}
 use Rattle.endpoint_pass.specs.Answering.{outcome_lines}
 use Rattle.endpoint_pass.proofs.lines.put_taken.Goals as goal

@@ -1,6 +1,6 @@
 use Rattle.std.proofs.Common.{take, List, arith, subst, sym}
 use Rattle.ump_grammar.specs.declared.packet.Packet.{Packet}
-use Rattle.function_blocks.specs.Pushing.{Pushes}
+use Rattle.function_blocks.specs.ForProofs.Pushing.{Pushes}
 use Rattle.function_blocks.specs.Replies.{block_replies, replies_from}
 use Rattle.function_blocks.proofs.PushLaws.{from-more, pushes_append}
 use Rattle.function_blocks.proofs.answers.push_blocks.Goals as goal

@@ -1,5 +1,5 @@
 use Rattle.std.proofs.Common.{◌≤◌, ◌*◌, take, length}
-use Rattle.function_blocks.specs.Pushing.{Pushes}
+use Rattle.function_blocks.specs.ForProofs.Pushing.{Pushes}
 use Rattle.function_blocks.specs.Replies.{replies_from}
 use Rattle.function_blocks.proofs.answers.push_blocks.Given as goal
 

@@ -1,4 +1,4 @@
-use Rattle.function_blocks.specs.Pushing.{Pushes}
+use Rattle.function_blocks.specs.ForProofs.Pushing.{Pushes}
 use Rattle.function_blocks.specs.Replies.{first_packets}
 use Rattle.function_blocks.proofs.answers.push_text.Given as goal
 

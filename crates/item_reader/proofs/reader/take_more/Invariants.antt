@@ -1,6 +1,6 @@
 use Rattle.std.proofs.Common.{◌≡◌, ◌-◌, length}
-use Rattle.item_reader.specs.Front.{Sees}
-use Rattle.midi_edge.specs.Outside.{ahead}
+use Rattle.item_reader.specs.ForProofs.Front.{Sees}
+use Rattle.outside.specs.Outside.{ahead}
 use Rattle.item_reader.specs.Reading.{Keeps}
 use Rattle.item_reader.specs.declared.reader.Front.TheVariants.{Partial}
 use Rattle.item_reader.proofs.reader.take_more.Given as goal

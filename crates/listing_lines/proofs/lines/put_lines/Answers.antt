@@ -1,12 +1,12 @@
 use Rattle.std.proofs.Common.{◌≡◌, List, Option, sym, ◌∙◌, subst}
 use Rattle.std.specs.Prelude.{Ok}
 use Rattle.std.specs.Option.{option_to_list}
-use Rattle.midi_meaning.specs.declared.listed.Listed.{Listed}
-use Rattle.up_translator.specs.ByteLines.{first_in, second_in}
+use Rattle.listing_terms.specs.declared.listed.Listed.{Listed}
+use Rattle.listing_terms.specs.ByteLines.{first_in, second_in}
 use Rattle.pass_loop.specs.Places.{Puts, over_puts}
 use Rattle.pass_loop.specs.Put.{Put}
-use Rattle.pass_loop.specs.PutLaws.{over_puts-none, then_puts}
-use Rattle.listing_lines.specs.LineLaws.{lines-then, none-lines}
+use Rattle.pass_loop.specs.ForProofs.PutLaws.{over_puts-none, then_puts}
+use Rattle.listing_lines.specs.ForProofs.LineLaws.{lines-then, none-lines}
 use Rattle.listing_lines.specs.Lines.{line_puts}
 use Rattle.listing_lines.proofs.lines.put_lines.Goals as goal
 

@@ -2,13 +2,13 @@ use Rattle.std.proofs.Common.{◌≡◌, ◌+◌, ◌<◌, ◌∷◌, [], ◌++�
 use Rattle.std.specs.Option.{option_to_list}
 use Rattle.std.proofs.lemmas.Result.{err_from_is_err_and}
 use Rattle.sysex_groups.specs.Table.{Table}
-use Rattle.midi_meaning.specs.Listing.{groups}
+use Rattle.listing_terms.specs.ExclusiveLines.{groups}
 use Rattle.pass_loop.specs.Put.{Put}
 use Rattle.pass_loop.specs.Places.{FailsAt, over_puts}
-use Rattle.pass_loop.specs.PutLaws.{then_put, then_stops, stops_more}
+use Rattle.pass_loop.specs.ForProofs.PutLaws.{then_put, then_stops, stops_more}
 use Rattle.listing_lines.specs.Lines.{line_puts}
 use Rattle.listing_lines.specs.Open.{open_line, open_puts}
-use Rattle.listing_lines.specs.OpenLaws.{at_group, next_group, open-then, open-one}
+use Rattle.listing_lines.specs.ForProofs.OpenLaws.{at_group, next_group, open-then, open-one}
 use Rattle.listing_lines.proofs.open.list_open.Goals as goal
 
 pub loop-number-preserved : goal.loop-number-preserved

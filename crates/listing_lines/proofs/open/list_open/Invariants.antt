@@ -1,5 +1,5 @@
 use Rattle.std.proofs.Common.{◌≡◌, take}
-use Rattle.midi_meaning.specs.Listing.{groups}
+use Rattle.listing_terms.specs.ExclusiveLines.{groups}
 use Rattle.pass_loop.specs.Places.{over_puts}
 use Rattle.listing_lines.specs.Open.{open_puts}
 use Rattle.listing_lines.proofs.open.list_open.Given as goal

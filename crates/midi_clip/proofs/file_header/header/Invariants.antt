@@ -1,5 +1,5 @@
 use Rattle.std.proofs.Common.{◌-◌, ◌≡◌, ◌≤◌, length, take}
-use Rattle.midi_edge.specs.Outside.{Loses}
+use Rattle.outside.specs.Outside.{Loses}
 use Rattle.midi_clip.proofs.file_header.header.Given as goal
 
 abbrev pub invariant-loop-count : goal.invariant-loop-count

@@ -1,6 +1,6 @@
 use Rattle.std.proofs.Common.{rules}
-use Rattle.pass_loop.specs.Borrowed.{ends_as, ends_keep}
-use Rattle.pass_loop.specs.PassEnds.{pass_ends}
+use Rattle.pass_loop.specs.ForProofs.Borrowed.{ends_as, ends_keep}
+use Rattle.pass_loop.specs.ForProofs.EndsLaws.{pass_ends}
 use Rattle.pass_loop.proofs.pass.drive.Goals as goal
 
 pub returns : goal.returns

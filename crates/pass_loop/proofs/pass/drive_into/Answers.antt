@@ -3,8 +3,8 @@ use Rattle.std.specs.Prelude.{reverse}
 use Rattle.pass_loop.specs.Pass.{Ends, end_of, seen_with}
 use Rattle.pass_loop.specs.declared.ends.RunEnd.{RunEnd}
 use Rattle.pass_loop.specs.declared.ends.RunEnd.TheVariants.{Refused, ReadFault}
-use Rattle.pass_loop.specs.NamedLaws.{stands_ends}
-use Rattle.pass_loop.specs.PassLaws.{nothing_yet, one_more, still, ends_at_step, ends_at_close, ends_refused, ends_failed}
+use Rattle.pass_loop.specs.ForProofs.NamedLaws.{stands_ends}
+use Rattle.pass_loop.specs.ForProofs.PassLaws.{nothing_yet, one_more, still, ends_at_step, ends_at_close, ends_refused, ends_failed}
 use Rattle.pass_loop.proofs.pass.drive_into.Goals as goal
 
 pub loop-at-init : goal.loop-at-init

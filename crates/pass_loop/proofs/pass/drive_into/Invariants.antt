@@ -1,5 +1,5 @@
 use Rattle.item_reader.specs.SoFar.{given}
-use Rattle.pass_loop.specs.PassLaws.{SoFar}
+use Rattle.pass_loop.specs.ForProofs.PassLaws.{SoFar}
 use Rattle.pass_loop.specs.Pass.{seen_with}
 use Rattle.pass_loop.proofs.pass.drive_into.Given as goal
 

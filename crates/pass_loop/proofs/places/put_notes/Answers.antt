@@ -1,4 +1,4 @@
-use Rattle.pass_loop.specs.PutLaws.{notes_fails}
+use Rattle.pass_loop.specs.ForProofs.PutLaws.{notes_fails}
 use Rattle.pass_loop.specs.Places.{places}
 use Rattle.pass_loop.proofs.places.put_notes.Goals as goal
 

@@ -1,4 +1,4 @@
-use Rattle.pass_loop.specs.PutLaws.{output_fails}
+use Rattle.pass_loop.specs.ForProofs.PutLaws.{output_fails}
 use Rattle.pass_loop.specs.Places.{places}
 use Rattle.pass_loop.proofs.places.put_output.Goals as goal
 

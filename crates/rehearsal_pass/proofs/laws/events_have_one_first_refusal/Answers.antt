@@ -1,4 +1,4 @@
-use Rattle.pass_loop.specs.FirstRefusal.{one_refusal}
+use Rattle.pass_loop.specs.ForProofs.FirstRefusalLaws.{one_refusal}
 use Rattle.rehearsal_pass.specs.Events.{called_cutting}
 use Rattle.rehearsal_pass.specs.Rehearse.{rehearsing}
 use Rattle.rehearsal_pass.proofs.laws.events_have_one_first_refusal.Goals as goal

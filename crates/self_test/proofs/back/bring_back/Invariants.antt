@@ -1,6 +1,6 @@
 use Rattle.std.proofs.Common.{◌≡◌, ◌≤◌, ℕ, ◌+◌, ◌*◌, List, ◌++◌, length, take}
 use Rattle.std.specs.Prelude.{reverse}
-use Rattle.self_test.specs.Held.{ComesBack, HasReturned}
+use Rattle.self_test.specs.ForProofs.Held.{ComesBack, HasReturned}
 use Rattle.self_test.specs.Played.{ArePlayed}
 use Rattle.self_test.proofs.back.bring_back.Given as goal
 

@@ -5,7 +5,7 @@ use Rattle.ump_grammar.specs.declared.packet.Packet.{Packet}
 use Rattle.down_translator.specs.Held.{DownState, refusal_in}
 use Rattle.down_translator.specs.Step.{piece_of}
 use Rattle.up_translator.specs.Raised.{packet_in}
-use Rattle.self_test.specs.Held.{HasReturned}
+use Rattle.self_test.specs.ForProofs.Held.{HasReturned}
 use Rattle.self_test.proofs.BackLaws.{IsReturned, answered, comes_back_none, comes_back_some}
 use Rattle.self_test.proofs.BackLaws.{returned_accepted, returned_piece, returned_short, up_is_taken}
 use Rattle.self_test.proofs.back.bring_byte_back.Goals as goal

@@ -1,7 +1,7 @@
 use Rattle.std.proofs.Common.{◌≡◌, ◌*◌, List, subst, arith}
 use Rattle.midi_meaning.specs.Parts.{Placed}
 use Rattle.self_test.specs.Counts.{first_packets}
-use Rattle.self_test.specs.Held.{HasTaken}
+use Rattle.self_test.specs.ForProofs.Held.{HasTaken}
 use Rattle.self_test.proofs.CountLaws.{length-first_packets, one_more_packet}
 use Rattle.self_test.proofs.counts.count.Goals as goal
 

@@ -1,6 +1,6 @@
 use Rattle.std.proofs.Common.{length}
 use Rattle.std.proofs.lemmas.Result.{err_from_is_err_and}
-use Rattle.pass_loop.specs.PutLaws.{stops_more, then_puts}
+use Rattle.pass_loop.specs.ForProofs.PutLaws.{stops_more, then_puts}
 use Rattle.sysex8_pass.specs.Joining.{cut_lines, piece_puts}
 use Rattle.sysex8_pass.proofs.joining.put_cut.Goals as goal
 

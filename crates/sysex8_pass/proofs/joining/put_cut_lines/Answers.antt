@@ -1,5 +1,5 @@
 use Rattle.std.proofs.lemmas.Result.{err_from_is_err_and}
-use Rattle.pass_loop.specs.PutLaws.{stops_more, then_puts}
+use Rattle.pass_loop.specs.ForProofs.PutLaws.{stops_more, then_puts}
 use Rattle.sysex8_pass.specs.Joining.{listed}
 use Rattle.sysex8_pass.specs.Lines.{kind_text, whole_text}
 use Rattle.sysex8_pass.specs.declared.lines.Kind8.TheVariants as kinds

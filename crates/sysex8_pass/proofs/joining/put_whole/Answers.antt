@@ -1,6 +1,6 @@
 use Rattle.std.proofs.Common.{length}
 use Rattle.std.proofs.lemmas.Result.{err_from_is_err_and}
-use Rattle.pass_loop.specs.PutLaws.{then_puts, stops_more}
+use Rattle.pass_loop.specs.ForProofs.PutLaws.{then_puts, stops_more}
 use Rattle.sysex8_pass.specs.Joining.{listed, piece_puts}
 use Rattle.sysex8_pass.specs.Lines.{whole_text}
 use Rattle.sysex8_pass.proofs.joining.put_whole.Goals as goal

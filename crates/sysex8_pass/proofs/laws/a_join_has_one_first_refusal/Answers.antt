@@ -1,4 +1,4 @@
-use Rattle.pass_loop.specs.FirstRefusal.{one_refusal}
+use Rattle.pass_loop.specs.ForProofs.FirstRefusalLaws.{one_refusal}
 use Rattle.packet_input.specs.Packets.{packet_cutting}
 use Rattle.sysex8_pass.specs.Joining.{joining}
 use Rattle.sysex8_pass.proofs.laws.a_join_has_one_first_refusal.Goals as goal

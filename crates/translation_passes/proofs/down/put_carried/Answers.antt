@@ -5,7 +5,7 @@ use Rattle.midi_meaning.specs.declared.listed.Listed.{Listed}
 use Rattle.down_translator.specs.Carried.{line_in}
 use Rattle.down_translator.specs.Recording.{pair_put}
 use Rattle.pass_loop.specs.Places.{Puts}
-use Rattle.pass_loop.specs.PutLaws.{stops_more, then_puts}
+use Rattle.pass_loop.specs.ForProofs.PutLaws.{stops_more, then_puts}
 use Rattle.listing_lines.specs.Lines.{line_puts}
 use Rattle.translation_passes.specs.Down.{pair_puts}
 use Rattle.translation_passes.proofs.down.put_carried.Goals as goal

@@ -4,7 +4,7 @@ use Rattle.std.specs.Option.{option_to_list}
 use Rattle.down_translator.specs.Lowered.{attribute_line, shortened_bytes}
 use Rattle.pass_loop.specs.Places.{Puts}
 use Rattle.pass_loop.specs.Put.{in_lane}
-use Rattle.pass_loop.specs.PutLaws.{stops_more, then_puts}
+use Rattle.pass_loop.specs.ForProofs.PutLaws.{stops_more, then_puts}
 use Rattle.listing_lines.specs.Lines.{line_puts}
 use Rattle.translation_passes.proofs.down.put_shortened.Goals as goal
 

@@ -2,7 +2,7 @@ use Rattle.std.proofs.Common.{◌++◌, arith, subst, sym}
 use Rattle.std.specs.Prelude.{Err}
 use Rattle.std.proofs.lemmas.Result.{err_from_is_err_and}
 use Rattle.ump_grammar.specs.declared.packet.Packet.{Packet}
-use Rattle.pass_loop.specs.PutLaws.{then_put}
+use Rattle.pass_loop.specs.ForProofs.PutLaws.{then_put}
 use Rattle.translation_passes.specs.Raised.{CarriesOut}
 use Rattle.translation_passes.proofs.RaisedLaws.{packet_part, part_accepted, part_done, part_fails}
 use Rattle.translation_passes.proofs.raised.put_payload.Goals as goal

@@ -1,5 +1,5 @@
 use Rattle.pass_loop.specs.Bytes.{byte_cutting}
-use Rattle.pass_loop.specs.FirstRefusal.{one_refusal}
+use Rattle.pass_loop.specs.ForProofs.FirstRefusalLaws.{one_refusal}
 use Rattle.usb_passes.specs.Events.{event_cutting}
 use Rattle.usb_passes.specs.Pack.{packing}
 use Rattle.usb_passes.specs.Split.{splitting}

@@ -1,6 +1,6 @@
 use Rattle.std.proofs.lemmas.Result.{err_from_is_err_and}
-use Rattle.pass_loop.specs.PutLaws.{stops_more, then_puts}
-use Rattle.up_translator.specs.ByteLines.{lines_in}
+use Rattle.pass_loop.specs.ForProofs.PutLaws.{stops_more, then_puts}
+use Rattle.listing_terms.specs.ByteLines.{lines_in}
 use Rattle.usb_midi1.specs.Packed.{events_in}
 use Rattle.listing_lines.specs.Lines.{line_puts}
 use Rattle.usb_passes.specs.Pack.{event_puts}

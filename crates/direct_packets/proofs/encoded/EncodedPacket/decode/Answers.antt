@@ -1,5 +1,5 @@
 use Rattle.std.proofs.Common.{◌≡◌, sym, subst, ap, ◌∙◌, None, Some}
-use Rattle.ump_words.specs.Cut.{IsWhole}
+use Rattle.packet_words.specs.Words.{IsWhole}
 use Rattle.ump_grammar.specs.Reason.{reason}
 use Rattle.ump_grammar.specs.Spelling.{Spells}
 use Rattle.direct_packets.proofs.EncodedLaws.{is_fine, is_whole, the_one}

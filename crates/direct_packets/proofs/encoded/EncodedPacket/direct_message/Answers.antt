@@ -1,7 +1,7 @@
 use Rattle.std.proofs.Common.{arith, ◌≡◌, ◌&&◌, ◌<◌, ◌%◌, ◌^◌, true, false, sym, subst, ap, ◌∙◌, ℕ, List}
 use Rattle.std.specs.Prelude.{◌==◌}
 use Rattle.std.proofs.lemmas.Bool.{and_parts, eqb-true}
-use Rattle.ump_words.specs.Cut.{IsWhole}
+use Rattle.packet_words.specs.Words.{IsWhole}
 use Rattle.ump_grammar.specs.WordFields.{byte, group_of, opcode_of, type_of, word}
 use Rattle.direct_packets.specs.declared.direct_message.DirectMessage.{DirectMessage}
 use Rattle.direct_packets.specs.DirectMessages.{has_direct_kind, is_direct_opcode}

@@ -1,9 +1,9 @@
 use Rattle.std.proofs.Common.{[], ◌∷◌, ◌++◌}
 use Rattle.std.proofs.lemmas.Result.{err_from_is_err_and}
-use Rattle.midi_lines.specs.EndpointLines.{protocol_text}
+use Rattle.text_lines.specs.EndpointLines.{protocol_text}
 use Rattle.pass_loop.specs.Put.{in_notes}
-use Rattle.pass_loop.specs.PutLaws.{stops_more, then_puts}
-use Rattle.midi_meaning.specs.Listing.{groups}
+use Rattle.pass_loop.specs.ForProofs.PutLaws.{stops_more, then_puts}
+use Rattle.listing_terms.specs.ExclusiveLines.{groups}
 use Rattle.listing_lines.specs.Open.{open_puts}
 use Rattle.endpoint_pass.specs.Held.{setup_lines}
 use Rattle.endpoint_pass.proofs.endpoint.EndpointEngine.put_closing.Goals as goal

@@ -8,7 +8,7 @@ use Rattle.ci_text.specs.declared.profiles.LinePlace.TheVariants.{Notes}
 use Rattle.function_blocks.specs.Setups.{SetupData}
 use Rattle.pass_loop.specs.Each.{for_each}
 use Rattle.pass_loop.specs.Places.{Puts}
-use Rattle.pass_loop.specs.PutLaws.{stops_more, then_puts}
+use Rattle.pass_loop.specs.ForProofs.PutLaws.{stops_more, then_puts}
 use Rattle.endpoint_pass.specs.Answering.{block_line_of}
 use Rattle.endpoint_pass.proofs.endpoint.EndpointEngine.put_setup.Goals as goal
 

@@ -1,10 +1,10 @@
 use Rattle.std.proofs.Common.{ℕ, [], ◌∷◌, ◌++◌, subst}
 use Rattle.std.specs.Prelude.{Err}
 use Rattle.std.proofs.lemmas.Result.{err_from_is_err_and}
-use Rattle.midi_lines.specs.EndpointLines.{protocol_text}
+use Rattle.text_lines.specs.EndpointLines.{protocol_text}
 use Rattle.pass_loop.specs.Places.{Puts}
 use Rattle.pass_loop.specs.Put.{in_notes}
-use Rattle.pass_loop.specs.PutLaws.{stops_more, then_puts}
+use Rattle.pass_loop.specs.ForProofs.PutLaws.{stops_more, then_puts}
 use Rattle.endpoint_pass.specs.Held.{setup_lines}
 use Rattle.endpoint_pass.proofs.endpoint.EndpointEngine.put_state.Goals as goal
 

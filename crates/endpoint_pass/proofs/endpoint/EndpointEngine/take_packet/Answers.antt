@@ -2,7 +2,7 @@ use Rattle.std.proofs.Common.{◌≡◌, refl, subst}
 use Rattle.std.specs.Prelude.{Ok}
 use Rattle.ump_grammar.specs.declared.packet.Packet.{Packet}
 use Rattle.ump_endpoint.specs.Held.{after_packet}
-use Rattle.endpoint_pass.specs.Taking.{TakesPacket}
+use Rattle.endpoint_pass.specs.ForProofs.Taking.{TakesPacket}
 use Rattle.endpoint_pass.proofs.TakingLaws.{passed_over}
 use Rattle.endpoint_pass.proofs.endpoint.EndpointEngine.take_packet.Goals as goal
 

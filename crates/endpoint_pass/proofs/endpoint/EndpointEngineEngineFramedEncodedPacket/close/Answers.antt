@@ -4,17 +4,17 @@ use Rattle.ci_responder.specs.Held.{muid_in}
 use Rattle.ci_responder.specs.History.{muid_at, on_at}
 use Rattle.ci_responder.specs.Keys.{state_in}
 use Rattle.ci_responder.specs.Messages.{Received}
-use Rattle.ci_text.specs.ProfileLaws.{same_profiles}
+use Rattle.ci_text.specs.ForProofs.ProfileLaws.{same_profiles}
 use Rattle.ci_text.specs.Profiles.{profile_lines}
 use Rattle.ci_text.specs.declared.profiles.LinePlace.TheVariants.{Notes}
-use Rattle.midi_meaning.specs.Listing.{end_lines, groups}
-use Rattle.midi_meaning.specs.Parts.{Placed, parts_of}
-use Rattle.midi_lines.specs.EndpointLines.{protocol_text}
+use Rattle.listing_terms.specs.ExclusiveLines.{end_lines, groups}
+use Rattle.listing_terms.specs.Parts.{Placed, parts_of}
+use Rattle.text_lines.specs.EndpointLines.{protocol_text}
 use Rattle.pass_loop.specs.Each.{for_each}
 use Rattle.pass_loop.specs.Put.{Put, in_notes}
 use Rattle.listing_lines.specs.Lines.{line_puts}
-use Rattle.listing_lines.specs.OpenLaws.{open-ends}
-use Rattle.packet_output.specs.Packets.{all_placed}
+use Rattle.listing_lines.specs.ForProofs.OpenLaws.{open-ends}
+use Rattle.packet_input.specs.Placed.{all_placed}
 use Rattle.ump_endpoint.specs.Answers.{in_force, received_in_packets}
 use Rattle.ump_endpoint.specs.Held.{EndpointState, held_over}
 use Rattle.endpoint_pass.specs.Answering.{block_line_of}

@@ -1,23 +1,23 @@
 use Rattle.std.proofs.Common.{◌≡◌, ◌++◌, List, Option, ℕ, ap, ◌∙◌, subst}
 use Rattle.std.specs.Option.{option_to_list}
-use Rattle.ump_words.specs.declared.words.Framed.{Framed}
-use Rattle.ump_words.specs.declared.words.Order.{Order}
+use Rattle.packet_words.specs.declared.words.Framed.{Framed}
+use Rattle.packet_words.specs.declared.words.Order.{Order}
 use Rattle.ump_grammar.specs.declared.packet.Packet.{Packet}
 use Rattle.function_blocks.specs.Setups.{SetupData}
-use Rattle.midi_meaning.specs.Parts.{Placed}
-use Rattle.midi_meaning.specs.declared.listed.BadStep.{BadStep}
+use Rattle.listing_terms.specs.Parts.{Placed}
+use Rattle.listing_terms.specs.declared.listed.BadStep.{BadStep}
 use Rattle.pass_loop.specs.Pass.{Takes}
 use Rattle.pass_loop.specs.Put.{Put}
-use Rattle.pass_loop.specs.StepLaws.{takes_steps}
+use Rattle.pass_loop.specs.ForProofs.StepLaws.{takes_steps}
 use Rattle.listing_lines.specs.Lines.{line_puts}
 use Rattle.listing_lines.specs.Refusal.{refusal_by}
-use Rattle.packet_output.specs.Packets.{all_placed, placed_of}
-use Rattle.packet_output.specs.Written.{AreWrittenAndListed}
+use Rattle.packet_input.specs.Placed.{all_placed, placed_of}
+use Rattle.packet_input.specs.Written.{AreWrittenAndListed}
 use Rattle.ump_endpoint.specs.Answers.{packet_outcome, packet_replies}
 use Rattle.ump_endpoint.specs.Held.{EndpointState, after_packet, held_over, listed_in}
 use Rattle.endpoint_pass.specs.Answering.{answering, outcome_lines, packet_lines}
 use Rattle.endpoint_pass.specs.Held.{endpoint_options}
-use Rattle.endpoint_pass.specs.Taking.{TakesPacket, lines_in}
+use Rattle.endpoint_pass.specs.ForProofs.Taking.{TakesPacket, lines_in}
 use Rattle.endpoint_pass.proofs.endpoint.EndpointEngineEngineFramedEncodedPacket.step.Goals as goal
 
 pub returns : goal.returns

@@ -1,8 +1,8 @@
 use Rattle.std.proofs.Common.{◌≡◌, ◌-◌, ℕ, List, arith, ap, sym, subst}
-use Rattle.item_reader.specs.Front.{Sees}
-use Rattle.item_reader.specs.Window.{Held}
+use Rattle.item_reader.specs.ForProofs.Front.{Sees}
+use Rattle.item_reader.specs.ForProofs.Window.{Held}
 use Rattle.item_reader.specs.declared.reader.Front.TheVariants.{Item as FrontItem}
-use Rattle.midi_edge.specs.Outside.{ahead}
+use Rattle.outside.specs.Outside.{ahead}
 use Rattle.item_reader.proofs.Next.{gives_out}
 use Rattle.item_reader.proofs.reader.ItemReader.next_taken.Goals as goal
 

@@ -1,6 +1,6 @@
 use Rattle.std.proofs.Common.{◌≡◌, ◌+◌, ◌-◌, ◌≤◌, ℕ, List, take, drop, arith, ap, ◌∙◌}
 use Rattle.std.proofs.lemmas.List.{drop-take, drop-drop}
-use Rattle.item_reader.specs.Window.{Held}
+use Rattle.item_reader.specs.ForProofs.Window.{Held}
 use Rattle.item_reader.proofs.window.Window.consume.Goals as goal
 
 -- what is left of a part of the buffer behind its first n bytes

@@ -3,8 +3,8 @@ use Rattle.std.specs.List.{copy_within}
 use Rattle.std.proofs.Math.Seq.{take-append-add}
 use Rattle.std.proofs.lemmas.List.{length-drop, take_at, take-append-le, append_assoc, length-take-le}
 use borrow.Rule.Slice.PartMut.{put_mid, post_of}
-use Rattle.midi_edge.specs.Outside.{Loses, ahead}
-use Rattle.item_reader.specs.Window.{Held}
+use Rattle.outside.specs.Outside.{Loses, ahead}
+use Rattle.item_reader.specs.ForProofs.Window.{Held}
 use Rattle.item_reader.proofs.window.Window.fill.Goals as goal
 
 -- what stands at the front of the buffer after the move

@@ -1,7 +1,7 @@
 use Rattle.std.proofs.Common.{◌≡◌, Some, ◌++◌, ℕ, min, List, length, take, ap, ◌∙◌, arith}
 use Rattle.std.proofs.Math.Nat.{min_comm}
 use Rattle.std.proofs.lemmas.List.{take_at, take_min, length-take-le}
-use Rattle.midi_edge.specs.Outside.{kept_bytes}
+use Rattle.outside.specs.Outside.{kept_bytes}
 use Rattle.midi_edge.proofs.kept_text.KeptText.keep.Goals as goal
 
 -- the front that was copied, of what stands in the array afterwards

@@ -3,7 +3,7 @@ use Rattle.std.specs.Prelude.{Ok, Err}
 use Rattle.item_reader.specs.ByteReader.{byte_at, each_byte, one_byte}
 use Rattle.item_reader.specs.Reading.{Answers, cursor}
 use Rattle.item_reader.specs.declared.cutting.Tail.TheVariants as tail
-use Rattle.midi_edge.specs.declared.outside.ReadStop.{ReadStop}
+use Rattle.outside.specs.declared.objects.ReadStop.{ReadStop}
 use Rattle.pass_loop.specs.Bytes.{placed_at}
 use Rattle.pass_loop.proofs.ByteLaws.{at_place}
 use Rattle.pass_loop.proofs.ItemLaws.{placed}

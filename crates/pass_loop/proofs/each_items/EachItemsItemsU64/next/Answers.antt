@@ -3,7 +3,7 @@ use Rattle.std.specs.Prelude.{Ok, Err}
 use Rattle.item_reader.specs.Reading.{Answers, Reading, cursor}
 use Rattle.item_reader.specs.SoFar.{ReadSoFar, given}
 use Rattle.item_reader.specs.declared.cutting.Tail.TheVariants as tail
-use Rattle.midi_edge.specs.declared.outside.ReadStop.{ReadStop}
+use Rattle.outside.specs.declared.objects.ReadStop.{ReadStop}
 use Rattle.pass_loop.specs.Items.{after_offset, item_cutting, limit}
 use Rattle.pass_loop.specs.Next.{GivesNext}
 use Rattle.pass_loop.specs.declared.pass.Next.{Next}

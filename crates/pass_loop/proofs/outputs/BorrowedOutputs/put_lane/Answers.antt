@@ -1,4 +1,4 @@
-use Rattle.pass_loop.specs.PutLaws.{lane_fails}
+use Rattle.pass_loop.specs.ForProofs.PutLaws.{lane_fails}
 use Rattle.pass_loop.proofs.outputs.BorrowedOutputs.put_lane.Goals as goal
 
 pub returns-in-Err : goal.returns-in-Err

@@ -1,4 +1,4 @@
-use Rattle.pass_loop.specs.PutLaws.{output_fails}
+use Rattle.pass_loop.specs.ForProofs.PutLaws.{output_fails}
 use Rattle.pass_loop.proofs.outputs.BorrowedOutputs.put_output.Goals as goal
 
 pub returns-in-Err : goal.returns-in-Err

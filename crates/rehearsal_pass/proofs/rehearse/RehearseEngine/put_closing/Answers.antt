@@ -4,7 +4,7 @@ use Rattle.ci_text.specs.Profiles.{profile_lines}
 use Rattle.ci_text.specs.declared.profiles.LinePlace.TheVariants.{Output}
 use Rattle.pass_loop.specs.Each.{for_each}
 use Rattle.rehearsal_pass.specs.Rehearse.{held_line}
-use Rattle.pass_loop.specs.PutLaws.{stops_more, then_puts}
+use Rattle.pass_loop.specs.ForProofs.PutLaws.{stops_more, then_puts}
 use Rattle.rehearsal_pass.proofs.rehearse.RehearseEngine.put_closing.Goals as goal
 
 pub returns : goal.returns

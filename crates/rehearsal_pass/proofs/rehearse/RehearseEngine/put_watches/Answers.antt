@@ -4,10 +4,10 @@ use Rattle.std.proofs.lemmas.Result.{err_from_is_err_and}
 use Rattle.ci_initiator.specs.declared.watch.Watched.{Watched}
 use Rattle.pass_loop.specs.Places.{FailsAt, over_puts}
 use Rattle.pass_loop.specs.Put.{Put, in_output}
-use Rattle.pass_loop.specs.PutLaws.{stops_more, then_put, then_stops}
+use Rattle.pass_loop.specs.ForProofs.PutLaws.{stops_more, then_put, then_stops}
 use Rattle.pass_loop.specs.Each.{for_each}
 use Rattle.rehearsal_pass.specs.Rehearse.{held_line, held_text}
-use Rattle.pass_loop.specs.EachLaws.{all_each, next_each}
+use Rattle.pass_loop.specs.ForProofs.EachLaws.{all_each, next_each}
 use Rattle.rehearsal_pass.proofs.rehearse.RehearseEngine.put_watches.Goals as goal
 
 -- the watch of which something is held

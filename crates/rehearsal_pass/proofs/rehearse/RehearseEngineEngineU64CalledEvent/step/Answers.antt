@@ -1,6 +1,6 @@
 use Rattle.std.proofs.Common.{◌≡◌, ℕ, Some, refl, ap, sym, ◌∙◌}
 use Rattle.std.specs.Prelude.{Ok, Err}
-use Rattle.pass_loop.specs.StepLaws.{takes_steps}
+use Rattle.pass_loop.specs.ForProofs.StepLaws.{takes_steps}
 use Rattle.ci_initiator.specs.Stage.{Stage}
 use Rattle.rehearsal_pass.specs.declared.event.CalledEvent.{CalledEvent}
 use Rattle.rehearsal_pass.specs.Rehearse.{called, event_puts, events_in, next_at, refusal_of, rehearsing}

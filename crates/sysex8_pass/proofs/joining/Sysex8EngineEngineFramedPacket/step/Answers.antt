@@ -2,7 +2,7 @@ use Rattle.std.proofs.Common.{◌≡◌, ◌∙◌, ℕ, List, length, refl, ap,
 use Rattle.sysex_groups.specs.Exclusives.{Part}
 use Rattle.ump_grammar.specs.declared.packet.Packet.{Packet}
 use Rattle.pass_loop.specs.Pass.{Takes}
-use Rattle.pass_loop.specs.StepLaws.{takes_steps}
+use Rattle.pass_loop.specs.ForProofs.StepLaws.{takes_steps}
 use Rattle.sysex8_streams.specs.History.{Answer8, answer8}
 use Rattle.sysex8_streams.specs.Table.{answer8_to}
 use Rattle.sysex8_pass.specs.Held.{packet_after}

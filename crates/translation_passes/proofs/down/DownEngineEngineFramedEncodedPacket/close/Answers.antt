@@ -7,8 +7,8 @@ use Rattle.down_translator.specs.Held.{limit_of, paired_of, style_of}
 use Rattle.down_translator.specs.Recording.{state_of}
 use Rattle.listing_lines.specs.Lines.{line_puts}
 use Rattle.listing_lines.specs.Open.{open_puts}
-use Rattle.packet_output.specs.Packets.{all_placed}
-use Rattle.listing_lines.specs.OpenLaws.{open-ends}
+use Rattle.packet_input.specs.Placed.{all_placed}
+use Rattle.listing_lines.specs.ForProofs.OpenLaws.{open-ends}
 use Rattle.translation_passes.proofs.down.DownEngineEngineFramedEncodedPacket.close.Goals as goal
 
 pub returns : goal.returns

@@ -11,11 +11,11 @@ use Rattle.down_translator.specs.Held.{DownState, down_after, limit_of, paired_o
 use Rattle.down_translator.specs.Recording.{packets_of}
 use Rattle.down_translator.specs.Step.{IsStep}
 use Rattle.pass_loop.specs.Pass.{Takes}
-use Rattle.pass_loop.specs.StepLaws.{takes_steps}
+use Rattle.pass_loop.specs.ForProofs.StepLaws.{takes_steps}
 use Rattle.listing_lines.specs.Lines.{line_puts}
 use Rattle.listing_lines.specs.Refusal.{refusal_by}
 use Rattle.translation_passes.specs.Down.{carrying, down_options, pair_puts}
-use Rattle.packet_output.specs.Packets.{all_placed, placed_of}
+use Rattle.packet_input.specs.Placed.{all_placed, placed_of}
 use Rattle.translation_passes.proofs.down.DownEngineEngineFramedEncodedPacket.step.Goals as goal
 
 none_bad : (bad : Option BadStep) (offset : ℕ) → refusal_by bad offset ≡ None → bad ≡ None

@@ -1,6 +1,6 @@
 use Rattle.std.proofs.Common.{ℕ, Bool, List, ◌∷◌, ◌++◌, ap, sym, ◌∙◌, subst}
 use Rattle.std.specs.Prelude.{Some}
-use Rattle.ump_words.specs.declared.words.Order.{Order}
+use Rattle.packet_words.specs.declared.words.Order.{Order}
 use Rattle.ump_grammar.specs.declared.packet.Packet.{Packet}
 use Rattle.midi_meaning.specs.UpRefusal.{AreAcceptedUp}
 use Rattle.up_translator.specs.Held.{UpState}
@@ -10,7 +10,7 @@ use Rattle.pass_loop.specs.Pass.{Tail}
 use Rattle.listing_lines.specs.Lines.{line_puts}
 use Rattle.translation_passes.specs.Raised.{Answers, AreTaken, byte_task}
 use Rattle.translation_passes.specs.Up.{up_options, raising}
-use Rattle.packet_output.specs.Written.{AreWritten}
+use Rattle.packet_input.specs.Written.{AreWritten}
 use Rattle.translation_passes.proofs.RaisedLaws.{answered_steps, task}
 use Rattle.translation_passes.proofs.StreamLaws.{answered, holds_more, refused_as}
 use Rattle.translation_passes.proofs.UpLaws.{AcceptsWords, all_taken, are_written, exclusive_is_written, same_words, WritesWords}

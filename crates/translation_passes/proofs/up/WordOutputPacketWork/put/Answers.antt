@@ -1,7 +1,7 @@
 use Rattle.std.proofs.Common.{rules, ◌≡◌, ◌∙◌, ap, ℕ, List, [], ◌∷◌, slice_index, sym, subst}
 use Rattle.std.specs.List.{flat_map}
-use Rattle.ump_words.specs.Cut.{word_bytes}
-use Rattle.ump_words.specs.declared.words.Order.{Order}
+use Rattle.packet_words.specs.Words.{word_bytes}
+use Rattle.packet_words.specs.declared.words.Order.{Order}
 use Rattle.pass_loop.specs.Places.{Puts}
 use Rattle.pass_loop.specs.Put.{in_output}
 use Rattle.ump_grammar.specs.Reading.{Encodes}

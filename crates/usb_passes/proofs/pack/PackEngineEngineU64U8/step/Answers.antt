@@ -5,7 +5,7 @@ use Rattle.midi1_bytes.specs.Parsing.{held_over, parse}
 use Rattle.midi1_bytes.specs.Steps.{Step, step_of}
 use Rattle.pass_loop.specs.Bytes.{bytes_read}
 use Rattle.pass_loop.specs.Pass.{Takes}
-use Rattle.pass_loop.specs.StepLaws.{takes_steps}
+use Rattle.pass_loop.specs.ForProofs.StepLaws.{takes_steps}
 use Rattle.usb_midi1.specs.Held.{PackerState, packer_over, packer_after, step_in}
 use Rattle.listing_lines.specs.Refusal.{refusal_of}
 use Rattle.usb_passes.specs.Pack.{pack_options, packed_puts, packing}

@@ -1,7 +1,7 @@
 use Rattle.std.proofs.Common.{◌∙◌, ap, sym}
 use Rattle.std.proofs.lemmas.Result.{on_ok_weaker}
 use Rattle.midi_meaning.specs.Messages.{with_new_lsb}
-use Rattle.voice_state.specs.Widths.{scale_of}
+use Rattle.voice_state.specs.ForProofs.Widths.{scale_of}
 use Rattle.voice_state.proofs.KeptChannel.{entered_lsb}
 use Rattle.voice_state.proofs.channel.Channel.enter_lsb.Goals as goal
 

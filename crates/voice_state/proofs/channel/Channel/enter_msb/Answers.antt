@@ -1,6 +1,6 @@
 use Rattle.std.proofs.Common.{◌∙◌, sym}
 use Rattle.std.proofs.lemmas.Result.{on_ok_weaker}
-use Rattle.voice_state.specs.Widths.{scale_of}
+use Rattle.voice_state.specs.ForProofs.Widths.{scale_of}
 use Rattle.voice_state.proofs.KeptChannel.{entered_msb}
 use Rattle.voice_state.proofs.channel.Channel.enter_msb.Goals as goal
 

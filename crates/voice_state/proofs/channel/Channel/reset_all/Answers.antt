@@ -1,4 +1,4 @@
-use Rattle.voice_state.specs.Widths.{scale_of}
+use Rattle.voice_state.specs.ForProofs.Widths.{scale_of}
 use Rattle.voice_state.proofs.channel.Channel.reset_all.Goals as goal
 
 pub returns-clause-step : goal.returns-clause-step

@@ -3,7 +3,7 @@ use Rattle.std.proofs.lemmas.Result.{on_ok_weaker}
 use Rattle.midi_meaning.specs.Messages.{channel_of, voice_at}
 use Rattle.midi_meaning.specs.State.{at_channel}
 use Rattle.voice_state.specs.Kept.{KeepsChannel, KeepsGroup, KeptGroup}
-use Rattle.voice_state.specs.Widths.{scale_of}
+use Rattle.voice_state.specs.ForProofs.Widths.{scale_of}
 use Rattle.voice_state.specs.declared.channel.Channel as kept_channel
 use Rattle.voice_state.specs.Rooms.{IsFull1, IsFullWhere, IsGroupFull1, KeepsRooms}
 use Rattle.voice_state.proofs.KeptGroups.{channel_kept}

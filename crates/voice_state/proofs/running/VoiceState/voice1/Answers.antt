@@ -2,7 +2,7 @@ use Rattle.std.proofs.Common.{refl, List, ◌<◌, sym, subst, arith, length, sl
 use Rattle.std.proofs.lemmas.Result.{on_ok_weaker}
 use Rattle.voice_state.specs.Kept.{Keeps, KeepsGroup, KeptGroup}
 use Rattle.voice_state.specs.States.{after_voice1, at_group}
-use Rattle.voice_state.specs.Widths.{scale_of}
+use Rattle.voice_state.specs.ForProofs.Widths.{scale_of}
 use Rattle.voice_state.specs.Rooms.{GroupIs, IsFullWhere, IsGroupFull1, KeepsAllRooms, KeepsRooms}
 use Rattle.voice_state.proofs.KeptGroups.{group_kept}
 use Rattle.voice_state.proofs.Rooms.{full_at, related}

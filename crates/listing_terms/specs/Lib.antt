@@ -1,0 +1,4 @@
+pub mod ByteLines
+pub mod Channels
+pub mod ExclusiveLines
+pub mod Parts

@@ -1,5 +1,0 @@
-use Rattle.midi_edge.specs.Runs.{runs_are_lost}
-use Rattle.midi_edge.proofs.laws.runs_are_lost_as_one.Goals as goal
-
-pub returns : goal.returns
-returns c = runs_are_lost

@@ -1,0 +1,2 @@
+pub mod ForProofs
+pub mod Words

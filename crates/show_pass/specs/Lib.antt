@@ -1,0 +1,9 @@
+pub mod ForProofs
+pub mod KeptState
+pub mod Laws
+pub mod Options
+pub mod ShowBytes
+pub mod ShowPackets
+pub mod ShowReady
+pub mod ShownLines
+pub mod Texts

@@ -1,0 +1,40 @@
+// What holds of all inputs that are shown.
+ghost use Rattle.pass_loop.specs.Bytes.{byte_cutting};
+ghost use Rattle.pass_loop.specs.FirstRefusal.{HasOneFirstRefusal};
+ghost use Rattle.packet_input.specs.Packets.{packet_cutting};
+ghost use Rattle.show_pass.specs.Laws.{DoneShowsTheRecording, DoneShowsTheStream};
+ghost use Rattle.show_pass.specs.Options.{ByteLineOptions, PacketLineOptions};
+ghost use Rattle.show_pass.specs.ShowBytes.{showing_bytes};
+ghost use Rattle.show_pass.specs.ShowPackets.{showing};
+
+use packet_input::packets_are_cut_once;
+use pass_loop::laws::bytes_are_cut_once;
+
+/// A recording that is shown has one first refusal: after packets that are accepted it is refused at one
+/// offset and for one reason, whichever cutting tells it.
+pub fn a_recording_that_is_shown_has_one_first_refusal()
+    ensures { (options : PacketLineOptions) →
+        HasOneFirstRefusal (packet_cutting options.order) (showing options) }
+{
+    packets_are_cut_once();
+}
+
+/// So has a stream of bytes.
+pub fn a_stream_that_is_shown_has_one_first_refusal()
+    ensures { (options : ByteLineOptions) → HasOneFirstRefusal byte_cutting (showing_bytes options) }
+{
+    bytes_are_cut_once();
+}
+
+/// Where `show` is done, the output gained exactly the lines of the packets of the whole input, in their
+/// order, and after them those of what the packets mean, where the state is asked for.
+pub fn a_recording_that_is_shown_is_that_of_the_input()
+    ensures { DoneShowsTheRecording }
+{}
+
+/// Where `show --bytes` is done, the output gained exactly the lines of the bytes of the whole input, in
+/// their order, then that of what is open at the end, and those of what the bytes mean, where the state is
+/// asked for.
+pub fn a_stream_that_is_shown_is_that_of_the_input()
+    ensures { DoneShowsTheStream }
+{}

@@ -1,0 +1,12 @@
+//! The small types that every crate stands on: numbers of four bits, lists that take no memory, and the want of it.
+#![tactic(auto)]
+
+pub mod few_bits;
+pub mod lent;
+pub mod no_memory;
+pub mod short_list;
+
+pub use crate::few_bits::U4;
+pub use crate::lent::LentU4;
+pub use crate::no_memory::NoMemory;
+pub use crate::short_list::ShortList;

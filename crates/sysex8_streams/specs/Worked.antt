@@ -1,0 +1,2 @@
+-- Worked rows: the definitions, computed. They define nothing that a contract of a public call other than a law cites.
+pub mod Rows

@@ -1,0 +1,5 @@
+pub mod DecimalText
+pub mod Numbers
+pub mod Overwriting
+pub mod Pairs
+pub mod Pieces

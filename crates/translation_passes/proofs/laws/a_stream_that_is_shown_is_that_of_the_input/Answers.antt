@@ -1,5 +1,0 @@
-use Rattle.translation_passes.proofs.InputLaws.{shows_the_stream}
-use Rattle.translation_passes.proofs.laws.a_stream_that_is_shown_is_that_of_the_input.Goals as goal
-
-pub returns : goal.returns
-returns c = shows_the_stream

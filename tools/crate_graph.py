@@ -1,0 +1,121 @@
+#!/usr/bin/env python3
+"""crate_graph.py COMMAND: what stands on what, by crates.txt.
+
+  crate_graph.py above [CRATES_TXT..]   of each crate, how many stand above it: those that are proved again when it changes. Of several
+                                        such files, a column each
+  crate_graph.py above-of CRATE..       the crates that stand above any of these
+  crate_graph.py map                    the map of docs/crates.md: by layer, each crate, how many stand above it, and the crates that it
+                                        stands on directly
+  crate_graph.py check                  compares docs/crates.md and crates.txt: the map, and that each crate has its row; ends with 1 where
+                                        they differ
+"""
+import os
+import re
+import sys
+
+TOP = os.path.dirname(os.path.dirname(os.path.abspath(__file__)))
+ROW = re.compile(r"(\w+)(?: staticlib)?:(.*)")
+
+
+def read(path):
+    with open(path, encoding="utf-8") as file:
+        return file.read()
+
+
+class Graph:
+    """The crates of a crates.txt: what each names, the layer in which it stands, and what follows from both."""
+
+    def __init__(self, path):
+        self.layers = []
+        named = {}
+        for line in read(path).splitlines():
+            if line.startswith("# ---- "):
+                self.layers.append((line[7:], []))
+            elif (row := ROW.match(line.partition("#")[0])):
+                named[row[1]] = set(row[2].split())
+                if self.layers:
+                    self.layers[-1][1].append(row[1])
+        # what isn't a row is a library of the kit
+        self.named = {it: {other for other in others if other in named} for it, others in named.items()}
+        self.below = {}
+        for it in self.named:
+            self.fill_below(it)
+        self.above = {it: {other for other in self.named if it in self.below[other]} for it in self.named}
+
+    def fill_below(self, it):
+        if it not in self.below:
+            self.below[it] = set()
+            for other in self.named[it]:
+                self.fill_below(other)
+                self.below[it] |= {other} | self.below[other]
+
+    def on(self, it):
+        """The crates that it stands on directly: those that it names and that no other of these stands on."""
+        return sorted(other for other in self.named[it] if not any(other in self.below[one] for one in self.named[it]))
+
+    def height(self, it):
+        return 1 + max((self.height(other) for other in self.named[it]), default=0)
+
+
+def above(paths):
+    graphs = [Graph(path) for path in paths]
+    print(f"{'crates':22}" + "".join(f"{len(one.named):6}" for one in graphs))
+    print(f"{'longest chain':22}" + "".join(f"{max(map(one.height, one.named)):6}" for one in graphs))
+    names = {it for one in graphs for it in one.named}
+    most = {it: max(len(one.above.get(it, ())) for one in graphs) for it in names}
+    for it in sorted(names, key=lambda it: (-most[it], it)):
+        print(f"{it:22}" + "".join(f"{len(one.above[it]) if it in one.named else '-':>6}" for one in graphs))
+
+
+def above_of(names):
+    graph = Graph(f"{TOP}/crates.txt")
+    for it in sorted(set().union(*(graph.above[name] for name in names)) - set(names)):
+        print(it)
+
+
+def drawn():
+    graph = Graph(f"{TOP}/crates.txt")
+    rows = []
+    for title, names in graph.layers:
+        rows += ["", title]
+        for it in names:
+            rows.append(f"  {it:20}{len(graph.above[it]):3}  {', '.join(graph.on(it))}".rstrip())
+    return "\n".join(rows[1:])
+
+
+def check():
+    graph = Graph(f"{TOP}/crates.txt")
+    page = read(f"{TOP}/docs/crates.md")
+    faults = []
+    at = {it: n for n, it in enumerate(it for _, names in graph.layers for it in names)}
+    for it, others in graph.named.items():
+        if it not in at:
+            faults.append(f"crates.txt: {it} stands in no layer")
+        faults += [f"crates.txt: {it} stands before {other}, which it names" for other in sorted(others) if at.get(other, 0) > at.get(it, 0)]
+        if not re.search(rf"(?m)^- \*\*.*`{'NAME_tests' if it.endswith('_tests') else it}`", page):
+            faults.append(f"docs/crates.md: no row tells of {it}")
+    for row in re.findall(r"(?m)^- \*\*(.*)\*\*", page):
+        faults += [f"docs/crates.md: there is no crate {it}" for it in re.findall(r"`(\w+)`", row) if it not in graph.named and it != "NAME_tests"]
+    if f"```\n{drawn()}\n```" not in page:
+        faults.append("docs/crates.md: the map isn't the one that `tools/crate_graph.py map` prints")
+    for fault in faults:
+        print(fault)
+    print(f"crate_graph.py: {len(graph.named)} crates, {len(faults)} to mend")
+    return 1 if faults else 0
+
+
+def main(words):
+    if words and words[0] == "above":
+        return above(words[1:] or [f"{TOP}/crates.txt"])
+    if len(words) > 1 and words[0] == "above-of":
+        return above_of(words[1:])
+    if words == ["map"]:
+        return print(drawn())
+    if words == ["check"]:
+        return check()
+    print(__doc__.strip(), file=sys.stderr)
+    return 2
+
+
+if __name__ == "__main__":
+    sys.exit(main(sys.argv[1:]))
