@@ -69,8 +69,13 @@ def above(paths):
 
 def above_of(names):
     graph = Graph(f"{TOP}/crates.txt")
+    unknown = [name for name in names if name not in graph.named]
+    if unknown:
+        print(f"crate_graph.py: there is no crate {', '.join(unknown)} in crates.txt", file=sys.stderr)
+        return 2
     for it in sorted(set().union(*(graph.above[name] for name in names)) - set(names)):
         print(it)
+    return 0
 
 
 def drawn():
