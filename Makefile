@@ -1,55 +1,48 @@
-# make release: writes out/larboardyuzu-VERSION.tar.gz, for a machine without the kit: the built program with its script, help, pages, man
-# page, completions and examples, and the library for C for each processor for which it is built.
-#
-#   make                  builds the program and the library for C, which proves them (64-bit ARM: make -C c arm64)
-#   make release          packs what is built; of a library that isn't, it says so
-#   make check-release    packs it, unpacks it in an empty folder and tries it there without the kit
-#   make clean            removes what is packed
-VERSION := $(shell cat VERSION)
-name := larboardyuzu-$(VERSION)
-archive := out/$(name).tar.gz
-stage := out/release/$(name)
-program := crates/midi_tool/out/midi_tool
-pages := README.md CONTRIBUTING.md CHANGELOG.md VERSION larboardyuzu docs completions include
-examples := $(filter-out %.py examples/faults.c,$(wildcard examples/*.*)) $(addprefix examples/,c python rust)
-shared := c/out/liblarboardyuzu.so.$(VERSION)
-# The shared library has two links, by the first two numbers of the version and by none, which are packed as links.
-x64 := $(wildcard c/out/liblarboardyuzu.a $(shared) $(basename $(shared)) c/out/liblarboardyuzu.so)
-arm64 := $(wildcard c/out/arm64/liblarboardyuzu.a)
-TAR ?= tar
-
-.PHONY: all release check-release clean
-.DELETE_ON_ERROR:
+# make                  builds the program and the library for C, which proves them (64-bit ARM: make -C c arm64)
+# make install          puts the program and the library for C, if it is built, below PREFIX (/usr/local); tools/install.sh says which
+#                       other folders can be chosen, DESTDIR and LIBDIR among them
+# make uninstall        removes what it put there
+# make release          packs out/larboardyuzu-VERSION.tar.gz for a machine without the kit; of a library that isn't built it says so
+# make check-release    packs it as it stands, committed or not, unpacks it in an empty folder and tries it there without the kit
+# make deb              packs what is built for Debian: the program, and the library for C for each processor
+# make check-packages   tries make install and make deb in empty folders
+# make sums             packs a release and writes SHA256SUMS, which is committed with a version
+# make compare          compares what is built and packed with SHA256SUMS
+# make clean            removes what is packed
+archive := out/larboardyuzu-$(shell cat VERSION).tar.gz
+.PHONY: all install uninstall release check-release deb check-packages sums compare clean
 
 all:
 	./larboardyuzu selftest 0
 	$(MAKE) -C c
 
+# Nothing that is older than its sources is installed or packed.
+install:
+	@tools/built.py old
+	@tools/install.sh install
+
+uninstall:
+	@tools/install.sh uninstall
+
 release:
-	@test -x $(program) || { echo "release: there is no $(program): \`make\` builds it" >&2; exit 1; }
-	@rm -rf out/release $(archive)
-	@mkdir -p $(stage)/libexec $(stage)/examples $(stage)/man/man1 $(stage)/lib/pkgconfig $(stage)/lib/aarch64-linux-gnu
-	cp $(program) $(stage)/libexec/larboardyuzu
-	cp -R $(pages) $(stage)
-	cp -R $(examples) $(stage)/examples
-	ln -s ../../docs/larboardyuzu.1 $(stage)/man/man1/larboardyuzu.1
-ifneq ($(x64),)
-	cp -P $(x64) $(stage)/lib
-	sed -e 's|@PREFIX@|$${pcfiledir}/../..|' -e 's|@VERSION@|$(VERSION)|' c/larboardyuzu.pc.in > $(stage)/lib/pkgconfig/larboardyuzu.pc
-else
-	@echo "release: without the library for C: \`make -C c\` builds it"
-endif
-ifneq ($(arm64),)
-	cp $(arm64) $(stage)/lib/aarch64-linux-gnu
-else
-	@echo "release: without the library for C for 64-bit ARM: \`make -C c arm64\` builds it"
-endif
-	@find $(stage) -name __pycache__ -prune -exec rm -r {} + && find $(stage) -depth -type d -empty -delete
-	$(TAR) -C out/release --sort=name --owner=0 --group=0 --numeric-owner --mode=go=u-w -czf $(archive) $(name)
-	@rm -rf out/release && echo "release: $(archive)"
+	@tools/release.py pack
 
 check-release:
-	python3 examples/check_release.py
+	@UNCOMMITTED=1 tools/release.py pack
+	@tools/check_release.py $(archive)
+
+deb:
+	@tools/built.py old
+	@tools/packages.py make
+
+check-packages:
+	@tools/check_packages.py all
+
+sums:
+	@tools/release.py sums
+
+compare:
+	@tools/release.py compare
 
 clean:
-	rm -rf out/release out/larboardyuzu-*.tar.gz
+	rm -rf out/release out/larboardyuzu-*.tar.gz out/deb

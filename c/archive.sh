@@ -1,15 +1,16 @@
 #!/usr/bin/env bash
-# archive.sh [TARGET FILE]: makes the proved archive of crates/larboardyuzu_c anew where its sources changed; with two words, the archive
+# archive.sh here|TARGET FILE: makes the proved archive of crates/larboardyuzu_c anew where its sources changed; with two words, the archive
 # FILE of the same crate, proved for another TARGET.
 #
 # rt lib proves each library below anew that has no stamp, as none has after rt ci in a fresh clone. Where none has one, this builds the
 # crate alone over the libraries that are there, with the words with which rt itself would call the compiler. What a build proves is kept in the
 # crate's out/, as rt lib keeps it, so that the archive for another target isn't proved from nothing again.
 set -euo pipefail
+[ $# != 0 ] || { sed -n '2,/^[^#]/s/^# \{0,1\}//p' "$0" >&2; exit 2; }
 name=larboardyuzu_c
 folder=$(cd "$(dirname "${BASH_SOURCE[0]}")/../crates/$name" && pwd)
 archive=$folder/out/lib$name.a
-target=${1:-} file=${2:-$archive}
+target=${2:+$1} file=${2:-$archive}
 cd "$folder"
 
 if ! command -v rt >/dev/null; then

@@ -1,8 +1,9 @@
 #!/usr/bin/env bash
-# arm64.sh: what `make arm64` runs: builds the library for 64-bit ARM, proved for that target, in out/arm64, over the libraries below it;
+# arm64.sh all: what `make arm64` runs: builds the library for 64-bit ARM, proved for that target, in out/arm64, over the libraries below it;
 # then, with a compiler for it and qemu-user, its examples and tests, and a program without a C library. Without the
 # kit it takes the proved archive that lies in out/arm64 already. A part whose tool is missing is skipped with a line.
 set -euo pipefail
+[ $# != 0 ] || { sed -n '2,/^[^#]/s/^# \{0,1\}//p' "$0" >&2; exit 2; }
 here=$(cd "$(dirname "$0")" && pwd)
 top=$(dirname "$here")
 out=$here/out/arm64

@@ -1,7 +1,8 @@
 #!/bin/sh
-# check.sh: what `make check` runs: the interface, the examples, the tests, and the comparison with the program. A part whose tool is missing is
+# check.sh all: what `make check` runs: the interface, the examples, the tests, and the comparison with the program. A part whose tool is missing is
 # skipped with a line; anything else that fails ends it.
 set -eu
+[ $# != 0 ] || { sed -n '2,/^[^#]/s/^# \{0,1\}//p' "$0" >&2; exit 2; }
 here=$(cd "$(dirname "$0")" && pwd)
 top=$(dirname "$here")
 out=$here/out/check
@@ -60,6 +61,12 @@ for name in down block up endpoint; do
 done
 "$CC" -std=c11 $flags "$top/examples/c/fixed_block.c" "$top/examples/c/own_heap.c" "$lib" -o "$out/fixed_block"
 compares fixed_block.c "$expected/fixed_block" "$out/fixed_block"
+"$CC" -std=c11 $flags "$top/examples/c/device.c" "$lib" -o "$out/device"
+if has python3; then
+    python3 "$here/tests/device.py" "$out/device" "$top/examples/endpoint.toml"
+else
+    echo "device.c: skipped, there is no python3"
+fi
 if has "$CXX"; then
     for name in down block up endpoint; do
         "$CXX" -std=c++17 $flags -x c++ "$top/examples/c/$name.c" -x none "$lib" -o "$out/$name-cxx"

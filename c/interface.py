@@ -3,7 +3,7 @@
 
 Each export has a prototype of the same name, with the same arguments in the same order: a number as its type of <stdint.h>, a slice as a
 pointer and a size_t, a reference to a #[repr(C)] struct as a pointer to a struct whose fields have the same names and types. Each status
-and each kind of line has the number that the sources give it. It prints each difference; the exit code is 1 where there is one."""
+and each kind of line has the number that the sources give it. It prints each difference; the exit code is 1 if there is one."""
 import os
 import re
 import sys
@@ -184,4 +184,7 @@ def main(header_path, crates):
 
 
 if __name__ == "__main__":
+    if len(sys.argv) != 3:
+        print(__doc__, file=sys.stderr)
+        sys.exit(2)
     sys.exit(main(*sys.argv[1:]))

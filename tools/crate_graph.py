@@ -4,14 +4,15 @@
   crate_graph.py above [CRATES_TXT..]   of each crate, how many stand above it: those that are proved again when it changes. Of several
                                         such files, a column each
   crate_graph.py above-of CRATE..       the crates that stand above any of these
-  crate_graph.py map                    the map of docs/crates.md: by layer, each crate, how many stand above it, and the crates that it
-                                        stands on directly
-  crate_graph.py check                  compares docs/crates.md and crates.txt: the map, and that each crate has its row; ends with 1 where
-                                        they differ
+  crate_graph.py map                    by layer, each crate, how many stand above it, and the crates that it stands on directly
+  crate_graph.py layers                 the map of docs/crates.md: the layers, from the top down, each with the layers that its crates name
+  crate_graph.py check                  compares docs/crates.md and crates.txt: the layers, that each crate has its row, and that a row links
+                                        to a source of its crate; ends with 1 if they differ
 """
 import os
 import re
 import sys
+import textwrap
 
 TOP = os.path.dirname(os.path.dirname(os.path.abspath(__file__)))
 ROW = re.compile(r"(\w+)(?: staticlib)?:(.*)")
@@ -88,21 +89,56 @@ def drawn():
     return "\n".join(rows[1:])
 
 
-def check():
-    graph = Graph(f"{TOP}/crates.txt")
-    page = read(f"{TOP}/docs/crates.md")
-    faults = []
+def spans(numbers):
+    """Numbers in order, three or more in a row as one span."""
+    found = []
+    for number in sorted(numbers):
+        if found and number == found[-1][-1] + 1:
+            found[-1].append(number)
+        else:
+            found.append([number])
+    return " ".join(f"{one[0]}-{one[-1]}" if len(one) > 2 else " ".join(map(str, one)) for one in found)
+
+
+def layers(graph):
+    """The layers from the top down, each with the numbers of those that its crates name."""
+    number = {it: n for n, (_, names) in enumerate(graph.layers, 1) for it in names}
+    rows = []
+    for title, names in reversed(graph.layers):
+        own = number[names[0]]
+        on = {number[other] for it in names for other in graph.named[it]} - {own}
+        head = f"{own:2}  {re.split('[:,.]', title)[0]}"
+        rows += ["", f"{head:50}on {spans(on)}" if on else head, *textwrap.wrap(" ".join(names), 96, initial_indent="    ", subsequent_indent="    ")]
+    return "\n".join(rows[1:])
+
+
+def page_rows(page):
+    """The rows of the table on a page that begin with crates: these, and the rest of the row."""
+    for cell, rest in re.findall(r"(?m)^\| (`\w+`(?:, `\w+`)*) \|(.*)$", page):
+        yield re.findall(r"`(\w+)`", cell), rest
+
+
+def misplaced(graph):
     at = {it: n for n, it in enumerate(it for _, names in graph.layers for it in names)}
     for it, others in graph.named.items():
         if it not in at:
-            faults.append(f"crates.txt: {it} stands in no layer")
-        faults += [f"crates.txt: {it} stands before {other}, which it names" for other in sorted(others) if at.get(other, 0) > at.get(it, 0)]
-        if not re.search(rf"(?m)^- \*\*.*`{'NAME_tests' if it.endswith('_tests') else it}`", page):
-            faults.append(f"docs/crates.md: no row tells of {it}")
-    for row in re.findall(r"(?m)^- \*\*(.*)\*\*", page):
-        faults += [f"docs/crates.md: there is no crate {it}" for it in re.findall(r"`(\w+)`", row) if it not in graph.named and it != "NAME_tests"]
-    if f"```\n{drawn()}\n```" not in page:
-        faults.append("docs/crates.md: the map isn't the one that `tools/crate_graph.py map` prints")
+            yield f"crates.txt: {it} stands in no layer"
+        yield from (f"crates.txt: {it} stands before {other}, which it names" for other in sorted(others) if at.get(other, 0) > at.get(it, 0))
+
+
+def check():
+    graph = Graph(f"{TOP}/crates.txt")
+    page = read(f"{TOP}/docs/crates.md")
+    faults = [*misplaced(graph)]
+    has = []
+    for names, rest in page_rows(page):
+        has += names
+        faults += [f"docs/crates.md: the row of {names[0]} links to another crate" for one in re.findall(r"\.\./crates/(\w+)/", rest) if one not in names]
+    faults += [f"docs/crates.md: no row tells of {it}" for it in graph.named if it not in has]
+    faults += [f"docs/crates.md: there is no crate {it}" for it in has if it not in graph.named]
+    faults += [f"docs/crates.md: {it} has two rows" for it in sorted({it for it in has if has.count(it) > 1})]
+    if f"```\n{layers(graph)}\n```" not in page:
+        faults.append("docs/crates.md: the map isn't the one that `tools/crate_graph.py layers` prints")
     for fault in faults:
         print(fault)
     print(f"crate_graph.py: {len(graph.named)} crates, {len(faults)} to mend")
@@ -116,6 +152,8 @@ def main(words):
         return above_of(words[1:])
     if words == ["map"]:
         return print(drawn())
+    if words == ["layers"]:
+        return print(layers(Graph(f"{TOP}/crates.txt")))
     if words == ["check"]:
         return check()
     print(__doc__.strip(), file=sys.stderr)

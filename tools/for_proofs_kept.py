@@ -4,7 +4,7 @@
 What stands in a folder specs/ForProofs/ serves proofs alone: a reader of contracts can pass over it. So of the sources it tells
 - a file of specs/ outside such a folder that takes a name from one, by which a contract could reach it;
 - a name from one in a clause of a public function, or of a function of a public trait.
-It ends with 1 where it tells one."""
+It ends with 1 if it tells one."""
 import glob
 import os
 import re

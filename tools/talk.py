@@ -1,7 +1,7 @@
 #!/usr/bin/env python3
 """talk.py PROGRAM: holds conversations with the program over pipes that stay open. What a command puts has to be there before its input
 ends, each answer within a second. Every command is tried, to its end and ended by Ctrl-C while it waits; then 10,000 messages without a
-wait, a peer that reads slowly, and peers that close an end. The exit code is 1 where anything fails."""
+wait, a peer that reads slowly, and peers that close an end. The exit code is 1 if anything fails."""
 import os
 import pty
 import selectors
@@ -15,8 +15,8 @@ import threading
 import time
 import tty
 
-HERE = os.path.dirname(os.path.abspath(__file__))
-SETUP = f"{HERE}/endpoint.toml"
+TOP = os.path.dirname(os.path.dirname(os.path.abspath(__file__)))
+SETUP = f"{TOP}/examples/endpoint.toml"
 
 
 def words(text):
@@ -295,4 +295,7 @@ def main(program):
 
 
 if __name__ == "__main__":
+    if len(sys.argv) != 2:
+        print(__doc__, file=sys.stderr)
+        sys.exit(2)
     sys.exit(main(os.path.abspath(sys.argv[1])))

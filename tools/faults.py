@@ -13,12 +13,13 @@ import sys
 import tempfile
 
 HERE = os.path.dirname(os.path.abspath(__file__))
+TOP = os.path.dirname(HERE)
 EXIT_CODES = {"read": 2, "lane": 3, "output": 4, "note": 5, "setup": 6, "memory": 10}
 LAST_LINES = {2: "read failed\n", 3: "lane write failed\n", 4: "output write failed\n", 6: "setup read failed\n", 10: "no memory\n"}
 
 
 def example(name):
-    with open(f"{HERE}/{name}", "rb") as it:
+    with open(f"{TOP}/examples/{name}", "rb") as it:
         return it.read()
 
 
@@ -28,7 +29,7 @@ def words(text):
 
 RECORDING = example("mixed.ump") * 400
 STREAM = example("old-keyboard.bytes") * 500
-SETUP = f"{HERE}/endpoint.toml"
+SETUP = f"{TOP}/examples/endpoint.toml"
 CLIP = b"SMF2CLIP" + words("00300060 F0200000 00000000 00000000 00000000") + words("00400030 40903C00 C9240000") * 300 \
     + words("F0210000 00000000 00000000 00000000")
 DATA8 = words("50120000 B0B1A0A1 AABB0000 00000000") * 300
@@ -188,4 +189,7 @@ def main(program):
 
 
 if __name__ == "__main__":
+    if len(sys.argv) != 2:
+        print(__doc__, file=sys.stderr)
+        sys.exit(2)
     sys.exit(main(os.path.abspath(sys.argv[1])))

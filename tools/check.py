@@ -1,10 +1,10 @@
 #!/usr/bin/env python3
-"""check.py [PROGRAM [PAGE..]]: runs what the pages say, and compares. PROGRAM is by default that of the gate.
+"""check.py PROGRAM [PAGE..]: runs what the pages say with this program, and compares.
 
 With pages, it runs the `sh` blocks of these alone. With none it runs those of README.md, CONTRIBUTING.md and docs/*.md, each input of the
 tables of docs/errors.md and the examples of docs/help/, and checks the man page, the completions and the script ./larboardyuzu. All of it
 happens in copies of this repository without its sources, so that nothing is built. What needs a tool that isn't here is left out, with a
-line. The exit code is 1 where anything differs."""
+line. The exit code is 1 if anything differs."""
 import os
 import re
 import shutil
@@ -21,7 +21,7 @@ TOP = os.path.dirname(os.path.dirname(os.path.abspath(__file__)))
 BUILDS = r"(?m)^\s*(?:\w+=\S+\s+)*(?:\(?(?:cd|pushd) \S+ && )?(rt|\.ci/run|git|sudo|apt-get|make|cargo|pip3?|python3 -m pip)\b"
 # Tools that a page may use and a machine may lack. Any other command that isn't found makes its block differ.
 MAY_LACK = {"amidi", "aplaymidi", "arecordmidi", "aseqdump", "cc", "gcc", "g++", "pkg-config", "socat", "xxd"}
-MODULES = {"mido"}
+MODULES = {"mido", "tomllib"}
 LEFT_OUT = shutil.ignore_patterns(".git", "out", "crates", "__pycache__")
 
 
@@ -126,7 +126,7 @@ def check_page(program, page):
 
 
 def rows_of(page):
-    """The rows of the tables of a page that have an input: by the names of their columns."""
+    """The rows of the tables of a page, by the names of their columns."""
     names = None
     for line in page.splitlines():
         cells = [it.strip() for it in line.strip("|").split(" | ")] if line.startswith("|") else None
@@ -153,7 +153,7 @@ def check_errors(program):
     page = "docs/errors.md"
     text = read(page)
     prelude = next(body for kind, body, _ in blocks_of(text) if kind == "sh")
-    rows = [it for it in rows_of(text) if len(it) > 3]
+    rows = [it for it in rows_of(text) if any(name.endswith(("shows it", "show it")) for name in it)]
     if shutil.which("rt", path="/usr/bin:/bin"):
         print(f"{page}: the row of 127 is left out, since rt is in /usr/bin here", flush=True)
         rows = [it for it in rows if it.get("Code") != "127"]
@@ -194,15 +194,18 @@ def pages():
 
 
 def main(words):
-    program = os.path.abspath(words[0] if words else f"{TOP}/crates/midi_tool/out/midi_tool")
+    if not words:
+        print(__doc__, file=sys.stderr)
+        return 2
+    program = os.path.abspath(words[0])
     if not os.path.isfile(program):
-        print(f"check.py: there is no program {program}: build it by ./larboardyuzu selftest 0, or name one")
+        print(f"check.py: there is no program {program}: build it by ./larboardyuzu selftest 0")
         return 1
     differ = [why for page in words[1:] or pages() for why in check_page(program, page)]
     if not words[1:]:
         differ += check_errors(program)
-        for part in (check_help.check, check_shells.check):
-            differ += part(Room, program, TOP)
+        differ += check_help.check(Room, program, TOP)
+        differ += check_shells.check(check_shells.LOADS)
     print(*differ, sep="\n")
     print(f"pages: {len(differ)} differ" if differ else "pages: all as they say")
     return 1 if differ else 0

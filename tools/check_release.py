@@ -1,10 +1,10 @@
 #!/usr/bin/env python3
-"""check_release.py [ARCHIVE]: unpacks a release in an empty folder and tries it there, without the kit, the sources and, where the program
-alone is tried, without a PATH. With no ARCHIVE it has `make release` write one first.
+"""check_release.py ARCHIVE: unpacks a release in an empty folder and tries it there, without the kit, the sources and, where the program
+alone is tried, without a PATH.
 
-It runs the script and the program, the blocks of README.md and docs/examples.md, looks the man page up, and compiles examples in C against
-the libraries that were packed. What needs a tool or a library that isn't here is left out, with a line. The exit code is 1 where anything
-fails."""
+It runs the script and the program, a conversation, and the blocks of README.md and docs/examples.md, installs what it has, looks the man
+page up, and compiles examples in C against the libraries that were packed. What needs a tool or a library that isn't here is left out, with
+a line. The exit code is 1 if anything fails."""
 import os
 import re
 import shutil
@@ -14,6 +14,7 @@ import tarfile
 import tempfile
 
 import check
+import crate_graph
 
 TOP = check.TOP
 # A PATH without the kit, and none.
@@ -24,7 +25,12 @@ STRICT = ["-std=c11", "-O2", "-Wall", "-Wextra", "-Wpedantic", "-Werror"]
 MIXED = bytes.fromhex("40903C00C9240000")
 FILES = ["larboardyuzu", "libexec/larboardyuzu", "README.md", "CONTRIBUTING.md", "CHANGELOG.md", "VERSION", "include/larboardyuzu.h",
          "include/larboardyuzu.hpp", "man/man1/larboardyuzu.1", "completions/larboardyuzu.bash", "completions/_larboardyuzu",
-         "docs/setup.md", "examples/endpoint.toml"]
+         "completions/larboardyuzu.fish", "docs/setup.md", "examples/endpoint.toml", "examples/helpers.sh", "tools/install.sh", "NOTICES.txt",
+         "RELEASE.txt"]
+# The pages of a user: the others tell of the repository.
+USERS_PAGES = ["README.md", "docs/examples.md", "docs/recordings.md", "docs/errors.md", "docs/ends.md", "docs/limits.md", "docs/setup.md",
+               "docs/c-library.md", "docs/peers.md", "docs/devices.md", "docs/receivers.md", "docs/larboardyuzu.1",
+               *(f"docs/help/{it}.txt" for it in ("commands", "options"))]
 
 
 def ran(words, given=b"", **how):
@@ -77,25 +83,85 @@ def check_members(release):
         yield f"--version: {told}"
 
 
-def check_program(release):
-    """The script and the program itself, from another folder, with no PATH."""
-    script, program = f"{release.at}/larboardyuzu", f"{release.at}/libexec/larboardyuzu"
-    link = f"{release.room}/link"
-    os.symlink(script, link)
+def tried(script, setup, room):
+    """The script and what it calls, from another folder, with no PATH."""
     shown = b"0 40903C00 C9240000 note-on group=0 channel=0 note=60 velocity=51492 type=0 attribute=0\n"
-    setup = f"{release.at}/examples/endpoint.toml"
-    for at in (script, program, link):
-        for words, given, wanted in ((["show"], MIXED, shown), (["translate", "up"], bytes.fromhex("903C64"), MIXED)):
-            if (got := ran([at, *words], given, cwd=release.room, env=NO_PATH)) != (0, wanted, b""):
-                yield f"{at} {' '.join(words)}: {got}"
-        code, output, _ = ran([at, "endpoint", setup], bytes.fromhex("F00001010000001F0000000000000000"), cwd=release.room, env=NO_PATH)
-        if code or len(output) != 96:
-            yield f"{at} endpoint: exit code {code}, {len(output)} bytes"
-    for words, begins in ((["--help"], b"usage: "), (["help", "clip"], b"clip: "), (["--version"], b"larboardyuzu ")):
-        code, output, errors = ran([script, *words], cwd=release.room, env=NO_PATH)
+    for words, given, wanted in ((["show"], MIXED, shown), (["translate", "up"], bytes.fromhex("903C64"), MIXED)):
+        if (got := ran([script, *words], given, cwd=room, env=NO_PATH)) != (0, wanted, b""):
+            yield f"{script} {' '.join(words)}: {got}"
+    code, output, _ = ran([script, "endpoint", setup], bytes.fromhex("F00001010000001F0000000000000000"), cwd=room, env=NO_PATH)
+    if code or len(output) != 96:
+        yield f"{script} endpoint: exit code {code}, {len(output)} bytes"
+
+
+def tried_help(script, room):
+    version = f"larboardyuzu {check.read('VERSION')}".encode()
+    for words, begins in ((["--help"], b"usage: "), (["help", "clip"], b"clip: "), (["--version"], version)):
+        code, output, errors = ran([script, *words], cwd=room, env=NO_PATH)
         if code or errors or not output.startswith(begins):
             yield f"{script} {' '.join(words)}: exit code {code}, {output[:80]}, {errors}"
+
+
+def check_program(release):
+    script, link = f"{release.at}/larboardyuzu", f"{release.room}/link"
+    os.symlink(script, link)
+    for at in (script, f"{release.at}/libexec/larboardyuzu", link):
+        yield from tried(at, f"{release.at}/examples/endpoint.toml", release.room)
+    yield from tried_help(script, release.room)
     os.remove(link)
+
+
+def check_texts(release):
+    """What a release says of itself: the notices of the kit's crates, the licence, and the least version of glibc, as README has it."""
+    texts = {}
+    for name in ("NOTICES.txt", "RELEASE.txt", "README.md"):
+        with open(f"{release.at}/{name}", encoding="utf-8") as it:
+            texts[name] = " ".join(it.read().split())
+    if os.path.isfile(f"{TOP}/crates.txt"):
+        rows = dict(re.findall(r"(?m)^(\w+).*?:([^#\n]*)", check.read("crates.txt")))
+        own = {"midi_tool", *crate_graph.Graph(f"{TOP}/crates.txt").below["midi_tool"]}
+        used = {use for it in own for use in rows[it].split()} - set(rows)
+        yield from (f"NOTICES.txt doesn't name {it}" for it in sorted(used) if not re.search(rf"\b{it}\b", texts["NOTICES.txt"]))
+    for name, text in texts.items():
+        if "has chosen no licence" not in text:
+            yield f"{name} doesn't say that there is no licence yet"
+    if not shutil.which("objdump"):
+        left_out("the least version of glibc", "objdump")
+        return
+    asked = re.findall(r"GLIBC_([0-9.]+)", ran(["objdump", "-T", f"{release.at}/libexec/larboardyuzu"])[1].decode())
+    least = ".".join(map(str, max(tuple(map(int, it.split("."))) for it in asked)))
+    yield from (f"{it} doesn't name glibc {least}" for it in ("RELEASE.txt", "README.md") if f"glibc {least} " not in texts[it])
+
+
+def check_named(release):
+    """The files of tools/ and examples/ that a user's page names."""
+    for page in USERS_PAGES:
+        for name in sorted(set(re.findall(r"\b(?:tools|examples)/[\w./-]*\w", check.read(page)))):
+            if not os.path.exists(f"{release.at}/{name}"):
+                yield f"{page} names {name}, which the release doesn't have"
+
+
+def check_talk(release):
+    code, output, _ = ran(["python3", f"{release.at}/tools/talk.py", f"{release.at}/libexec/larboardyuzu"], cwd=release.room)
+    if code or not re.search(rb"\d+ tried, 0 failed\n$", output):
+        yield f"tools/talk.py: exit code {code}, {output[-300:]}"
+
+
+def check_install(release):
+    """The release installs itself, and what is installed runs without it."""
+    place = {**WITHOUT_KIT, "DESTDIR": f"{release.room}/place", "PREFIX": "/usr"}
+    if (got := ran([f"{release.at}/tools/install.sh", "install"], env=place))[0]:
+        yield f"tools/install.sh: {got}"
+        return
+    os.rename(f"{release.at}/libexec", f"{release.at}/gone")
+    yield from tried(f"{release.room}/place/usr/bin/larboardyuzu", f"{release.at}/examples/endpoint.toml", release.room)
+    if not os.path.isfile(f"{release.room}/place/usr/share/doc/larboardyuzu/NOTICES.txt"):
+        yield "tools/install.sh installs no NOTICES.txt"
+    os.rename(f"{release.at}/gone", f"{release.at}/libexec")
+    ran([f"{release.at}/tools/install.sh", "uninstall"], env=place)
+    left = [name for _, _, names in os.walk(f"{release.room}/place") for name in names]
+    if left:
+        yield f"tools/install.sh uninstall leaves {left}"
 
 
 def check_missing(release):
@@ -206,21 +272,18 @@ def check_arm64(release):
     yield from check_linked(release, compiler, "C on 64-bit ARM", linked, [runner] if runner else None)
 
 
-def packed():
-    """The archive that `make release` writes; one that was there before is gone."""
-    done = subprocess.run(["make", "-s", "-C", TOP, "release"], stdin=subprocess.DEVNULL, check=False)
-    return f"{TOP}/out/larboardyuzu-{check.read('VERSION').strip()}.tar.gz" if done.returncode == 0 else None
-
-
 def main(words):
-    archive = words[0] if words else packed()
-    if archive is None or not os.path.isfile(archive):
-        print(f"release: there is no {archive or 'archive'}")
+    if len(words) != 1:
+        print(__doc__, file=sys.stderr)
+        return 2
+    if not os.path.isfile(words[0]):
+        print(f"release: there is no {words[0]}")
         return 1
-    parts = (check_members, check_program, check_missing, check_pages, check_man, check_x64, check_arm64)
-    with Unpacked(archive) as release:
+    parts = (check_members, check_program, check_texts, check_named, check_talk, check_install, check_missing, check_pages, check_man,
+             check_x64, check_arm64)
+    with Unpacked(words[0]) as release:
         failed = [why for part in parts for why in part(release)]
-    print(*failed, f"release: {len(failed)} failed" if failed else f"release: {os.path.basename(archive)} runs without the kit", sep="\n")
+    print(*failed, f"release: {len(failed)} failed" if failed else f"release: {os.path.basename(words[0])} runs without the kit", sep="\n")
     return 1 if failed else 0
 
 

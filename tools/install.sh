@@ -1,0 +1,123 @@
+#!/bin/sh
+# install.sh install|uninstall [program] [library]: puts these parts below PREFIX, or removes what it put there. If neither is named it
+# takes the program, and the library for C if it is built. `make install` calls it in a checkout; a release has it too.
+#
+# The program comes with its help, man page, completions, pages and examples; the library with its headers and a pkg-config file.
+#
+#   PREFIX      /usr/local; BINDIR, LIBEXECDIR, LIBDIR, INCLUDEDIR and DATADIR (share) are below it, MANDIR and DOCDIR below DATADIR
+#   BASHDIR, ZSHDIR, FISHDIR   the folders for the completions, below DATADIR
+#   DESTDIR     goes before all of these, for one who packs the files: nothing
+#   PROGRAM, LIBRARY           the program, and the folder of the library, where they aren't those of this checkout or release
+set -eu
+if [ $# = 0 ]; then
+  sed -n '2,/^[^#]/s/^# \{0,1\}//p' "$0" >&2
+  exit 2
+fi
+cd "$(dirname "$0")/.."
+version=$(cat VERSION)
+if [ -e crates.txt ]; then
+  : "${PROGRAM:=crates/midi_tool/out/midi_tool}" "${LIBRARY:=c/out}"
+else
+  : "${PROGRAM:=libexec/larboardyuzu}" "${LIBRARY:=lib}"
+fi
+: "${DESTDIR=}" "${PREFIX:=/usr/local}"
+: "${BINDIR:=$PREFIX/bin}" "${LIBEXECDIR:=$PREFIX/libexec}" "${LIBDIR:=$PREFIX/lib}" "${INCLUDEDIR:=$PREFIX/include}"
+: "${DATADIR:=$PREFIX/share}"
+: "${MANDIR:=$DATADIR/man}" "${DOCDIR:=$DATADIR/doc/larboardyuzu}"
+: "${BASHDIR:=$DATADIR/bash-completion/completions}" "${ZSHDIR:=$DATADIR/zsh/site-functions}"
+: "${FISHDIR:=$DATADIR/fish/vendor_completions.d}"
+# The script finds its help and the program in its own folder, as in a release.
+own=$LIBEXECDIR/larboardyuzu
+
+fail() { printf 'install: %s\n' "$*" >&2; exit 1; }
+
+# put MODE FILE TARGET: the file gets this mode, whatever the umask is.
+put() {
+  if [ "$action" = install ]; then
+    install -d -m 755 "$DESTDIR${3%/*}"
+    install -m "$1" "$2" "$DESTDIR$3"
+  else
+    rm -f "$DESTDIR$3"
+  fi
+}
+
+# link TO TARGET
+link() {
+  if [ "$action" = install ]; then
+    install -d -m 755 "$DESTDIR${2%/*}"
+    ln -sfn "$1" "$DESTDIR$2"
+  else
+    rm -f "$DESTDIR$2"
+  fi
+}
+
+# The folders that are this program's alone go when they are empty.
+drop_folder() {
+  [ "$action" = install ] || [ ! -d "$DESTDIR$1" ] || find "$DESTDIR$1" -depth -type d -empty -delete
+}
+
+# (a checkout has neither notices nor what a release says of itself)
+pages() {
+  find . -maxdepth 1 \( -name NOTICES.txt -o -name RELEASE.txt \) -printf '%f\n'
+  find README.md CONTRIBUTING.md CHANGELOG.md docs examples tools/talk.py -type f \
+    ! -path '*/__pycache__/*' ! -name '*.midi1' ! -name '*~' ! -name '.*' | sort
+}
+
+program() {
+  [ "$action" = uninstall ] || [ -x "$PROGRAM" ] || fail "there is no program $PROGRAM"
+  put 755 "$PROGRAM" "$own/libexec/larboardyuzu"
+  put 755 larboardyuzu "$own/larboardyuzu"
+  put 644 VERSION "$own/VERSION"
+  for file in docs/help/*.txt; do put 644 "$file" "$own/$file"; done
+  link "$(realpath -ms --relative-to="$BINDIR" "$own")/larboardyuzu" "$BINDIR/larboardyuzu"
+  put 644 docs/larboardyuzu.1 "$MANDIR/man1/larboardyuzu.1"
+  put 644 completions/larboardyuzu.bash "$BASHDIR/larboardyuzu"
+  put 644 completions/_larboardyuzu "$ZSHDIR/_larboardyuzu"
+  put 644 completions/larboardyuzu.fish "$FISHDIR/larboardyuzu.fish"
+  pages | while read -r file; do put 644 "$file" "$DOCDIR/$file"; done
+  drop_folder "$own"
+  drop_folder "$DOCDIR"
+}
+
+# The pkg-config file, with folders that follow its prefix where they lie below it.
+describe() {
+  described=c/larboardyuzu.pc.in
+  [ -e "$described" ] || described=lib/pkgconfig/larboardyuzu.pc
+  sed -e "s|^prefix=.*|prefix=$PREFIX|" -e "s|^libdir=.*|libdir=$(below_prefix "$LIBDIR")|" \
+    -e "s|^includedir=.*|includedir=$(below_prefix "$INCLUDEDIR")|" -e "s|@VERSION@|$version|" "$described"
+}
+
+below_prefix() {
+  case $1 in "$PREFIX"/*) printf '${prefix}%s\n' "${1#"$PREFIX"}" ;; *) printf '%s\n' "$1" ;; esac
+}
+
+library() {
+  shared=liblarboardyuzu.so.$version
+  [ "$action" = uninstall ] || [ -f "$LIBRARY/liblarboardyuzu.a" ] || fail "there is no library for C in $LIBRARY"
+  for file in include/*; do put 644 "$file" "$INCLUDEDIR/${file##*/}"; done
+  put 644 "$LIBRARY/liblarboardyuzu.a" "$LIBDIR/liblarboardyuzu.a"
+  # (for 64-bit ARM there is the archive alone)
+  if [ "$action" = uninstall ] || [ -f "$LIBRARY/$shared" ]; then
+    put 644 "$LIBRARY/$shared" "$LIBDIR/$shared"
+    link "$shared" "$LIBDIR/${shared%.*}"
+    link "${shared%.*}" "$LIBDIR/liblarboardyuzu.so"
+  fi
+  text=$(mktemp)
+  [ "$action" = uninstall ] || describe >"$text"
+  put 644 "$text" "$LIBDIR/pkgconfig/larboardyuzu.pc"
+  rm -f "$text"
+}
+
+action=$1
+case $action in install | uninstall) shift ;; *) fail "$action is neither install nor uninstall" ;; esac
+if [ $# = 0 ]; then
+  set -- program
+  if [ "$action" = uninstall ] || [ -f "$LIBRARY/liblarboardyuzu.a" ]; then
+    set -- program library
+  else
+    echo "install: without the library for C, which isn't in $LIBRARY"
+  fi
+fi
+for part; do
+  case $part in program | library) "$part" ;; *) fail "there is no part $part" ;; esac
+done

@@ -1,0 +1,78 @@
+#!/usr/bin/env python3
+"""layout.py check: prints the files of the repository that aren't as .editorconfig has them: UTF-8, lines that end with a line feed and
+without spaces, a line feed at the end, and no tabs before a line except in a Makefile. Recordings are passed over.
+
+It also prints pages that are too long: README.md and docs/*.md have at most 36,000 words together, README.md at most 2,400 words and 250
+lines, and a cell of a table at most 25 words. The exit code is 1 if it prints any."""
+import glob
+import os
+import re
+import subprocess
+import sys
+
+TOP = os.path.dirname(os.path.dirname(os.path.abspath(__file__)))
+RECORDINGS = (".ump", ".midi2", ".bytes", ".usb", ".events")
+MOST_WORDS, MOST_WORDS_OF_README, MOST_LINES_OF_README, MOST_WORDS_OF_A_CELL = 36_000, 2_400, 250, 25
+
+
+def faults(name, data):
+    try:
+        text = data.decode("utf-8")
+    except UnicodeDecodeError as error:
+        return [f"not UTF-8 at byte {error.start}"]
+    rules = {"a carriage return": "\r", "spaces at the end of a line": r"(?m)[ \t]+$", "no line feed at the end": r"[^\n]\Z"}
+    if os.path.basename(name) != "Makefile":
+        rules["a tab before a line"] = r"(?m)^ *\t"
+    return [what for what, rule in rules.items() if re.search(rule, text)]
+
+
+def read(path):
+    with open(path, encoding="utf-8") as it:
+        return it.read()
+
+
+def long_cells(name, text):
+    """The cells of tables that have too many words; code and the target of a link count as one word."""
+    text = re.sub(r"(?ms)^```.*?^```", "", text)
+    for row in re.findall(r"(?m)^\|.*\|$", text):
+        for cell in row.strip("|").split(" | "):
+            count = len(re.sub(r"`[^`]*`", "code", re.sub(r"\]\([^)]*\)", "]", cell)).split())
+            if count > MOST_WORDS_OF_A_CELL:
+                yield f"{name}: a cell has {count} words, and the most are {MOST_WORDS_OF_A_CELL}: {cell.strip()[:60]}"
+
+
+def long_pages():
+    """Which pages, or all together, are longer than they may be."""
+    pages = {os.path.relpath(it, TOP): read(it) for it in [f"{TOP}/README.md", *sorted(glob.glob(f"{TOP}/docs/*.md"))]}
+    words = sum(len(it.split()) for it in pages.values())
+    readme = pages["README.md"]
+    sizes = [("README.md and docs/*.md", words, MOST_WORDS, "words"), ("README.md", len(readme.split()), MOST_WORDS_OF_README, "words"),
+             ("README.md", readme.count("\n"), MOST_LINES_OF_README, "lines")]
+    yield from (f"{name}: {size} {unit}, and the most are {most}" for name, size, most, unit in sizes if size > most)
+    for name, text in {**pages, "CONTRIBUTING.md": read(f"{TOP}/CONTRIBUTING.md")}.items():
+        yield from long_cells(name, text)
+
+
+def main(words):
+    if words != ["check"]:
+        print(__doc__, file=sys.stderr)
+        return 2
+    listed = subprocess.run(["git", "-C", TOP, "ls-files", "-z", "-co", "--exclude-standard"], capture_output=True, text=True, check=False)
+    if listed.returncode:
+        print("layout.py: left out, since this folder is no repository of git")
+        return 0
+    names = [it for it in listed.stdout.split("\0") if os.path.isfile(f"{TOP}/{it}") and not it.endswith(RECORDINGS)]
+    wrong = 0
+    for name in names:
+        with open(f"{TOP}/{name}", "rb") as it:
+            found = faults(name, it.read())
+        wrong += bool(found)
+        if found:
+            print(f"{name}: {', '.join(found)}")
+    long = [*long_pages()]
+    print(*long, f"layout.py: {len(names)} files, {wrong + len(long)} to mend", sep="\n")
+    return 1 if wrong or long else 0
+
+
+if __name__ == "__main__":
+    sys.exit(main(sys.argv[1:]))
