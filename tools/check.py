@@ -22,7 +22,7 @@ BUILDS = r"(?m)^\s*(?:\w+=\S+\s+)*(?:\(?(?:cd|pushd) \S+ && )?(rt|\.ci/run|git|s
 # Tools that a page may use and a machine may lack. Any other command that isn't found makes its block differ.
 MAY_LACK = {"amidi", "aplaymidi", "arecordmidi", "aseqdump", "cc", "gcc", "g++", "pkg-config", "socat", "xxd"}
 MODULES = {"mido", "tomllib"}
-LEFT_OUT = shutil.ignore_patterns(".git", "out", "crates", "__pycache__")
+LEFT_OUT = shutil.ignore_patterns(".git", "out", "target", "crates", "__pycache__")
 
 
 class Room:

@@ -1,6 +1,6 @@
 -- A type 4 packet with the opcode of a direct message is that message.
 use Rattle.std.proofs.Common.{◌≡◌, ◌<◌, ◌/◌, ◌%◌, ◌^◌, ℕ, Bool, true, false, ◌||◌, ◌&&◌}
-use Rattle.std.proofs.Common.{leb, List, length, refl, sym, ap, ◌∙◌, subst, arith}
+use Rattle.std.proofs.Common.{leb, List, [], ◌∷◌, length, refl, sym, ap, ◌∙◌, subst, arith}
 use Rattle.std.specs.Prelude.{◌==◌, slice_index, if◌then◌else◌, Some, None}
 use Rattle.std.specs.Coded.{Coded-set, coded_bool}
 use Rattle.std.proofs.lemmas.Bool.{and_parts, eqb-true, leb-false, lt-leb, true≢false}
@@ -24,6 +24,14 @@ pub two_words : (words : List ℕ) → IsWhole words → slice_index words 0 < 2
 two_words words whole small kind =
     let type : slice_index words 0 / 2 ^ 28 ≡ 4 = omega arith in
     whole ∙ rw type refl
+
+-- two words of which the first begins such a message are a whole packet
+pub value_whole : (first second : ℕ) → first < 2 ^ 32 → (field first 28 4 == 4 && is_direct_opcode (field first 20 4)) ≡ true
+    → IsWhole (first ∷ second ∷ [])
+value_whole first second small e =
+    let kind : field first 28 4 ≡ 4 = eqb-true (field first 28 4) 4 (and_parts (field first 28 4 == 4) _ e).0 in
+    let type : first / 2 ^ 28 ≡ 4 = omega arith in
+    rw type refl
 
 not-opcode : (words : List ℕ) (n : ℕ) → opcode_of words ≡ n → is_direct_opcode n ≡ true → is_direct_opcode (opcode_of words) ≡ false → ⊥
 not-opcode words n e it other = true≢false (sym it ∙ ap is_direct_opcode (sym e) ∙ other)

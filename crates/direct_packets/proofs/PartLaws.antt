@@ -1,7 +1,7 @@
 -- A 7-bit exclusive in which no byte is high is a part of an exclusive with the bytes that it counts.
 use Rattle.std.proofs.Common.{◌≡◌, ◌<◌, ◌≤◌, ◌/◌, ◌^◌, ℕ, zero, suc, Bool, true, false, ◌||◌, ◌&&◌, leb, List, [], ◌∷◌}
 use Rattle.std.proofs.Common.{length, refl, sym, ap, ◌∙◌, subst, arith, lit≤, nat_le, nat_lt, slice_index_or, take}
-use Rattle.std.specs.Prelude.{◌==◌, slice_index, Some, None, All}
+use Rattle.std.specs.Prelude.{◌==◌, ◌≢◌, slice_index, Some, None, All}
 use Rattle.std.proofs.lemmas.Bool.{and_parts, eqb-true, le-leb, le-ltb, leb-false, leb-true}
 use Rattle.std.proofs.lemmas.Bool.{lt-leb, lt-ltb, ltb-false, ltb-true, or_parts, true≢false}
 use Rattle.std.proofs.lemmas.List.{length-take-le, take_all}
@@ -13,11 +13,11 @@ use Rattle.voice_messages.specs.declared.voice2.Form.TheVariants as form
 use Rattle.packet_words.specs.Words.{IsWhole}
 use Rattle.ump_grammar.specs.declared.packet.Packet.{Packet}
 use Rattle.ump_grammar.specs.declared.packet.Packet.TheVariants as packet
-use Rattle.ump_grammar.specs.WordFields.{byte, count_of, group_of, opcode_of, type_of}
+use Rattle.ump_grammar.specs.WordFields.{byte, count_of, field, group_of, opcode_of, type_of}
 use Rattle.ump_grammar.specs.Reason.{has_high, reason}
 use Rattle.ump_grammar.specs.Spelling.{Spells, exclusive_places, form_number}
 use Rattle.direct_packets.specs.Encoded.{ThePacket}
-use Rattle.direct_packets.specs.Parts.{begins_part, has_low_bytes, is_full_part, is_low_part}
+use Rattle.direct_packets.specs.Parts.{begins_part, continues_by_six, has_low_bytes, is_full_part, is_low_part, is_six_more}
 use Rattle.direct_packets.specs.DirectMessages.{is_direct_opcode}
 use Rattle.direct_packets.proofs.EncodedLaws.{is_whole, the_one}
 use Rattle.direct_packets.proofs.DirectLaws.{SpellsOne}
@@ -239,3 +239,63 @@ not_full words t none = ∥∥₁_elim t.1 (Coded-set bool-code (is_full_part t.
     by_packet : (p : Packet) → Spells p words → reason words ≡ None → is_full_part p ≡ false
     by_packet (packet.Exclusive group f bytes) spells fine = by_size group f bytes (length bytes == 6) refl spells fine
     by_packet _ spells fine = refl
+
+-- ---- six more bytes
+
+-- two words of which the first begins a 7-bit exclusive are a whole packet
+pub part_whole : (first second : ℕ) → first < 2 ^ 32 → begins_part first ≡ true → IsWhole (first ∷ second ∷ [])
+part_whole first second small e =
+    let b = and_parts (field first 28 4 == 3 && nat_le (field first 20 4) 3) (nat_le (field first 16 4) 6) e in
+    let c = and_parts (field first 28 4 == 3) (nat_le (field first 20 4) 3) b.0 in
+    let kind : field first 28 4 ≡ 3 = eqb-true (field first 28 4) 3 c.0 in
+    let type : first / 2 ^ 28 ≡ 3 = omega arith in
+    rw type refl
+
+-- the opcode and the count are the two halves of a byte
+six_fields : (words : List ℕ) → field (slice_index words 0) 16 8 ≡ 0x26 → (opcode_of words ≡ 2) × (count_of words ≡ 6)
+six_fields words e = (omega (arith, e), omega (arith, e))
+
+fields_six : (words : List ℕ) → opcode_of words ≡ 2 → count_of words ≡ 6 → field (slice_index words 0) 16 8 ≡ 0x26
+fields_six words opcode count = omega (arith, opcode, count)
+
+pub is_six : (words : List ℕ) (t : ThePacket words) (group : ℕ) (bytes : List ℕ) → IsLow words
+    → field (slice_index words 0) 16 8 ≡ 0x26 → group ≡ group_of words → bytes ≡ exclusive_places words
+    → t.0 ≡ packet.Exclusive group form.Continue bytes
+is_six words t group bytes low six same_group same_bytes =
+    let fields = six_fields words six in
+    is_part words t group 6 form.Continue bytes low same_group fields.0 (sym fields.1) same_bytes
+    ∙ ap (packet.Exclusive group form.Continue) (ap (take 6) same_bytes ∙ sym same_bytes)
+
+not_six_more : (f : Form) (bytes : List ℕ) → (length bytes == 6) ≡ false → is_six_more f bytes ≡ false
+not_six_more form.Complete bytes e = refl
+not_six_more form.Start bytes e = refl
+not_six_more form.Continue bytes e = e
+not_six_more form.End bytes e = refl
+
+-- what isn't full doesn't continue an exclusive by six bytes
+pub not_continued : (p : Packet) → is_full_part p ≡ false → continues_by_six p ≡ false
+not_continued (packet.Exclusive group f bytes) e = not_six_more f bytes e
+not_continued _ e = refl
+
+pub not_six : (words : List ℕ) (t : ThePacket words) → IsLow words → field (slice_index words 0) 16 8 ≢ 0x26
+    → continues_by_six t.0 ≡ false
+not_six words t low other = ∥∥₁_elim t.1 (Coded-set bool-code (continues_by_six t.0) false) (λ a. by_packet t.0 a.spelled)
+  where
+    by_size : (bytes : List ℕ) (full : Bool) → (length bytes == 6) ≡ full → opcode_of words ≡ 2
+        → bytes ≡ take (count_of words) (exclusive_places words) → full ≡ false
+    by_size bytes false e opcode spelled = refl
+    by_size bytes true e opcode spelled =
+        let size : length (take (count_of words) (exclusive_places words)) ≡ 6 = ap length (sym spelled) ∙ eqb-true (length bytes) 6 e in
+        let count : 6 ≤ count_of words = omega (arith, size, length-take-le (count_of words) (exclusive_places words) low.count) in
+        absurd (other (fields_six words opcode (omega (arith, count, low.count))))
+
+    by_form : (f : Form) (bytes : List ℕ) → opcode_of words ≡ form_number f
+        → bytes ≡ take (count_of words) (exclusive_places words) → is_six_more f bytes ≡ false
+    by_form form.Complete bytes opcode spelled = refl
+    by_form form.Start bytes opcode spelled = refl
+    by_form form.Continue bytes opcode spelled = by_size bytes (length bytes == 6) refl opcode spelled
+    by_form form.End bytes opcode spelled = refl
+
+    by_packet : (p : Packet) → Spells p words → continues_by_six p ≡ false
+    by_packet (packet.Exclusive group f bytes) spells = by_form f bytes spells.row.2.0 spells.row.2.1
+    by_packet _ spells = refl

@@ -1,5 +1,6 @@
 // A packet as its words.
-ghost use Rattle.std.specs.Prelude.{◌≡◌, ◌≤◌, ◌%◌, ◌==◌, ◌&&◌, ◌<◌, true, false, All, Ok, IfOk, MatchOption, length, take};
+ghost use Rattle.std.specs.Prelude.{◌≡◌, ◌≢◌, ◌≤◌, ◌%◌, ◌==◌, ◌&&◌, ◌<◌, ◌∷◌, [], true, false, All, Ok, IfOk, IfSome};
+ghost use Rattle.std.specs.Prelude.{MatchOption, length, slice_index, take};
 ghost use Rattle.packet_words.specs.Words.{IsWhole};
 ghost use Rattle.ump_grammar.specs.WordFields.{byte as place, count_of, field, group_of, opcode_of, type_of, word};
 ghost use Rattle.ump_grammar.specs.Ranges.{IsPacket};
@@ -7,7 +8,8 @@ ghost use Rattle.ump_grammar.specs.Reading.{Decodes};
 ghost use Rattle.ump_grammar.specs.Reason.{reason};
 ghost use Rattle.ump_grammar.specs.Spelling.{exclusive_places, form_number};
 ghost use Rattle.ump_grammar.specs.declared.packet.Packet.TheVariants as packet;
-ghost use Rattle.direct_packets.specs.Parts.{begins_part, has_low_bytes, is_full_part, is_low_part};
+ghost use Rattle.voice_messages.specs.declared.voice2.Form.TheVariants as form;
+ghost use Rattle.direct_packets.specs.Parts.{begins_part, continues_by_six, has_low_bytes, is_full_part, is_low_part};
 ghost use Rattle.direct_packets.specs.Encoded.{ThePacket, the_packet-prop};
 ghost use Rattle.direct_packets.specs.DirectMessages.{IsDirectMessage, has_direct_kind, is_direct_opcode, direct_voice};
 
@@ -19,7 +21,7 @@ use ump_grammar::decoding::form_of;
 use ump_grammar::fields::{bits, byte, nibble};
 use ump_grammar::laws::{spelled_packets_fit, words_spell_one_packet};
 use ump_grammar::{Bad, Packet, decode};
-use voice_messages::U7;
+use voice_messages::{U4, U7};
 
 /// A packet as the words that encode it (M2-104-UM). A contract sees the packet.
 #[derive(Drop)]
@@ -71,6 +73,24 @@ impl EncodedPacket {
         }
     }
 
+    /// The packet that these two words encode (M2-104-UM), where it is a direct message or a 7-bit exclusive
+    /// in which no byte is high, counted or not. `None` says nothing of the words: `new` has their answer.
+    #[inline(always)]
+    pub fn of_two(first: u32, second: u32) -> Option<EncodedPacket>
+        ensures whole { IfSome result (λ _. IsWhole (first ∷ second ∷ [])) }
+        ensures answer { IfSome result (λ packet. Decodes (first ∷ second ∷ []) (Ok packet)) }
+        ensures fits { IfSome result IsPacket }
+    {
+        let words = Words::of_two(first, second);
+        if byte(first, 8) < 128 && begins_direct(first) {
+            return Some(direct_packet(&words));
+        }
+        if begins_part(first) && has_low_bytes(words.as_slice()) {
+            return Some(part_packet(&words));
+        }
+        None
+    }
+
     /// The packet, taken apart.
     #[inline(always)]
     pub fn decode(&self) -> Packet
@@ -99,6 +119,22 @@ impl EncodedPacket {
         if self.is_part {
             let words = self.words.as_slice();
             part_in(words)
+        } else {
+            None
+        }
+    }
+
+    /// The group and the six bytes of a packet that continues an exclusive by six bytes, each below 128
+    /// (M2-104-UM, system exclusive 7-bit messages); `None` exactly for all other packets.
+    #[inline(always)]
+    pub fn continued(&self) -> Option<(U4, [u8; 6])>
+        ensures { MatchOption result (continues_by_six self.now ≡ false) (λ part.
+            All (λ byte. byte < 128) part.1
+            × (self.now ≡ packet.Exclusive part.0 form.Continue part.1)) }
+    {
+        if self.is_part {
+            let words = self.words.as_slice();
+            six_in(words)
         } else {
             None
         }
@@ -170,6 +206,23 @@ fn part_in(words: &[u32]) -> Option<ExclusivePart>
         count: bits(first, 16, 4) as usize,
         bytes: exclusive_bytes(words),
     })
+}
+
+// The group and the bytes of these words, where their form is Continue and they count six bytes; `None`
+// exactly for others.
+#[inline(always)]
+fn six_in(words: &[u32]) -> Option<(U4, [u8; 6])>
+    requires { length words.now ≡ 2 }
+    ensures { MatchOption result (field (slice_index words.now 0) 16 8 ≢ 0x26) (λ part.
+        (field (slice_index words.now 0) 16 8 ≡ 0x26) × (part.0 ≡ group_of words.now)
+        × (part.1 ≡ exclusive_places words.now)) }
+{
+    let first = words[0];
+    if bits(first, 16, 8) == 0x26 {
+        Some((nibble(first, 24), exclusive_bytes(words)))
+    } else {
+        None
+    }
 }
 
 // Bytes 3 to 8.

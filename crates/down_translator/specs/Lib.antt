@@ -1,5 +1,6 @@
 pub mod Carried
 pub mod Held
+pub mod HeldStep
 pub mod KeptLanes
 pub mod Laws
 pub mod Lend

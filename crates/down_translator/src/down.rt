@@ -1,8 +1,9 @@
 // The translator down, in both styles.
-ghost use Rattle.std.specs.Prelude.{◌≡◌, ◌≤◌, ◌<◌, ◌&&◌, not, IfOk, MatchOption, true, false, Some, None, length, take};
+ghost use Rattle.std.specs.Prelude.{◌≡◌, ◌≤◌, ◌<◌, ◌&&◌, not, IfOk, IsTrue, MatchOption, true, false, Some, None, length, take};
 ghost use Rattle.sysex_groups.specs.Exclusives.{IsData};
 ghost use Rattle.ump_grammar.specs.Ranges.{IsPacket};
 ghost use Rattle.direct_packets.specs.DirectMessages.{IsDirectMessage, direct_voice};
+ghost use Rattle.down_translator.specs.HeldStep.{IsHeldStep, goes_held};
 ghost use Rattle.down_translator.specs.KeptLanes.{is_plain};
 ghost use Rattle.down_translator.specs.Lowered.{IsDirectStep, IsShortenedStep, message_goes_direct, goes_direct, goes_shortened};
 ghost use Rattle.ump_grammar.specs.declared.packet.Packet.TheVariants as packet;
@@ -370,6 +371,25 @@ impl Down {
             Some(lowered(message))
         } else {
             None
+        }
+    }
+
+    /// Whether the packet only adds six bytes to the exclusive that its group has open, and that stays within
+    /// the limit (M2-104-UM, system exclusive 7-bit messages). Then they are added, in either style: it is
+    /// the whole step of `packet`, whose answer has no bytes and no line. `false` exactly for other packets,
+    /// and then the translator stays as it is: `packet` has their answer.
+    #[inline(always)]
+    pub fn holds(&mut self, packet: &EncodedPacket) -> bool
+        ensures held { IsTrue result → IsHeldStep self.old packet.now self.new }
+        ensures unchanged { result ≡ false →
+            (goes_held self.old packet.now ≡ false) × (self.new ≡ self.old) }
+    {
+        match packet.continued() {
+            Some(part) => {
+                let (group, bytes) = part;
+                self.groups.holds(group, &bytes)
+            }
+            None => false,
         }
     }
 

@@ -6,7 +6,7 @@ use Rattle.std.proofs.lemmas.List.{append_assoc, append-nil, length-append, nil_
 use Rattle.item_reader.specs.Cut.{IsItem, IsCutInto, IsLength, items_from, Ends}
 use Rattle.item_reader.specs.CutLaws.{ItemsAreReadInOrder}
 use Rattle.outside.specs.Outside.{Loses, ahead}
-use Rattle.item_reader.specs.Reading.{Reading, Gives, Waits, Finishes, cursor}
+use Rattle.item_reader.specs.Reading.{Reading, Gives, IsBrought, Waits, Finishes, cursor}
 use Rattle.outside.specs.Runs.{runs_are_lost}
 use Rattle.item_reader.specs.SoFar.{ReadSoFar, StandsBehind, given}
 use Rattle.item_reader.specs.declared.cutting.Tail.{Tail}
@@ -80,21 +80,30 @@ module _ {How Item : Type 0} (asked : List ℕ → ℕ) (lengths : IsLength aske
             p.lost gives.lost);
       }
 
-  -- the same items, after a failed read
-  waits : (reader' : Reading How) (now' : Option (List ℕ)) → Waits asked (cursor reader now) (cursor reader' now')
-      → ReadSoFar asked item_of how limit reader' (given before now' read)
-  waits reader' now' kept =
+  -- the same items, where no byte is lost and the reader goes on
+  goes_on : (reader' : Reading How) (now' : Option (List ℕ)) → ahead reader'.pending now' ≡ ahead reader.pending now
+      → reader' ≡ record reader { pending = reader'.pending } → ReadSoFar asked item_of how limit reader' (given before now' read)
+  goes_on reader' now' same place =
       let L : Option (List ℕ) → Type 0 = λ rest. Loses before rest (concat so_far.chunks) in
       record {
         chunks = so_far.chunks;
         same = so_far.same;
         place =
-            kept.goes_on
-            ∙ ap (λ r. record { how = r.how; pending = reader'.pending; offset = r.offset; limit = r.limit; end = r.end }) so_far.place;
+            place ∙ ap (λ r. record { how = r.how; pending = reader'.pending; offset = r.offset; limit = r.limit; end = r.end }) so_far.place;
         within = so_far.within;
         each = so_far.each;
-        lost = subst L (sym kept.same) so_far.lost;
+        lost = subst L (sym same) so_far.lost;
       }
+
+  -- after a failed read
+  waits : (reader' : Reading How) (now' : Option (List ℕ)) → Waits asked (cursor reader now) (cursor reader' now')
+      → ReadSoFar asked item_of how limit reader' (given before now' read)
+  waits reader' now' kept = goes_on reader' now' kept.same kept.goes_on
+
+  -- where an item was brought
+  brought : (reader' : Reading How) (now' : Option (List ℕ)) → IsBrought asked (cursor reader now) (cursor reader' now')
+      → ReadSoFar asked item_of how limit reader' (given before now' read)
+  brought reader' now' kept = goes_on reader' now' kept.same kept.goes_on
 
   -- where the source tells what it has left, the bytes are the items so far and what is ahead
   abbrev IsTold : List ℕ → Type 0
@@ -243,6 +252,10 @@ module _ {How Item : Type 0} (asked : How → List ℕ → ℕ) (lengths : (how 
               let W : How → Type 0 = λ h. Waits (asked h) (cursor reader now) (cursor reader' now') in
               waits (asked how) (lengths how) (item_of how) how limit reader before now read so_far reader' now'
               (subst W (how-is how limit reader before now read so_far) kept);
+          brought = λ how limit reader before now read so_far reader' now' kept.
+              let B : How → Type 0 = λ h. IsBrought (asked h) (cursor reader now) (cursor reader' now') in
+              brought (asked how) (lengths how) (item_of how) how limit reader before now read so_far reader' now'
+              (subst B (how-is how limit reader before now read so_far) kept);
           stands_behind = λ how limit reader before now read so_far reader' now' item gives.
               let G : How → Type 0 = λ h. Gives (asked h) (cursor reader now) (cursor reader' now') (item_of h) item in
               stands_behind (asked how) (lengths how) (item_of how) how limit reader before now read so_far reader' now' item

@@ -1,7 +1,7 @@
 -- What holds of all streams, however they are cut into items.
 use Rattle.std.specs.Prelude.{◌≡◌, ℕ, List, [], ◌∷◌, ◌++◌, Option, Some, IfSome}
 use Rattle.item_reader.specs.Cut.{Cuts, IsCutInto}
-use Rattle.item_reader.specs.Reading.{Reading, Gives, Waits, Finishes, cursor}
+use Rattle.item_reader.specs.Reading.{Reading, Gives, IsBrought, Waits, Finishes, cursor}
 use Rattle.item_reader.specs.SoFar.{ReadSoFar, StandsBehind, given}
 use Rattle.item_reader.specs.declared.cutting.Tail.{Tail}
 use Rattle.item_reader.specs.declared.cutting.Tail.TheVariants.{End}
@@ -40,6 +40,11 @@ pub record ItemsAreReadInOrder {How Item : Type 0} (asked : How → List ℕ →
       ReadSoFar (asked how) (item_of how) how limit reader (given before now read) →
       (reader' : Reading How) (now' : Option (List ℕ)) →
       Waits (asked reader.how) (cursor reader now) (cursor reader' now') →
+      ReadSoFar (asked how) (item_of how) how limit reader' (given before now' read)
+  pub brought : (how : How) (limit : ℕ) (reader : Reading How) (before now : Option (List ℕ)) (read : List Item) →
+      ReadSoFar (asked how) (item_of how) how limit reader (given before now read) →
+      (reader' : Reading How) (now' : Option (List ℕ)) →
+      IsBrought (asked reader.how) (cursor reader now) (cursor reader' now') →
       ReadSoFar (asked how) (item_of how) how limit reader' (given before now' read)
   pub stands_behind : (how : How) (limit : ℕ) (reader : Reading How) (before now : Option (List ℕ)) (read : List Item) →
       ReadSoFar (asked how) (item_of how) how limit reader (given before now read) →

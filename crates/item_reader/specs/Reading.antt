@@ -1,5 +1,5 @@
 -- What a reader of items answers.
-use Rattle.std.specs.Prelude.{◌≡◌, ℕ, ◌+◌, ◌-◌, ◌≤◌, min, nat_lt, Bool, List, [], ◌++◌, length, take}
+use Rattle.std.specs.Prelude.{◌≡◌, ℕ, ◌+◌, ◌-◌, ◌≤◌, min, ◌<◌, nat_lt, Bool, true, false, List, [], ◌++◌, length, take, drop}
 use Rattle.std.specs.Prelude.{Option, None, Some, Result, Ok, Err, IfSome}
 use Rattle.item_reader.specs.Cut.{IsItem, IsRest, Ends}
 use Rattle.outside.specs.Outside.{Loses, Rose, ahead}
@@ -28,6 +28,14 @@ allowed_by (Some tail) held room = 0
 
 abbrev pub allowed_bytes : {How : Type 0} → Reading How → ℕ
 allowed_bytes reader = allowed_by reader.end (length reader.pending) (reader.limit - reader.offset)
+
+-- the bytes that are held and may be given out
+abbrev pub held_bytes : {How : Type 0} → Reading How → List ℕ
+held_bytes reader = take (allowed_bytes reader) reader.pending
+
+-- the reader after so many of the bytes that it holds
+abbrev pub passed : {How : Type 0} → ℕ → Reading How → Reading How
+passed count reader = record reader { pending = drop count reader.pending; offset = reader.offset + count }
 
 -- whether no item can be given out of the bytes that are held
 abbrev pub needs_input : {How : Type 0} → (List ℕ → ℕ) → Reading How → Bool
@@ -96,3 +104,45 @@ ReadCause before now (Ok item) = now ≡ before
 ReadCause before now (Err (Read failed)) = (before ≤ now) × Rose before now
 ReadCause before now (Err (StopTruncated o)) = now ≡ before
 ReadCause before now (Err StopTooLong) = now ≡ before
+
+-- An item that is held after `at` bytes: it takes up the bytes up to `next`, and it is what is given out there, whatever the source
+-- has left.
+pub record IsHeldAt {How Item : Type 0} (asked : List ℕ → ℕ) (item_of : ℕ → List ℕ → Item) (at next : ℕ) (reader : Reading How)
+    (item : Item) : Type 0 where
+  pub further : at < next
+  pub fits : next ≤ allowed_bytes reader
+  pub gives : (left : Option (List ℕ)) → Gives asked (cursor (passed at reader) left) (cursor (passed next reader) left) item_of item
+
+-- where these bytes, which are held after `at` bytes, begin with a whole item, that item is held there
+abbrev pub BeginsItemAt : {How Item : Type 0} → (List ℕ → ℕ) → (ℕ → List ℕ → Item) → ℕ → Reading How → List ℕ → Type 0
+BeginsItemAt asked item_of at reader bytes =
+    (size : ℕ) → size ≡ asked bytes → size ≤ length bytes →
+    IsHeldAt asked item_of at (at + size) reader (item_of (reader.offset + at) (take size bytes))
+
+-- the answer of `more` for a tail
+abbrev pub more_of : Tail → Result Bool ReadStop
+more_of End = Ok false
+more_of (Truncated o) = Err (StopTruncated o)
+more_of TooLong = Err StopTooLong
+
+-- nothing is given out, no byte is lost, and a whole item is held within the limit
+pub record IsBrought {How : Type 0} (asked : List ℕ → ℕ) (old new : Cursor How) : Type 0 where
+  pub same : ahead_of new ≡ ahead_of old
+  pub kept : Keeps old.reader.pending new.reader.pending
+  pub held : asked (held_bytes new.reader) ≤ length (held_bytes new.reader)
+  pub goes_on : new.reader ≡ record old.reader { pending = new.reader.pending }
+
+-- what `more` answers where the items have not ended before
+abbrev pub Brings : {How : Type 0} → (List ℕ → ℕ) → Cursor How → Cursor How → Result Bool ReadStop → Type 0
+Brings asked old new (Ok true) = IsBrought asked old new
+Brings asked old new (Ok false) = Finishes asked old new End
+Brings asked old new (Err (Read failed)) = Waits asked old new
+Brings asked old new (Err (StopTruncated o)) = Finishes asked old new (Truncated o)
+Brings asked old new (Err StopTooLong) = Finishes asked old new TooLong
+
+-- the source's count never falls, and rose where a read failed
+abbrev pub MoreCause : ℕ → ℕ → Result Bool ReadStop → Type 0
+MoreCause before now (Ok held) = now ≡ before
+MoreCause before now (Err (Read failed)) = (before ≤ now) × Rose before now
+MoreCause before now (Err (StopTruncated o)) = now ≡ before
+MoreCause before now (Err StopTooLong) = now ≡ before

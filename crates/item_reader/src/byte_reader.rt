@@ -1,7 +1,9 @@
 // A reader of bytes from a source.
-ghost use Rattle.std.specs.Prelude.{◌≡◌, ◌≢◌, ℕ, ◌≤◌, ◌<◌, ◌^◌, length, IfSome};
+ghost use Rattle.std.specs.Prelude.{◌≡◌, ◌≢◌, ℕ, ◌≤◌, ◌<◌, ◌^◌, length, drop, IfSome, MatchOption};
 ghost use Rattle.item_reader.specs.ByteReader.{byte_at, byte_length, new_bytes, one_byte};
-ghost use Rattle.item_reader.specs.Reading.{Answers, ReadCause, answer_of, cursor, needs_input};
+ghost use Rattle.item_reader.specs.Cut.{IsRest};
+ghost use Rattle.item_reader.specs.Reading.{Answers, Brings, IsHeldAt, MoreCause, ReadCause};
+ghost use Rattle.item_reader.specs.Reading.{allowed_bytes, answer_of, cursor, held_bytes, more_of, passed};
 
 use crate::cutting::Cut;
 use crate::reader::ItemReader;
@@ -79,11 +81,52 @@ impl ByteReader {
         self.items.next(src)
     }
 
-    /// No byte is held within the limit, so that `next` asks the source, unless the bytes have ended.
+    /// The bytes that are held and may be given out, and the offset of the first of them, counted in bytes
+    /// from 0. A caller that reads many bytes reads them of these by `item_in`, and tells it by `pass`.
     #[inline(always)]
-    pub fn needs_input(&self) -> bool
-        ensures { result ≡ needs_input one_byte self.now }
+    pub fn held(&self) -> (&[u8], u64)
+        ensures bytes { result.0.now ≡ held_bytes self.now }
+        ensures offset { result.1 ≡ self.now.offset }
     {
-        self.items.needs_input()
+        self.items.held()
+    }
+
+    /// The byte after `at` of the bytes that `held` gave, which are these, with its offset, and after how
+    /// many of them the next one stands: what `next` would give there. `None` exactly where none is left
+    /// there. `offset` is that of the first of the bytes.
+    #[inline(always)]
+    pub fn item_in(&self, held: &[u8], offset: u64, at: usize) -> Option<((u8, u64), usize)>
+        requires held { held.now ≡ held_bytes self.now }
+        requires offset { offset ≡ self.now.offset }
+        requires at { at ≤ length held.now }
+        ensures { MatchOption result (IsRest one_byte (drop at held.now))
+            (λ given. IsHeldAt one_byte byte_at at given.1 self.now given.0) }
+    {
+        self.items.item_in(held, offset, at)
+    }
+
+    /// Goes on after the first `count` bytes of those that `held` gives, as after bytes that were given out.
+    #[inline(always)]
+    pub fn pass(&mut self, count: usize)
+        requires { count ≤ allowed_bytes self.old }
+        ensures { self.new ≡ passed count self.old }
+    {
+        self.items.pass(count);
+    }
+
+    /// Asks the source until a byte is held within the limit, unless the bytes have ended. `true` says that
+    /// one is held; the answers without a byte are those of `next`, where `false` stands for its `None`. The
+    /// source is asked only where no byte is held. `Truncated` is never answered.
+    #[inline(always)]
+    pub fn more<S: Source>(&mut self, src: &mut S) -> Result<bool, ReadStop>
+        ensures answer { self.old.end ≡ None → Brings one_byte
+            (cursor self.old (S.left src.old)) (cursor self.new (S.left src.new)) result }
+        ensures again { IfSome self.old.end
+            (λ last. (result ≡ more_of last) × (self.new ≡ self.old) × (src.new ≡ src.old)) }
+        ensures held { 0 < length self.old.pending → src.new ≡ src.old }
+        ensures whole { (o : ℕ) → result ≢ Err (ReadStop.Truncated o) }
+        ensures cause { MoreCause (S.faults src.old) (S.faults src.new) result }
+    {
+        self.items.more(src)
     }
 }

@@ -1,9 +1,11 @@
 // A reader of items from a source.
-ghost use Rattle.std.specs.Prelude.{◌≡◌, ◌≤◌, ◌<◌, ◌+◌, ◌-◌, ◌==◌, ◌^◌, None, length, take, drop, IfSome, IfOk, OnErr, if◌then◌else◌};
+ghost use Rattle.std.specs.Prelude.{◌≡◌, ◌≤◌, ◌<◌, ◌+◌, ◌-◌, ◌==◌, ◌^◌, None, length, take, drop, IfSome, IfOk, MatchOption, OnErr, if◌then◌else◌};
 ghost use Rattle.item_reader.specs.Cut.{IsRest};
 ghost use Rattle.item_reader.specs.ForProofs.Front.{Sees};
 ghost use Rattle.outside.specs.Outside.{ahead, HasCause, IsUsedUp};
-ghost use Rattle.item_reader.specs.Reading.{Answers, Keeps, ReadCause, answer_of, cursor, needs_input, new_reading};
+ghost use Rattle.item_reader.specs.Reading.{Answers, BeginsItemAt, Brings, IsHeldAt, Keeps, MoreCause};
+ghost use Rattle.item_reader.specs.Reading.{ReadCause, allowed_bytes, answer_of, cursor, held_bytes, more_of};
+ghost use Rattle.item_reader.specs.Reading.{needs_input, new_reading, passed};
 
 use crate::cutting::{Cut, Tail};
 use crate::window::Window;
@@ -90,6 +92,109 @@ impl<H: Cut> ItemReader<H> {
         self.how.asked(allowed) > allowed.len()
     }
 
+    /// The bytes that are held and may be given out, and the offset of the first of them, counted in bytes
+    /// from 0. A caller that reads many items reads them of these by `item_in`, and tells it by `pass`.
+    #[inline(always)]
+    pub fn held(&self) -> (&[u8], u64)
+        ensures bytes { result.0.now ≡ held_bytes self.now }
+        ensures offset { result.1 ≡ self.now.offset }
+    {
+        (self.window.allowed(), self.offset)
+    }
+
+    /// The item that begins after `at` of the bytes that `held` gave, which are these, and after how many of
+    /// them the next one begins: the item that `next` would give there. `None` exactly where no whole item
+    /// begins there. `offset` is that of the first of the bytes.
+    #[inline(always)]
+    pub fn item_in(&self, held: &[u8], offset: u64, at: usize) -> Option<(H::Item, usize)>
+        requires held { held.now ≡ held_bytes self.now }
+        requires offset { offset ≡ self.now.offset }
+        requires at { at ≤ length held.now }
+        ensures { MatchOption result (IsRest (H.asked self.now.how) (drop at held.now))
+            (λ given. IsHeldAt (H.asked self.now.how) (H.item_of self.now.how) at given.1 self.now given.0) }
+    {
+        let rest = self.rest_in(held, at);
+        let size = self.how.asked(rest);
+        if size <= rest.len() {
+            let item = self.how.item(offset + at as u64, &rest[..size]);
+            Some((item, at + size))
+        } else {
+            None
+        }
+    }
+
+    /// The bytes after the first `at` of those that `held` gave, which are these, for a caller that sees by
+    /// itself which item they begin with: where one is whole in them, it is held there.
+    #[inline(always)]
+    pub fn rest_in<'h>(&self, held: &'h [u8], at: usize) -> &'h [u8]
+        requires held { held.now ≡ held_bytes self.now }
+        requires at { at ≤ length held.now }
+        ensures bytes { result.now ≡ drop at held.now }
+        ensures within { self.now.offset + length held.now ≤ self.now.limit }
+        ensures limit { self.now.limit ≤ 2 ^ 62 }
+        ensures item { BeginsItemAt (H.asked self.now.how) (H.item_of self.now.how) at self.now result.now }
+    {
+        let _ = &self.offset;
+        &held[at..]
+    }
+
+    /// Goes on after the first `count` bytes of those that `held` gives, as after items that were given out.
+    #[inline(always)]
+    pub fn pass(&mut self, count: usize)
+        requires { count ≤ allowed_bytes self.old }
+        ensures { self.new ≡ passed count self.old }
+    {
+        self.window.consume(count);
+        self.offset += count as u64;
+    }
+
+    /// How it cuts.
+    #[inline(always)]
+    pub fn how(&self) -> &H
+        ensures { result.now ≡ self.now.how }
+    {
+        &self.how
+    }
+
+    /// Asks the source until a whole item is held, unless the items have ended. `true` says that one is held;
+    /// the answers without an item are those of `next`, where `false` stands for its `None`. The source is
+    /// asked only where no whole item is held.
+    #[inline(never)]
+    pub fn more<S: Source>(&mut self, src: &mut S) -> Result<bool, ReadStop>
+        ensures answer { self.old.end ≡ None → Brings (H.asked self.old.how)
+            (cursor self.old (S.left src.old)) (cursor self.new (S.left src.new)) result }
+        ensures again { IfSome self.old.end (λ tail.
+            (result ≡ more_of tail) × (self.new ≡ self.old) × (src.new ≡ src.old)) }
+        ensures held { H.asked self.old.how self.old.pending ≤ length self.old.pending → src.new ≡ src.old }
+        ensures cause { MoreCause (S.faults src.old) (S.faults src.new) result }
+    {
+        if let Some(tail) = self.end {
+            return more_of(tail);
+        }
+        let room = self.limit - self.offset;
+        match look_ahead(&self.how, &mut self.window, room, src) {
+            Ok(Front::Item(_)) => {
+                self.window.allow(room);
+                Ok(true)
+            }
+            Ok(Front::TooLong) => {
+                self.window.allow(0);
+                self.end = Some(Tail::TooLong);
+                Err(ReadStop::TooLong)
+            }
+            Ok(Front::Partial) => {
+                let tail = tail_at(self.window.bytes(), self.offset);
+                self.window.allow(0);
+                self.end = Some(tail);
+                more_of(tail)
+            }
+            Err(failed) => {
+                self.window.allow(room);
+                Err(ReadStop::Read(failed))
+            }
+        }
+    }
+
     // The next answer where no whole item is held, so that the source is asked, unless the items have ended.
     #[inline(always)]
     fn next_taken<S: Source>(&mut self, src: &mut S) -> Result<Option<H::Item>, ReadStop>
@@ -101,31 +206,11 @@ impl<H: Cut> ItemReader<H> {
         ensures held { H.asked self.old.how self.old.pending ≤ length self.old.pending → src.new ≡ src.old }
         ensures cause { ReadCause (S.faults src.old) (S.faults src.new) result }
     {
-        if let Some(tail) = self.end {
-            return answer(tail);
+        if !self.more(src)? {
+            return Ok(None);
         }
-        let room = self.limit - self.offset;
-        match look_ahead(&self.how, &mut self.window, room, src) {
-            Ok(Front::Item(size)) => {
-                self.window.allow(room);
-                Ok(Some(self.give(size)))
-            }
-            Ok(Front::TooLong) => {
-                self.window.allow(0);
-                self.end = Some(Tail::TooLong);
-                Err(ReadStop::TooLong)
-            }
-            Ok(Front::Partial) => {
-                let tail = tail_at(self.window.bytes(), self.offset);
-                self.window.allow(0);
-                self.end = Some(tail);
-                answer(tail)
-            }
-            Err(failed) => {
-                self.window.allow(room);
-                Err(ReadStop::Read(failed))
-            }
-        }
+        let size = self.how.asked(self.window.allowed());
+        Ok(Some(self.give(size)))
     }
 
     // Gives out the next item, which has this many bytes.
@@ -185,11 +270,12 @@ fn tail_at(bytes: &[u8], offset: u64) -> Tail
     }
 }
 
-fn answer<I>(tail: Tail) -> Result<Option<I>, ReadStop>
-    ensures { result ≡ answer_of tail }
+// The answer of `more` for a tail.
+fn more_of(tail: Tail) -> Result<bool, ReadStop>
+    ensures { result ≡ more_of tail }
 {
     match tail {
-        Tail::End => Ok(None),
+        Tail::End => Ok(false),
         Tail::Truncated(offset) => Err(ReadStop::Truncated(offset)),
         Tail::TooLong => Err(ReadStop::TooLong),
     }

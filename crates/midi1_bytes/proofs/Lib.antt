@@ -1,5 +1,6 @@
 pub mod CountLaws
 pub mod DataLaws
+pub mod FrontLaws
 pub mod OpenLaws
 pub mod ParserLaws
 pub mod Ranges

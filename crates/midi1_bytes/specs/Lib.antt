@@ -1,4 +1,5 @@
 pub mod Answers
+pub mod Fronts
 pub mod Held
 pub mod Laws
 pub mod Lend

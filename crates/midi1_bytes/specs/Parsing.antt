@@ -1,6 +1,6 @@
 -- What a parser holds between two bytes, and what a byte does to it (MIDI 1.0 Detailed Specification): the rows of the
 -- definition, by what is held in place of all the bytes before.
-use Rattle.std.specs.Prelude.{ℕ, if◌then◌else◌, List, [], ◌∷◌, ◌++◌, reverse, length, suc, Option, Some, None}
+use Rattle.std.specs.Prelude.{◌≡◌, ℕ, ◌+◌, if◌then◌else◌, List, [], ◌∷◌, ◌++◌, reverse, length, suc, Option, Some, None}
 use Rattle.std.specs.Option.{option_map, option_and_then}
 use Rattle.voice_messages.specs.declared.voice1.System.TheVariants as system
 use Rattle.midi1_bytes.specs.declared.step.CutKind.{CutKind}
@@ -9,7 +9,7 @@ use Rattle.midi1_bytes.specs.declared.step.AfterCut.{AfterCut}
 use Rattle.midi1_bytes.specs.declared.step.AfterCut.TheVariants as after
 use Rattle.midi1_bytes.specs.Sorts.{one, two, Sort, data_byte, voice_status, exclusive_start, common_status, tune_request}
 use Rattle.midi1_bytes.specs.Sorts.{undefined_status, exclusive_end, real_time_status, undefined_real_time, sort_of}
-use Rattle.midi1_bytes.specs.Messages.{voice, common, exclusive, real_time, voice_of, common_of, real_time_of}
+use Rattle.midi1_bytes.specs.Messages.{Message, voice, common, exclusive, real_time, voice_of, common_of, real_time_of}
 use Rattle.midi1_bytes.specs.Stream.{Open, fits, without_real_time, last_status, last_data, open_in, start_in, running}
 use Rattle.midi1_bytes.specs.Steps.{Step, held, completes, stray, undefined, cut, too_long}
 
@@ -28,6 +28,10 @@ pub record Parsing : Type 0 where
 -- nothing is open, and there is no running status
 abbrev pub idle : ℕ → Parsing
 idle room = record { room = room; running = None; begun = None }
+
+-- nothing is open, under this running status
+abbrev pub quiet : ℕ → Option ℕ → Parsing
+quiet room running = record { room = room; running = running; begun = None }
 
 -- something is open, under this running status
 abbrev pub beginning : ℕ → Option ℕ → Begun → Parsing
@@ -119,6 +123,23 @@ parse_under undefined_real_time parsing offset byte = record { step = undefined;
 -- a byte at this offset
 abbrev pub parse : Parsing → ℕ → ℕ → Parsed
 parse parsing offset byte = parse_under (sort_of byte) parsing offset byte
+
+-- ---- several bytes, oldest first
+
+-- These bytes, the first of them at this offset, are held one after the other; and what is held after the last of them.
+abbrev pub AreHeld : List ℕ → Parsing → ℕ → Parsing → Type 0
+AreHeld [] parsing offset new = new ≡ parsing
+AreHeld (byte ∷ more) parsing offset new =
+    ((parse parsing offset byte).step ≡ held) × AreHeld more (parse parsing offset byte).after (offset + 1) new
+
+-- These bytes, the first of them at this offset, are a message: each is held but the last, which completes it; and what is held
+-- after the last of them.
+abbrev pub AreMessage : List ℕ → Parsing → ℕ → Message → Parsing → Type 0
+AreMessage [] parsing offset message new = ⊥
+AreMessage (byte ∷ []) parsing offset message new =
+    ((parse parsing offset byte).step ≡ completes message) × (new ≡ (parse parsing offset byte).after)
+AreMessage (byte ∷ next ∷ more) parsing offset message new =
+    ((parse parsing offset byte).step ≡ held) × AreMessage (next ∷ more) (parse parsing offset byte).after (offset + 1) message new
 
 -- ---- what a parser holds after these bytes, newest first
 

@@ -2,6 +2,7 @@
 #![tactic(auto)]
 
 mod begun;
+mod front;
 pub mod laws;
 mod messages;
 pub mod parser;

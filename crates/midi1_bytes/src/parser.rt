@@ -1,10 +1,29 @@
 // The parser of a MIDI 1.0 stream.
-ghost use Rattle.std.specs.Prelude.{◌≡◌, ◌<◌, ◌≤◌, [], ◌∷◌, ◌++◌, Some, None, IfOk, vec_len, vec_capacity};
+ghost use Rattle.std.specs.Prelude.{
+  ℕ,
+  ◌≡◌,
+  ◌<◌,
+  ◌≤◌,
+  ◌+◌,
+  [],
+  ◌∷◌,
+  ◌++◌,
+  length,
+  take,
+  Some,
+  None,
+  IfOk,
+  IfSome,
+  vec_len,
+  vec_capacity,
+};
 ghost use Rattle.std.specs.Option.{option_map, ForSome};
 ghost use Rattle.midi1_bytes.specs.Answers.{step_view, LendsData, LendsFramed, cut_off_by};
+ghost use Rattle.midi1_bytes.specs.Fronts.{IsFront, after_voice, data_taken};
 ghost use Rattle.midi1_bytes.specs.Sorts.{count_of, data_byte, one, sort_of, two};
 
 use crate::begun::{Begun, Running};
+use crate::front::{leading_data_within, one_running, two_running, with_status};
 use crate::spoken::{CommonBytes, RealTimeByte, VoiceBytes};
 use crate::step::{AfterCut, CutKind, Step};
 use small_types::NoMemory;
@@ -21,6 +40,20 @@ fn append(bytes: &mut Vec<u8>, byte: u8)
     match bytes.push(byte) {
         Ok(()) => {}
         // Memory is reserved for the byte, so the push takes none.
+        Err(_) => unreachable!(),
+    }
+}
+
+// Adds bytes for which memory is reserved.
+#[inline]
+fn append_all(bytes: &mut Vec<u8>, more: &[u8])
+    requires { vec_len bytes.old + length more.now ≤ vec_capacity bytes.old }
+    ensures items { bytes.new.items ≡ bytes.old.items ++ more.now }
+    ensures capacity { vec_capacity bytes.old ≤ vec_capacity bytes.new }
+{
+    match bytes.extend_from_slice(more) {
+        Ok(()) => {}
+        // Memory is reserved for these bytes, so the call takes none.
         Err(_) => unreachable!(),
     }
 }
@@ -93,6 +126,7 @@ impl Parser {
       begun_after,
       parse,
       parse_under,
+      AreHeld,
     };
 
     /// A parser with nothing open and no running status. Reserves memory for exclusives of `room` bytes
@@ -128,6 +162,70 @@ impl Parser {
                 Some((start, CutKind::Message)),
             Begun::Exclusive { start } => Some((start, CutKind::Exclusive)),
         }
+    }
+
+    /// The voice message with which these bytes begin, and how many of them it has: 3, 2, or under running
+    /// status 2 or 1 (MIDI 1.0 Detailed Specification: channel voice messages, running status). `byte` would
+    /// hold each of these bytes and complete this message with the last; `take_front` takes them.
+    ///
+    /// `None` says nothing more: a message can also be open, come with other bytes between its own, or not be
+    /// here whole; then take the bytes one by one.
+    #[inline(always)]
+    pub fn front(&self, bytes: &[u8]) -> Option<(VoiceBytes, usize)>
+        ensures { IfSome result (λ given. IsFront self.now bytes.now given.0 given.1) }
+    {
+        if !matches!(self.begun, Begun::Nothing) {
+            return None;
+        }
+        let [first, second, ..] = *bytes else {
+            return None;
+        };
+        if first < 0x80 {
+            return match self.running {
+                Running::Two(status) => two_running(status, first, second),
+                Running::One(status) => Some(one_running(status, first)),
+                Running::Unset => None,
+            };
+        }
+        let [_, _, third, ..] = *bytes else {
+            return None;
+        };
+        with_status(first, second, third)
+    }
+
+    /// Takes the bytes of the voice message that `front` has given: the parser is then as after each of them
+    /// by `byte`.
+    #[tactic(auto, unfolding(crate::specs::Sorts::sort_of))]
+    #[inline(always)]
+    pub fn take_front(&mut self, message: &VoiceBytes)
+        requires { self.old.begun ≡ None }
+        ensures { self.new ≡ after_voice self.old message.now.status }
+    {
+        let status = message.status;
+        self.running = if matches!(status, 0xc0..=0xdf) {
+            Running::One(status)
+        } else {
+            Running::Two(status)
+        };
+    }
+
+    /// Takes the data bytes of the open exclusive with which these bytes begin, as far as its limit goes (own
+    /// rule), and returns how many they are; 0 where no exclusive is open. `byte` would hold each of them,
+    /// and the parser is then as after the last of them by `byte`. Takes no memory.
+    #[inline(always)]
+    pub fn take_data(&mut self, bytes: &[u8]) -> usize
+        ensures count { result ≡ data_taken self.old bytes.now }
+        ensures within { result ≤ length bytes.now }
+        ensures after { (offset : ℕ) → AreHeld (take result bytes.now) self.old offset self.new }
+    {
+        let Begun::Exclusive { .. } = self.begun else {
+            return 0;
+        };
+        // F0 is in the buffer too.
+        let left = self.room as usize + 1 - self.bytes.len();
+        let count = leading_data_within(bytes, left);
+        append_all(&mut self.bytes, &bytes[..count]);
+        count
     }
 
     // Ends what is open, and running status.

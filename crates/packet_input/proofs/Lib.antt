@@ -1,3 +1,4 @@
 pub mod CuttingLaws
+pub mod FoundLaws
 pub mod NextLaws
 pub mod PacketLaws

@@ -1,20 +1,21 @@
 -- An input, cut into packets: a recording from its start, or a file after its first bytes. These count in each offset, and the limit is
 -- that of the whole input.
-use Rattle.std.specs.Prelude.{◌≡◌, ◌⊎◌, ℕ, ◌+◌, ◌*◌, ◌-◌, ◌%◌, ◌^◌, ◌<◌, ◌≤◌, List, ◌∷◌, ◌++◌, length, map, Option, None, Some, IfSome}
+use Rattle.std.specs.Prelude.{◌≡◌, ◌⊎◌, ℕ, ◌+◌, ◌*◌, ◌-◌, ◌%◌, ◌^◌, ◌<◌, ◌≤◌, List, ◌∷◌, ◌++◌, drop, length, map, Option, None, Some, IfOk, IfSome, Result, Ok, Err}
 use Rattle.std.specs.List.{AllByRecursion}
 use Rattle.item_reader.specs.Cut.{IsCutInto}
-use Rattle.item_reader.specs.Reading.{new_reading}
+use Rattle.item_reader.specs.Reading.{held_bytes, new_reading}
 use Rattle.item_reader.specs.SoFar.{Given, ReadSoFar, given}
 use Rattle.item_reader.specs.declared.cutting.Tail as tails
 use Rattle.item_reader.specs.declared.cutting.Tail.TheVariants as tail
 use Rattle.ump_words.specs.Cut.{bytes_asked, words_of}
-use Rattle.ump_words.specs.Reader.{Reading}
+use Rattle.ump_words.specs.Reader.{IsHeldAt, Reading}
 use Rattle.ump_words.specs.declared.words.Framed.{Framed}
 use Rattle.ump_words.specs.declared.words.Order.{Order}
 use Rattle.ump_grammar.specs.declared.packet.Bad.{Bad}
 use Rattle.ump_grammar.specs.declared.packet.Bad.TheVariants as bad
 use Rattle.ump_grammar.specs.declared.packet.Packet.{Packet}
 use Rattle.ump_grammar.specs.Ranges.{IsPacket}
+use Rattle.ump_grammar.specs.Reading.{Decodes}
 use Rattle.ump_grammar.specs.Reason.{reason as reason_of}
 use Rattle.ump_grammar.specs.Spelling.{Spells}
 use Rattle.outside.specs.declared.objects.ReadStop.{ReadStop}
@@ -23,6 +24,8 @@ use Rattle.outside.specs.declared.objects.Source as source
 use Rattle.pass_loop.specs.Items.{limit}
 use Rattle.pass_loop.specs.Next.{ComesNearer, GivesNext, NextCause}
 use Rattle.pass_loop.specs.Pass.{Cutting, Tail}
+use Rattle.pass_loop.specs.declared.pass.Found.{Found}
+use Rattle.pass_loop.specs.declared.pass.Found.TheVariants as found
 use Rattle.pass_loop.specs.declared.pass.Next.{Next}
 use Rattle.pass_loop.specs.declared.pass.Next.TheVariants as next
 use Rattle.pass_loop.specs.declared.ends.Reason.{Reason}
@@ -107,6 +110,25 @@ pub record GivenBehind (order : Order) (before : ℕ) (reader : Reading) (so_far
 abbrev pub GivenSoFar : Order → Reading → Given (Framed × Packet) → Type 0
 GivenSoFar order = GivenBehind order 0
 
+-- the bytes that a reader holds begin with a whole packet at this place
+abbrev pub BeginsPacket : Reading → ℕ → Type 0
+BeginsPacket reader place =
+    bytes_asked reader.how (drop place (held_bytes reader)) ≤ length (drop place (held_bytes reader))
+
+-- what words are read into, before the place at which the next ones begin: a packet, or a refusal
+abbrev pub found_of : Framed → ℕ → Result Packet Bad → Found Framed Packet
+found_of framed next (Ok packet) = found.Item framed packet next
+found_of framed next (Err why) = found.Refused (reason_for why) framed.offset
+
+abbrev pub IsReadInto : Framed → ℕ → Found Framed Packet → Type 0
+IsReadInto framed next result =
+    (read : Result Packet Bad) × Decodes framed.words read × IfOk read IsPacket × (result ≡ found_of framed next read)
+
+-- what the words that a reader holds at a place are read into
+abbrev pub ReadsAt : Reading → ℕ → Found Framed Packet → Type 0
+ReadsAt reader place result =
+    (framed : Framed) × (next : ℕ) × IsHeldAt place next reader framed × IsReadInto framed next result
+
 -- a packet stands where the reader stood, which is behind it then, within the limit; where the input ends, all of it is read
 abbrev pub MovesOn : ℕ → Reading → Reading → Option (List ℕ) → Next Framed Packet → Type 0
 MovesOn before old new all (next.Item at packet) =
@@ -142,7 +164,13 @@ pub record GivesNextPacket {S : Type 0} (source : source.Ghosts S) (before : ℕ
   pub nearer : ComesNearer (words.limit - words.offset) (words'.limit - words'.offset) result
   pub cause : NextCause (source.faults input) (source.faults input') result
 
--- what is given out where the words of an input stop, with the offset of a part in the whole input, as a sum of 64 bits
+-- the refusal where the words of an input stop, with the offset of a part in the whole input, as a sum of 64 bits; none if a read failed
+abbrev pub refusal_of_stop : ℕ → ReadStop → Option (Reason × ℕ)
+refusal_of_stop before (stop.Read failed) = None
+refusal_of_stop before (stop.Truncated at) = Some (Truncated, (at + before) % 2 ^ 64)
+refusal_of_stop before stop.TooLong = Some (InputTooLong, limit)
+
+-- what is given out where the words of an input stop
 abbrev pub next_of_stop : {P : Type 0} → ℕ → ReadStop → Next Framed P
 next_of_stop before (stop.Read failed) = next.Failed
 next_of_stop before (stop.Truncated at) = next.Refused Truncated ((at + before) % 2 ^ 64)

@@ -1,54 +1,27 @@
 // The packets of a recording, one by one, as the words that encode them.
-ghost use Rattle.std.specs.Prelude.{◌≡◌, ◌≤◌, ◌-◌, ℕ, List, Option, None};
+ghost use Rattle.std.specs.Prelude.{◌≡◌, ◌<◌, ◌≤◌, ◌-◌, ℕ, IfSome, List, Option, None, length};
+ghost use Rattle.std.proofs.Common.{ap};
 ghost use Rattle.item_reader.specs.SoFar.{Given, given};
 ghost use Rattle.outside.specs.Outside.{ahead};
 ghost use Rattle.pass_loop.specs.Items.{limit};
-ghost use Rattle.pass_loop.specs.Next.{ComesNearer, GivesNext, NextCause};
+ghost use Rattle.item_reader.specs.Reading.{held_bytes, passed};
+ghost use Rattle.pass_loop.specs.Next.{GivesFound, GivesMore, IsFurther, MoreCause};
 ghost use Rattle.ump_grammar.specs.Ranges.{IsPacket};
 ghost use Rattle.ump_grammar.specs.declared.packet.Packet.{Packet};
+ghost use Rattle.ump_words.specs.Cut.{IsWhole};
 ghost use Rattle.ump_words.specs.declared.words.Framed.{Framed};
 ghost use Rattle.ump_words.specs.declared.words.Order.{Order};
-ghost use Rattle.packet_input.specs.Packets.{GivenSoFar, GivesNextPacket, new_words, packet_cutting};
+ghost use Rattle.packet_input.specs.Packets.{BeginsPacket, GivenSoFar, IsReadInto, ReadsAt, new_words, packet_cutting};
 ghost use Rattle.packet_input.specs.ForProofs.Starting.{none_given};
+ghost use Rattle.pass_loop.specs.ForProofs.Starting.{none_passed};
 
-use crate::endings::{refused, stopped};
+use crate::endings::reason_of;
+use crate::more::more_words;
 use direct_packets::EncodedPacket;
 use item_reader::items_are_read_in_order;
 use outside::Source;
-use pass_loop::{Items, LIMIT, Next};
-use ump_words::{Framed, Order, Packets, WordReader};
-
-/// The next packet, as its words (M2-104-UM, message types), of an input in which `before` bytes stand before
-/// the first word. They count in each offset and in the limit of the whole input, 4,294,967,296 bytes (own
-/// rule): so the reader is one that `WordReader::new(order, LIMIT - before)` gave, from which only this call
-/// has read, and which has not ended. After `Next::Failed` no byte is lost, and a later call goes on from
-/// there.
-#[inline(always)]
-pub fn next_encoded<S: Source>(
-    words: &mut WordReader,
-    before: u64,
-    input: &mut S,
-) -> Next<Framed, EncodedPacket>
-    requires { before ≤ limit }
-    ensures { GivesNextPacket S.Source before words.old words.new input.old input.new result }
-{
-    items_are_read_in_order::<Packets, Framed>();
-    match words.next(input) {
-        Ok(Some(mut framed)) => {
-            // Both are within the limit, so that the sum is never cut.
-            framed.offset = framed.offset.wrapping_add(before);
-            match EncodedPacket::new(&framed) {
-                Ok(packet) => Next::Item {
-                    at: framed,
-                    item: packet,
-                },
-                Err(bad) => refused(bad, framed.offset),
-            }
-        }
-        Ok(None) => Next::End,
-        Err(stop) => stopped(stop, before),
-    }
-}
+use pass_loop::{Found, Items, LIMIT, More};
+use ump_words::{Framed, Order, Packets, WordReader, Words};
 
 /// Gives out the packets of a recording, as their words.
 #[derive(Drop)]
@@ -67,6 +40,51 @@ impl EncodedReader {
     }
 }
 
+// The packet of the two words that begin at a place of those that are held, if it is known by these: most are, so
+// that what comes next rests on no table of lengths.
+#[inline(always)]
+fn pair_in(
+    words: &WordReader,
+    held: &[u8],
+    offset: u64,
+    place: usize,
+) -> Option<Found<Framed, EncodedPacket>>
+    requires held { held.now ≡ held_bytes words.now }
+    requires offset { offset ≡ words.now.offset }
+    requires place { place ≤ length held.now }
+    ensures { IfSome result (λ found. ReadsAt words.now place found) }
+{
+    let pair = words.two_in(held, place)?;
+    let packet = EncodedPacket::of_two(pair.0, pair.1)?;
+    Some(Found::Item {
+        at: Framed {
+            offset: offset + place as u64,
+            words: Words::of_two(pair.0, pair.1),
+        },
+        item: packet,
+        next: place + 8,
+    })
+}
+
+// What the words that are held are, before the place at which the next ones begin.
+#[inline(always)]
+fn read_words(framed: Framed, next: usize) -> Found<Framed, EncodedPacket>
+    requires { IsWhole framed.words }
+    ensures { IsReadInto framed next result }
+{
+    match EncodedPacket::new(&framed) {
+        Ok(packet) => Found::Item {
+            at: framed,
+            item: packet,
+            next,
+        },
+        Err(bad) => Found::Refused {
+            reason: reason_of(bad),
+            offset: framed.offset,
+        },
+    }
+}
+
 impl Items<Framed, EncodedPacket> for EncodedReader {
     ghost IsCut = { λ first. packet_cutting first.words.how };
 
@@ -78,15 +96,50 @@ impl Items<Framed, EncodedPacket> for EncodedReader {
 
     ghost to_go = { λ reader. reader.words.limit - reader.words.offset };
 
+    ghost held_bytes = { λ reader. held_bytes reader.words };
+
+    ghost first_offset = { λ reader. reader.words.offset };
+
+    ghost passed = { λ count reader. record reader { words = passed count reader.words } };
+
+    ghost IsHeld = { λ place reader. BeginsPacket reader.words place };
+
     #[inline(always)]
-    fn next<S: Source>(&mut self, input: &mut S) -> Next<Framed, EncodedPacket> {
-        next_encoded(&mut self.words, 0, input)
+    fn held(&self) -> (&[u8], u64) {
+        self.words.held()
     }
 
     #[inline(always)]
-    fn needs_input(&self) -> bool {
-        self.words.needs_input()
+    fn item_in(
+        &self,
+        held: &[u8],
+        offset: u64,
+        place: usize,
+    ) -> Option<Found<Framed, EncodedPacket>> {
+        items_are_read_in_order::<Packets, Framed>();
+        if let Some(found) = pair_in(&self.words, held, offset, place) {
+            return Some(found);
+        }
+        match self.words.item_in(held, offset, place) {
+            Some(given) => {
+                let (framed, next) = given;
+                Some(read_words(framed, next))
+            }
+            None => None,
+        }
+    }
+
+    #[inline(always)]
+    fn pass(&mut self, count: usize) {
+        self.words.pass(count);
+    }
+
+    #[inline(always)]
+    fn more<S: Source>(&mut self, input: &mut S) -> More {
+        more_words(&mut self.words, input)
     }
 
     ghost starts = { λ first all new. none_given first.words first.words.how 0 all new };
+
+    ghost stays = { λ reader. ap (λ words. record reader { words = words }) (none_passed reader.words) };
 }

@@ -1,40 +1,47 @@
 // What is given out where no packet comes.
 ghost use Rattle.std.specs.Prelude.{◌≡◌};
-ghost use Rattle.pass_loop.specs.declared.pass.Next.TheVariants as next;
-ghost use Rattle.packet_input.specs.Packets.{next_of_stop, reason_for};
+ghost use Rattle.packet_input.specs.Packets.{next_of_stop, reason_for, refusal_of_stop};
 
 use outside::ReadStop;
 use pass_loop::{LIMIT, Next, Reason};
 use ump_grammar::Bad;
 use ump_words::Framed;
 
-/// Where the words at this offset are refused (M2-104-UM, message types).
+/// The reason for words that are refused (M2-104-UM, message types).
 #[inline(always)]
-pub(crate) fn refused<P>(bad: Bad, offset: u64) -> Next<Framed, P>
-    ensures { result ≡ next.Refused (reason_for bad) offset }
+pub(crate) fn reason_of(bad: Bad) -> Reason
+    ensures { result ≡ reason_for bad }
 {
-    let reason = match bad {
+    match bad {
         Bad::BadCount => Reason::BadCount,
         Bad::HighBit => Reason::HighBit,
-    };
-    Next::Refused { reason, offset }
+    }
 }
 
-/// Where the words stop, in an input in which so many bytes stand before the first one.
+/// The refusal where the words stop, in an input in which so many bytes stand before the first one; `None`
+/// if a read failed.
+#[inline(always)]
+pub(crate) fn refusal_of(stop: ReadStop, before: u64) -> Option<(Reason, u64)>
+    ensures { result ≡ refusal_of_stop before stop }
+{
+    match stop {
+        ReadStop::Read(_) => None,
+        // Both are within the limit, so that the sum is never cut.
+        ReadStop::Truncated(at) => Some((Reason::Truncated, at.wrapping_add(before))),
+        ReadStop::TooLong => Some((Reason::InputTooLong, LIMIT)),
+    }
+}
+
+/// What comes where the words stop, in an input in which so many bytes stand before the first one.
 #[inline(always)]
 pub(crate) fn stopped<P>(stop: ReadStop, before: u64) -> Next<Framed, P>
     ensures { result ≡ next_of_stop before stop }
 {
-    match stop {
-        ReadStop::Read(_) => Next::Failed,
-        ReadStop::Truncated(at) => Next::Refused {
-            reason: Reason::Truncated,
-            // Both are within the limit, so that the sum is never cut.
-            offset: at.wrapping_add(before),
+    match refusal_of(stop, before) {
+        Some(refusal) => Next::Refused {
+            reason: refusal.0,
+            offset: refusal.1,
         },
-        ReadStop::TooLong => Next::Refused {
-            reason: Reason::InputTooLong,
-            offset: LIMIT,
-        },
+        None => Next::Failed,
     }
 }

@@ -5,6 +5,7 @@
 mod encoded;
 mod endings;
 pub mod laws;
+mod more;
 mod packets;
 mod put;
 

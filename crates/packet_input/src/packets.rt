@@ -1,20 +1,25 @@
 // The packets of a recording, or of a file after its first bytes, one by one.
-ghost use Rattle.std.specs.Prelude.{◌≡◌, ◌≤◌, ◌-◌, ℕ, List, Option, None};
+ghost use Rattle.std.specs.Prelude.{◌≡◌, ◌<◌, ◌≤◌, ◌-◌, ℕ, IfSome, List, Option, None, length};
+ghost use Rattle.std.proofs.Common.{ap};
 ghost use Rattle.item_reader.specs.SoFar.{Given, given};
 ghost use Rattle.outside.specs.Outside.{ahead};
 ghost use Rattle.pass_loop.specs.Items.{limit};
-ghost use Rattle.pass_loop.specs.Next.{ComesNearer, GivesNext, NextCause};
+ghost use Rattle.item_reader.specs.Reading.{held_bytes, passed};
+ghost use Rattle.pass_loop.specs.Next.{GivesFound, GivesMore, IsFurther, MoreCause};
 ghost use Rattle.ump_grammar.specs.Ranges.{IsPacket};
 ghost use Rattle.ump_grammar.specs.declared.packet.Packet.{Packet};
+ghost use Rattle.ump_words.specs.Cut.{IsWhole};
 ghost use Rattle.ump_words.specs.declared.words.Framed.{Framed};
 ghost use Rattle.ump_words.specs.declared.words.Order.{Order};
-ghost use Rattle.packet_input.specs.Packets.{GivenSoFar, GivesNextPacket, new_words, packet_cutting};
+ghost use Rattle.packet_input.specs.Packets.{BeginsPacket, GivenSoFar, GivesNextPacket, IsReadInto, new_words, packet_cutting};
 ghost use Rattle.packet_input.specs.ForProofs.Starting.{none_given};
+ghost use Rattle.pass_loop.specs.ForProofs.Starting.{none_passed};
 
-use crate::endings::{refused, stopped};
+use crate::endings::{reason_of, stopped};
+use crate::more::more_words;
 use item_reader::items_are_read_in_order;
 use outside::Source;
-use pass_loop::{Items, LIMIT, Next};
+use pass_loop::{Found, Items, LIMIT, More, Next};
 use ump_grammar::{Packet, decode};
 use ump_words::{Framed, Order, Packets, WordReader};
 
@@ -41,7 +46,10 @@ pub fn next_packet<S: Source>(
                     at: framed,
                     item: packet,
                 },
-                Err(bad) => refused(bad, framed.offset),
+                Err(bad) => Next::Refused {
+                    reason: reason_of(bad),
+                    offset: framed.offset,
+                },
             }
         }
         Ok(None) => Next::End,
@@ -66,6 +74,25 @@ impl PacketReader {
     }
 }
 
+// What the words that are held spell, before the place at which the next ones begin.
+#[inline(always)]
+fn read_words(framed: Framed, next: usize) -> Found<Framed, Packet>
+    requires { IsWhole framed.words }
+    ensures { IsReadInto framed next result }
+{
+    match decode(&framed) {
+        Ok(packet) => Found::Item {
+            at: framed,
+            item: packet,
+            next,
+        },
+        Err(bad) => Found::Refused {
+            reason: reason_of(bad),
+            offset: framed.offset,
+        },
+    }
+}
+
 impl Items<Framed, Packet> for PacketReader {
     ghost IsCut = { λ first. packet_cutting first.words.how };
 
@@ -77,15 +104,42 @@ impl Items<Framed, Packet> for PacketReader {
 
     ghost to_go = { λ reader. reader.words.limit - reader.words.offset };
 
+    ghost held_bytes = { λ reader. held_bytes reader.words };
+
+    ghost first_offset = { λ reader. reader.words.offset };
+
+    ghost passed = { λ count reader. record reader { words = passed count reader.words } };
+
+    ghost IsHeld = { λ place reader. BeginsPacket reader.words place };
+
     #[inline(always)]
-    fn next<S: Source>(&mut self, input: &mut S) -> Next<Framed, Packet> {
-        next_packet(&mut self.words, 0, input)
+    fn held(&self) -> (&[u8], u64) {
+        self.words.held()
     }
 
     #[inline(always)]
-    fn needs_input(&self) -> bool {
-        self.words.needs_input()
+    fn item_in(&self, held: &[u8], offset: u64, place: usize) -> Option<Found<Framed, Packet>> {
+        items_are_read_in_order::<Packets, Framed>();
+        match self.words.item_in(held, offset, place) {
+            Some(given) => {
+                let (framed, next) = given;
+                Some(read_words(framed, next))
+            }
+            None => None,
+        }
+    }
+
+    #[inline(always)]
+    fn pass(&mut self, count: usize) {
+        self.words.pass(count);
+    }
+
+    #[inline(always)]
+    fn more<S: Source>(&mut self, input: &mut S) -> More {
+        more_words(&mut self.words, input)
     }
 
     ghost starts = { λ first all new. none_given first.words first.words.how 0 all new };
+
+    ghost stays = { λ reader. ap (λ words. record reader { words = words }) (none_passed reader.words) };
 }

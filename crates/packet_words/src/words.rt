@@ -52,6 +52,17 @@ impl Words {
         }
     }
 
+    /// These two words.
+    #[inline(always)]
+    pub fn of_two(first: u32, second: u32) -> Self
+        ensures { result ≡ first ∷ second ∷ [] }
+    {
+        Words {
+            cells: [first, second, 0, 0],
+            count: 2,
+        }
+    }
+
     /// The words, one to four.
     #[inline]
     pub fn as_slice(&self) -> &[u32]

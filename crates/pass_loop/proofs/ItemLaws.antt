@@ -6,7 +6,7 @@ use Rattle.std.proofs.lemmas.List.{append_assoc, append-nil}
 use Rattle.item_reader.specs.Cut.{IsCutInto, IsRest}
 use Rattle.item_reader.specs.CutLaws.{ItemsAreReadInOrder}
 use Rattle.outside.specs.Outside.{Loses, ahead}
-use Rattle.item_reader.specs.Reading.{Cursor, Reading, Gives, Finishes, Waits, cursor}
+use Rattle.item_reader.specs.Reading.{Cursor, Reading, Gives, Finishes, IsBrought, Waits, cursor}
 use Rattle.item_reader.specs.SoFar.{ReadSoFar, given}
 use Rattle.item_reader.specs.declared.cutting.Tail.{Tail}
 use Rattle.item_reader.specs.declared.cutting.Tail.TheVariants as tail
@@ -71,6 +71,11 @@ module _ {How Item : Type 0} (asked : How → List ℕ → ℕ) (item_of : How �
   front_more reader' left' item gives =
       let more = laws.step how limit reader all left items so_far reader' left' item gives in
       fronts (asked how) (item_of how) how reader' all left' (items ++ item ∷ []) more all (ahead reader'.pending left') more.lost
+
+  -- more was read
+  brought_more : (reader' : Reading How) (left' : Option (List ℕ)) → IsBrought (asked reader.how) (cursor reader left) (cursor reader' left')
+      → ReadSoFar (asked how) (item_of how) how limit reader' (given all left' items)
+  brought_more reader' left' brought = laws.brought how limit reader all left items so_far reader' left' brought
 
   -- the items end with this tail
   at_tail : (reader' : Reading How) (left' : Option (List ℕ)) (tail : Tail)
@@ -161,6 +166,7 @@ taken_in_order asked item_of laws =
     record {
       given_more = λ how reader all left items so_far. given_more asked item_of laws how reader all left items so_far;
       front_more = λ how reader all left items so_far. front_more asked item_of laws how reader all left items so_far;
+      brought_more = λ how reader all left items so_far. brought_more asked item_of laws how reader all left items so_far;
       at_tail = λ how reader all left items so_far. at_tail asked item_of laws how reader all left items so_far;
       at_end = λ how reader all left items so_far. at_end asked item_of laws how reader all left items so_far;
       still_given = λ how reader all left items so_far. still_given asked item_of laws how reader all left items so_far;

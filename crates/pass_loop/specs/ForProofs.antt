@@ -4,6 +4,8 @@ pub mod DoneLaws
 pub mod EachLaws
 pub mod EndsLaws
 pub mod FirstRefusalLaws
+pub mod HeldItems
+pub mod HeldLaws
 pub mod NamedLaws
 pub mod PassLaws
 pub mod PutLaws

@@ -1,17 +1,17 @@
 // The items of a stream, one by one, each after its offset.
-ghost use Rattle.std.specs.Prelude.{◌≡◌, ◌-◌, ℕ, List, Option, None};
+ghost use Rattle.std.specs.Prelude.{◌≡◌, ◌<◌, ◌≤◌, ◌-◌, ℕ, IfSome, List, Option, None, drop, length};
 ghost use Rattle.outside.specs.Outside.{ahead};
-ghost use Rattle.item_reader.specs.Reading.{new_reading};
+ghost use Rattle.item_reader.specs.Reading.{held_bytes, new_reading, passed};
 ghost use Rattle.item_reader.specs.SoFar.{Given, ReadSoFar, given};
 ghost use Rattle.pass_loop.specs.Items.{after_offset, item_cutting, limit};
-ghost use Rattle.pass_loop.specs.Next.{ComesNearer, GivesNext, NextCause};
+ghost use Rattle.pass_loop.specs.Next.{GivesFound, GivesMore, IsFurther, MoreCause};
 ghost use Rattle.pass_loop.specs.Pass.{Cutting};
-ghost use Rattle.pass_loop.specs.ForProofs.Starting.{none_given};
+ghost use Rattle.pass_loop.specs.ForProofs.Starting.{none_given, none_passed};
 
 use crate::bytes::LIMIT;
 use crate::ends::Reason;
 use crate::laws::items_are_taken_in_order;
-use crate::pass::{Items, Next};
+use crate::pass::{Found, Items, More};
 use item_reader::{Cut, ItemReader};
 use outside::{ReadStop, Source};
 use std::marker::Model;
@@ -54,29 +54,56 @@ impl<I, H: Cut<Item = (I, u64)>> Items<u64, I> for EachItems<H> {
 
     ghost to_go = { λ reader. reader.limit - reader.offset };
 
+    ghost held_bytes = { λ reader. held_bytes reader };
+
+    ghost first_offset = { λ reader. reader.offset };
+
+    ghost passed = { λ count reader. passed count reader };
+
+    ghost IsHeld = { λ place reader. H.asked reader.how (drop place (held_bytes reader)) ≤ length (drop place (held_bytes reader)) };
+
     #[inline(always)]
-    fn next<S: Source>(&mut self, input: &mut S) -> Next<u64, I> {
+    fn held(&self) -> (&[u8], u64) {
+        self.reader.held()
+    }
+
+    #[inline(always)]
+    fn item_in(&self, held: &[u8], offset: u64, place: usize) -> Option<Found<u64, I>> {
         items_are_taken_in_order::<H, (u64, I)>();
-        match self.reader.next(input) {
-            Ok(Some((item, offset))) => Next::Item { at: offset, item },
-            Ok(None) => Next::End,
-            Err(ReadStop::Read(_)) => Next::Failed,
-            Err(ReadStop::Truncated(offset)) => Next::Refused {
+        match self.reader.item_in(held, offset, place) {
+            Some(given) => {
+                let ((item, at), next) = given;
+                Some(Found::Item { at, item, next })
+            }
+            None => None,
+        }
+    }
+
+    #[inline(always)]
+    fn pass(&mut self, count: usize) {
+        self.reader.pass(count);
+    }
+
+    #[inline(always)]
+    fn more<S: Source>(&mut self, input: &mut S) -> More {
+        items_are_taken_in_order::<H, (u64, I)>();
+        match self.reader.more(input) {
+            Ok(true) => More::Held,
+            Ok(false) => More::End,
+            Err(ReadStop::Read(_)) => More::Failed,
+            Err(ReadStop::Truncated(offset)) => More::Refused {
                 reason: Reason::Truncated,
                 offset,
             },
-            Err(ReadStop::TooLong) => Next::Refused {
+            Err(ReadStop::TooLong) => More::Refused {
                 reason: Reason::InputTooLong,
                 offset: LIMIT,
             },
         }
     }
 
-    #[inline(always)]
-    fn needs_input(&self) -> bool {
-        self.reader.needs_input()
-    }
-
     ghost starts = { λ first all new.
         none_given (H.asked first.how) (after_offset (H.item_of first.how)) first.how first all new };
+
+    ghost stays = { λ reader. none_passed reader };
 }

@@ -9,9 +9,11 @@ pub mod laws;
 pub mod outputs;
 pub mod pass;
 pub mod places;
+pub mod runs;
 
 pub use crate::bytes::LIMIT;
 pub use crate::each_items::EachItems;
 pub use crate::ends::{Reason, RunEnd};
 pub use crate::outputs::{Borrowed, Outputs};
-pub use crate::pass::{Engine, Items, Next, drive, next_of, write_out};
+pub use crate::pass::{Engine, Found, Items, More, Next, drive, write_out};
+pub use crate::runs::{Runs, drive_bytes};

@@ -1,8 +1,9 @@
 // One loop for every pass.
-ghost use Rattle.std.specs.Prelude.{◌≡◌, ◌<◌, ℕ, IfOk, List, [], ◌∷◌, Option, true};
+ghost use Rattle.std.specs.Prelude.{◌≡◌, ◌<◌, ◌≤◌, ℕ, IfOk, IfSome, List, [], ◌∷◌, None, Option, length, true};
 ghost use Rattle.item_reader.specs.SoFar.{Given, given};
+ghost use Rattle.pass_loop.specs.ForProofs.HeldLaws.{IsUnderWay, StaysUnderWay, TakesHeld};
 ghost use Rattle.pass_loop.specs.Named.{AreNamed};
-ghost use Rattle.pass_loop.specs.Next.{ComesNearer, GivesNext, NextCause};
+ghost use Rattle.pass_loop.specs.Next.{GivesFound, GivesMore, IsFurther, MoreCause};
 ghost use Rattle.pass_loop.specs.Pass.{AreAccepted, ArePut, Closes, Cutting, CutsOnce, Ends, Steps, Work, end_of as end_after, seen, seen_with};
 ghost use Rattle.pass_loop.specs.PassEnds.{PassEnds};
 ghost use Rattle.pass_loop.specs.Put.{Put};
@@ -24,7 +25,30 @@ pub enum Next<A, I> {
     Failed,
 }
 
-/// Cuts an input into items.
+/// What begins at a place of the bytes that a reader holds.
+#[derive(Debug, Drop)]
+pub enum Found<A, I> {
+    /// An item, where it stands, and the place at which the next one begins.
+    Item { at: A, item: I, next: usize },
+    /// What stands at this offset is refused.
+    Refused { reason: Reason, offset: u64 },
+}
+
+/// What reading more of an input brought.
+#[derive(Clone, Copy, Debug, PartialEq, Eq)]
+pub enum More {
+    /// A whole item is held.
+    Held,
+    /// The input ends with the last item.
+    End,
+    /// What stands at this offset is refused.
+    Refused { reason: Reason, offset: u64 },
+    /// A read failed.
+    Failed,
+}
+
+/// Cuts an input into items. It holds bytes that it has read. A loop goes over them with a place of its own, from item to item
+/// (`item_in`), tells the reader how many it has passed (`pass`), and has it read more (`more`).
 pub trait Items<A, I> {
     /// How an input is cut, by a new reader.
     ghost IsCut: { Self → Cutting (A × I) };
@@ -41,21 +65,55 @@ pub trait Items<A, I> {
     /// How far the end may be.
     ghost to_go: { Self → ℕ };
 
-    /// What comes next. After `Next::Failed` nothing is lost, and a later call goes on from there.
-    fn next<S: Source>(&mut self, input: &mut S) -> Next<A, I>
+    /// The bytes that are held and may be given out.
+    ghost held_bytes: { Self → List ℕ };
+
+    /// The offset of the first of them.
+    ghost first_offset: { Self → ℕ };
+
+    /// The reader after so many of them.
+    ghost passed: { ℕ → Self → Self };
+
+    /// A whole item begins after so many of them.
+    ghost IsHeld: { ℕ → Self → Type 0 };
+
+    /// The bytes that are held and may be given out, and the offset of the first of them.
+    fn held(&self) -> (&[u8], u64)
+        ensures bytes { result.0.now ≡ held_bytes self.now }
+        ensures offset { result.1 ≡ first_offset self.now };
+
+    /// What begins after `place` of the bytes that are held; `None` exactly if no whole item begins there.
+    fn item_in(&self, held: &[u8], offset: u64, place: usize) -> Option<Found<A, I>>
+        requires held { held.now ≡ held_bytes self.now }
+        requires offset { offset ≡ first_offset self.now }
+        requires place { place ≤ length held.now }
+        ensures answer { (first : Self) (all left : Option (List ℕ)) (items : List (A × I)) →
+            HasGiven first (passed place self.now) (given all left items) →
+            IfSome result (λ found. GivesFound (IsCut first) Promises (λ next. HasGiven first (passed next self.now))
+            (given all left items) found) }
+        ensures further { IfSome result (λ found. IsFurther (λ at. to_go (passed at self.now))
+            (length held.now) place found) }
+        ensures none { result ≡ None → IsHeld place self.now → ⊥ };
+
+    /// Goes on after the first `count` of the bytes that are held.
+    fn pass(&mut self, count: usize)
+        requires { count ≤ length (held_bytes self.old) }
+        ensures { self.new ≡ passed count self.old };
+
+    /// Reads until a whole item is held, if none is. After `More::Failed` nothing is lost, and a later call goes on from there.
+    fn more<S: Source>(&mut self, input: &mut S) -> More
         ensures answer { (first : Self) (all : Option (List ℕ)) (items : List (A × I)) →
             HasGiven first self.old (given all (S.left input.old) items) →
-            GivesNext (IsCut first) Promises (HasGiven first self.new)
-            (given all (S.left input.new) items) result }
-        ensures nearer { ComesNearer (to_go self.old) (to_go self.new) result }
-        ensures cause { NextCause (S.faults input.old) (S.faults input.new) result };
-
-    /// Whether no whole item is held, so that `next` reads, unless the input has ended. No clause says it.
-    fn needs_input(&self) -> bool;
+            GivesMore (IsCut first) (HasGiven first self.new) (given all (S.left input.new) items) result }
+        ensures held { result ≡ More.Held → IsHeld 0 self.new × (to_go self.new ≡ to_go self.old) }
+        ensures cause { MoreCause (S.faults input.old) (S.faults input.new) result };
 
     /// A new reader has given nothing.
     ghost starts: { (first : Self) (all : Option (List ℕ)) → IsNew first →
         HasGiven first first (given all all []) };
+
+    /// A reader that has passed nothing is as it was.
+    ghost stays: { (reader : Self) → passed 0 reader ≡ reader };
 }
 
 /// Does the work on items, one by one.
@@ -113,7 +171,7 @@ pub trait Engine<A, I> {
 }
 
 // The end where what is put at the end of the input is put, or failed.
-fn end_of(closed: Result<(), RunEnd>) -> RunEnd
+pub(crate) fn end_of(closed: Result<(), RunEnd>) -> RunEnd
     ensures { result ≡ end_after closed }
 {
     match closed {
@@ -130,61 +188,6 @@ pub fn write_out<S: Source, O: Outputs>(input: &S, outputs: &mut O)
     if input.may_wait() {
         outputs.write_out();
     }
-}
-
-// What comes next, where it has to be read, out of line: so the loop
-// of a pass has the reading of an item once.
-#[inline(never)]
-fn read_next<A, I, R: Items<A, I>, S: Source>(reader: &mut R, input: &mut S) -> Next<A, I>
-    ensures answer { (first : R) (all : Option (List ℕ)) (items : List (A × I)) →
-        R.HasGiven first reader.old (given all (S.left input.old) items) →
-        GivesNext (R.IsCut first) R.Promises (R.HasGiven first reader.new)
-        (given all (S.left input.new) items) result }
-    ensures nearer { ComesNearer (R.to_go reader.old) (R.to_go reader.new) result }
-    ensures cause { NextCause (S.faults input.old) (S.faults input.new) result }
-{
-    reader.next(input)
-}
-
-// The same, taken apart and put together: so what comes from out of line is copied, and an item that is
-// taken in the loop needs no place in memory that both share.
-#[inline(always)]
-fn next_read<A, I, R: Items<A, I>, S: Source>(reader: &mut R, input: &mut S) -> Next<A, I>
-    ensures answer { (first : R) (all : Option (List ℕ)) (items : List (A × I)) →
-        R.HasGiven first reader.old (given all (S.left input.old) items) →
-        GivesNext (R.IsCut first) R.Promises (R.HasGiven first reader.new)
-        (given all (S.left input.new) items) result }
-    ensures nearer { ComesNearer (R.to_go reader.old) (R.to_go reader.new) result }
-    ensures cause { NextCause (S.faults input.old) (S.faults input.new) result }
-{
-    match read_next(reader, input) {
-        Next::Item { at, item } => Next::Item { at, item },
-        Next::End => Next::End,
-        Next::Refused { reason, offset } => Next::Refused { reason, offset },
-        Next::Failed => Next::Failed,
-    }
-}
-
-/// What comes next. Where it has to be read, what was put is written out first, unless the input never waits.
-#[inline(always)]
-pub fn next_of<A, I, R: Items<A, I>, S: Source, O: Outputs>(
-    reader: &mut R,
-    input: &mut S,
-    outputs: &mut O,
-) -> Next<A, I>
-    ensures answer { (first : R) (all : Option (List ℕ)) (items : List (A × I)) →
-        R.HasGiven first reader.old (given all (S.left input.old) items) →
-        GivesNext (R.IsCut first) R.Promises (R.HasGiven first reader.new)
-        (given all (S.left input.new) items) result }
-    ensures nearer { ComesNearer (R.to_go reader.old) (R.to_go reader.new) result }
-    ensures cause { NextCause (S.faults input.old) (S.faults input.new) result }
-    ensures places { O.places outputs.new ≡ O.places outputs.old }
-{
-    if reader.needs_input() {
-        write_out(input, outputs);
-        return next_read(reader, input);
-    }
-    reader.next(input)
 }
 
 /// Reads an input item by item and does the work on each, to the end or to the first refusal. What was put is
@@ -238,14 +241,47 @@ fn drive_into<
         (seen_with S.Source input.new (O.places outputs.new)) result }
 {
     loop {
-        match next_of(&mut reader, input, outputs) {
-            Next::Item { at, item } => match engine.step(&at, &item, outputs) {
-                Ok(()) => {}
+        write_out(input, outputs);
+        match reader.more(input) {
+            More::Held => match take_held(&reader, &mut engine, outputs) {
+                Ok(count) => reader.pass(count),
                 Err(end) => return end,
             },
-            Next::End => return end_of(engine.close(outputs)),
-            Next::Refused { reason, offset } => return RunEnd::Refused { reason, offset },
-            Next::Failed => return RunEnd::ReadFault,
+            More::End => return end_of(engine.close(outputs)),
+            More::Refused { reason, offset } => return RunEnd::Refused { reason, offset },
+            More::Failed => return RunEnd::ReadFault,
+        }
+    }
+}
+
+// Does the work on each whole item that is held, and says how many bytes they have.
+#[inline(always)]
+fn take_held<A: Drop, I: Drop, R: Items<A, I>, E: Engine<A, I>, O: Outputs>(
+    reader: &R,
+    engine: &mut E,
+    outputs: &mut O,
+) -> Result<usize, RunEnd>
+    requires items { (past : List (A × I)) (item : A × I) → R.Promises past item →
+        E.Asks item × E.AsksAfter past item }
+    requires begun { E.UsesLanes → (O.places outputs.old).begun ≡ true }
+    requires under_way { IsUnderWay E.work R.HasGiven E.Holds reader.now engine.old (O.places outputs.old) }
+    ensures taken { TakesHeld R.to_go R.passed R.IsHeld (length (R.held_bytes reader.now)) reader.now result }
+    ensures under_way { StaysUnderWay R.IsCut E.work R.HasGiven E.Holds R.passed reader.now
+        engine.old engine.new (O.places outputs.old) (O.places outputs.new) result }
+{
+    let (held, offset) = reader.held();
+    let mut place = 0;
+    loop {
+        match reader.item_in(held, offset, place) {
+            Some(Found::Item { at, item, next }) => {
+                engine.step(&at, &item, outputs)?;
+                place = next;
+            }
+            Some(Found::Refused { reason, offset }) => return Err(RunEnd::Refused {
+                reason,
+                offset,
+            }),
+            None => return Ok(place),
         }
     }
 }

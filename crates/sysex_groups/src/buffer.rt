@@ -1,10 +1,12 @@
 // The buffer of one group.
 ghost use Rattle.std.specs.Prelude.{
   ◌≡◌,
+  ◌↔◌,
   ◌≤◌,
   ◌+◌,
   ◌∷◌,
   ◌++◌,
+  ℕ,
   [],
   Some,
   None,
@@ -16,9 +18,11 @@ ghost use Rattle.std.specs.Prelude.{
   IfOk,
   drop,
   is_some,
+  IsTrue,
+  false,
 };
 ghost use Rattle.std.specs.Option.{ForSome};
-ghost use Rattle.sysex_groups.specs.Exclusives.{IsData, LendsData, ended_by, framed};
+ghost use Rattle.sysex_groups.specs.Exclusives.{IsData, LendsData, ended_by, framed, held};
 ghost use Rattle.voice_messages.specs.declared.voice2.Form.TheVariants as form;
 
 use crate::fed::Fed;
@@ -87,6 +91,7 @@ impl Buffer {
     }
 
     /// Whether the open exclusive, with these bytes, would exceed its limit.
+    #[inline(always)]
     fn passes_room(&self, bytes: &[u8]) -> bool
         ensures { result ≡ nat_lt (self.now.room + 1) (length self.now.bytes.items + length bytes.now) }
     {
@@ -183,6 +188,24 @@ impl Buffer {
             Form::Start | Form::Continue => false,
             Form::End => self.start.is_some() && !self.passes_room(bytes),
         }
+    }
+
+    /// Whether a Continue with these bytes is held: then they are added.
+    #[inline(always)]
+    pub fn holds(&mut self, bytes: &[u8]) -> bool
+        requires few { length bytes.now ≤ 6 }
+        requires data_bytes { IsData bytes.now }
+        ensures held { IsTrue result ↔ (answer_in (state_of self.old) form.Continue bytes.now ≡ held) }
+        ensures after { (offset : ℕ) → IsTrue result →
+            state_of self.new ≡ after_in (state_of self.old) form.Continue bytes.now offset }
+        ensures room { self.new.room ≡ self.old.room }
+        ensures unchanged { result ≡ false → self.new ≡ self.old }
+    {
+        if self.start.is_none() || self.passes_room(bytes) {
+            return false;
+        }
+        append(&mut self.bytes, bytes);
+        true
     }
 
     /// Takes one more part of the group.

@@ -1,6 +1,7 @@
 // The exclusives of sixteen groups.
-ghost use Rattle.std.specs.Prelude.{◌≡◌, ◌≤◌, IfOk, Some, is_some, length};
-ghost use Rattle.sysex_groups.specs.Exclusives.{IsData, LendsData, ended_by};
+ghost use Rattle.std.specs.Prelude.{◌≡◌, ◌≤◌, ◌↔◌, ℕ, IfOk, IsTrue, Some, false, is_some, length};
+ghost use Rattle.sysex_groups.specs.Exclusives.{IsData, LendsData, ended_by, held};
+ghost use Rattle.voice_messages.specs.declared.voice2.Form.TheVariants as form;
 
 use crate::buffer::Buffer;
 use crate::fed::Fed;
@@ -80,6 +81,21 @@ impl Groups {
         let index = group.get() as usize;
         let buffer = &mut self.buffers[index];
         buffer.feed(form, bytes, offset)
+    }
+
+    /// Whether a Continue of six bytes is held, so that `feed` would answer `Held` for it: an exclusive of
+    /// the group is open, and stays within the limit (M2-104-UM, system exclusive 7-bit messages). Then the
+    /// bytes are added, as `feed` adds them, whatever the offset; else nothing changes.
+    #[inline(always)]
+    pub fn holds(&mut self, group: U4, bytes: &[u8; 6]) -> bool
+        requires data_bytes { IsData bytes.now }
+        ensures answer { IsTrue result ↔ (answer_to self.old
+            (record { group = group; form = form.Continue; bytes = bytes.now; offset = 0 }) ≡ held) }
+        ensures after { (offset : ℕ) → IsTrue result → self.new ≡ with_part
+            (record { group = group; form = form.Continue; bytes = bytes.now; offset = offset }) self.old }
+        ensures unchanged { result ≡ false → self.new ≡ self.old }
+    {
+        self.buffers[group.get() as usize].holds(bytes)
     }
 
     /// Whether a part ends an exclusive of its group, so that `feed` would lend it: it is Complete, or it is

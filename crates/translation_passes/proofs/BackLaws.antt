@@ -1,5 +1,5 @@
 -- The packets of a byte, which come down again.
-use Rattle.std.proofs.Common.{◌≡◌, ◌<◌, ◌≤◌, ℕ, Bool, List, [], ◌∷◌, ◌++◌, take, refl, ap, sym, ◌∙◌, subst}
+use Rattle.std.proofs.Common.{◌≡◌, ◌<◌, ◌≤◌, ℕ, Bool, List, [], ◌∷◌, ◌++◌, length, take, refl, ap, sym, ◌∙◌, subst}
 use Rattle.std.specs.Prelude.{Some, reverse}
 use Rattle.std.specs.List.{AllByRecursion}
 use Rattle.std.proofs.lemmas.List.{append_assoc, append-nil, reverse-append}
@@ -18,14 +18,20 @@ use Rattle.down_translator.specs.Held.{DownState, down_after, whole_in}
 use Rattle.down_translator.specs.Laws.{WhatIsHeldIsTheDefinition}
 use Rattle.down_translator.specs.Recording.{AreInRange, packets_of, state_of}
 use Rattle.down_translator.specs.Step.{piece_of}
+use Rattle.up_translator.specs.Fronts.{RaisesAlone}
+use Rattle.up_translator.specs.Held.{UpState, up_after}
+use Rattle.up_translator.specs.Laws.{RaisedBytesAreTheDefinition}
 use Rattle.pass_loop.specs.Bytes.{bytes_read}
 use Rattle.pass_loop.specs.Put.{Put, in_output}
+use Rattle.pass_loop.specs.Runs.{next_item}
+use Rattle.translation_passes.specs.Options.{BackOptions}
 use Rattle.down_translator.specs.Lowered.{IsDirectStep, lowered_bytes}
 use Rattle.down_translator.specs.declared.lowered.LoweredMessage.{LoweredMessage}
-use Rattle.translation_passes.specs.Back.{HoldsReturned, ReturnedBytesMean, byte_pieces, ComesDown, piece_puts, plain_puts, PutsDown}
+use Rattle.translation_passes.specs.Back.{HoldsBack, HoldsReturned, returning, ReturnedBytesMean, byte_pieces, ComesDown, piece_puts, plain_puts, PutsDown}
 use Rattle.translation_passes.specs.Raised.{AreDone, AreTaken, CanBeDone, byte_packets}
 use Rattle.translation_passes.proofs.LoweredLaws.{carried_as, is_carried_as}
-use Rattle.translation_passes.proofs.StreamLaws.{front_accepted}
+use Rattle.translation_passes.proofs.FrontLaws.{ByteIsPut}
+use Rattle.translation_passes.proofs.StreamLaws.{IsAloneAt, alone_at, front_accepted}
 
 pub piece_is_put : (offset : ℕ) → CanBeDone ComesDown (PutsDown offset)
 piece_is_put offset from group form bytes accepted = (_, _, (refl, refl))
@@ -125,3 +131,48 @@ returned_bytes_mean paired room group few same rooms = λ past accepted count.
     let S : List ℕ → Type 0 = λ xs. SameState (mean1 paired xs) (mean1 paired front) in
     subst S (sym (rooms.pieces room group (reverse front) (rooms.accepted room (reverse front) (front_accepted room count past accepted))))
     (same.after_each group count (reverse past) few)
+
+-- ---- a byte of several that are taken at once
+
+module _ (options : BackOptions) (law : RaisedBytesAreTheDefinition options.paired) (silence : RaisedPacketsComeBackInSilence options.paired)
+    (laws : WhatIsHeldIsTheDefinition options.paired) (in_range : RaisedPacketsAreInRange options.paired)
+    (up : UpState) (down : DownState) (past : List (ℕ × ℕ)) (byte : ℕ) (held : HoldsBack options up down past) where
+  back_alone : (packets : List Packet) → RaisesAlone up (length past) byte packets
+      → IsAloneAt options.paired options.room options.group past byte packets (up_after up (length past) byte)
+  back_alone packets raises =
+      alone_at options.paired law options.room options.group past up held.accepted held.holds_up byte packets raises
+
+  -- what comes of the packets rests on no offset
+  comes_at : (offset : ℕ) → ByteComesDown options.paired options.room options.group past (offset, byte) down
+  comes_at offset =
+      byte_comes_down options.paired silence laws in_range options.room options.group held.least held.few past (offset, byte) down
+      held.holds_down
+
+  -- it is accepted, and these packets come down
+  pub alone_is_returned : (packets : List Packet) (to : DownState) (puts : List Put) → RaisesAlone up (length past) byte packets
+      → AreDone (PutsDown 0) down packets to puts
+      → ByteIsPut (returning options) (λ now. HoldsBack options (up_after up (length past) byte) to now) past byte puts
+  alone_is_returned packets to puts raises done =
+      let alone = back_alone packets raises in
+      let D : List Packet → Type 0 = λ ps. AreDone (PutsDown 0) down ps to puts in
+      let both = (comes_at 0).done to puts (subst D (sym alone.packets_are) done) in
+      let pieces : List Put = byte_pieces options.paired options.room options.group past (next_item past byte) in
+      record {
+        accepted = alone.unrefused;
+        put = both.0 ∙ sym (append-nil pieces) ∙ ap (λ lines. pieces ++ lines) (sym alone.unlisted);
+        holds = record {
+          few = held.few;
+          least = held.least;
+          law = held.law;
+          accepted = alone.accepted;
+          holds_up = alone.holds;
+          holds_down = both.1;
+        };
+      }
+
+  -- the packet that is raised of it comes down
+  pub alone_comes_down : (packet : Packet) → RaisesAlone up (length past) byte (packet ∷ []) → ComesDown down packet
+  alone_comes_down packet raises =
+      let alone = back_alone (packet ∷ []) raises in
+      let A : List Packet → Type 0 = λ ps. AreTaken ComesDown (PutsDown 0) down ps in
+      (subst A alone.packets_are (comes_at 0).taken).0

@@ -1,6 +1,7 @@
 -- One more byte of a stream that is raised, by the laws of the crates below.
 use Rattle.std.proofs.Common.{◌≡◌, ℕ, Bool, List, [], ◌∷◌, ◌++◌, length, take, drop, ap, sym, ◌∙◌, subst}
-use Rattle.std.specs.Prelude.{Some, Ok, reverse}
+use Rattle.std.specs.Prelude.{None, Some, Ok, reverse}
+use Rattle.ump_grammar.specs.declared.packet.Packet.{Packet}
 use Rattle.std.proofs.lemmas.List.{length-map, reverse-append, reverse-reverse, take-append-drop}
 use Rattle.midi1_bytes.specs.Laws.{ParsedBytesAreTheDefinition}
 use Rattle.midi1_bytes.specs.Parsing.{held_over, parse}
@@ -8,13 +9,16 @@ use Rattle.midi_meaning.specs.UpLaws.{RoomsThatAreNotReachedDoNotMatterInBytes}
 use Rattle.midi_meaning.specs.UpRefusal.{AreAcceptedUp, refusal_of_step}
 use Rattle.up_translator.specs.declared.raised.Raised.{Raised}
 use Rattle.up_translator.specs.Answers.{IsRaisedAt}
+use Rattle.up_translator.specs.Fronts.{RaisesAlone}
 use Rattle.up_translator.specs.Held.{KeepsAfter, UpState, step_in, up_after}
 use Rattle.up_translator.specs.Laws.{RaisedBytesAreTheDefinition}
 use Rattle.up_translator.specs.Recording.{HoldsUp}
 use Rattle.up_translator.specs.Step.{Raises}
 use Rattle.pass_loop.specs.Bytes.{bytes_read}
+use Rattle.pass_loop.specs.Runs.{next_item}
+use Rattle.listing_lines.specs.Lines.{line_puts}
 use Rattle.listing_lines.specs.Refusal.{refusal_by}
-use Rattle.translation_passes.specs.Raised.{byte_refusal, refusal_at}
+use Rattle.translation_passes.specs.Raised.{byte_lines, byte_packets, byte_refusal, refusal_at}
 
 -- ---- accepted bytes
 
@@ -62,3 +66,31 @@ module _ (paired : Bool) (law : RaisedBytesAreTheDefinition paired) (room group 
       let U : UpState → Type 0 = λ u. HoldsUp paired room group (byte ∷ bytes_read past) u in
       subst U (sym is) (subst H (sym at)
       (law.after room group (bytes_read past) byte up (rooms.accepted room (byte ∷ bytes_read past) accepted) holds (subst K at keeps)))
+
+-- ---- one more byte of several that are taken at once
+
+-- it is accepted with these packets and no line, and this is held then
+pub record IsAloneAt (paired : Bool) (room group : ℕ) (past : List (ℕ × ℕ)) (byte : ℕ) (packets : List Packet) (new : UpState) : Type 0
+  where
+    pub unrefused : refusal_at room past (next_item past byte) ≡ None
+    pub packets_are : byte_packets paired room group past (next_item past byte) ≡ packets
+    pub unlisted : byte_lines paired room group past (next_item past byte) ≡ []
+    pub accepted : AreAcceptedUp (Some room) (byte ∷ bytes_read past)
+    pub holds : HoldsUp paired room group (byte ∷ bytes_read past) new
+
+pub alone_at : (paired : Bool) → RaisedBytesAreTheDefinition paired → (room group : ℕ) (past : List (ℕ × ℕ)) (up : UpState)
+    → AreAcceptedUp (Some room) (bytes_read past) → HoldsUp paired room group (bytes_read past) up
+    → (byte : ℕ) (packets : List Packet) → RaisesAlone up (length past) byte packets
+    → IsAloneAt paired room group past byte packets (up_after up (length past) byte)
+alone_at paired law room group past up accepted holds byte packets raises =
+    let at : length (bytes_read past) ≡ length past = length-map past (λ (item : ℕ × ℕ). item.1) in
+    let R : ℕ → Type 0 = λ n. RaisesAlone up n byte packets in
+    let one = law.alone room group (bytes_read past) byte up packets accepted holds (subst R (sym at) raises) in
+    let H : ℕ → Type 0 = λ n. HoldsUp paired room group (byte ∷ bytes_read past) (up_after up n byte) in
+    record {
+      unrefused = ap (λ refusal. refusal_by refusal (length past)) one.0.accepted;
+      packets_are = one.0.packets_are;
+      unlisted = ap line_puts one.0.unlisted;
+      accepted = (one.0.accepted, accepted);
+      holds = subst H at one.1;
+    }

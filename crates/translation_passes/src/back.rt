@@ -11,7 +11,7 @@ ghost use Rattle.translation_passes.specs.Raised.{CarriesOut};
 ghost use Rattle.translation_passes.specs.ForProofs.BackMeans.{returned_means, returns_named};
 ghost use Rattle.translation_passes.specs.ForProofs.RaisedMeans.{last_named};
 
-use crate::raised::{PacketWork, put_byte, put_open};
+use crate::raised::{PacketWork, put_byte, put_front, put_open};
 use down_translator::laws::what_is_held_is_the_definition;
 use down_translator::{Down, LoweredMessage, Style};
 use item_reader::ByteReader;
@@ -22,7 +22,7 @@ use midi_meaning::up_laws::{
 use midi1_bytes::laws::parsed_bytes_are_the_definition;
 use outside::{Lanes, Sink, Source};
 use pass_loop::laws::bytes_are_cut_once;
-use pass_loop::{Engine, LIMIT, Outputs, RunEnd, drive};
+use pass_loop::{Engine, LIMIT, Outputs, RunEnd, Runs, drive_bytes};
 use small_types::{NoMemory, U4};
 use std::alloc::Global;
 use std::marker::Model;
@@ -182,6 +182,17 @@ impl Engine<u64, u8> for BackEngine {
         returned_means (back_options first.up) now.up now.down past puts holds put };
 }
 
+impl Runs for BackEngine {
+    #[inline(always)]
+    fn take_run<O: Outputs>(&mut self, bytes: &[u8], outputs: &mut O) -> Result<usize, RunEnd> {
+        raised_bytes_are_the_definition();
+        raised_packets_are_in_range();
+        raised_packets_come_back_in_silence();
+        what_is_held_is_the_definition();
+        put_front(&mut self.up, &mut self.down, bytes, outputs)
+    }
+}
+
 /// Translates a stream up, and each packet down again in plain style, to its end or to the first byte that is
 /// refused (M2-104-UM, translation from MIDI 1.0 and default translation): puts the piece of each packet that
 /// has one in the output, and after those of a byte its lines in the notes, at the end the line of what is
@@ -207,7 +218,7 @@ pub fn run_back<S: Source, L: Lanes, W: Sink, N: Sink>(
     bytes_that_come_back_mean_the_same();
     rooms_that_are_not_reached_do_not_matter_in_bytes();
     let BackRun { up, down } = engine;
-    drive(
+    drive_bytes(
         ByteReader::new(LIMIT),
         BackEngine { up, down },
         input,

@@ -393,6 +393,28 @@ fn carry_shortened<O: Outputs>(
     }
 }
 
+// Takes one packet down that isn't carried by one message with all its bytes, or that only adds six bytes to
+// an exclusive: then nothing is put.
+#[inline(always)]
+fn carry_held<O: Outputs>(
+    down: &mut Down,
+    packet: &EncodedPacket,
+    offset: u64,
+    outputs: &mut O,
+) -> Result<(), RunEnd>
+    requires packet { IsPacket packet.now }
+    requires begun { (O.places outputs.old).begun ≡ true }
+    ensures behind { down.new ≡ down_after offset packet.now down.old }
+    ensures carries { Carries down.old offset packet.now
+        (O.places outputs.old) (O.places outputs.new) result }
+{
+    if down.holds(packet) {
+        Ok(())
+    } else {
+        carry_shortened(down, packet, offset, outputs)
+    }
+}
+
 // Takes one packet down: puts its piece into the lane of its group, and its line into the notes.
 fn carry<O: Outputs>(
     down: &mut Down,
@@ -408,6 +430,6 @@ fn carry<O: Outputs>(
 {
     match down.lowered(packet) {
         Some(message) => put_lowered(&message, offset, outputs),
-        None => carry_shortened(down, packet, offset, outputs),
+        None => carry_held(down, packet, offset, outputs),
     }
 }

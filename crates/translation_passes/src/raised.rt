@@ -3,10 +3,14 @@ ghost use Rattle.std.specs.Prelude.{◌≡◌, ◌++◌, ℕ, List, Ok};
 ghost use Rattle.ump_grammar.specs.declared.packet.Packet.{Packet};
 ghost use Rattle.midi_meaning.specs.Raising.{exclusive_packets};
 ghost use Rattle.up_translator.specs.declared.raised.Raised.{Raised};
-ghost use Rattle.up_translator.specs.Held.{KeepsAfter, step_in, up_after};
+ghost use Rattle.direct_packets.specs.declared.direct_message.DirectMessage.{DirectMessage};
+ghost use Rattle.up_translator.specs.DirectWords.{packet_of};
+ghost use Rattle.up_translator.specs.Fronts.{IsDirectFront};
+ghost use Rattle.up_translator.specs.Held.{KeepsAfter, UpState, step_in, up_after};
 ghost use Rattle.up_translator.specs.Raised.{IsApart, packets_in};
 ghost use Rattle.up_translator.specs.Step.{Raises};
 ghost use Rattle.pass_loop.specs.Places.{Puts};
+ghost use Rattle.translation_passes.specs.ForProofs.Fronts.{FrontIsTaken};
 ghost use Rattle.translation_passes.specs.Raised.{Answers, AreDone, AreTaken, ByteIsDone, CanBeDone, CarriesOut, Doing, byte_task, open_puts};
 
 use listing_lines::{put_lines, put_listed, refused};
@@ -122,6 +126,29 @@ pub(crate) fn put_byte<P: PacketWork, O: Outputs>(
     match up.byte(byte, offset) {
         Ok(raised) => put_raised(&raised, offset, work, outputs),
         Err(bad) => Err(refused(bad, offset)),
+    }
+}
+
+/// Takes bytes at the front of these up at once, where nothing or one direct packet is raised of them, does
+/// the work on that, and says how many they are. The work rests on no offset, so that it is told 0.
+#[inline(always)]
+pub(crate) fn put_front<P: PacketWork, O: Outputs>(
+    up: &mut Up,
+    work: &mut P,
+    bytes: &[u8],
+    outputs: &mut O,
+) -> Result<usize, RunEnd>
+    requires taken { (message : DirectMessage) (count : ℕ) (new : UpState) →
+        IsDirectFront up.old bytes.now message count new → P.Accepts work.old (packet_of message) }
+    ensures { FrontIsTaken (P.IsDone 0) up.old up.new bytes.now work.old work.new
+        (O.places outputs.old) (O.places outputs.new) result }
+{
+    match up.front(bytes) {
+        Some((message, count)) => {
+            work.put(&RaisedPacket::of_value(&message), 0, outputs)?;
+            Ok(count)
+        }
+        None => Ok(up.take_data(bytes)),
     }
 }
 

@@ -13,7 +13,7 @@ ghost use Rattle.packet_input.specs.Written.{IsWritten};
 ghost use Rattle.translation_passes.specs.ForProofs.RaisedMeans.{last_named};
 ghost use Rattle.translation_passes.specs.ForProofs.UpMeans.{raised_means, raises_named};
 
-use crate::raised::{PacketWork, put_byte, put_open};
+use crate::raised::{PacketWork, put_byte, put_front, put_open};
 use item_reader::ByteReader;
 use midi_meaning::up_laws::{
     raised_packets_are_in_range, raised_packets_mean_the_bytes,
@@ -24,7 +24,7 @@ use outside::{Lanes, Sink, Source};
 use packet_input::put_encoded;
 use packet_words::{Order, pair_bytes};
 use pass_loop::laws::bytes_are_cut_once;
-use pass_loop::{Engine, LIMIT, Outputs, RunEnd, drive};
+use pass_loop::{Engine, LIMIT, Outputs, RunEnd, Runs, drive_bytes};
 use small_types::{NoMemory, U4};
 use std::alloc::Global;
 use std::marker::Model;
@@ -158,6 +158,15 @@ impl Engine<u64, u8> for UpEngine {
         raised_means (up_options first.up first.words.order) now.up past puts holds.1 put };
 }
 
+impl Runs for UpEngine {
+    #[inline(always)]
+    fn take_run<O: Outputs>(&mut self, bytes: &[u8], outputs: &mut O) -> Result<usize, RunEnd> {
+        raised_bytes_are_the_definition();
+        raised_packets_are_in_range();
+        put_front(&mut self.up, &mut self.words, bytes, outputs)
+    }
+}
+
 /// Translates a stream up, to its end or to the first byte that is refused (M2-104-UM, translation from MIDI
 /// 1.0; what comes to nothing is listed by own rule): puts the words of each packet in the output, and
 /// after those of a byte its lines in the notes, at the end the line of what is still open. Takes no memory.
@@ -183,7 +192,7 @@ pub fn run_up<S: Source, L: Lanes, W: Sink, N: Sink>(
     rooms_that_are_not_reached_do_not_matter_in_bytes();
     let UpRun { up, order } = engine;
     let words = WordOutput { order };
-    drive(
+    drive_bytes(
         ByteReader::new(LIMIT),
         UpEngine { up, words },
         input,

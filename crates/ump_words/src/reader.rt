@@ -1,10 +1,12 @@
 // A reader of packets from a source.
-ghost use Rattle.std.specs.Prelude.{◌≡◌, ◌≤◌, ◌^◌, length, IfOk, IfSome};
+ghost use Rattle.std.specs.Prelude.{◌≡◌, ◌≤◌, ◌<◌, ◌+◌, ◌^◌, [], ◌∷◌, drop, length, IfOk, IfSome};
+ghost use Rattle.std.specs.Prelude.{MatchOption};
 ghost use Rattle.item_reader.specs.Cut.{IsItem};
-ghost use Rattle.item_reader.specs.Reading.{ReadCause, answer_of, cursor, needs_input, new_reading};
-ghost use Rattle.ump_words.specs.Cut.{IsWhole, bytes_asked, framed_at};
+ghost use Rattle.item_reader.specs.Reading.{MoreCause, ReadCause, allowed_bytes, answer_of, cursor};
+ghost use Rattle.item_reader.specs.Reading.{held_bytes, more_of, needs_input, new_reading, passed};
+ghost use Rattle.ump_words.specs.Cut.{IsRest, IsWhole, bytes_asked, framed_at, word_at};
 ghost use Rattle.ump_words.specs.ForProofs.Lengths.{packet_lengths};
-ghost use Rattle.ump_words.specs.Reader.{Answers};
+ghost use Rattle.ump_words.specs.Reader.{Answers, Brings, IsHeldAt, framed_pair};
 
 use item_reader::{Cut, ItemReader};
 use outside::{ReadStop, Source};
@@ -36,9 +38,14 @@ impl Cut for Packets {
     #[inline(always)]
     fn asked(&self, bytes: &[u8]) -> usize {
         if bytes.len() < 4 {
-            4
+            return 4;
+        }
+        let first = word_in(self.order, bytes, 0);
+        // The channel voice messages of MIDI 2.0, which are most of them: their length rests on no table.
+        if first >> 28 == 4 {
+            8
         } else {
-            4 * words_in_packet(word_in(self.order, bytes, 0))
+            4 * words_in_packet(first)
         }
     }
 
@@ -109,5 +116,78 @@ impl WordReader {
         ensures { result ≡ needs_input (bytes_asked self.now.how) self.now }
     {
         self.packets.needs_input()
+    }
+
+    /// The bytes that are held and may be given out, and the offset of the first of them, counted in bytes
+    /// from 0. A caller that reads many packets reads them of these by `item_in`, and tells it by `pass`.
+    #[inline(always)]
+    pub fn held(&self) -> (&[u8], u64)
+        ensures bytes { result.0.now ≡ held_bytes self.now }
+        ensures offset { result.1 ≡ self.now.offset }
+    {
+        self.packets.held()
+    }
+
+    /// The packet (M2-104-UM, message types) that begins after `at` of the bytes that `held` gave, which are
+    /// these, with its offset, and after how many of them the next one begins: what `next` would give there.
+    /// `None` exactly where no whole packet begins there. `offset` is that of the first of the bytes.
+    #[inline(always)]
+    pub fn item_in(&self, held: &[u8], offset: u64, at: usize) -> Option<(Framed, usize)>
+        requires held { held.now ≡ held_bytes self.now }
+        requires offset { offset ≡ self.now.offset }
+        requires at { at ≤ length held.now }
+        ensures item { MatchOption result (IsRest self.now.how (drop at held.now))
+            (λ given. IsHeldAt at given.1 self.now given.0) }
+        ensures whole { IfSome result (λ given. IsWhole given.0.words) }
+    {
+        self.packets.item_in(held, offset, at)
+    }
+
+    /// The two words that begin after `at` of the bytes that `held` gave, which are these; `None` exactly
+    /// where fewer than 8 bytes are there. Where they are as many as the message type of the first one asks
+    /// for (M2-104-UM, message types), they are the packet that is held there.
+    #[inline(always)]
+    pub fn two_in(&self, held: &[u8], at: usize) -> Option<(u32, u32)>
+        requires held { held.now ≡ held_bytes self.now }
+        requires at { at ≤ length held.now }
+        ensures words { MatchOption result (length held.now < at + 8) (λ pair. (at + 8 ≤ length held.now)
+            × (pair.0 ≡ word_at self.now.how (drop at held.now) 0)
+            × (pair.1 ≡ word_at self.now.how (drop at held.now) 1)) }
+        ensures packet { IfSome result (λ pair. IsWhole (pair.0 ∷ pair.1 ∷ []) →
+            IsHeldAt at (at + 8) self.now (framed_pair (self.now.offset + at) pair.0 pair.1)) }
+        ensures within { self.now.offset + length held.now ≤ 2 ^ 62 }
+    {
+        let rest = self.packets.rest_in(held, at);
+        if rest.len() < 8 {
+            return None;
+        }
+        let order = self.packets.how().order;
+        Some((word_in(order, rest, 0), word_in(order, rest, 1)))
+    }
+
+    /// Goes on after the first `count` bytes of those that `held` gives, as after packets that were given
+    /// out.
+    #[inline(always)]
+    pub fn pass(&mut self, count: usize)
+        requires { count ≤ allowed_bytes self.old }
+        ensures { self.new ≡ passed count self.old }
+    {
+        self.packets.pass(count);
+    }
+
+    /// Asks the source until a whole packet (M2-104-UM, message types) is held, unless the packets have
+    /// ended. `true` says that one is held; the answers without a packet are those of `next`, where `false`
+    /// stands for its `None`. The source is asked only where no whole packet is held.
+    #[inline(always)]
+    pub fn more<S: Source>(&mut self, src: &mut S) -> Result<bool, ReadStop>
+        ensures answer { self.old.end ≡ None →
+            Brings (cursor self.old (S.left src.old)) (cursor self.new (S.left src.new)) result }
+        ensures again { IfSome self.old.end (λ tail.
+            (result ≡ more_of tail) × (self.new ≡ self.old) × (src.new ≡ src.old)) }
+        ensures held { bytes_asked self.old.how self.old.pending ≤ length self.old.pending →
+            src.new ≡ src.old }
+        ensures cause { MoreCause (S.faults src.old) (S.faults src.new) result }
+    {
+        self.packets.more(src)
     }
 }

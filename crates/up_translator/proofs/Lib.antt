@@ -1,5 +1,6 @@
 pub mod DirectLaws
 pub mod ControlLaws
+pub mod FrontLaws
 pub mod RecordingLaws
 pub mod StepLaws
 pub mod WordLaws

@@ -10,17 +10,20 @@ use Rattle.midi1_bytes.specs.Parsing.{Parsing, parse, open_of}
 use Rattle.midi1_bytes.specs.Laws.{CompletedMessagesAreInRange, ParsedBytesAreTheDefinition}
 use Rattle.voice_messages.specs.declared.voice1.Voice1.TheVariants as voice1
 use Rattle.midi_meaning.specs.Controllers.{Role, pairing, role_of}
+use Rattle.ump_grammar.specs.declared.packet.Packet.{Packet}
 use Rattle.listing_terms.specs.declared.listed.BadStep.{BadStep}
 use Rattle.midi_meaning.specs.Messages.{as_they_come, start, step1, meaning1}
+use Rattle.midi_meaning.specs.Raising.{raised_step}
 use Rattle.midi_meaning.specs.State.{GroupState}
 use Rattle.midi_meaning.specs.StepListing.{kinds_at_end, line_up, open_pair}
 use Rattle.midi_meaning.specs.UpLaws.{RoomsThatAreNotReachedDoNotMatterInBytes}
-use Rattle.midi_meaning.specs.UpRefusal.{AreStepsWithinRoom}
+use Rattle.midi_meaning.specs.UpRefusal.{AreAcceptedUp, AreStepsWithinRoom}
 use Rattle.param_collector.specs.Control.{holding_after}
 use Rattle.param_collector.specs.Holding.{Holding}
 use Rattle.param_collector.specs.Keeps.{Keeps}
 use Rattle.up_translator.specs.declared.raised.Raised.{Raised}
-use Rattle.up_translator.specs.Answers.{IsAnswerAt}
+use Rattle.up_translator.specs.Answers.{IsAnswerAt, IsRaisedAloneAt}
+use Rattle.up_translator.specs.Fronts.{RaisesAlone, RaisesStepAlone}
 use Rattle.up_translator.specs.Held.{UpState, KeepsAfter, holding_after_message, holding_after_step, state_after, step_in, up_after}
 use Rattle.up_translator.specs.Recording.{HoldsUp}
 use Rattle.up_translator.specs.Step.{Accepts, IsRaised, RaisesStep, Raises, payload_by}
@@ -117,6 +120,39 @@ held-after paired stays parsed rooms room group past byte up within holds keeps 
       ∙ meaning-behind paired past byte)
       (keeps (meaning1 paired past) holds.keeps);
 }
+
+-- ---- of several bytes that are taken at once
+
+abbrev AloneAt : Bool → ℕ → ℕ → List ℕ → ℕ → UpState → List Packet → Type 0
+AloneAt paired room group past byte up packets =
+    IsRaisedAloneAt paired room group past byte packets × HoldsUp paired room group (byte ∷ past) (up_after up (length past) byte)
+
+pub held-alone : (paired : Bool) → PairsStay → ParsedBytesAreTheDefinition → RoomsThatAreNotReachedDoNotMatterInBytes paired
+    → (room group : ℕ) (past : List ℕ) (byte : ℕ) (up : UpState) (packets : List Packet) → AreAcceptedUp (Some room) past
+    → HoldsUp paired room group past up → RaisesAlone up (length past) byte packets → AloneAt paired room group past byte up packets
+held-alone paired stays parsed rooms room group past byte up packets accepted holds raises =
+    let alone : IsRaisedAloneAt paired room group past byte packets = at_definition in (
+      alone,
+      held-after paired stays parsed rooms room group past byte up (rooms.accepted room (byte ∷ past) (alone.accepted, accepted))
+          holds raises.kept,
+    )
+  where
+    same : step_in up (length past) byte ≡ step_of (Some room) past byte
+    same = step-held paired parsed room group past byte up holds
+
+    in_stream : RaisesStepAlone up.holding group (length past) (step_of (Some room) past byte) packets
+    in_stream =
+        subst (λ (g : ℕ). RaisesStepAlone up.holding g (length past) (step_of (Some room) past byte) packets) holds.group_is
+        (subst (λ (step : Step). RaisesStepAlone up.holding up.group (length past) step packets) same raises)
+
+    at_definition : IsRaisedAloneAt paired room group past byte packets
+    at_definition = record {
+      accepted = in_stream.accepted;
+      packets_are =
+          subst (λ q. raised_step q (meaning1 paired past) group (step_of (Some room) past byte) ≡ packets) holds.paired_is
+          (in_stream.packets_of (meaning1 paired past) holds.keeps);
+      unlisted = ap (map (line_up group)) (in_stream.unlisted (meaning1 paired past) holds.keeps);
+    }
 
 -- ---- at the end
 

@@ -2,11 +2,13 @@
 use Rattle.std.specs.Prelude.{◌≡◌, ℕ, Bool, List, ◌∷◌, length, map, Some, Result}
 use Rattle.std.specs.Option.{option_map}
 use Rattle.midi1_bytes.specs.Parsing.{open_of}
+use Rattle.ump_grammar.specs.declared.packet.Packet.{Packet}
 use Rattle.listing_terms.specs.declared.listed.BadStep.{BadStep}
 use Rattle.midi_meaning.specs.StepListing.{kinds_at_end, line_up, open_pair}
-use Rattle.midi_meaning.specs.UpRefusal.{AreStepsWithinRoom}
+use Rattle.midi_meaning.specs.UpRefusal.{AreAcceptedUp, AreStepsWithinRoom}
 use Rattle.up_translator.specs.declared.raised.Raised.{Raised}
-use Rattle.up_translator.specs.Answers.{IsAnswerAt}
+use Rattle.up_translator.specs.Answers.{IsAnswerAt, IsRaisedAloneAt}
+use Rattle.up_translator.specs.Fronts.{RaisesAlone}
 use Rattle.up_translator.specs.Held.{UpState, KeepsAfter, step_in, up_after}
 use Rattle.up_translator.specs.Recording.{HoldsUp}
 use Rattle.up_translator.specs.Step.{Raises}
@@ -17,6 +19,10 @@ pub record RaisedBytesAreTheDefinition (paired : Bool) : Type 0 where
   pub after : (room group : ℕ) (past : List ℕ) (byte : ℕ) (up : UpState) →
       AreStepsWithinRoom room (byte ∷ past) → HoldsUp paired room group past up →
       KeepsAfter up.holding (step_in up (length past) byte) →
+      HoldsUp paired room group (byte ∷ past) (up_after up (length past) byte)
+  pub alone : (room group : ℕ) (past : List ℕ) (byte : ℕ) (up : UpState) (packets : List Packet) →
+      AreAcceptedUp (Some room) past → HoldsUp paired room group past up → RaisesAlone up (length past) byte packets →
+      IsRaisedAloneAt paired room group past byte packets ×
       HoldsUp paired room group (byte ∷ past) (up_after up (length past) byte)
   pub end : (room group : ℕ) (past : List ℕ) (up : UpState) → HoldsUp paired room group past up →
       map (line_up up.group)

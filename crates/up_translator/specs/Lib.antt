@@ -2,6 +2,7 @@ pub mod Answers
 pub mod Direct
 pub mod DirectWords
 pub mod ForProofs
+pub mod Fronts
 pub mod Held
 pub mod Laws
 pub mod Lend

@@ -8,8 +8,9 @@ use param_collector::laws::control_changes_are_kept;
 
 /// A translator that holds what any bytes leave answers one more byte, at its offset, with what the
 /// definitions tell, which look back over all the bytes: its packets, its lines, and why it is refused. It
-/// then holds what all of them leave, as long as no exclusive has exceeded the limit. At the end it tells
-/// what is open there.
+/// then holds what all of them leave, as long as no exclusive has exceeded the limit. So it is with each of
+/// several bytes that are taken at once, of which packets alone or nothing is raised, as long as no byte has
+/// been refused. At the end it tells what is open there.
 pub fn raised_bytes_are_the_definition()
     ensures { (paired : Bool) → RaisedBytesAreTheDefinition paired }
 {

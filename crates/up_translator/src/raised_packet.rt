@@ -89,7 +89,7 @@ impl RaisedPacket {
 
     /// A direct message, in its group.
     #[inline(always)]
-    pub(crate) fn of_value(message: &DirectMessage) -> RaisedPacket
+    pub fn of_value(message: &DirectMessage) -> RaisedPacket
         requires { IsRaisedDirect message.now }
         ensures { result ≡ packet_of message.now }
     {

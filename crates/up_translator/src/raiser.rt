@@ -1,5 +1,5 @@
 // Messages of a stream as packets of its group.
-ghost use Rattle.std.specs.Prelude.{◌≡◌, [], ◌∷◌, map, Some, None, IfSome, false};
+ghost use Rattle.std.specs.Prelude.{◌≡◌, [], ◌∷◌, map, Some, None, IfSome, MatchOption, false};
 ghost use Rattle.std.specs.Option.{option_to_list};
 ghost use Rattle.midi1_bytes.specs.Messages.{voice};
 ghost use Rattle.midi1_bytes.specs.Spoken.{voice_in};
@@ -13,6 +13,7 @@ use crate::direct_message::{control_change, goes_direct, raise_direct};
 use crate::outcome::{Outcome, raise};
 use crate::raised::Raised;
 use crate::raised_packet::RaisedPacket;
+use direct_packets::DirectMessage;
 use listing_terms::byte_lines::ByteLine;
 use midi_meaning::lines::ignored;
 use midi_meaning::{BadStep, DirectControls};
@@ -72,6 +73,7 @@ impl Raiser {
     ghost use Rattle.midi_meaning.specs.StepListing.{line_up};
     ghost use Rattle.up_translator.specs.Held.{KeepsAfter};
     ghost use Rattle.up_translator.specs.ForProofs.LendRaiser.{KeepsRaiser};
+    ghost use Rattle.up_translator.specs.ForProofs.DirectOf.{IsDirectOf};
     ghost use Rattle.up_translator.specs.Outcome.{holding_with};
     ghost use Rattle.listing_terms.specs.ByteLines.{lines_in, told_of, IsInOrder};
     ghost use Rattle.up_translator.specs.Raised.{packet_in, payload_in, packets_in, group_in, IsApart};
@@ -160,6 +162,21 @@ impl Raiser {
             }
             Outcome::Ignored => { Ok(Raised::only_listed(self.group, Some(ignored(offset)), None)) }
             Outcome::Refused(bad) => Err(bad),
+        }
+    }
+
+    /// The message to which a voice message is raised that goes the direct road; `None` exactly where it goes
+    /// another.
+    #[inline(always)]
+    pub(crate) fn direct_message(&self, bytes: &VoiceBytes) -> Option<DirectMessage>
+        ensures { MatchOption result
+            (goes_direct (Some self.now.holding.paired) (voice_in bytes.now) ≡ false)
+            (IsDirectOf self.now (voice_in bytes.now)) }
+    {
+        if goes_direct(&self.direct, bytes) {
+            Some(raise_direct(self.group, bytes))
+        } else {
+            None
         }
     }
 

@@ -1,7 +1,8 @@
 // The translator up.
-ghost use Rattle.std.specs.Prelude.{◌≡◌, ◌≢◌, ◌≤◌, [], map, IfOk, Option};
+ghost use Rattle.std.specs.Prelude.{◌≡◌, ◌≢◌, ◌≤◌, ℕ, [], length, map, take, IfOk, MatchOption, Option};
 ghost use Rattle.std.specs.Option.{option_map, option_to_list};
 ghost use Rattle.midi1_bytes.specs.Answers.{step_view, LendsData, LendsFramed};
+ghost use Rattle.midi1_bytes.specs.Fronts.{data_taken};
 ghost use Rattle.midi1_bytes.specs.Parsing.{ended_by, Begun};
 ghost use Rattle.midi_meaning.specs.StepListing.{kinds_at_end, line_up};
 ghost use Rattle.param_collector.specs.Holding.{Holding};
@@ -9,6 +10,7 @@ ghost use Rattle.up_translator.specs.Step.{Accepts};
 
 use crate::raised::Raised;
 use crate::raiser::Raiser;
+use direct_packets::DirectMessage;
 use midi_meaning::lines::{cut_off, kind_of_open, stray, undefined};
 use midi_meaning::{BadStep, Listed};
 use midi1_bytes::{AfterCut, Parser, Step, System};
@@ -68,6 +70,7 @@ impl Up {
     ghost use Rattle.std.specs.Borrow.{sem};
     ghost use Rattle.midi1_bytes.specs.Parsing.{idle, open_of};
     ghost use Rattle.param_collector.specs.Holding.{fresh};
+    ghost use Rattle.up_translator.specs.Fronts.{IsDirectFront, RaiseNothing};
     ghost use Rattle.up_translator.specs.Held.{KeepsAfter, step_in, up_after};
     ghost use Rattle.up_translator.specs.Lend.{KeepsUp};
     ghost use Rattle.up_translator.specs.Recording.{HoldsUp};
@@ -177,6 +180,36 @@ impl Up {
             }
         }
         self.take(byte, offset)
+    }
+
+    /// Takes the voice message with which these bytes begin, where it neither takes nor changes what control
+    /// changes set, and returns the message to which it is raised (M2-104-UM, translation from MIDI 1.0) and
+    /// how many bytes it has here, 1 to 3. `byte` would raise the packet of this message of the last of them,
+    /// nothing of the others, and no line of any; the translator is then as after all of them by `byte`.
+    ///
+    /// `None` says nothing more, and nothing changes: then take the bytes one by one.
+    #[inline(always)]
+    pub fn front(&mut self, bytes: &[u8]) -> Option<(DirectMessage, usize)>
+        ensures { MatchOption result (self.new ≡ self.old)
+            (λ given. IsDirectFront self.old bytes.now given.0 given.1 self.new) }
+    {
+        other_messages_change_nothing_kept();
+        let (spoken, count) = self.parser.front(bytes)?;
+        let message = self.raiser.direct_message(&spoken)?;
+        self.parser.take_front(&spoken);
+        Some((message, count))
+    }
+
+    /// Takes the data bytes of the open exclusive with which these bytes begin, as far as its limit goes (own
+    /// rule), and returns how many they are; 0 where no exclusive is open. `byte` would raise nothing of any
+    /// of them and no line, and the translator is then as after the last of them by `byte`. Takes no memory.
+    #[inline(always)]
+    pub fn take_data(&mut self, bytes: &[u8]) -> usize
+        ensures count { result ≡ data_taken self.old.parsing bytes.now }
+        ensures within { result ≤ length bytes.now }
+        ensures after { (offset : ℕ) → RaiseNothing (take result bytes.now) self.old offset self.new }
+    {
+        self.parser.take_data(bytes)
     }
 
     /// The line of what is open at the end of the stream, with the offset at which it starts; `None` exactly

@@ -66,7 +66,7 @@ impl<W: Write> WriteSink<W> {
         self.writer.flush()
     }
 
-    // Accepts a piece for which there is no room, and counts a fault.
+    // Accepts a piece that is larger than the room for gathered bytes, and counts a fault.
     #[inline(never)]
     fn put_behind(&mut self, piece: &[u8]) -> Result<(), Failed>
         requires { 0 < length piece.now }
@@ -74,24 +74,30 @@ impl<W: Write> WriteSink<W> {
             (accepted W.contents self.new) result piece.now }
         ensures cause { HasCause self.old.faults self.new.faults result }
     {
-        let answer = self.gather_behind(piece);
+        let answer = self.write_behind(piece);
         counted(answer, &mut self.faults)
     }
 
-    // Makes room for a piece and gathers it, or writes it where it is
-    // larger than the room for gathered bytes.
-    fn gather_behind(&mut self, piece: &[u8]) -> io::Result<()>
+    // Writes out what is gathered, and counts a fault.
+    #[inline(never)]
+    fn make_room(&mut self) -> Result<(), Failed>
+        ensures bytes { Keeps (accepted W.contents self.old) (accepted W.contents self.new) }
+        ensures written { OnOk result (unwritten self.new ≡ []) }
+        ensures cause { HasCause self.old.faults self.new.faults result }
+    {
+        let answer = self.write_gathered();
+        counted(answer, &mut self.faults)
+    }
+
+    // Writes out what is gathered, and then the piece.
+    fn write_behind(&mut self, piece: &[u8]) -> io::Result<()>
         requires { 0 < length piece.now }
         ensures accepts { Accepts (accepted W.contents self.old)
             (accepted W.contents self.new) result piece.now }
         ensures faults { self.new.faults ≡ self.old.faults }
     {
         self.write_gathered()?;
-        if piece.len() > CAPACITY {
-            return self.write_past(piece);
-        }
-        self.gathered.extend(piece);
-        Ok(())
+        self.write_past(piece)
     }
 
     // Writes a piece, where nothing is gathered.
@@ -153,7 +159,10 @@ impl<W: Write> Sink for WriteSink<W> {
             (accepted W.contents self.new) result piece.now }
     {
         if piece.len() > CAPACITY - self.gathered.len() {
-            return self.put_behind(piece);
+            if piece.len() > CAPACITY {
+                return self.put_behind(piece);
+            }
+            self.make_room()?;
         }
         self.gathered.extend(piece);
         Ok(())

@@ -57,6 +57,22 @@ still work Has Holds old now new so_far places reads =
       reads = reads ∙ so_far.reads;
     }
 
+-- the same where the reader, which may be another, has given the same items
+abbrev pub still_by : {I : Type 0} (work : Work I) (Has Has' : List I → Type 0) (Holds : List I → Type 0) (old now new : Seen)
+    (so_far : SoFar work Has Holds old now)
+    → Has' so_far.items → new.places ≡ now.places → new.reads ≡ now.reads → SoFar work Has' Holds old new
+still_by work Has Has' Holds old now new so_far has places reads =
+    record {
+      items = so_far.items;
+      has = has;
+      holds = so_far.holds;
+      puts = so_far.puts;
+      accepted = so_far.accepted;
+      put = so_far.put;
+      places = places ∙ so_far.places;
+      reads = reads ∙ so_far.reads;
+    }
+
 module _ {I : Type 0} (IsCut : Cutting I) (work : Work I) (Has : List I → Type 0) (Holds : List I → Type 0) (old now : Seen)
     (so_far : SoFar work Has Holds old now)
     (means : (past : List I) (puts : List Put) → Holds past → AreAccepted work past → ArePut work past puts → work.Means past puts) where

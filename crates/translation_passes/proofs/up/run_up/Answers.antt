@@ -7,8 +7,8 @@ use Rattle.translation_passes.specs.Up.{raising}
 use Rattle.translation_passes.proofs.UpLaws.{raised_bytes_mean}
 use Rattle.translation_passes.proofs.up.run_up.Goals as goal
 
-pub drive-requires-clause-ready : goal.drive-requires-clause-ready
-drive-requires-clause-ready g c =
+pub drive_bytes-requires-clause-ready : goal.drive_bytes-requires-clause-ready
+drive_bytes-requires-clause-ready g c =
     let up = c.engine.inside.up in
     let paired : Bool = up.holding.paired in
     record {
@@ -25,5 +25,5 @@ returns g c =
     let E : UpOptions → Type 0 =
     λ options. PassEnds byte_cutting (raising options)
     (seen g.S.Source g.L.Lanes g.W.Sink g.N.Sink c.args.input.now c.args.lanes.now c.args.output.now c.args.notes.now)
-    (seen g.S.Source g.L.Lanes g.W.Sink g.N.Sink c.drive.new.input c.drive.new.lanes c.drive.new.output c.drive.new.notes) c.drive.result in
-    subst E c.engine.view_is c.drive.ensures
+    (seen g.S.Source g.L.Lanes g.W.Sink g.N.Sink c.drive_bytes.new.input c.drive_bytes.new.lanes c.drive_bytes.new.output c.drive_bytes.new.notes) c.drive_bytes.result in
+    subst E c.engine.view_is c.drive_bytes.ensures

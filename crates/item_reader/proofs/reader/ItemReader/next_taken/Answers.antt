@@ -1,22 +1,39 @@
-use Rattle.std.proofs.Common.{◌≡◌, ◌-◌, ℕ, List, arith, ap, sym, subst}
-use Rattle.item_reader.specs.ForProofs.Front.{Sees}
-use Rattle.item_reader.specs.ForProofs.Window.{Held}
-use Rattle.item_reader.specs.declared.reader.Front.TheVariants.{Item as FrontItem}
-use Rattle.outside.specs.Outside.{ahead}
-use Rattle.item_reader.proofs.Next.{gives_out}
+use Rattle.std.proofs.Common.{◌≡◌, ◌≤◌, None, ap, subst, take, ◌∙◌}
+use Rattle.item_reader.specs.Reading.{Reading, allowed_bytes, cursor}
+use Rattle.item_reader.proofs.Next.{brought_given, brought_goes_on, brought_seen, is_brought}
 use Rattle.item_reader.proofs.reader.ItemReader.next_taken.Goals as goal
 
-pub returns-in-Ok-Item-clause-answer : goal.returns-in-Ok-Item-clause-answer
-returns-in-Ok-Item-clause-answer g c = λ going.
+pub give-requires-clause-seen : goal.give-requires-clause-seen
+give-requires-clause-seen g c =
     let i = c.self.inside in
-    let left = g.S.Source.left c.look_ahead.new.src in
-    let size = c.in-Ok-Item.size in
-    let bytes_of : Held → List ℕ = λ held. held.bytes in
-    let kept : c.allow.new.self.bytes ≡ c.look_ahead.new.window.bytes = ap bytes_of c.allow.ensures in
-    let A : List ℕ → Type 0 = λ xs. ahead xs left ≡ ahead i.window.bytes (g.S.Source.left c.args.src.now) in
-    let S : List ℕ → Type 0 = λ xs. Sees (g.H.Cut.asked i.how) xs (i.limit - i.offset) (FrontItem size) in
-    gives_out g.H.Cut.asked i.how i.offset i.limit i.end i.window.bytes c.allow.new.self.bytes (g.S.Source.left c.args.src.now) left
-    (subst A (sym kept) c.in-Ok-Item.ensures.ahead)
-    (g.met.H.Cut.lengths i.how) g.H.Cut.item_of size c.args.self.now c.give.new.self c.give.result
-    (subst S (sym kept) (rw c.in-Ok-Item.field-0-is at c.in-Ok-Item.ensures.seen)) (omega arith)
-    c.self.view_is c.give.ensures.after c.give.ensures.item
+    let old = c.args.self.now in
+    let new = c.more.new.self in
+    let before = cursor old (g.S.Source.left c.args.src.now) in
+    let after = cursor new (g.S.Source.left c.more.new.src) in
+    let going : old.end ≡ None = brought_goes_on _ _ old.end _ c.if-not-branch.false c.in_ok-more.ensures.again in
+    let brought = is_brought (g.H.Cut.asked old.how) before after _ c.if-not-branch.false (c.in_ok-more.ensures.answer going) in
+    let N : Reading g.row.H.Denot → Type 0 = λ r. i.window.allowed ≡ allowed_bytes r in
+    let A : Reading g.row.H.Denot → Type 0 = λ r. c.asked-size.result ≡ g.H.Cut.asked r.how (take i.window.allowed r.pending) in
+    let seen =
+    brought_seen g.H.Cut.asked before after (g.met.H.Cut.lengths new.how) brought i.window.allowed c.asked-size.result
+    (subst N c.self.view_is c.self.invariant.2)
+    (subst A c.self.view_is (c.asked-size.ensures.count ∙ ap (g.H.Cut.asked i.how) c.allowed.ensures.bytes)) in
+    seen.1
+
+pub returns-clause-answer : goal.returns-clause-answer
+returns-clause-answer g c = λ going.
+    let i = c.self.inside in
+    let old = c.args.self.now in
+    let new = c.more.new.self in
+    let before = cursor old (g.S.Source.left c.args.src.now) in
+    let after = cursor new (g.S.Source.left c.more.new.src) in
+    let brought = is_brought (g.H.Cut.asked old.how) before after _ c.if-not-branch.false (c.in_ok-more.ensures.answer going) in
+    let W : Reading g.row.H.Denot → Type 0 = λ r. r.offset ≤ r.limit in
+    let N : Reading g.row.H.Denot → Type 0 = λ r. i.window.allowed ≡ allowed_bytes r in
+    let A : Reading g.row.H.Denot → Type 0 = λ r. c.asked-size.result ≡ g.H.Cut.asked r.how (take i.window.allowed r.pending) in
+    let seen =
+    brought_seen g.H.Cut.asked before after (g.met.H.Cut.lengths new.how) brought i.window.allowed c.asked-size.result
+    (subst N c.self.view_is c.self.invariant.2)
+    (subst A c.self.view_is (c.asked-size.ensures.count ∙ ap (g.H.Cut.asked i.how) c.allowed.ensures.bytes)) in
+    brought_given g.H.Cut.asked g.H.Cut.item_of g.met.H.Cut.lengths before after c.give.new.self c.asked-size.result c.give.result brought
+    (subst W c.self.view_is c.self.invariant.0) seen.1 c.give.ensures.after c.give.ensures.item

@@ -1,0 +1,107 @@
+// Voice messages whose bytes stand together, where nothing is open.
+ghost use Rattle.std.specs.Prelude.{ℕ, ◌≡◌, ◌<◌, ◌≤◌, [], ◌∷◌, Option, Some, IfSome, length, take};
+ghost use Rattle.midi1_bytes.specs.Messages.{AreData};
+ghost use Rattle.midi1_bytes.specs.Fronts.{IsFront, leading_data};
+ghost use Rattle.midi1_bytes.specs.Parsing.{quiet};
+ghost use Rattle.midi1_bytes.specs.Sorts.{one, two, sort_of, voice_status};
+
+use crate::spoken::VoiceBytes;
+
+// The message with its status byte, and how many of the bytes it has; a byte that follows is given even where
+// it isn't one of the message's.
+#[tactic(auto, unfolding(crate::specs::Sorts::sort_of))]
+#[inline(always)]
+pub(crate) fn with_status(status: u8, first: u8, second: u8) -> Option<(VoiceBytes, usize)>
+    requires { 128 ≤ status }
+    ensures { IfSome result (λ given. (room : ℕ) (running : Option ℕ) →
+        IsFront (quiet room running) (status ∷ first ∷ second ∷ []) given.0 given.1) }
+{
+    if (status >= 0xf0) | (first >= 0x80) {
+        return None;
+    }
+    if matches!(status, 0xc0..=0xdf) {
+        let message = VoiceBytes {
+            status,
+            first,
+            second: 0,
+        };
+        return Some((message, 2));
+    }
+    if second >= 0x80 {
+        return None;
+    }
+    let message = VoiceBytes {
+        status,
+        first,
+        second,
+    };
+    Some((message, 3))
+}
+
+// The message of two data bytes under running status.
+#[tactic(auto, unfolding(crate::specs::Sorts::sort_of))]
+#[inline(always)]
+pub(crate) fn two_running(status: u8, first: u8, second: u8) -> Option<(VoiceBytes, usize)>
+    requires sort { sort_of status ≡ voice_status two }
+    requires below { first < 128 }
+    ensures { IfSome result (λ given. (room : ℕ) →
+        IsFront (quiet room (Some status)) (first ∷ second ∷ []) given.0 given.1) }
+{
+    if second >= 0x80 {
+        return None;
+    }
+    let message = VoiceBytes {
+        status,
+        first,
+        second,
+    };
+    Some((message, 2))
+}
+
+// The message of one data byte under running status.
+#[tactic(auto, unfolding(crate::specs::Sorts::sort_of))]
+#[inline(always)]
+pub(crate) fn one_running(status: u8, only: u8) -> (VoiceBytes, usize)
+    requires sort { sort_of status ≡ voice_status one }
+    requires below { only < 128 }
+    ensures { (room : ℕ) → IsFront (quiet room (Some status)) (only ∷ []) result.0 result.1 }
+{
+    let message = VoiceBytes {
+        status,
+        first: only,
+        second: 0,
+    };
+    (message, 1)
+}
+
+// How many data bytes these bytes begin with.
+#[inline(always)]
+pub(crate) fn leading_data(bytes: &[u8]) -> usize
+    ensures count { result ≡ leading_data bytes.now }
+    ensures within { result ≤ length bytes.now }
+{
+    let mut count = 0;
+    for &byte in bytes {
+        if byte >= 0x80 {
+            return count;
+        }
+        count += 1;
+    }
+    count
+}
+
+// How many data bytes these bytes begin with, where at most so many count.
+#[tactic(auto, using(crate::proofs::FrontLaws::leading_of_all))]
+#[inline(always)]
+pub(crate) fn leading_data_within(bytes: &[u8], most: usize) -> usize
+    ensures count { result ≡ leading_data (take most bytes.now) }
+    ensures within { result ≤ length bytes.now }
+    ensures within_most { result ≤ most }
+    ensures data_bytes { AreData (take result bytes.now) }
+{
+    if bytes.len() < most {
+        leading_data(bytes)
+    } else {
+        leading_data(&bytes[..most])
+    }
+}

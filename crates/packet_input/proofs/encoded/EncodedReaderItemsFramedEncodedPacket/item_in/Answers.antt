@@ -1,0 +1,30 @@
+use Rattle.std.proofs.Common.{◌+◌, ◌-◌, ℕ, List, length, subst, sym}
+use Rattle.pass_loop.specs.Next.{IsFurther}
+use Rattle.packet_input.specs.Packets.{framed_behind}
+use Rattle.packet_input.proofs.FoundLaws.{finds, is_further}
+use Rattle.packet_input.proofs.encoded.EncodedReaderItemsFramedEncodedPacket.item_in.Goals as goal
+
+pub returns-in-Some-clause-answer : goal.returns-in-Some-clause-answer
+returns-in-Some-clause-answer c = λ first all left items so_far.
+    finds (c.items_are_read_in_order.ensures (framed_behind 0)) c.args.self.now.words c.args.place first.words.how all left items so_far
+    c.in-Some.found c.in-Some.ensures
+
+pub returns-in-Some-clause-further : goal.returns-in-Some-clause-further
+returns-in-Some-clause-further c =
+    let words = c.args.self.now.words in
+    let F : List ℕ → Type 0 =
+    λ bytes. IsFurther (λ at. words.limit - (words.offset + at)) (length bytes) c.args.place c.in-Some.found in
+    subst F (sym c.requires.held) (is_further words c.args.place c.in-Some.found c.in-Some.ensures)
+
+pub returns-in-Some-item_in-clause-answer : goal.returns-in-Some-item_in-clause-answer
+returns-in-Some-item_in-clause-answer c = λ first all left items so_far.
+    finds (c.items_are_read_in_order.ensures (framed_behind 0)) c.args.self.now.words c.args.place first.words.how all left items so_far
+    c.read_words.result
+    (c.in-Some-item_in.given.0, c.in-Some-item_in.given.1, c.in-Some-item_in.ensures.item, c.read_words.ensures)
+
+pub returns-in-Some-item_in-clause-further : goal.returns-in-Some-item_in-clause-further
+returns-in-Some-item_in-clause-further c =
+    let words = c.args.self.now.words in
+    let F : List ℕ → Type 0 =
+    λ bytes. IsFurther (λ at. words.limit - (words.offset + at)) (length bytes) c.args.place c.read_words.result in
+    subst F (sym c.requires.held) (is_further words c.args.place c.read_words.result (c.in-Some-item_in.given.0, c.in-Some-item_in.given.1, c.in-Some-item_in.ensures.item, c.read_words.ensures))
