@@ -32,25 +32,37 @@ build() { # NAME SOURCE..: a program that holds its C library
     shift
     "$CC" -std=c11 -O2 "${strict[@]}" "${include[@]}" "$@" "$out/liblarboardyuzu.a" -static -o "$out/$name"
 }
-for name in down block up endpoint; do
+for name in down block up endpoint daemon; do
     build "$name" "$top/examples/c/$name.c"
 done
 build fixed_block "$top/examples/c/fixed_block.c" "$top/examples/c/own_heap.c"
 build program "$here"/tests/program/*.c
-for name in translators readers endpoint pure blocks starved; do
+for name in translators readers endpoint pure starved; do
     build "test-$name" "$here/tests/$name.c"
+done
+for name in blocks resets; do
+    build "test-$name" "$here/tests/$name.c" "$here/tests/subjects.c"
 done
 "$CC" -std=gnu11 -O2 -ffreestanding -fno-builtin -fno-stack-protector -Wall -Wextra -Werror "${include[@]}" -static -nostdlib \
     "$here/tests/bare.c" "$top/examples/c/own_heap.c" "$out/liblarboardyuzu.a" -o "$out/bare"
 echo "arm64: linked"
+if command -v qemu-system-aarch64 >/dev/null; then
+    "$here/bare_arm64.sh" "$out/liblarboardyuzu.a" "$out"
+else
+    echo "arm64: not run without an operating system, there is no qemu-system-aarch64"
+fi
 
 command -v qemu-aarch64 >/dev/null || { echo "arm64: not run, there is no qemu-aarch64"; exit 0; }
 for name in down block up endpoint fixed_block; do
     qemu-aarch64 "$out/$name" | cmp - "$top/examples/c/expected/$name"
 done
-for name in test-translators test-readers test-endpoint test-pure test-blocks test-starved bare; do
+for name in test-translators test-readers test-endpoint test-pure test-blocks test-resets test-starved bare; do
     qemu-aarch64 "$out/$name"
 done
+if command -v python3 >/dev/null; then
+    python3 "$here/tests/daemon.py" "$top/examples/endpoint.toml" qemu-aarch64 "$out/daemon"
+    CC="$CC -static" python3 "$here/costs.py" check "$out/liblarboardyuzu.a" "$out/costs" qemu-aarch64
+fi
 program=${PROGRAM:-$top/crates/midi_tool/out/midi_tool}
 if [ -x "$program" ]; then
     printf '#!/bin/sh\nexec qemu-aarch64 %s "$@"\n' "$out/program" >"$out/program.sh"

@@ -1,6 +1,6 @@
 #!/bin/sh
-# check.sh all: what `make check` runs: the interface, the examples, the tests, and the comparison with the program. A part whose tool is missing is
-# skipped with a line; anything else that fails ends it.
+# check.sh all: what `make check` runs: the interface, the examples, the tests, what is installed, other languages, and the comparison with the
+# program. A part whose tool is missing is skipped with a line; anything else that fails ends it.
 set -eu
 [ $# != 0 ] || { sed -n '2,/^[^#]/s/^# \{0,1\}//p' "$0" >&2; exit 2; }
 here=$(cd "$(dirname "$0")" && pwd)
@@ -32,7 +32,10 @@ if ! has python3; then
 elif [ ! -d "$CRATES/larboardyuzu_c" ]; then
     echo "interface: skipped, there is no crate larboardyuzu_c"
 else
-    python3 "$here/interface.py" "$top/include/larboardyuzu.h" "$CRATES"
+    CC="$CC" python3 "$here/interface.py" "$top/include/larboardyuzu.h" "$CRATES"
+fi
+if has python3; then
+    python3 "$top/bindings/compare.py" "$top/include/larboardyuzu.h"
 fi
 for header in larboardyuzu.h larboardyuzu_heap.h; do
     for language in c11 c99; do
@@ -53,7 +56,7 @@ else
     echo "archive: skipped, there is no nm"
 fi
 
-# ---- The examples in C, as C11 and as C++17, and the one in C++.
+# ---- The examples in C, as C11 and as C++17.
 expected=$top/examples/c/expected
 for name in down block up endpoint; do
     "$CC" -std=c11 $flags "$top/examples/c/$name.c" "$lib" -o "$out/$name"
@@ -61,32 +64,43 @@ for name in down block up endpoint; do
 done
 "$CC" -std=c11 $flags "$top/examples/c/fixed_block.c" "$top/examples/c/own_heap.c" "$lib" -o "$out/fixed_block"
 compares fixed_block.c "$expected/fixed_block" "$out/fixed_block"
-"$CC" -std=c11 $flags "$top/examples/c/device.c" "$lib" -o "$out/device"
+for name in device daemon; do
+    "$CC" -std=c11 $flags "$top/examples/c/$name.c" "$lib" -o "$out/$name"
+done
 if has python3; then
     python3 "$here/tests/device.py" "$out/device" "$top/examples/endpoint.toml"
+    python3 "$here/tests/daemon.py" "$top/examples/endpoint.toml" "$out/daemon"
 else
-    echo "device.c: skipped, there is no python3"
+    echo "device.c, daemon.c: skipped, there is no python3"
 fi
 if has "$CXX"; then
     for name in down block up endpoint; do
         "$CXX" -std=c++17 $flags -x c++ "$top/examples/c/$name.c" -x none "$lib" -o "$out/$name-cxx"
         compares "$name.c in C++" "$expected/$name" "$out/$name-cxx"
     done
-    "$CXX" -std=c++17 $flags -fno-exceptions "$top/examples/c/down.cpp" "$lib" -o "$out/down_cpp"
-    compares down.cpp "$expected/down_cpp" "$out/down_cpp"
 else
     echo "C++: skipped, there is no compiler $CXX"
 fi
 
-# ---- The tests: statuses, calls of the heap, requests that are refused, threads.
-for name in translators readers endpoint pure blocks starved; do
-    "$CC" -std=c11 $flags "$here/tests/$name.c" "$lib" -o "$out/test-$name"
+# ---- The tests: statuses, block calls, resets, requests that are refused, calls of the heap, threads, and what handles cost.
+tests="translators readers endpoint pure starved blocks resets"
+sources() { # NAME: the sources of a test
+    echo "$here/tests/$1.c"
+    case $1 in blocks | resets | memory) echo "$here/tests/subjects.c" ;; esac
+}
+for name in $tests; do
+    "$CC" -std=c11 $flags $(sources $name) "$lib" -o "$out/test-$name"
     "$out/test-$name"
 done
-"$CC" -std=c11 $flags "$here/tests/memory.c" "$lib" -Wl,--wrap=malloc,--wrap=realloc,--wrap=free -o "$out/memory"
+"$CC" -std=c11 $flags $(sources memory) "$lib" -Wl,--wrap=malloc,--wrap=realloc,--wrap=free -o "$out/memory"
 "$out/memory"
 "$CC" -std=c11 $flags -pthread "$here/tests/threads.c" "$lib" -o "$out/threads"
 "$out/threads"
+if has python3; then
+    CC="$CC" python3 "$here/costs.py" check "$lib" "$out/costs"
+else
+    echo "costs: skipped, there is no python3"
+fi
 
 # ---- A program with no C library.
 "$CC" -std=gnu11 -O2 -ffreestanding -fno-builtin -fno-stack-protector -Wall -Wextra -Werror "-I$top/include" "-I$top/examples/c" -static -nostdlib \
@@ -95,8 +109,8 @@ done
 
 # ---- The same under sanitizers and valgrind.
 if echo 'int main(void){return 0;}' | "$CC" -fsanitize=address,undefined -x c - -o "$out/sanitized" 2>/dev/null; then
-    for name in translators readers endpoint pure blocks starved; do
-        "$CC" -std=c11 $flags -fsanitize=address,undefined -fno-sanitize-recover=all "$here/tests/$name.c" "$lib" -o "$out/sanitized"
+    for name in $tests; do
+        "$CC" -std=c11 $flags -fsanitize=address,undefined -fno-sanitize-recover=all $(sources $name) "$lib" -o "$out/sanitized"
         "$out/sanitized" >/dev/null
     done
     echo "sanitizers: ok"
@@ -104,7 +118,7 @@ else
     echo "sanitizers: skipped, $CC has none"
 fi
 if has valgrind; then
-    for name in translators readers endpoint pure blocks starved; do
+    for name in $tests; do
         valgrind -q --error-exitcode=1 --leak-check=full "$out/test-$name" >/dev/null
     done
     echo "valgrind: ok"
@@ -126,6 +140,13 @@ else
     echo "installed: skipped, there is no pkg-config"
 fi
 if has cmake; then
+    make -s -C "$here" install DESTDIR="$out/installed" PREFIX=/usr LIBDIR=/usr/lib/own >/dev/null
+    for kind in shared static; do
+        cmake -S "$here/tests/cmake-installed" -B "$out/cmake-$kind" -DKIND=$kind -DCMAKE_PREFIX_PATH="$out/installed/usr" \
+            -Dlarboardyuzu_DIR="$out/installed/usr/lib/own/cmake/larboardyuzu" >"$out/cmake.log" 2>&1 \
+            && cmake --build "$out/cmake-$kind" >>"$out/cmake.log" 2>&1 || { cat "$out/cmake.log"; exit 1; }
+        compares "CMake, find_package, $kind" "$expected/down" "$out/cmake-$kind/down"
+    done
     cmake -S "$here/tests/cmake" -B "$out/cmake" -DLARBOARDYUZU_PROVED="$lib" >"$out/cmake.log" 2>&1 \
         && cmake --build "$out/cmake" >>"$out/cmake.log" 2>&1 || { cat "$out/cmake.log"; exit 1; }
     compares CMake "$expected/down" "$out/cmake/down"
@@ -133,19 +154,10 @@ else
     echo "CMake: skipped, there is no cmake"
 fi
 
-# ---- From other languages.
-if has rustc; then
-    rustc --edition 2021 -D warnings -L "native=$here/out" "$top/examples/rust/down.rs" -o "$out/down_rs"
-    compares down.rs "$expected/down" "$out/down_rs"
-else
-    echo "Rust: skipped, there is no rustc"
-fi
-if has python3; then
-    compares larboardyuzu.py "$top/examples/python/expected" env LARBOARDYUZU="$here/out/liblarboardyuzu.so" \
-        python3 "$top/examples/python/larboardyuzu.py"
-else
-    echo "Python: skipped, there is no python3"
-fi
+# ---- From other languages, each by its own check.
+for check in examples/cpp bindings/rust bindings/python; do
+    "$top/$check/check.sh" "$here/out"
+done
 
 # ---- The same answers as the program.
 "$CC" -std=c11 $flags "$here"/tests/program/*.c "$lib" -o "$out/program"
@@ -154,6 +166,6 @@ if ! has python3; then
 elif [ ! -x "$PROGRAM" ]; then
     echo "program: not compared, there is none at $PROGRAM"
 else
-    LARBOARDYUZU="$here/out/liblarboardyuzu.so" python3 "$here/tests/compare.py" "$PROGRAM" "$out/program" \
+    LARBOARDYUZU_LIBRARY="$here/out/liblarboardyuzu.so" python3 "$here/tests/compare.py" "$PROGRAM" "$out/program" \
         --seconds "$RANDOM_SECONDS" --room "$out"
 fi

@@ -1,21 +1,51 @@
 /* larboardyuzu.h: MIDI 2.0 packets (UMP), MIDI 1.0 bytes, MIDI-CI, 8-bit exclusives and USB-MIDI events,
- * by proved code.
+ * by proved code. docs/c-library.md has the statuses of each call, what memory and stack each kind takes,
+ * and what is proved.
  *
- * A handle is a struct that the caller holds. It is all zero while it is closed: start from
- * LARBOARDYUZU_CLOSED, open it, use it, close it. To close a closed handle does nothing. Memory is taken
- * by the calls that end in _open, and given back by those that end in _close; no other call takes any.
+ * A handle is a struct of the caller's. It is all zero while it is closed: start from LARBOARDYUZU_CLOSED,
+ * open it, use it, close it. To close a closed handle does nothing. The calls that end in _open take all
+ * memory that the handle ever needs, and those that end in _close return it; no other call takes any.
  *
- * Each call is total: whatever the numbers are, it answers with a status, an enum larboardyuzu_status.
- * docs/c-library.md says which ones a call has, and what stands after each.
+ * Each call except _close and the sizes returns a status, an enum larboardyuzu_status, whatever numbers are
+ * passed to it. A call over packets or bytes tests the handle first, then the buffers, then the input, and
+ * returns the first reason to refuse. If it refuses, it writes nothing to a buffer, and empties the struct of
+ * a packet or byte: zero, except that the group of a piece or of replies is 255, and except `need` and an
+ * offset as said there. A block call keeps what it wrote before the refusal.
  *
- * C must promise, since nothing checks it:
- *  - A handle is all zero before it is opened. Nobody copies an open one or writes into it. One call at a
- *    time has it; two threads may use it in turn, with a lock or a join between their calls. Handles don't
- *    depend on each other.
- *  - No pointer is null, not even where its count is 0. Each is aligned for its type, and as many items
- *    lie there as the count says. What a call writes overlaps nothing else that the call is given. A bool
- *    is 0 or 1.
+ * What C must promise, since nothing checks it:
+ *  - A handle is all zero before it is opened, and nobody else writes into it. It may be moved: copy it,
+ *    and use only the copy from then on. One call at a time uses a handle, also one that takes a const
+ *    handle: that call leaves it as it was, but two threads can't read one at once. Two threads may use a
+ *    handle alternately, with a lock or a join between their calls. Handles don't depend on each other.
+ *  - A pointer may be null if its count is 0. Every other pointer is not null, is aligned for its type, and
+ *    leads to as many places as its count says. What a call writes overlaps none of its other arguments.
+ *  - What a call reads is set, and nobody changes it while the call runs: no other thread, no device.
+ *    What a call only writes need not hold anything before.
+ *  - A program that defines the functions of larboardyuzu_heap.h itself makes them safe for all threads
+ *    that open or close handles.
  *  - No call is made from a signal handler, or in the forked child of a process with several threads.
+ *  - The processor is 64-bit x86 with SSE4.2, or 64-bit ARM. Without an operating system its vector
+ *    registers are on. On ARM the MMU is on, too, all of this memory is Normal memory, and unaligned
+ *    accesses are allowed (SCTLR_ELx.A is 0).
+ *
+ * Many packets or bytes in one call: the calls that end in _packets or _bytes. All of them stop in the same
+ * ways (larboardyuzu_block), so this loop goes on after every refusal and every buffer that is full:
+ *
+ *     size_t at = 0;
+ *     uint32_t status;
+ *     do {
+ *         status = larboardyuzu_down_packets(&down, words + at, count - at, offset + 4 * at, bytes, size,
+ *                                            pieces, piece_count, &block);
+ *         use(bytes, block.written, pieces, block.items);
+ *         if (block.refused > 0)
+ *             report(status, at + block.taken - block.refused);
+ *         at += block.taken;
+ *     } while (status != LARBOARDYUZU_DONE && block.taken > 0);
+ *
+ * If status isn't LARBOARDYUZU_DONE after the loop, it says why: LARBOARDYUZU_BAD_WORD_COUNT if the words
+ * from `at` on are the beginning of a packet, to be passed again with the rest of it;
+ * LARBOARDYUZU_SMALL_BUFFER if not even an empty buffer is large enough (block.need, block.need_items); or
+ * a handle that isn't open for this.
  */
 #ifndef LARBOARDYUZU_H
 #define LARBOARDYUZU_H
@@ -31,9 +61,9 @@ extern "C" {
 /* The version of this header: the major number times 65,536, the minor one times 256, and the patch.
  * Names, statuses, arguments and the sizes of the structs are the binary interface. It changes only with
  * the major number, and while that is 0 with the minor one. */
-#define LARBOARDYUZU_VERSION 0x000200u
+#define LARBOARDYUZU_VERSION 0x000300u
 
-/* The version of the library that is linked. */
+/* Returns the version of the library that is linked. */
 uint32_t larboardyuzu_version(void);
 
 enum larboardyuzu_status {
@@ -41,33 +71,49 @@ enum larboardyuzu_status {
     LARBOARDYUZU_NO_MEMORY = 1,
     LARBOARDYUZU_HANDLE_CLOSED = 2,
     LARBOARDYUZU_ALREADY_OPEN = 3,
-    LARBOARDYUZU_BAD_ROOM = 4,            /* room isn't 6 (for SysEx8 13) to 1,048,576; a state's lists */
+    LARBOARDYUZU_BAD_ROOM = 4,            /* room isn't 6 (SysEx8: 13) to 1,048,576; a state's lists */
     LARBOARDYUZU_BAD_WORD_COUNT = 5,      /* not as many words as the message type of the first one has */
-    LARBOARDYUZU_SMALL_BUFFER = 6,        /* refused before anything is taken: a size that does is answered */
-    LARBOARDYUZU_BAD_COUNT = 7,           /* an exclusive packet counts more than six bytes */
+    LARBOARDYUZU_SMALL_BUFFER = 6,        /* a buffer is too small; `need` is a size that does */
+    LARBOARDYUZU_BAD_COUNT = 7,           /* a 7-bit exclusive packet counts more than six bytes */
     LARBOARDYUZU_HIGH_BIT = 8,            /* a data byte is 128 or more */
     LARBOARDYUZU_DATA_INCREMENT = 9,      /* control change 96, which can't be carried */
     LARBOARDYUZU_DATA_DECREMENT = 10,     /* control change 97, which can't be carried */
     LARBOARDYUZU_EXCLUSIVE_TOO_LONG = 11, /* an exclusive has more than room bytes, and is dropped */
-    LARBOARDYUZU_BAD_GROUP = 12,          /* a group or a cable that isn't 0 to 15 */
+    LARBOARDYUZU_BAD_GROUP = 12,          /* a group or a cable isn't 0 to 15 */
     LARBOARDYUZU_NOTHING = 13,            /* there is none */
-    LARBOARDYUZU_OTHER_KIND = 14,         /* the handle is open, and holds something else */
+    LARBOARDYUZU_OTHER_KIND = 14,         /* the handle is open for something else */
     LARBOARDYUZU_BAD_STREAMS = 15,        /* not 1 to 64 streams */
     LARBOARDYUZU_SETUP_SYNTAX = 16,       /* the setup isn't UTF-8, or isn't TOML */
-    LARBOARDYUZU_SETUP_RULE = 17,         /* the setup breaks a rule, whose number is answered */
+    LARBOARDYUZU_SETUP_RULE = 17,         /* the setup breaks a rule, whose number is returned */
     LARBOARDYUZU_BAD_BITS = 18,           /* there is no scaling between these widths */
     LARBOARDYUZU_BAD_VALUE = 19,          /* the value has more bits than that */
-    LARBOARDYUZU_STATE_FULL = 20          /* the message adds to a list of the state that is full */
+    LARBOARDYUZU_STATE_FULL = 20,         /* the message adds to a list of the state that is full; reset it */
+    LARBOARDYUZU_BAD_FLAGS = 21,          /* a flag that the call doesn't have */
+    LARBOARDYUZU_BAD_SIZE = 22,           /* not as many bytes as the call takes */
+    LARBOARDYUZU_BAD_CHANNEL = 23         /* a channel isn't 0 to 15 or LARBOARDYUZU_NO_CHANNEL */
+};
+
+/* Flags, to be added up. Each call says which of them it has. */
+enum larboardyuzu_flag {
+    LARBOARDYUZU_COMPACT = 1,      /* leave out what the receiver of a stream already knows */
+    LARBOARDYUZU_PAIRED = 2,       /* controllers n and n + 32 are one controller of fourteen bits */
+    LARBOARDYUZU_OF_BYTES = 4,     /* the state takes the bytes of one MIDI 1.0 stream, not packets */
+    LARBOARDYUZU_LITTLE_ENDIAN = 8 /* the bytes of a word come lowest first */
 };
 
 /* A handle of any kind, closed. */
-#define LARBOARDYUZU_CLOSED { 0, false }
+#ifdef __cplusplus
+#define LARBOARDYUZU_CLOSED { nullptr, false }
+#else
+#define LARBOARDYUZU_CLOSED { NULL, false }
+#endif
 
-/* The range of room, the most bytes of an exclusive between F0 and F7 (own rule). */
+/* The range of room, the most bytes of an exclusive between F0 and F7 (own rule). A longer exclusive is
+ * dropped. An endpoint reports its room to peers, in its Discovery Reply. */
 #define LARBOARDYUZU_LEAST_ROOM 6u
 #define LARBOARDYUZU_MOST_ROOM 1048576u
 
-/* What a line of the listing tells of: something that has no counterpart. docs/rules.md has a sentence for
+/* What a line of the listing reports: something that has no counterpart. docs/rules.md has a sentence for
  * each. */
 enum larboardyuzu_kind {
     LARBOARDYUZU_NO_LINE = 0,
@@ -96,29 +142,37 @@ enum larboardyuzu_kind {
 
 /* A line of the listing, of the group or cable of its handle. */
 typedef struct larboardyuzu_line {
-    uint64_t offset; /* of what it tells, as the caller numbered it */
+    uint64_t offset; /* of what it reports, as the caller numbered it */
     uint8_t kind;    /* enum larboardyuzu_kind */
 } larboardyuzu_line;
 
-/* How far a call over many packets or bytes came. It answers LARBOARDYUZU_DONE where all is taken;
- * LARBOARDYUZU_SMALL_BUFFER before an item for which the rest of a buffer may be too small;
- * LARBOARDYUZU_BAD_WORD_COUNT before a last packet whose words aren't all there; or the status of the
- * first item that is refused, which is the last one that was taken. To go on, call again with what lies
- * behind `taken`. */
-typedef struct larboardyuzu_block {
-    size_t taken;   /* how many words (down) or bytes (up) were taken, those of a refused item too */
-    size_t written; /* how many bytes (down) or words (up) were written */
-    size_t listed;  /* how many pieces (down) or lines (up) were written */
-    size_t need;    /* with LARBOARDYUZU_SMALL_BUFFER the least size of a buffer, else 0 */
-} larboardyuzu_block;
-
-/* What comes of the bytes that a parser or a packer of USB-MIDI events takes. */
+/* What one byte led to: up, in the parser and to USB-MIDI events. After a refusal nothing is written and
+ * there are no lines; the offset is the byte's, or 0 if the handle isn't open for this. */
 typedef struct larboardyuzu_outcome {
-    size_t taken;             /* how many bytes were taken */
-    size_t length;            /* how many bytes were written; with SMALL_BUFFER a size that does */
-    larboardyuzu_line first;  /* what the last byte cut off, or else what it is */
-    larboardyuzu_line second; /* what it is, where it cut something off */
+    size_t written;           /* places written to the buffer: words (up) or bytes (parser, usb) */
+    size_t need;              /* with LARBOARDYUZU_SMALL_BUFFER a size that does, else 0 */
+    uint64_t offset;          /* of the byte, as the caller numbered it */
+    larboardyuzu_line first;  /* if the byte cut something off, what; otherwise what the byte is */
+    larboardyuzu_line second; /* if the byte cut something off, what the byte is */
 } larboardyuzu_outcome;
+
+/* How far a block call came: a call over many packets or bytes. It has one or two buffers: the first for
+ * what the packets or bytes become, the second with an item for each packet, or for each byte that completes
+ * something or has a line. The call returns
+ *  - LARBOARDYUZU_DONE if all of the input was taken;
+ *  - LARBOARDYUZU_SMALL_BUFFER before a packet or byte for which the rest of the first buffer is smaller than
+ *    the size that this header gives for one, or if no item is left in the second;
+ *  - LARBOARDYUZU_BAD_WORD_COUNT before a last packet whose words aren't all there;
+ *  - the status of the first packet or byte that is refused. That one was taken: the next call goes on after
+ *    it. Nothing was written for it, and it has no item. */
+typedef struct larboardyuzu_block {
+    size_t taken;      /* words or bytes taken from the front of the input, a refused packet or byte too */
+    size_t written;    /* places written to the first buffer */
+    size_t items;      /* items written to the second buffer */
+    size_t refused;    /* how many of `taken`, at its end, are the packet or byte that was refused; else 0 */
+    size_t need;       /* with SMALL_BUFFER, if the first buffer is short: a whole size that does; else 0 */
+    size_t need_items; /* with SMALL_BUFFER, if the second buffer is short: 1; else 0 */
+} larboardyuzu_block;
 
 /* ---- Down: packets to MIDI 1.0 bytes ---- */
 
@@ -127,35 +181,42 @@ typedef struct larboardyuzu_down {
     bool is_open; /* private */
 } larboardyuzu_down;
 
-/* What comes of one packet. */
+/* What one packet led to. */
 typedef struct larboardyuzu_piece {
-    size_t length;   /* how many MIDI 1.0 bytes; 0 where it isn't carried, or an exclusive goes on */
-    uint64_t offset; /* of its line of the listing */
-    uint8_t lane;    /* the group whose MIDI 1.0 stream the bytes belong to, 0 to 15 */
+    size_t written;  /* MIDI 1.0 bytes; 0 if it isn't carried, or an exclusive goes on */
+    size_t need;     /* with LARBOARDYUZU_SMALL_BUFFER a size that does, else 0 */
+    uint64_t offset; /* of its line: of the packet, or of the first one of an exclusive that is cut; else 0 */
+    uint8_t lane;    /* the group whose MIDI 1.0 stream the bytes belong to, 0 to 15; 0 if there are none */
     uint8_t kind;    /* of its line, enum larboardyuzu_kind */
-    uint8_t group;   /* of its line; 255 where it has none */
+    uint8_t group;   /* of its line; 255 without a line, and for utility, stream and reserved packets */
 } larboardyuzu_piece;
 
-/* The size of a buffer for the bytes of one packet. A smaller one is refused, whatever the packet is. */
+/* The size of a buffer for the bytes of one packet. A smaller one is refused, whatever the packet is: a host
+ * with a smaller one translates into a buffer of its own, and copies. */
 #define LARBOARDYUZU_DOWN_SIZE(room) ((room) < 10 ? 12 : (room) + 2)
+size_t larboardyuzu_down_size(uint32_t room);
 
-/* room: the most bytes of an exclusive; each of the sixteen groups has that much memory. is_compact: omit
- * what the receiver of a lane already knows. is_paired: controllers n and n + 32 are one controller of
- * fourteen bits. */
-uint32_t larboardyuzu_down_open(larboardyuzu_down *down, uint32_t room, bool is_compact, bool is_paired);
+/* room: the most bytes of an exclusive; each of the sixteen groups has that much memory.
+ * flags: LARBOARDYUZU_COMPACT, LARBOARDYUZU_PAIRED. */
+uint32_t larboardyuzu_down_open(larboardyuzu_down *down, uint32_t room, uint32_t flags);
 
-/* Takes one packet. The offset, any number, is only given back in lines. */
+/* Takes one packet. The offset, any number such as the frame at which the packet is due, is only returned in
+ * lines. */
 uint32_t larboardyuzu_down_packet(larboardyuzu_down *down, const uint32_t *words, size_t count,
                                   uint64_t offset, uint8_t *bytes, size_t size, larboardyuzu_piece *piece);
 
-/* Takes packets that follow each other. The offset is that of the first; each word adds 4. Their bytes
- * follow each other in `bytes`, and pieces[i] tells of packet i. */
+/* Takes packets that follow each other. The offset is that of the first; each word adds 4, past 2^64 from 0
+ * again. Their bytes follow each other in `bytes`, and pieces[i] is the piece of packet i. */
 uint32_t larboardyuzu_down_packets(larboardyuzu_down *down, const uint32_t *words, size_t count,
                                    uint64_t offset, uint8_t *bytes, size_t size, larboardyuzu_piece *pieces,
                                    size_t piece_count, larboardyuzu_block *block);
 
-/* Where the exclusive began that a group has open. */
-uint32_t larboardyuzu_down_begun(larboardyuzu_down *down, uint8_t group, uint64_t *offset);
+/* Returns where the exclusive began that a group has open. */
+uint32_t larboardyuzu_down_begun(const larboardyuzu_down *down, uint8_t group, uint64_t *offset);
+
+/* Makes the handle as if it were just opened, with the same arguments, and takes no memory: no exclusive is
+ * open, and the receivers of a compact translator know nothing. */
+uint32_t larboardyuzu_down_reset(larboardyuzu_down *down);
 
 void larboardyuzu_down_close(larboardyuzu_down *down);
 
@@ -166,32 +227,32 @@ typedef struct larboardyuzu_up {
     bool is_open; /* private */
 } larboardyuzu_up;
 
-/* What comes of one byte. */
-typedef struct larboardyuzu_raised {
-    size_t words;             /* how many were written: one packet, or all those of an exclusive */
-    larboardyuzu_line first;  /* what the byte cut off, or else what it is */
-    larboardyuzu_line second; /* what it is, where it cut something off */
-} larboardyuzu_raised;
-
 /* The size, in words, of a buffer for what one byte completes. A smaller one is refused, whatever the byte
  * is. */
 #define LARBOARDYUZU_UP_SIZE(room) ((room) <= 12 ? 4 : ((room) + 5) / 6 * 2)
+size_t larboardyuzu_up_size(uint32_t room);
 
-/* group: of the packets, 0 to 15. */
-uint32_t larboardyuzu_up_open(larboardyuzu_up *up, uint8_t group, uint32_t room, bool is_paired);
+/* group: of the packets, 0 to 15. flags: LARBOARDYUZU_PAIRED. */
+uint32_t larboardyuzu_up_open(larboardyuzu_up *up, uint8_t group, uint32_t room, uint32_t flags);
 
-/* Takes one byte. */
+/* Takes one byte, and writes the words that it completes: one packet, or all those of an exclusive, each of
+ * larboardyuzu_words_in_packet words. */
 uint32_t larboardyuzu_up_byte(larboardyuzu_up *up, uint8_t byte, uint64_t offset, uint32_t *words,
-                              size_t size, larboardyuzu_raised *raised);
+                              size_t size, larboardyuzu_outcome *outcome);
 
-/* Takes bytes that follow each other. The offset is that of the first; each byte adds 1. The words of what
- * they complete follow each other in `words`, and their lines in `lines`. */
+/* Takes bytes that follow each other. The offset is that of the first; each byte adds 1, past 2^64 from 0
+ * again. The words follow each other in `words`. A byte that completes a packet or has a line has an outcome,
+ * whose offset says which byte. */
 uint32_t larboardyuzu_up_bytes(larboardyuzu_up *up, const uint8_t *bytes, size_t count, uint64_t offset,
-                               uint32_t *words, size_t size, larboardyuzu_line *lines, size_t line_count,
-                               larboardyuzu_block *block);
+                               uint32_t *words, size_t size, larboardyuzu_outcome *outcomes,
+                               size_t outcome_count, larboardyuzu_block *block);
 
-/* What is open at the end of the stream. */
-uint32_t larboardyuzu_up_end(larboardyuzu_up *up, larboardyuzu_line *line);
+/* Returns what is open at the end of the stream. */
+uint32_t larboardyuzu_up_end(const larboardyuzu_up *up, larboardyuzu_line *line);
+
+/* Makes the handle as if it were just opened, with the same arguments, and takes no memory: no message is
+ * begun, no parameter is selected, and nothing is known of a controller. */
+uint32_t larboardyuzu_up_reset(larboardyuzu_up *up);
 
 void larboardyuzu_up_close(larboardyuzu_up *up);
 
@@ -204,22 +265,27 @@ typedef struct larboardyuzu_parser {
 
 /* The size of a buffer for one message. A smaller one is refused, whatever the byte is. */
 #define LARBOARDYUZU_PARSER_SIZE(room) ((room) + 2)
+size_t larboardyuzu_parser_size(uint32_t room);
 
 uint32_t larboardyuzu_parser_open(larboardyuzu_parser *parser, uint32_t room);
 
-/* Takes one byte. The message that it completes is written whole: with its status byte, also where that
- * was running; an exclusive from F0 to F7. */
+/* Takes one byte. The message that it completes is written whole: with its status byte, also if that was
+ * running; an exclusive from F0 to F7. */
 uint32_t larboardyuzu_parser_byte(larboardyuzu_parser *parser, uint8_t byte, uint64_t offset,
                                   uint8_t *message, size_t size, larboardyuzu_outcome *outcome);
 
-/* Takes bytes that follow each other, up to the end, to one that has a line or is refused, or until the
- * rest of `messages` is smaller than LARBOARDYUZU_PARSER_SIZE. The messages follow each other. */
+/* Takes bytes that follow each other. The messages follow each other in `messages`. A byte that completes a
+ * message or has a line has an outcome. */
 uint32_t larboardyuzu_parser_bytes(larboardyuzu_parser *parser, const uint8_t *bytes, size_t count,
                                    uint64_t offset, uint8_t *messages, size_t size,
-                                   larboardyuzu_outcome *outcome);
+                                   larboardyuzu_outcome *outcomes, size_t outcome_count,
+                                   larboardyuzu_block *block);
 
-/* What is open at the end of the stream. */
-uint32_t larboardyuzu_parser_end(larboardyuzu_parser *parser, larboardyuzu_line *line);
+/* Returns what is open at the end of the stream. */
+uint32_t larboardyuzu_parser_end(const larboardyuzu_parser *parser, larboardyuzu_line *line);
+
+/* Makes the handle as if it were just opened, with the same arguments, and takes no memory. */
+uint32_t larboardyuzu_parser_reset(larboardyuzu_parser *parser);
 
 void larboardyuzu_parser_close(larboardyuzu_parser *parser);
 
@@ -257,17 +323,18 @@ enum larboardyuzu_heard {
 #define LARBOARDYUZU_MOST_REPLY_WORDS 1024u
 #define LARBOARDYUZU_MOST_SETUP_BYTES 65536u
 
-/* What comes of one packet. */
+/* What one packet led to. */
 typedef struct larboardyuzu_replies {
-    size_t words;    /* how many words of replies were written: whole packets, in order */
+    size_t written;  /* words of replies: whole packets, in the order of sending */
+    size_t need;     /* with LARBOARDYUZU_SMALL_BUFFER a size that does, else 0 */
     uint64_t offset; /* of its line of the listing: an exclusive that is cut off or stray */
     uint8_t heard;   /* enum larboardyuzu_heard */
-    uint8_t group;   /* of the exclusive, or of its line; 255 where it has none */
+    uint8_t group;   /* of the exclusive, or of its line; 255 if it has none */
     uint8_t kind;    /* of its line, enum larboardyuzu_kind */
 } larboardyuzu_replies;
 
 /* text: the setup, in TOML (docs/setup.md). rule: with LARBOARDYUZU_SETUP_RULE the number of the first
- * rule that it breaks, 0 to 31. */
+ * rule that it breaks, 0 to 31; otherwise unchanged. */
 uint32_t larboardyuzu_endpoint_open(larboardyuzu_endpoint *endpoint, const uint8_t *text, size_t size,
                                     uint32_t room, uint8_t *rule);
 
@@ -277,28 +344,40 @@ uint32_t larboardyuzu_endpoint_packet(larboardyuzu_endpoint *endpoint, const uin
                                       uint64_t offset, uint32_t *reply, size_t size,
                                       larboardyuzu_replies *replies);
 
-/* The protocol in force: 1 for MIDI 1.0, 2 for MIDI 2.0. */
-uint32_t larboardyuzu_endpoint_protocol(larboardyuzu_endpoint *endpoint, uint8_t *protocol);
+/* Takes packets of the peer that follow each other. The offset is that of the first; each word adds 4. Their
+ * replies follow each other in `reply`, and replies[i] is what packet i led to. */
+uint32_t larboardyuzu_endpoint_packets(larboardyuzu_endpoint *endpoint, const uint32_t *words, size_t count,
+                                       uint64_t offset, uint32_t *reply, size_t size,
+                                       larboardyuzu_replies *replies, size_t reply_count,
+                                       larboardyuzu_block *block);
 
-/* The MUID in force of a function block, counted from 0. LARBOARDYUZU_NOTHING: the block has no MIDI-CI or
- * has used up its MUIDs, or there is no such block. */
-uint32_t larboardyuzu_endpoint_muid(larboardyuzu_endpoint *endpoint, uint8_t block, uint32_t *muid);
+/* Returns the protocol in force: 1 for MIDI 1.0, 2 for MIDI 2.0. */
+uint32_t larboardyuzu_endpoint_protocol(const larboardyuzu_endpoint *endpoint, uint8_t *protocol);
 
-/* A profile of the setup. */
+/* Returns the MUID in force of a function block, counted from 0. LARBOARDYUZU_NOTHING: the block has no
+ * MIDI-CI or has used up its MUIDs, or there is no such block. */
+uint32_t larboardyuzu_endpoint_muid(const larboardyuzu_endpoint *endpoint, uint8_t block, uint32_t *muid);
+
+/* A profile of the setup. With LARBOARDYUZU_NOTHING block, group and channel are 255. */
 typedef struct larboardyuzu_profile {
     uint8_t block;   /* its function block, counted from 0 */
-    uint8_t group;   /* its group; 255 where it is of the whole function block */
-    uint8_t channel; /* its channel; 255 where it is of the whole group or function block */
+    uint8_t group;   /* its group; 255 if it is of the whole function block */
+    uint8_t channel; /* its channel; 255 if it is of the whole group or function block */
     uint8_t id[5];
     bool is_on; /* now */
 } larboardyuzu_profile;
 
-/* A profile, counted from 0 in the order of the setup. */
-uint32_t larboardyuzu_endpoint_profile(larboardyuzu_endpoint *endpoint, size_t index,
+/* Returns a profile, counted from 0 in the order of the setup. */
+uint32_t larboardyuzu_endpoint_profile(const larboardyuzu_endpoint *endpoint, size_t index,
                                        larboardyuzu_profile *profile);
 
-/* Where the exclusive began that a group has open. */
-uint32_t larboardyuzu_endpoint_begun(larboardyuzu_endpoint *endpoint, uint8_t group, uint64_t *offset);
+/* Returns where the exclusive began that a group has open. */
+uint32_t larboardyuzu_endpoint_begun(const larboardyuzu_endpoint *endpoint, uint8_t group, uint64_t *offset);
+
+/* Makes the handle as if it were just opened with the same setup, and takes no memory: protocol, MUIDs and
+ * profiles are those of the setup again, and no exclusive is open. Other MUIDs need another setup: close the
+ * handle, and open it with that. */
+uint32_t larboardyuzu_endpoint_reset(larboardyuzu_endpoint *endpoint);
 
 void larboardyuzu_endpoint_close(larboardyuzu_endpoint *endpoint);
 
@@ -310,13 +389,14 @@ typedef struct larboardyuzu_state {
 } larboardyuzu_state;
 
 enum larboardyuzu_fact_kind {
-    LARBOARDYUZU_FACT_ON = 0,         /* a note on: number is the note, value its velocity */
-    LARBOARDYUZU_FACT_OFF = 1,        /* a note off */
+    LARBOARDYUZU_FACT_ON = 0,         /* a note on, also of a key that is up by now: number is the note, value
+                                       * its velocity */
+    LARBOARDYUZU_FACT_OFF = 1,        /* a note off, the same */
     LARBOARDYUZU_FACT_MODE = 2,       /* a channel mode message: number is 120 to 127 */
     LARBOARDYUZU_FACT_POLY = 3,       /* the pressure of a key: number is the note */
     LARBOARDYUZU_FACT_CONTROL = 4,    /* a controller: number is its index */
-    LARBOARDYUZU_FACT_PRESSURE = 5,   /* the pressure of the channel */
-    LARBOARDYUZU_FACT_BEND = 6,       /* the bend */
+    LARBOARDYUZU_FACT_PRESSURE = 5,   /* the pressure of the channel, unless it is 0 */
+    LARBOARDYUZU_FACT_BEND = 6,       /* the bend, unless it is at its centre */
     LARBOARDYUZU_FACT_PROGRAM = 7,    /* the program: number; has_bank; bank and bank_lsb */
     LARBOARDYUZU_FACT_REGISTERED = 8, /* a registered parameter: bank and number; has_value; is_loose */
     LARBOARDYUZU_FACT_ASSIGNABLE = 9, /* an assignable parameter */
@@ -338,24 +418,44 @@ typedef struct larboardyuzu_fact {
     bool is_loose; /* a relative change came after the value */
 } larboardyuzu_fact;
 
-/* The most notes and mode messages of a channel, and the most parameters of a kind, that a state may keep. */
+/* The most that `notes` and `params` of larboardyuzu_state_open may be. */
 #define LARBOARDYUZU_MOST_NOTES 1048576u
 #define LARBOARDYUZU_MOST_PARAMS 16384u
 
-/* One state takes either packets or the bytes of one stream. It keeps at most notes notes and mode messages
- * of each channel, and at most params parameters of each kind and channel; 0 is allowed. */
+/* In place of a channel: the facts of the group that belong to no channel. */
+#define LARBOARDYUZU_NO_CHANNEL 255u
+
+/* notes: the most notes on, notes off and mode messages of each channel. They are a history in the order in
+ * which they came: a note off removes nothing, and once the list is full each further one is refused, until
+ * the state is reset. params: the most parameters of each kind and channel. Both may be 0. The state takes
+ * packets, or with LARBOARDYUZU_OF_BYTES the bytes of one stream, whose facts are of group 0. flags:
+ * LARBOARDYUZU_OF_BYTES. */
 uint32_t larboardyuzu_state_open(larboardyuzu_state *state, uint32_t room, uint32_t notes, uint32_t params,
-                                 bool is_of_bytes);
+                                 uint32_t flags);
 
 /* Takes one packet. After LARBOARDYUZU_STATE_FULL nothing has changed: it adds to a list that is full. */
 uint32_t larboardyuzu_state_packet(larboardyuzu_state *state, const uint32_t *words, size_t count);
 
+/* Takes packets that follow each other. The block has no buffers. */
+uint32_t larboardyuzu_state_packets(larboardyuzu_state *state, const uint32_t *words, size_t count,
+                                    larboardyuzu_block *block);
+
 /* Takes one byte. After LARBOARDYUZU_STATE_FULL it is taken, but the message that it completes isn't kept. */
 uint32_t larboardyuzu_state_byte(larboardyuzu_state *state, uint8_t byte);
 
-/* Writes the facts, in the order of `show --state`. length: how many there are. */
-uint32_t larboardyuzu_state_facts(larboardyuzu_state *state, larboardyuzu_fact *facts, size_t size,
-                                  size_t *length);
+/* Takes bytes that follow each other. The block has no buffers. */
+uint32_t larboardyuzu_state_bytes(larboardyuzu_state *state, const uint8_t *bytes, size_t count,
+                                  larboardyuzu_block *block);
+
+/* Writes the facts of one channel, 0 to 15, of a group, in the order of `show --state`; with
+ * LARBOARDYUZU_NO_CHANNEL the counts of the group's system messages. written: how many facts. need: with
+ * LARBOARDYUZU_SMALL_BUFFER how many there are, else 0. */
+uint32_t larboardyuzu_state_facts(const larboardyuzu_state *state, uint8_t group, uint8_t channel,
+                                  larboardyuzu_fact *facts, size_t size, size_t *written, size_t *need);
+
+/* Makes the handle as if it were just opened, with the same arguments, and takes no memory: a state without
+ * facts. */
+uint32_t larboardyuzu_state_reset(larboardyuzu_state *state);
 
 void larboardyuzu_state_close(larboardyuzu_state *state);
 
@@ -367,21 +467,22 @@ typedef struct larboardyuzu_sysex8 {
 } larboardyuzu_sysex8;
 
 enum larboardyuzu_joined {
-    LARBOARDYUZU_JOINED_OTHER = 0,     /* the packet has no part of an 8-bit exclusive */
-    LARBOARDYUZU_JOINED_HELD = 1,      /* its part is kept */
-    LARBOARDYUZU_JOINED_WHOLE = 2,     /* it ends an exclusive */
-    LARBOARDYUZU_JOINED_STRAY = 3,     /* it continues or ends one where none is begun */
-    LARBOARDYUZU_JOINED_RESTARTED = 4, /* it begins one, and cuts off the one that began at cut_at */
-    LARBOARDYUZU_JOINED_RESTARTED_WHOLE =
-        5,                       /* it is all of one, and cuts off the one that began at cut_at */
+    LARBOARDYUZU_JOINED_OTHER = 0,           /* the packet has no part of an 8-bit exclusive */
+    LARBOARDYUZU_JOINED_HELD = 1,            /* its part is kept */
+    LARBOARDYUZU_JOINED_WHOLE = 2,           /* it ends an exclusive */
+    LARBOARDYUZU_JOINED_STRAY = 3,           /* it continues or ends one, and none is begun */
+    LARBOARDYUZU_JOINED_RESTARTED = 4,       /* it begins one, and cuts off the one that began at cut_at */
+    LARBOARDYUZU_JOINED_RESTARTED_WHOLE = 5, /* it is all of one, and cuts off the one begun at cut_at */
     LARBOARDYUZU_JOINED_FULL = 6,            /* it begins one, and no slot is idle: it is passed over */
     LARBOARDYUZU_JOINED_TOO_LONG = 7         /* it makes one longer than the limit, which is dropped */
 };
 
+/* What one packet led to. With LARBOARDYUZU_EXCLUSIVE_TOO_LONG answer, group and stream are set. */
 typedef struct larboardyuzu_part {
-    size_t length; /* how many bytes the exclusive has that the packet ends */
-    uint64_t cut_at;
-    uint8_t answer; /* enum larboardyuzu_joined */
+    size_t written;  /* bytes of the exclusive that the packet ends */
+    size_t need;     /* with LARBOARDYUZU_SMALL_BUFFER a size that does, else 0 */
+    uint64_t cut_at; /* the offset at which the exclusive began that the packet cuts off */
+    uint8_t answer;  /* enum larboardyuzu_joined */
     uint8_t group;
     uint8_t stream; /* the stream id */
 } larboardyuzu_part;
@@ -389,18 +490,28 @@ typedef struct larboardyuzu_part {
 /* streams: how many exclusives may be open at once, 1 to 64. room: the most bytes of one, 13 to 1,048,576. */
 uint32_t larboardyuzu_sysex8_open(larboardyuzu_sysex8 *sysex8, uint8_t streams, uint32_t room);
 
-/* Takes one packet. A buffer of fewer than `room` bytes is refused. */
+/* Takes one packet. Packets of other types do nothing. A buffer of fewer than `room` bytes is refused. */
 uint32_t larboardyuzu_sysex8_packet(larboardyuzu_sysex8 *sysex8, const uint32_t *words, size_t count,
                                     uint64_t offset, uint8_t *bytes, size_t size, larboardyuzu_part *part);
 
-/* Where the exclusive began that a stream of a group has open. */
-uint32_t larboardyuzu_sysex8_begun(larboardyuzu_sysex8 *sysex8, uint8_t group, uint8_t stream,
+/* Takes packets that follow each other. The offset is that of the first; each word adds 4. The exclusives
+ * follow each other in `bytes`, and parts[i] is what packet i led to. */
+uint32_t larboardyuzu_sysex8_packets(larboardyuzu_sysex8 *sysex8, const uint32_t *words, size_t count,
+                                     uint64_t offset, uint8_t *bytes, size_t size, larboardyuzu_part *parts,
+                                     size_t part_count, larboardyuzu_block *block);
+
+/* Returns where the exclusive began that a stream of a group has open. */
+uint32_t larboardyuzu_sysex8_begun(const larboardyuzu_sysex8 *sysex8, uint8_t group, uint8_t stream,
                                    uint64_t *offset);
+
+/* Makes the handle as if it were just opened, with the same arguments, and takes no memory. */
+uint32_t larboardyuzu_sysex8_reset(larboardyuzu_sysex8 *sysex8);
 
 void larboardyuzu_sysex8_close(larboardyuzu_sysex8 *sysex8);
 
-/* The other way, a pure function: a packet, counted from 0, of an 8-bit exclusive with these bytes: four
- * words. Each packet has thirteen bytes but the last. */
+/* The other way, without a handle: writes a packet, counted from 0, of an 8-bit exclusive with these bytes:
+ * four words. Each packet has thirteen bytes except the last. LARBOARDYUZU_SMALL_BUFFER: size is under 4.
+ * LARBOARDYUZU_NOTHING: there is no packet of this index. */
 uint32_t larboardyuzu_sysex8_cut(uint8_t group, uint8_t stream, const uint8_t *payload, size_t payload_size,
                                  size_t index, uint32_t *words, size_t size);
 
@@ -413,6 +524,7 @@ typedef struct larboardyuzu_usb {
 
 /* The size of a buffer for the events of one message. A smaller one is refused, whatever the byte is. */
 #define LARBOARDYUZU_USB_SIZE(room) (((room) + 4) / 3 * 4)
+size_t larboardyuzu_usb_size(uint32_t room);
 
 /* cable: of the events, 0 to 15. */
 uint32_t larboardyuzu_usb_open(larboardyuzu_usb *usb, uint8_t cable, uint32_t room);
@@ -422,8 +534,17 @@ uint32_t larboardyuzu_usb_open(larboardyuzu_usb *usb, uint8_t cable, uint32_t ro
 uint32_t larboardyuzu_usb_byte(larboardyuzu_usb *usb, uint8_t byte, uint64_t offset, uint8_t *events,
                                size_t size, larboardyuzu_outcome *outcome);
 
-/* What is open at the end of the stream. */
-uint32_t larboardyuzu_usb_end(larboardyuzu_usb *usb, larboardyuzu_line *line);
+/* Takes bytes that follow each other. The events follow each other in `events`. A byte that completes a
+ * message or has a line has an outcome. */
+uint32_t larboardyuzu_usb_bytes(larboardyuzu_usb *usb, const uint8_t *bytes, size_t count, uint64_t offset,
+                                uint8_t *events, size_t size, larboardyuzu_outcome *outcomes,
+                                size_t outcome_count, larboardyuzu_block *block);
+
+/* Returns what is open at the end of the stream. */
+uint32_t larboardyuzu_usb_end(const larboardyuzu_usb *usb, larboardyuzu_line *line);
+
+/* Makes the handle as if it were just opened, with the same arguments, and takes no memory. */
+uint32_t larboardyuzu_usb_reset(larboardyuzu_usb *usb);
 
 void larboardyuzu_usb_close(larboardyuzu_usb *usb);
 
@@ -434,27 +555,49 @@ typedef struct larboardyuzu_carried {
     uint8_t bytes[3];
 } larboardyuzu_carried;
 
-/* What an event of four bytes carries. LARBOARDYUZU_NOTHING: its code is reserved.
- * LARBOARDYUZU_BAD_WORD_COUNT: size isn't 4. */
+/* Returns what an event of four bytes carries. LARBOARDYUZU_BAD_SIZE: size isn't 4.
+ * LARBOARDYUZU_NOTHING: its code is reserved. */
 uint32_t larboardyuzu_usb_carried(const uint8_t *event, size_t size, larboardyuzu_carried *carried);
 
-/* ---- Pure functions ---- */
+/* ---- Calls without a handle ---- */
 
-/* How many words the packet has that begins with this one: 1 to 4. */
+/* The size that is enough for each name, and for each line of `show`. */
+#define LARBOARDYUZU_MOST_NAME 32u
+#define LARBOARDYUZU_MOST_LINE 256u
+
+/* Writes the word that this header has for a number, without its prefix and without an end mark, such as
+ * SMALL_BUFFER, NOTE_ATTRIBUTE or NOT_CI. In the program's listing it is in lower case with hyphens:
+ * note-attribute. length: its bytes, 0 unless it was written. LARBOARDYUZU_NOTHING: no such number.
+ * LARBOARDYUZU_SMALL_BUFFER: it doesn't fit. */
+uint32_t larboardyuzu_status_name(uint32_t status, uint8_t *text, size_t size, size_t *length);
+uint32_t larboardyuzu_kind_name(uint32_t kind, uint8_t *text, size_t size, size_t *length);
+uint32_t larboardyuzu_heard_name(uint32_t heard, uint8_t *text, size_t size, size_t *length);
+
+/* Returns how many words the packet has that begins with this one: 1 to 4. */
 uint32_t larboardyuzu_words_in_packet(uint32_t first);
 
-/* A packet, counted from 0, of an exclusive with these bytes between F0 and F7: two words. */
+/* Cuts bytes into the words of whole packets. flags: LARBOARDYUZU_LITTLE_ENDIAN; without it the bytes of a
+ * word come highest first. block: bytes taken, and words written. LARBOARDYUZU_SMALL_BUFFER before a packet
+ * for which the rest of `words` is too small; need is how many words it has. LARBOARDYUZU_BAD_SIZE before a
+ * last packet whose bytes aren't all there: pass them again with those that follow. */
+uint32_t larboardyuzu_packets_in(const uint8_t *bytes, size_t count, uint32_t flags, uint32_t *words,
+                                 size_t size, larboardyuzu_block *block);
+
+/* Writes a packet, counted from 0, of an exclusive with these bytes between F0 and F7: two words.
+ * LARBOARDYUZU_SMALL_BUFFER: size is under 2. LARBOARDYUZU_NOTHING: there is no packet of this index.
+ * LARBOARDYUZU_HIGH_BIT: a byte of this packet is over 127; at index 0, any byte of the payload. */
 uint32_t larboardyuzu_exclusive_packet(uint8_t group, const uint8_t *payload, size_t payload_size,
                                        size_t index, uint32_t *words, size_t size);
 
-/* The line of `show` for a packet, with its line feed: at most 256 bytes. */
+/* Writes the line of `show` for a packet, with its line feed. A text of fewer than LARBOARDYUZU_MOST_LINE
+ * bytes is refused. length: the bytes written. */
 uint32_t larboardyuzu_packet_line(const uint32_t *words, size_t count, uint64_t offset, uint8_t *text,
                                   size_t size, size_t *length);
 
-/* A value of 7 bits at 16 or 32, or of 14 bits at 32 (M2-115-U, min-centre-max scaling). */
+/* Scales a value of 7 bits to 16 or 32, or of 14 bits to 32 (M2-115-U, min-centre-max scaling). */
 uint32_t larboardyuzu_scale_up(uint32_t value, uint8_t narrow, uint8_t wide, uint32_t *scaled);
 
-/* The upper 7 of 16 bits, or the upper 7 or 14 of 32 (M2-115-U). */
+/* Takes the upper 7 of 16 bits, or the upper 7 or 14 of 32 (M2-115-U). */
 uint32_t larboardyuzu_scale_down(uint32_t value, uint8_t wide, uint8_t narrow, uint32_t *scaled);
 
 #ifdef __cplusplus

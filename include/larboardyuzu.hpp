@@ -1,65 +1,673 @@
-// larboardyuzu.hpp: the handles of larboardyuzu.h as C++17 types that close themselves. No call throws, and
-// none takes memory of its own. What C must promise, C++ must promise too.
+// larboardyuzu.hpp: the calls of larboardyuzu.h as C++17. A handle closes itself, each call is spelled once,
+// and statuses, kinds and flags have types of their own.
+//
+// No call throws, and none takes memory of its own: `open` takes all memory that a handle ever needs. What C
+// must promise, C++ must promise too; so one call at a time has a handle, also a call that is const.
+//
+//     larboardyuzu::Down down;
+//     if (down.open(1024) != larboardyuzu::Status::Done)
+//         return;
+//     std::array<std::uint8_t, larboardyuzu::down_size(1024)> bytes;
+//     if (const auto piece = down.packet(words, offset, bytes))
+//         send(piece->lane, bytes.data(), piece->written);
 #ifndef LARBOARDYUZU_HPP
 #define LARBOARDYUZU_HPP
 
+#ifdef Status
+#error "include larboardyuzu.hpp before Xlib.h, which defines Status as a macro"
+#endif
+
 #include "larboardyuzu.h"
 
+#include <cstddef>
+#include <cstdint>
+#include <iterator>
+#include <string_view>
+#include <type_traits>
 #include <utility>
 
 namespace larboardyuzu
 {
 
-// LARBOARDYUZU_DONE, or why not.
-using Status = uint32_t;
+// ---- The numbers of the header.
 
-// A type that isn't guessed from an argument, so that a number gets the type that the call asks for.
-template <class It> struct Same {
-    using type = It;
+// Done, or why not.
+enum class Status : std::uint32_t {
+    Done = LARBOARDYUZU_DONE,
+    NoMemory = LARBOARDYUZU_NO_MEMORY,
+    HandleClosed = LARBOARDYUZU_HANDLE_CLOSED,
+    AlreadyOpen = LARBOARDYUZU_ALREADY_OPEN,
+    BadRoom = LARBOARDYUZU_BAD_ROOM,
+    BadWordCount = LARBOARDYUZU_BAD_WORD_COUNT,
+    SmallBuffer = LARBOARDYUZU_SMALL_BUFFER,
+    BadCount = LARBOARDYUZU_BAD_COUNT,
+    HighBit = LARBOARDYUZU_HIGH_BIT,
+    DataIncrement = LARBOARDYUZU_DATA_INCREMENT,
+    DataDecrement = LARBOARDYUZU_DATA_DECREMENT,
+    ExclusiveTooLong = LARBOARDYUZU_EXCLUSIVE_TOO_LONG,
+    BadGroup = LARBOARDYUZU_BAD_GROUP,
+    Nothing = LARBOARDYUZU_NOTHING,
+    OtherKind = LARBOARDYUZU_OTHER_KIND,
+    BadStreams = LARBOARDYUZU_BAD_STREAMS,
+    SetupSyntax = LARBOARDYUZU_SETUP_SYNTAX,
+    SetupRule = LARBOARDYUZU_SETUP_RULE,
+    BadBits = LARBOARDYUZU_BAD_BITS,
+    BadValue = LARBOARDYUZU_BAD_VALUE,
+    StateFull = LARBOARDYUZU_STATE_FULL,
+    BadFlags = LARBOARDYUZU_BAD_FLAGS,
+    BadSize = LARBOARDYUZU_BAD_SIZE,
+    BadChannel = LARBOARDYUZU_BAD_CHANNEL
 };
 
-// A handle of C, closed at first. It can be moved, which leaves a closed one behind, and not copied.
-template <class Raw, auto Open, void (*Close)(Raw *)> class Handle;
+// Flags of a call, joined by |.
+enum class Flags : std::uint32_t {
+    Compact = LARBOARDYUZU_COMPACT,
+    Paired = LARBOARDYUZU_PAIRED,
+    OfBytes = LARBOARDYUZU_OF_BYTES,
+    LittleEndian = LARBOARDYUZU_LITTLE_ENDIAN
+};
 
-template <class Raw, class... OpenWith, Status (*Open)(Raw *, OpenWith...), void (*Close)(Raw *)>
-class Handle<Raw, Open, Close>
+constexpr Flags operator|(Flags one, Flags other) noexcept
+{
+    return static_cast<Flags>(static_cast<std::uint32_t>(one) | static_cast<std::uint32_t>(other));
+}
+
+// What a line of the listing reports.
+enum class Kind : std::uint8_t {
+    NoLine = LARBOARDYUZU_NO_LINE,
+    Utility = LARBOARDYUZU_UTILITY,
+    Stream = LARBOARDYUZU_STREAM,
+    Reserved = LARBOARDYUZU_RESERVED,
+    Data8 = LARBOARDYUZU_DATA8,
+    Flex = LARBOARDYUZU_FLEX,
+    NoteAttribute = LARBOARDYUZU_NOTE_ATTRIBUTE,
+    NoteController = LARBOARDYUZU_NOTE_CONTROLLER,
+    NoteBend = LARBOARDYUZU_NOTE_BEND,
+    NoteManagement = LARBOARDYUZU_NOTE_MANAGEMENT,
+    NullParameter = LARBOARDYUZU_NULL_PARAMETER,
+    RelativeParameter = LARBOARDYUZU_RELATIVE_PARAMETER,
+    MisplacedController = LARBOARDYUZU_MISPLACED_CONTROLLER,
+    FineController = LARBOARDYUZU_FINE_CONTROLLER,
+    StrayExclusive = LARBOARDYUZU_STRAY_EXCLUSIVE,
+    CutExclusive = LARBOARDYUZU_CUT_EXCLUSIVE,
+    OpenExclusive = LARBOARDYUZU_OPEN_EXCLUSIVE,
+    Stray = LARBOARDYUZU_STRAY,
+    Undefined = LARBOARDYUZU_UNDEFINED,
+    CutMessage = LARBOARDYUZU_CUT_MESSAGE,
+    OpenMessage = LARBOARDYUZU_OPEN_MESSAGE,
+    IgnoredDataEntry = LARBOARDYUZU_IGNORED_DATA_ENTRY
+};
+
+// What an endpoint did with a stream message or a whole exclusive.
+enum class Heard : std::uint8_t {
+    Nothing = LARBOARDYUZU_HEARD_NOTHING,
+    NotCi = LARBOARDYUZU_HEARD_NOT_CI,
+    Short = LARBOARDYUZU_HEARD_SHORT,
+    BadAddress = LARBOARDYUZU_HEARD_BAD_ADDRESS,
+    ReservedMuid = LARBOARDYUZU_HEARD_RESERVED_MUID,
+    NoBlock = LARBOARDYUZU_HEARD_NO_BLOCK,
+    Silent = LARBOARDYUZU_HEARD_SILENT,
+    Collision = LARBOARDYUZU_HEARD_COLLISION,
+    OldVersion = LARBOARDYUZU_HEARD_OLD_VERSION,
+    NotOurs = LARBOARDYUZU_HEARD_NOT_OURS,
+    Moved = LARBOARDYUZU_HEARD_MOVED,
+    Report = LARBOARDYUZU_HEARD_REPORT,
+    Broadcast = LARBOARDYUZU_HEARD_BROADCAST,
+    Answered = LARBOARDYUZU_HEARD_ANSWERED,
+    Passed = LARBOARDYUZU_HEARD_PASSED,
+    Nak = LARBOARDYUZU_HEARD_NAK,
+    NoAnswer = LARBOARDYUZU_HEARD_NO_ANSWER,
+    BadFormat = LARBOARDYUZU_HEARD_BAD_FORMAT
+};
+
+// What a fact is about.
+enum class FactKind : std::uint8_t {
+    On = LARBOARDYUZU_FACT_ON,
+    Off = LARBOARDYUZU_FACT_OFF,
+    Mode = LARBOARDYUZU_FACT_MODE,
+    Poly = LARBOARDYUZU_FACT_POLY,
+    Control = LARBOARDYUZU_FACT_CONTROL,
+    Pressure = LARBOARDYUZU_FACT_PRESSURE,
+    Bend = LARBOARDYUZU_FACT_BEND,
+    Program = LARBOARDYUZU_FACT_PROGRAM,
+    Registered = LARBOARDYUZU_FACT_REGISTERED,
+    Assignable = LARBOARDYUZU_FACT_ASSIGNABLE,
+    System = LARBOARDYUZU_FACT_SYSTEM,
+    RealTime = LARBOARDYUZU_FACT_REAL_TIME
+};
+
+// What a packet is to the 8-bit exclusive of its stream.
+enum class Joined : std::uint8_t {
+    Other = LARBOARDYUZU_JOINED_OTHER,
+    Held = LARBOARDYUZU_JOINED_HELD,
+    Whole = LARBOARDYUZU_JOINED_WHOLE,
+    Stray = LARBOARDYUZU_JOINED_STRAY,
+    Restarted = LARBOARDYUZU_JOINED_RESTARTED,
+    RestartedWhole = LARBOARDYUZU_JOINED_RESTARTED_WHOLE,
+    Full = LARBOARDYUZU_JOINED_FULL,
+    TooLong = LARBOARDYUZU_JOINED_TOO_LONG
+};
+
+// ---- The structs of the header, and their numbers as enums.
+
+using Line = larboardyuzu_line;
+using Outcome = larboardyuzu_outcome;
+using Block = larboardyuzu_block;
+using Piece = larboardyuzu_piece;
+using Replies = larboardyuzu_replies;
+using Profile = larboardyuzu_profile;
+using Fact = larboardyuzu_fact;
+using Part = larboardyuzu_part;
+using Carried = larboardyuzu_carried;
+
+constexpr Kind kind_of(const Line &line) noexcept { return static_cast<Kind>(line.kind); }
+constexpr Kind kind_of(const Piece &piece) noexcept { return static_cast<Kind>(piece.kind); }
+constexpr Kind kind_of(const Replies &replies) noexcept { return static_cast<Kind>(replies.kind); }
+constexpr FactKind kind_of(const Fact &fact) noexcept { return static_cast<FactKind>(fact.kind); }
+constexpr Heard heard_of(const Replies &replies) noexcept { return static_cast<Heard>(replies.heard); }
+constexpr Joined answer_of(const Part &part) noexcept { return static_cast<Joined>(part.answer); }
+
+// The places of the buffer of one packet or byte. A smaller one is refused, whatever the packet or byte is.
+constexpr std::size_t down_size(std::size_t room) noexcept { return LARBOARDYUZU_DOWN_SIZE(room); }
+constexpr std::size_t up_size(std::size_t room) noexcept { return LARBOARDYUZU_UP_SIZE(room); }
+constexpr std::size_t parser_size(std::size_t room) noexcept { return LARBOARDYUZU_PARSER_SIZE(room); }
+constexpr std::size_t usb_size(std::size_t room) noexcept { return LARBOARDYUZU_USB_SIZE(room); }
+
+// ---- What the calls take and return.
+
+// A pointer and how many places lie there. It is made of an array, of anything that has data() and size(),
+// such as std::vector, std::array and std::span, or of the two. It doesn't own the places: they have to
+// outlive it.
+template <class T> class View
+{
+    // The places of a range as an array: it has to be one of T, or if T is const of T without const.
+    template <class Range>
+    using ArrayOf = std::remove_pointer_t<decltype(std::data(std::declval<Range &>()))> (*)[];
+
+  public:
+    constexpr View() noexcept = default;
+    constexpr View(T *data, std::size_t size) noexcept : places(data), count(size) {}
+    template <class Range, class = std::enable_if_t<std::is_convertible_v<ArrayOf<Range>, T (*)[]>>>
+    constexpr View(Range &&range) noexcept : places(std::data(range)), count(std::size(range))
+    {
+    }
+
+    [[nodiscard]] constexpr T *data() const noexcept { return places; }
+    [[nodiscard]] constexpr std::size_t size() const noexcept { return count; }
+    [[nodiscard]] constexpr bool empty() const noexcept { return count == 0; }
+    [[nodiscard]] constexpr T *begin() const noexcept { return places; }
+    [[nodiscard]] constexpr T *end() const noexcept { return places + count; }
+    constexpr T &operator[](std::size_t at) const noexcept { return places[at]; }
+    // The first places, and those after them. There have to be so many.
+    [[nodiscard]] constexpr View first(std::size_t size) const noexcept { return { places, size }; }
+    [[nodiscard]] constexpr View from(std::size_t at) const noexcept { return { places + at, count - at }; }
+
+  private:
+    T *places = nullptr;
+    std::size_t count = 0;
+};
+
+using Words = View<const std::uint32_t>;
+using Bytes = View<const std::uint8_t>;
+
+// A status, and what was written with it. It is true if the status is Done. After a refusal the value is as
+// the header says; of a block it says how far the call came.
+template <class Value> struct [[nodiscard]] Result {
+    Status status;
+    Value value;
+
+    constexpr explicit operator bool() const noexcept { return status == Status::Done; }
+    constexpr const Value *operator->() const noexcept { return &value; }
+    constexpr const Value &operator*() const noexcept { return value; }
+};
+
+// A text of the library of at most so many bytes.
+template <std::size_t Most> struct Text {
+    std::uint8_t bytes[Most] = {};
+    std::size_t length = 0;
+
+    // It is ASCII.
+    [[nodiscard]] std::string_view view() const noexcept
+    {
+        return { reinterpret_cast<const char *>(bytes), length };
+    }
+};
+using Name = Text<LARBOARDYUZU_MOST_NAME>;
+using PacketLine = Text<LARBOARDYUZU_MOST_LINE>;
+
+// How a call of C is made: its status as a Status, or with the value that it writes.
+inline Status status_of(std::uint32_t status) noexcept { return static_cast<Status>(status); }
+
+template <class Value, class Call> Result<Value> result_of(Call &&call) noexcept
+{
+    Result<Value> result {};
+    result.status = status_of(call(result.value));
+    return result;
+}
+
+// ---- Handles.
+
+// A handle of C, closed at first. It can be moved, and what it was moved from is closed; it can't be copied.
+template <class Raw, void (*Close)(Raw *)> class Handle
 {
   public:
     Handle() noexcept = default;
     Handle(const Handle &) = delete;
     Handle &operator=(const Handle &) = delete;
-    Handle(Handle &&other) noexcept : raw(std::exchange(other.raw, Raw LARBOARDYUZU_CLOSED)) {}
+    Handle(Handle &&other) noexcept : held(std::exchange(other.held, Raw LARBOARDYUZU_CLOSED)) {}
     Handle &operator=(Handle &&other) noexcept
     {
-        std::swap(raw, other.raw);
+        if (this != &other) {
+            close();
+            held = std::exchange(other.held, Raw LARBOARDYUZU_CLOSED);
+        }
         return *this;
     }
-    ~Handle() { Close(&raw); }
+    ~Handle() { close(); }
 
-    // Opens it, with what the call of C takes behind the handle.
-    [[nodiscard]] Status open(OpenWith... with) noexcept { return Open(&raw, with...); }
-    void close() noexcept { Close(&raw); }
-    [[nodiscard]] bool is_open() const noexcept { return raw.is_open; }
+    void close() noexcept { Close(&held); }
+    [[nodiscard]] bool is_open() const noexcept { return held.is_open; }
 
-    // Any other call of C over the handle: down(larboardyuzu_down_begun, group, &offset).
-    template <class... With>
-    [[nodiscard]] Status operator()(Status (*call)(Raw *, With...),
-                                    typename Same<With>::type... with) noexcept
-    {
-        return call(&raw, with...);
-    }
+    // The handle of C, for its calls. Nobody copies it.
+    [[nodiscard]] Raw *raw() const noexcept { return &held; }
 
   private:
-    Raw raw = LARBOARDYUZU_CLOSED;
+    // A call that only reads has it alone all the same, and may write to it.
+    mutable Raw held = LARBOARDYUZU_CLOSED;
 };
 
-using Down = Handle<larboardyuzu_down, larboardyuzu_down_open, larboardyuzu_down_close>;
-using Up = Handle<larboardyuzu_up, larboardyuzu_up_open, larboardyuzu_up_close>;
-using Parser = Handle<larboardyuzu_parser, larboardyuzu_parser_open, larboardyuzu_parser_close>;
-using Endpoint = Handle<larboardyuzu_endpoint, larboardyuzu_endpoint_open, larboardyuzu_endpoint_close>;
-using State = Handle<larboardyuzu_state, larboardyuzu_state_open, larboardyuzu_state_close>;
-using Sysex8 = Handle<larboardyuzu_sysex8, larboardyuzu_sysex8_open, larboardyuzu_sysex8_close>;
-using Usb = Handle<larboardyuzu_usb, larboardyuzu_usb_open, larboardyuzu_usb_close>;
+// Packets to MIDI 1.0 bytes.
+class Down : public Handle<larboardyuzu_down, larboardyuzu_down_close>
+{
+  public:
+    // room: the most bytes of an exclusive, 6 to 1,048,576. flags: Compact, Paired.
+    [[nodiscard]] Status open(std::uint32_t room, Flags flags = {}) noexcept
+    {
+        return status_of(larboardyuzu_down_open(raw(), room, static_cast<std::uint32_t>(flags)));
+    }
+
+    // Takes one packet. offset: any number, such as the frame at which the packet is due; it comes back in a
+    // line. bytes: at least down_size(room), also for a short packet.
+    Result<Piece> packet(Words words, std::uint64_t offset, View<std::uint8_t> bytes) noexcept
+    {
+        return result_of<Piece>([&](Piece &piece) {
+            return larboardyuzu_down_packet(raw(), words.data(), words.size(), offset, bytes.data(),
+                                            bytes.size(), &piece);
+        });
+    }
+
+    // Takes packets that follow each other. The offset is that of the first; each word adds 4. pieces[i] is
+    // that of packet i of this call; a packet that is refused has none.
+    Result<Block> packets(Words words, std::uint64_t offset, View<std::uint8_t> bytes,
+                          View<Piece> pieces) noexcept
+    {
+        return result_of<Block>([&](Block &block) {
+            return larboardyuzu_down_packets(raw(), words.data(), words.size(), offset, bytes.data(),
+                                             bytes.size(), pieces.data(), pieces.size(), &block);
+        });
+    }
+
+    // Where the exclusive began that a group has open; Nothing if it has none.
+    [[nodiscard]] Result<std::uint64_t> begun(std::uint8_t group) const noexcept
+    {
+        return result_of<std::uint64_t>(
+            [&](auto &offset) { return larboardyuzu_down_begun(raw(), group, &offset); });
+    }
+
+    // Makes it as if it were just opened, and takes no memory.
+    Status reset() noexcept { return status_of(larboardyuzu_down_reset(raw())); }
+};
+
+// MIDI 1.0 bytes to the packets of a group.
+class Up : public Handle<larboardyuzu_up, larboardyuzu_up_close>
+{
+  public:
+    // group: 0 to 15. flags: Paired.
+    [[nodiscard]] Status open(std::uint8_t group, std::uint32_t room, Flags flags = {}) noexcept
+    {
+        return status_of(larboardyuzu_up_open(raw(), group, room, static_cast<std::uint32_t>(flags)));
+    }
+
+    // Takes one byte. words: at least up_size(room), also for a short message. It writes one packet, or all
+    // those of an exclusive.
+    Result<Outcome> byte(std::uint8_t byte, std::uint64_t offset, View<std::uint32_t> words) noexcept
+    {
+        return result_of<Outcome>([&](Outcome &outcome) {
+            return larboardyuzu_up_byte(raw(), byte, offset, words.data(), words.size(), &outcome);
+        });
+    }
+
+    // Takes bytes that follow each other. The offset is that of the first; each byte adds 1.
+    Result<Block> bytes(Bytes bytes, std::uint64_t offset, View<std::uint32_t> words,
+                        View<Outcome> outcomes) noexcept
+    {
+        return result_of<Block>([&](Block &block) {
+            return larboardyuzu_up_bytes(raw(), bytes.data(), bytes.size(), offset, words.data(),
+                                         words.size(), outcomes.data(), outcomes.size(), &block);
+        });
+    }
+
+    // What is open at the end of the stream; Nothing if nothing is.
+    [[nodiscard]] Result<Line> end() const noexcept
+    {
+        return result_of<Line>([&](Line &line) { return larboardyuzu_up_end(raw(), &line); });
+    }
+
+    Status reset() noexcept { return status_of(larboardyuzu_up_reset(raw())); }
+};
+
+// The messages of a MIDI 1.0 stream.
+class Parser : public Handle<larboardyuzu_parser, larboardyuzu_parser_close>
+{
+  public:
+    [[nodiscard]] Status open(std::uint32_t room) noexcept
+    {
+        return status_of(larboardyuzu_parser_open(raw(), room));
+    }
+
+    // Takes one byte. message: at least parser_size(room).
+    Result<Outcome> byte(std::uint8_t byte, std::uint64_t offset, View<std::uint8_t> message) noexcept
+    {
+        return result_of<Outcome>([&](Outcome &outcome) {
+            return larboardyuzu_parser_byte(raw(), byte, offset, message.data(), message.size(), &outcome);
+        });
+    }
+
+    Result<Block> bytes(Bytes bytes, std::uint64_t offset, View<std::uint8_t> messages,
+                        View<Outcome> outcomes) noexcept
+    {
+        return result_of<Block>([&](Block &block) {
+            return larboardyuzu_parser_bytes(raw(), bytes.data(), bytes.size(), offset, messages.data(),
+                                             messages.size(), outcomes.data(), outcomes.size(), &block);
+        });
+    }
+
+    [[nodiscard]] Result<Line> end() const noexcept
+    {
+        return result_of<Line>([&](Line &line) { return larboardyuzu_parser_end(raw(), &line); });
+    }
+
+    Status reset() noexcept { return status_of(larboardyuzu_parser_reset(raw())); }
+};
+
+// MIDI 1.0 bytes to USB-MIDI 1.0 events.
+class Usb : public Handle<larboardyuzu_usb, larboardyuzu_usb_close>
+{
+  public:
+    // cable: 0 to 15.
+    [[nodiscard]] Status open(std::uint8_t cable, std::uint32_t room) noexcept
+    {
+        return status_of(larboardyuzu_usb_open(raw(), cable, room));
+    }
+
+    // Takes one byte. events: at least usb_size(room).
+    Result<Outcome> byte(std::uint8_t byte, std::uint64_t offset, View<std::uint8_t> events) noexcept
+    {
+        return result_of<Outcome>([&](Outcome &outcome) {
+            return larboardyuzu_usb_byte(raw(), byte, offset, events.data(), events.size(), &outcome);
+        });
+    }
+
+    Result<Block> bytes(Bytes bytes, std::uint64_t offset, View<std::uint8_t> events,
+                        View<Outcome> outcomes) noexcept
+    {
+        return result_of<Block>([&](Block &block) {
+            return larboardyuzu_usb_bytes(raw(), bytes.data(), bytes.size(), offset, events.data(),
+                                          events.size(), outcomes.data(), outcomes.size(), &block);
+        });
+    }
+
+    [[nodiscard]] Result<Line> end() const noexcept
+    {
+        return result_of<Line>([&](Line &line) { return larboardyuzu_usb_end(raw(), &line); });
+    }
+
+    Status reset() noexcept { return status_of(larboardyuzu_usb_reset(raw())); }
+};
+
+// An endpoint, which answers a peer.
+class Endpoint : public Handle<larboardyuzu_endpoint, larboardyuzu_endpoint_close>
+{
+  public:
+    // setup: its text, in TOML. The value is the rule that it breaks if the status is SetupRule.
+    [[nodiscard]] Result<std::uint8_t> open(std::string_view setup, std::uint32_t room) noexcept
+    {
+        const auto *text = reinterpret_cast<const std::uint8_t *>(setup.data());
+        return result_of<std::uint8_t>(
+            [&](auto &rule) { return larboardyuzu_endpoint_open(raw(), text, setup.size(), room, &rule); });
+    }
+
+    // Takes one packet of the peer. reply: at least LARBOARDYUZU_MOST_REPLY_WORDS.
+    Result<Replies> packet(Words words, std::uint64_t offset, View<std::uint32_t> reply) noexcept
+    {
+        return result_of<Replies>([&](Replies &replies) {
+            return larboardyuzu_endpoint_packet(raw(), words.data(), words.size(), offset, reply.data(),
+                                                reply.size(), &replies);
+        });
+    }
+
+    Result<Block> packets(Words words, std::uint64_t offset, View<std::uint32_t> reply,
+                          View<Replies> replies) noexcept
+    {
+        return result_of<Block>([&](Block &block) {
+            return larboardyuzu_endpoint_packets(raw(), words.data(), words.size(), offset, reply.data(),
+                                                 reply.size(), replies.data(), replies.size(), &block);
+        });
+    }
+
+    // The protocol in force: 1 for MIDI 1.0, 2 for MIDI 2.0.
+    [[nodiscard]] Result<std::uint8_t> protocol() const noexcept
+    {
+        return result_of<std::uint8_t>(
+            [&](auto &protocol) { return larboardyuzu_endpoint_protocol(raw(), &protocol); });
+    }
+
+    // The MUID in force of a function block, counted from 0; Nothing if it has none.
+    [[nodiscard]] Result<std::uint32_t> muid(std::uint8_t block) const noexcept
+    {
+        return result_of<std::uint32_t>(
+            [&](auto &muid) { return larboardyuzu_endpoint_muid(raw(), block, &muid); });
+    }
+
+    // A profile, counted from 0 in the order of the setup; Nothing if there is none.
+    [[nodiscard]] Result<Profile> profile(std::size_t index) const noexcept
+    {
+        return result_of<Profile>(
+            [&](Profile &profile) { return larboardyuzu_endpoint_profile(raw(), index, &profile); });
+    }
+
+    [[nodiscard]] Result<std::uint64_t> begun(std::uint8_t group) const noexcept
+    {
+        return result_of<std::uint64_t>(
+            [&](auto &offset) { return larboardyuzu_endpoint_begun(raw(), group, &offset); });
+    }
+
+    Status reset() noexcept { return status_of(larboardyuzu_endpoint_reset(raw())); }
+};
+
+// What the messages so far have set in a receiver.
+class State : public Handle<larboardyuzu_state, larboardyuzu_state_close>
+{
+  public:
+    // How many facts were written, and with SmallBuffer how many there are.
+    struct Count {
+        std::size_t written;
+        std::size_t need;
+    };
+
+    // notes: the most notes on, notes off and mode messages of a channel, all of which it keeps, in order,
+    // until it is reset. params: the most parameters of a kind and channel. flags: OfBytes.
+    [[nodiscard]] Status open(std::uint32_t room, std::uint32_t notes, std::uint32_t params,
+                              Flags flags = {}) noexcept
+    {
+        return status_of(
+            larboardyuzu_state_open(raw(), room, notes, params, static_cast<std::uint32_t>(flags)));
+    }
+
+    [[nodiscard]] Status packet(Words words) noexcept
+    {
+        return status_of(larboardyuzu_state_packet(raw(), words.data(), words.size()));
+    }
+
+    Result<Block> packets(Words words) noexcept
+    {
+        return result_of<Block>([&](Block &block) {
+            return larboardyuzu_state_packets(raw(), words.data(), words.size(), &block);
+        });
+    }
+
+    [[nodiscard]] Status byte(std::uint8_t byte) noexcept
+    {
+        return status_of(larboardyuzu_state_byte(raw(), byte));
+    }
+
+    Result<Block> bytes(Bytes bytes) noexcept
+    {
+        return result_of<Block>([&](Block &block) {
+            return larboardyuzu_state_bytes(raw(), bytes.data(), bytes.size(), &block);
+        });
+    }
+
+    // The facts of a channel of a group; of LARBOARDYUZU_NO_CHANNEL the counts of the group's system
+    // messages.
+    [[nodiscard]] Result<Count> facts(std::uint8_t group, std::uint8_t channel,
+                                      View<Fact> facts) const noexcept
+    {
+        return result_of<Count>([&](Count &count) {
+            return larboardyuzu_state_facts(raw(), group, channel, facts.data(), facts.size(), &count.written,
+                                            &count.need);
+        });
+    }
+
+    Status reset() noexcept { return status_of(larboardyuzu_state_reset(raw())); }
+};
+
+// 8-bit exclusives of many streams, joined.
+class Sysex8 : public Handle<larboardyuzu_sysex8, larboardyuzu_sysex8_close>
+{
+  public:
+    // streams: how many may be open at once, 1 to 64. room: the most bytes of one, 13 to 1,048,576.
+    [[nodiscard]] Status open(std::uint8_t streams, std::uint32_t room) noexcept
+    {
+        return status_of(larboardyuzu_sysex8_open(raw(), streams, room));
+    }
+
+    // Takes one packet. bytes: at least room.
+    Result<Part> packet(Words words, std::uint64_t offset, View<std::uint8_t> bytes) noexcept
+    {
+        return result_of<Part>([&](Part &part) {
+            return larboardyuzu_sysex8_packet(raw(), words.data(), words.size(), offset, bytes.data(),
+                                              bytes.size(), &part);
+        });
+    }
+
+    Result<Block> packets(Words words, std::uint64_t offset, View<std::uint8_t> bytes,
+                          View<Part> parts) noexcept
+    {
+        return result_of<Block>([&](Block &block) {
+            return larboardyuzu_sysex8_packets(raw(), words.data(), words.size(), offset, bytes.data(),
+                                               bytes.size(), parts.data(), parts.size(), &block);
+        });
+    }
+
+    [[nodiscard]] Result<std::uint64_t> begun(std::uint8_t group, std::uint8_t stream) const noexcept
+    {
+        return result_of<std::uint64_t>(
+            [&](auto &offset) { return larboardyuzu_sysex8_begun(raw(), group, stream, &offset); });
+    }
+
+    Status reset() noexcept { return status_of(larboardyuzu_sysex8_reset(raw())); }
+};
+
+// ---- Calls without a handle.
+
+// The word of the header for a number, such as SMALL_BUFFER; empty if there is no such number.
+inline Name name_of(Status status) noexcept
+{
+    Name name;
+    static_cast<void>(larboardyuzu_status_name(static_cast<std::uint32_t>(status), name.bytes,
+                                               sizeof name.bytes, &name.length));
+    return name;
+}
+
+inline Name name_of(Kind kind) noexcept
+{
+    Name name;
+    static_cast<void>(larboardyuzu_kind_name(static_cast<std::uint32_t>(kind), name.bytes, sizeof name.bytes,
+                                             &name.length));
+    return name;
+}
+
+inline Name name_of(Heard heard) noexcept
+{
+    Name name;
+    static_cast<void>(larboardyuzu_heard_name(static_cast<std::uint32_t>(heard), name.bytes,
+                                              sizeof name.bytes, &name.length));
+    return name;
+}
+
+// How many words the packet has that begins with this one: 1 to 4.
+[[nodiscard]] inline std::size_t words_in_packet(std::uint32_t first) noexcept
+{
+    return larboardyuzu_words_in_packet(first);
+}
+
+// Cuts bytes into the words of whole packets. flags: LittleEndian.
+inline Result<Block> packets_in(Bytes bytes, View<std::uint32_t> words, Flags flags = {}) noexcept
+{
+    return result_of<Block>([&](Block &block) {
+        return larboardyuzu_packets_in(bytes.data(), bytes.size(), static_cast<std::uint32_t>(flags),
+                                       words.data(), words.size(), &block);
+    });
+}
+
+// Writes a packet of an exclusive with these bytes: two words, and of an 8-bit exclusive four. Nothing: it
+// has no such packet.
+[[nodiscard]] inline Status exclusive_packet(std::uint8_t group, Bytes payload, std::size_t index,
+                                             View<std::uint32_t> words) noexcept
+{
+    return status_of(larboardyuzu_exclusive_packet(group, payload.data(), payload.size(), index, words.data(),
+                                                   words.size()));
+}
+
+[[nodiscard]] inline Status sysex8_cut(std::uint8_t group, std::uint8_t stream, Bytes payload,
+                                       std::size_t index, View<std::uint32_t> words) noexcept
+{
+    return status_of(larboardyuzu_sysex8_cut(group, stream, payload.data(), payload.size(), index,
+                                             words.data(), words.size()));
+}
+
+// What an event of four bytes carries.
+[[nodiscard]] inline Result<Carried> usb_carried(Bytes event) noexcept
+{
+    return result_of<Carried>(
+        [&](Carried &it) { return larboardyuzu_usb_carried(event.data(), event.size(), &it); });
+}
+
+// The line of `show` for a packet, with its line feed.
+[[nodiscard]] inline Result<PacketLine> packet_line(Words words, std::uint64_t offset) noexcept
+{
+    return result_of<PacketLine>([&](PacketLine &line) {
+        return larboardyuzu_packet_line(words.data(), words.size(), offset, line.bytes, sizeof line.bytes,
+                                        &line.length);
+    });
+}
+
+// Scales a value of 7 bits to 16 or 32, or of 14 bits to 32; and takes the upper 7 of 16 bits, or the upper 7
+// or 14 of 32.
+[[nodiscard]] inline Result<std::uint32_t> scale_up(std::uint32_t value, std::uint8_t narrow,
+                                                    std::uint8_t wide) noexcept
+{
+    return result_of<std::uint32_t>(
+        [&](auto &scaled) { return larboardyuzu_scale_up(value, narrow, wide, &scaled); });
+}
+
+[[nodiscard]] inline Result<std::uint32_t> scale_down(std::uint32_t value, std::uint8_t wide,
+                                                      std::uint8_t narrow) noexcept
+{
+    return result_of<std::uint32_t>(
+        [&](auto &scaled) { return larboardyuzu_scale_down(value, wide, narrow, &scaled); });
+}
 
 } // namespace larboardyuzu
 

@@ -1,7 +1,10 @@
-/* larboardyuzu_heap.h: the three functions by which the library takes memory and gives it back. The
- * library has them over malloc, realloc and free. A program that is linked with the static library may
- * define all three itself; its own are then used, and malloc isn't linked for the library's sake. None is
- * called but by the calls that larboardyuzu.h names.
+/* larboardyuzu_heap.h: the three functions by which the library takes memory and returns it. The library
+ * defines them over malloc, realloc and free. A program that is linked with the static library may define
+ * all three itself; the library then uses those, and doesn't need malloc. Only the calls that larboardyuzu.h
+ * names call them.
+ *
+ * Such functions must be safe for all threads that open or close handles: a handle belongs to one call at a
+ * time, but two threads may open two handles at once. They never give a block twice, and keep its bytes.
  */
 #ifndef LARBOARDYUZU_HEAP_H
 #define LARBOARDYUZU_HEAP_H
@@ -13,7 +16,7 @@
 extern "C" {
 #endif
 
-/* What a request gives. `at` isn't null, not even where nothing is given. */
+/* What a request gives. `at` isn't null, even if nothing is given. */
 typedef struct larboardyuzu_given {
     bool is_given;
     void *at;
@@ -23,10 +26,10 @@ typedef struct larboardyuzu_given {
 larboardyuzu_given rattle_alloc(size_t size, size_t align);
 
 /* Gives `size` bytes in place of a block of `kept` bytes, with as many of those as fit at their front.
- * Where it gives nothing, the block stays as it is. */
+ * If it gives nothing, the block stays as it is. */
 larboardyuzu_given rattle_realloc(void *at, size_t kept, size_t size, size_t align);
 
-/* Takes a block back that one of the two has given. */
+/* Takes back a block that one of the two has given. */
 void rattle_dealloc(void *at);
 
 #ifdef __cplusplus

@@ -23,6 +23,7 @@ INSTALLED = ["bin/larboardyuzu", "share/man/man1/larboardyuzu.1", "share/bash-co
              "share/zsh/site-functions/_larboardyuzu", "share/fish/vendor_completions.d/larboardyuzu.fish",
              "share/doc/larboardyuzu/README.md", "share/doc/larboardyuzu/docs/setup.md", "share/doc/larboardyuzu/examples/endpoint.toml"]
 LIBRARY = ["include/larboardyuzu.h", "include/larboardyuzu.hpp", "include/larboardyuzu_heap.h"]
+CMAKE = ["larboardyuzuConfig.cmake", "larboardyuzuConfigVersion.cmake"]
 SETUP = f"{TOP}/examples/endpoint.toml"
 DPKG = ["dpkg", "--force-depends", "--force-architecture", "--force-not-root", "--log=/dev/null"]
 
@@ -82,6 +83,17 @@ def check_linked(folder, prefix, libdir, room):
         wanted = it.read()
     if made[0] or (got := ran([f"{room}/down"], env={"LD_LIBRARY_PATH": f"{folder}{libdir}"})) != (0, wanted, b""):
         yield f"examples/c/down.c: {made if made[0] else got}"
+    yield from (f"there is no {libdir}/cmake/larboardyuzu/{it}" for it in CMAKE if not os.path.isfile(f"{folder}{libdir}/cmake/larboardyuzu/{it}"))
+    if not shutil.which("cmake"):
+        left_out("CMake's find_package", "cmake")
+        return
+    place = f"-Dlarboardyuzu_DIR={folder}{libdir}/cmake/larboardyuzu"
+    for kind in ("shared", "static"):
+        build = f"{room}/cmake-{kind}"
+        made = ran(["cmake", "-S", f"{TOP}/c/tests/cmake-installed", "-B", build, f"-DKIND={kind}", place], env=WITHOUT_KIT)
+        made = made if made[0] else ran(["cmake", "--build", build], env=WITHOUT_KIT)
+        if made[0] or (got := ran([f"{build}/down"], env={})) != (0, wanted, b""):
+            yield f"find_package, {kind}: {made if made[0] else got}"
 
 
 def check_completions(share):

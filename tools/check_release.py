@@ -226,7 +226,7 @@ def check_readme(release, linked):
     wanted = re.search(r"/\* bytes: (.*) \*/", lines)[1]
     with open(f"{release.at}/examples/c/readme.c", "w", encoding="utf-8") as it:
         it.write(f'#include <stdio.h>\n#include "larboardyuzu.h"\nint main(void)\n{{\n{lines}'
-                 'for (size_t at = 0; at < piece.length; at++) printf(at ? " %02X" : "%02X", bytes[at]);\n'
+                 'for (size_t at = 0; at < piece.written; at++) printf(at ? " %02X" : "%02X", bytes[at]);\n'
                  "larboardyuzu_down_close(&down);\nreturn 0;\n}\n")
     program, failed = built("cc", release, "readme", *linked)
     if failed or (got := ran([program], env=NO_PATH)) != (0, wanted.encode(), b""):

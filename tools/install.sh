@@ -2,7 +2,8 @@
 # install.sh install|uninstall [program] [library]: puts these parts below PREFIX, or removes what it put there. If neither is named it
 # takes the program, and the library for C if it is built. `make install` calls it in a checkout; a release has it too.
 #
-# The program comes with its help, man page, completions, pages and examples; the library with its headers and a pkg-config file.
+# The program comes with its help, man page, completions, pages, examples and bindings; the library with its headers and the files by which
+# pkg-config and CMake find it.
 #
 #   PREFIX      /usr/local; BINDIR, LIBEXECDIR, LIBDIR, INCLUDEDIR and DATADIR (share) are below it, MANDIR and DOCDIR below DATADIR
 #   BASHDIR, ZSHDIR, FISHDIR   the folders for the completions, below DATADIR
@@ -59,8 +60,8 @@ drop_folder() {
 # (a checkout has neither notices nor what a release says of itself)
 pages() {
   find . -maxdepth 1 \( -name NOTICES.txt -o -name RELEASE.txt \) -printf '%f\n'
-  find README.md CONTRIBUTING.md CHANGELOG.md docs examples tools/talk.py -type f \
-    ! -path '*/__pycache__/*' ! -name '*.midi1' ! -name '*~' ! -name '.*' | sort
+  find README.md CONTRIBUTING.md CHANGELOG.md docs examples bindings tools/talk.py -type f \
+    ! -path '*/__pycache__/*' ! -path '*/out/*' ! -name '*.midi1' ! -name '*~' ! -name '.*' | sort
 }
 
 program() {
@@ -79,12 +80,20 @@ program() {
   drop_folder "$DOCDIR"
 }
 
-# The pkg-config file, with folders that follow its prefix where they lie below it.
+# The pkg-config file, with folders that follow its prefix if they lie below it.
 describe() {
   described=c/larboardyuzu.pc.in
   [ -e "$described" ] || described=lib/pkgconfig/larboardyuzu.pc
   sed -e "s|^prefix=.*|prefix=$PREFIX|" -e "s|^libdir=.*|libdir=$(below_prefix "$LIBDIR")|" \
     -e "s|^includedir=.*|includedir=$(below_prefix "$INCLUDEDIR")|" -e "s|@VERSION@|$version|" "$described"
+}
+
+# A file of CMake, which finds the headers from its own folder.
+describe_cmake() {
+  described=c/$1.in
+  [ -e "$described" ] || described=lib/cmake/larboardyuzu/$1
+  sed -e "s|^set(larboardyuzu_to_include .*|set(larboardyuzu_to_include \"$(realpath -ms --relative-to="$cmake" "$INCLUDEDIR")\")|" \
+    -e "s|@VERSION@|$version|" "$described"
 }
 
 below_prefix() {
@@ -105,6 +114,12 @@ library() {
   text=$(mktemp)
   [ "$action" = uninstall ] || describe >"$text"
   put 644 "$text" "$LIBDIR/pkgconfig/larboardyuzu.pc"
+  cmake=$LIBDIR/cmake/larboardyuzu
+  for file in larboardyuzuConfig.cmake larboardyuzuConfigVersion.cmake; do
+    [ "$action" = uninstall ] || describe_cmake $file >"$text"
+    put 644 "$text" "$cmake/$file"
+  done
+  drop_folder "$cmake"
   rm -f "$text"
 }
 

@@ -20,8 +20,11 @@ import built
 from built import TOP
 
 # What a release has of the repository: these, and all files in these folders that git has.
-PACKED = ["README.md", "CONTRIBUTING.md", "CHANGELOG.md", "VERSION", "larboardyuzu", "docs", "completions", "include", "examples",
+PACKED = ["README.md", "CONTRIBUTING.md", "CHANGELOG.md", "VERSION", "larboardyuzu", "docs", "completions", "include", "examples", "bindings",
           "tools/install.sh", "tools/talk.py", "tools/faults.py", "tools/faults.c"]
+# The files by which pkg-config and CMake find the library, and where they lie in a release.
+DESCRIPTIONS = {"c/larboardyuzu.pc.in": "lib/pkgconfig/larboardyuzu.pc",
+                **{f"c/{it}.in": f"lib/cmake/larboardyuzu/{it}" for it in ("larboardyuzuConfig.cmake", "larboardyuzuConfigVersion.cmake")}}
 SUMS = f"{TOP}/SHA256SUMS"
 LACKING = {"lib/liblarboardyuzu.a": ("the library for C", "make -C c"),
            "lib/aarch64-linux-gnu/liblarboardyuzu.a": ("the library for C for 64-bit ARM", "make -C c arm64")}
@@ -70,7 +73,7 @@ def reasons_against():
 
 def sum_of_sources():
     """The sum of all that the archive is made of."""
-    return built.sum_of([*packed_files(), "c/larboardyuzu.pc.in"], repr([(it.name, it.sum_of_sources()) for it in built.built()]))
+    return built.sum_of([*packed_files(), *DESCRIPTIONS], repr([(it.name, it.sum_of_sources()) for it in built.built()]))
 
 
 def epoch():
@@ -135,9 +138,10 @@ def fill(stage):
         os.symlink(shared, f"{stage}/lib/{os.path.splitext(shared)[0]}")
         os.symlink(os.path.splitext(shared)[0], f"{stage}/lib/liblarboardyuzu.so")
     if os.path.isfile(f"{stage}/lib/liblarboardyuzu.a"):
-        os.makedirs(f"{stage}/lib/pkgconfig")
-        described = built.read("c/larboardyuzu.pc.in").decode().replace("@PREFIX@", "${pcfiledir}/../..")
-        write(f"{stage}/lib/pkgconfig/larboardyuzu.pc", [described.replace("@VERSION@", built.version()).rstrip("\n")])
+        for source, target in DESCRIPTIONS.items():
+            described = built.read(source).decode().replace("@PREFIX@", "${pcfiledir}/../..").replace("@VERSION@", built.version())
+            os.makedirs(os.path.dirname(f"{stage}/{target}"), exist_ok=True)
+            write(f"{stage}/{target}", [described.rstrip("\n")])
 
 
 def pack():

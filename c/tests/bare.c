@@ -1,6 +1,7 @@
-/* A program with no operating system's C library, as firmware is: it has memcpy, memmove and memset, the
- * heap of the example over a fixed block, and nothing else. A note goes down and up again; what comes of
- * it is written by a call of Linux, since that is where the test runs. It is linked with -nostdlib. */
+/* A program without a C library, as firmware is: it has memcpy, memmove and memset, the heap of the example
+ * over a fixed block, and nothing else. A note goes down and up again. It says so by a call of Linux; with
+ * NO_SYSTEM by the functions of start_arm64.c, which runs it without an operating system. It is linked with
+ * -nostdlib. */
 #include "larboardyuzu.h"
 #include "own_heap.h"
 
@@ -39,6 +40,10 @@ void *memset(void *to, int byte, size_t size)
     return to;
 }
 
+#if defined(NO_SYSTEM)
+void put_text(const char *text, size_t size);
+void power_off(void);
+#else
 /* Where the program starts: a function wants the stack as a call leaves it. */
 #if defined(__aarch64__)
 __asm__(".globl _start\n_start: bl bare_main\n");
@@ -71,6 +76,11 @@ static long system_call(long number, long first, const void *second, size_t thir
     return answer;
 }
 #endif
+static void put_text(const char *text, size_t size)
+{
+    system_call(WRITE, 1, text, size);
+}
+#endif
 
 static int translate(void)
 {
@@ -80,19 +90,19 @@ static int translate(void)
     larboardyuzu_down down = LARBOARDYUZU_CLOSED;
     larboardyuzu_up up = LARBOARDYUZU_CLOSED;
     larboardyuzu_piece piece;
-    larboardyuzu_raised raised = { 0, { 0, 0 }, { 0, 0 } };
+    larboardyuzu_outcome outcome = { 0, 0, 0, { 0, 0 }, { 0, 0 } };
 
-    if (larboardyuzu_down_open(&down, ROOM, false, false) != LARBOARDYUZU_DONE
-        || larboardyuzu_up_open(&up, 0, ROOM, false) != LARBOARDYUZU_DONE
+    if (larboardyuzu_down_open(&down, ROOM, 0) != LARBOARDYUZU_DONE
+        || larboardyuzu_up_open(&up, 0, ROOM, 0) != LARBOARDYUZU_DONE
         || larboardyuzu_down_packet(&down, note, 2, 0, bytes, sizeof bytes, &piece) != LARBOARDYUZU_DONE)
         return 1;
-    if (piece.length != 3 || bytes[0] != 0x90 || bytes[1] != 0x3C || bytes[2] != 0x64)
+    if (piece.written != 3 || bytes[0] != 0x90 || bytes[1] != 0x3C || bytes[2] != 0x64)
         return 2;
-    for (size_t i = 0; i < piece.length; i++)
-        if (larboardyuzu_up_byte(&up, bytes[i], i, words, LARBOARDYUZU_UP_SIZE(ROOM), &raised)
+    for (size_t i = 0; i < piece.written; i++)
+        if (larboardyuzu_up_byte(&up, bytes[i], i, words, LARBOARDYUZU_UP_SIZE(ROOM), &outcome)
             != LARBOARDYUZU_DONE)
             return 3;
-    if (raised.words != 2 || words[0] != note[0] || words[1] != note[1])
+    if (outcome.written != 2 || words[0] != note[0] || words[1] != note[1])
         return 4;
     larboardyuzu_down_close(&down);
     larboardyuzu_up_close(&up);
@@ -101,12 +111,18 @@ static int translate(void)
 
 void bare_main(void)
 {
-    static const char text[] = "bare: the note is the same\n";
+    static const char good[] = "bare: the note is the same\n", bad[] = "bare: FAILED\n";
     int code = translate();
 
     if (code == 0)
-        system_call(WRITE, 1, text, sizeof text - 1);
-    system_call(EXIT, code, text, 0);
+        put_text(good, sizeof good - 1);
+    else
+        put_text(bad, sizeof bad - 1);
+#if defined(NO_SYSTEM)
+    power_off();
+#else
+    system_call(EXIT, code, good, 0);
+#endif
     for (;;)
         continue;
 }

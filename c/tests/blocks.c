@@ -1,231 +1,199 @@
-/* The calls over many packets or bytes give what the calls for one give, wherever the input and the
- * buffers are cut. */
+/* Each block call does what the calls for one packet or byte do, wherever the input and the buffers are
+ * cut: the single calls are put together here by the rules of the header, with every field of the block. */
 #include "check.h"
-#include "larboardyuzu.h"
+#include "subjects.h"
 
 #include <string.h>
 
 enum {
-    ROOM = 20,
-    WORDS = 4000,
-    BYTES = 6000,
-    ROUNDS = 40
+    WORDS = 3000,
+    BYTES = 4000,
+    ROUNDS = 60
 };
-
-static uint32_t seed = 2463534242u;
-
-/* Numbers that look random, the same in each run (xorshift). */
-static uint32_t random_number(void)
-{
-    seed ^= seed << 13;
-    seed ^= seed >> 17;
-    seed ^= seed << 5;
-    return seed;
-}
 
 static uint32_t words[WORDS];
 static uint8_t bytes[BYTES];
 
-/* Whole packets of random bits, most of them without a high bit where a data byte stands. */
-static void make_words(void)
+typedef struct result {
+    uint32_t status;
+    larboardyuzu_block block;
+    places out;
+    items all;
+} result;
+
+static input at_of(const subject *it, size_t at)
 {
-    for (size_t at = 0; at < WORDS;) {
-        uint32_t first = random_number() & 0x7FFFFFFF;
-        size_t count;
-        if (random_number() % 3 > 0)
-            first = (first & 0x00FF7F7F) | (random_number() % 4 + 1) << 28 | (random_number() % 3) << 24;
-        if (first >> 28 == 3)
-            first = (first & 0xFF30FFFF) | (random_number() % 7) << 16;
-        count = larboardyuzu_words_in_packet(first);
-        if (count > WORDS - at) {
-            first = 0;
-            count = 1;
+    input in;
+    if (it->takes_words)
+        in.words = words + at;
+    else
+        in.bytes = bytes + at;
+    return in;
+}
+
+static uint64_t offset_of(const subject *it, size_t at)
+{
+    return UINT64_MAX - 999 + (it->takes_words ? 4 : 1) * (uint64_t)at; /* (past 2^64 it begins at 0) */
+}
+
+/* Whether a buffer is too small for the next packet or byte. */
+static bool is_full(const subject *it, uint32_t room, size_t size, size_t item_count,
+                    larboardyuzu_block *block)
+{
+    size_t most = it->most(room);
+
+    if (!it->has_buffers)
+        return false;
+    block->need = size - block->written < most ? most : 0;
+    block->need_items = block->items == item_count ? 1 : 0;
+    return block->need > 0 || block->need_items > 0;
+}
+
+/* What a block call has to do, of single calls. */
+static void expect(const subject *it, handle *one, uint32_t room, size_t at, size_t count, size_t size,
+                   size_t item_count, result *to)
+{
+    static places out;
+    static items item;
+    larboardyuzu_block *block = &to->block;
+
+    memset(to, 0xAA, sizeof *to);
+    memset(block, 0, sizeof *block);
+    for (to->status = LARBOARDYUZU_DONE; block->taken < count;) {
+        size_t next = at + block->taken, length = 1, written;
+        if (is_full(it, room, size, item_count, block)) {
+            to->status = LARBOARDYUZU_SMALL_BUFFER;
+            return;
         }
-        words[at] = first;
-        for (size_t i = 1; i < count; i++)
-            words[at + i] = random_number() & (random_number() % 30 ? 0x7F7F7F7F : 0xFFFFFFFF);
-        at += count;
+        if (it->takes_words)
+            length = larboardyuzu_words_in_packet(words[next]);
+        if (length > count - block->taken) {
+            to->status = LARBOARDYUZU_BAD_WORD_COUNT;
+            return;
+        }
+        to->status =
+            it->one(one, at_of(it, next), length, offset_of(it, next), &out, it->most(room), &item);
+        block->taken += length;
+        if (to->status != LARBOARDYUZU_DONE) {
+            block->refused = length;
+            return;
+        }
+        written = written_of(it, &item, 0);
+        memcpy(to->out.bytes + it->place * block->written, out.bytes, it->place * written);
+        block->written += written;
+        if (says_something(it, &item, 0)) {
+            memcpy((char *)&to->all + it->item * block->items, &item, it->item);
+            block->items++;
+        }
     }
 }
 
-static void make_bytes(void)
+static void must_agree(const subject *it, const result *wanted, const result *got, size_t item_count)
 {
-    static const uint8_t statuses[] = { 0x90, 0x80, 0xB1, 0xB1, 0xC2, 0xE0, 0xD0,
-                                        0xF0, 0xF0, 0xF7, 0xF7, 0xF8, 0xF1, 0xF4 };
-    for (size_t at = 0; at < BYTES; at++)
-        bytes[at] = random_number() % 5 ? (uint8_t)(random_number() >> 25)
-                                        : statuses[random_number() % COUNT(statuses)];
+    CHECK(got->status == wanted->status);
+    CHECK(got->block.taken == wanted->block.taken && got->block.written == wanted->block.written);
+    CHECK(got->block.items == wanted->block.items && got->block.refused == wanted->block.refused);
+    CHECK(got->block.need == wanted->block.need && got->block.need_items == wanted->block.need_items);
+    CHECK(!memcmp(&got->out, &wanted->out, sizeof got->out));
+    for (size_t i = 0; i < got->block.items; i++)
+        CHECK(is_same_item(it, &got->all, i, &wanted->all, i));
+    /* what lies after the items is unchanged */
+    for (size_t i = it->item * got->block.items; it->has_buffers && i < it->item * item_count; i++)
+        CHECK(((const unsigned char *)&got->all)[i] == 0xAA);
 }
 
-static bool is_same_piece(const larboardyuzu_piece *a, const larboardyuzu_piece *b)
-{
-    return a->length == b->length && a->offset == b->offset && a->lane == b->lane && a->kind == b->kind
-           && a->group == b->group;
-}
+/* How often each way to stop came. */
+static long stops[24];
 
-static bool is_same_line(const larboardyuzu_line *a, const larboardyuzu_line *b)
+static void blocks_of(const subject *it, uint32_t room, uint32_t flags)
 {
-    return a->offset == b->offset && a->kind == b->kind;
-}
+    static result wanted, got;
+    handle many = { LARBOARDYUZU_CLOSED }, one = { LARBOARDYUZU_CLOSED };
+    const size_t all = it->takes_words ? WORDS : BYTES;
+    size_t at = 0, most = it->most(room), limit = most < 100 ? 4 * most : most + 60;
 
-/* What the single calls say of the packets from `at` on, one of a block after the other: how many words
- * they have. */
-static size_t agrees_down(larboardyuzu_down *one, size_t at, const uint8_t *written,
-                          const larboardyuzu_piece *pieces, const larboardyuzu_block *block,
-                          uint32_t status)
-{
-    uint8_t piece_bytes[LARBOARDYUZU_DOWN_SIZE(ROOM)];
-    larboardyuzu_piece piece;
-    size_t length = 0, begin = at;
-
-    for (size_t i = 0; i < block->listed; i++) {
-        size_t count = larboardyuzu_words_in_packet(words[at]);
-        CHECK(larboardyuzu_down_packet(one, words + at, count, 4 * at, piece_bytes, sizeof piece_bytes,
-                                       &piece)
-              == LARBOARDYUZU_DONE);
-        CHECK(is_same_piece(&piece, &pieces[i]));
-        CHECK(!memcmp(piece_bytes, written + length, piece.length));
-        length += piece.length;
-        at += count;
+    CHECK(it->open(&many, room, flags) == LARBOARDYUZU_DONE);
+    CHECK(it->open(&one, room, flags) == LARBOARDYUZU_DONE);
+    while (at < all) {
+        size_t count = random_number() % 60, item_count = random_number() % (ITEMS + 1);
+        size_t size =
+            most > 100 && random_number() % 8 ? most + random_number() % 60 : random_number() % (limit + 1);
+        if (count > all - at)
+            count = all - at;
+        memset(&got, 0xAA, sizeof got);
+        memset(&got.block, 0x55, sizeof got.block);
+        got.status = it->many(&many, at_of(it, at), count, offset_of(it, at), &got.out, size, &got.all,
+                              item_count, &got.block);
+        expect(it, &one, room, at, count, size, item_count, &wanted);
+        must_agree(it, &wanted, &got, item_count);
+        CHECK(random_number() % 64 > 0 || it->reads_same(&many, &one));
+        CHECK(got.status < COUNT(stops));
+        stops[got.status]++;
+        at += got.block.taken;
     }
-    CHECK(length == block->written);
-    if (status != LARBOARDYUZU_DONE && status != LARBOARDYUZU_SMALL_BUFFER) {
-        size_t count = larboardyuzu_words_in_packet(words[at]);
-        if (count > begin + block->taken - at)
-            count = begin + block->taken - at;
-        CHECK(larboardyuzu_down_packet(one, words + at, count, 4 * at, piece_bytes, sizeof piece_bytes,
-                                       &piece)
-              == status);
-        at += count;
-    }
-    return at - begin;
+    CHECK(it->reads_same(&many, &one));
+    it->close(&many);
+    it->close(&one);
 }
 
-/* Blocks of random sizes over all words; after a refused packet they go on behind it. */
-static void down_blocks(bool is_compact, bool is_paired)
+/* A block of nothing is done, with or without buffers; null may stand for an array without items. */
+static void empty_blocks(const subject *it)
 {
-    static uint8_t written[4 * LARBOARDYUZU_DOWN_SIZE(ROOM)];
-    static larboardyuzu_piece pieces[8];
-    larboardyuzu_down many = LARBOARDYUZU_CLOSED, one = LARBOARDYUZU_CLOSED;
-    size_t at = 0, refusals = 0;
+    handle open = { LARBOARDYUZU_CLOSED };
+    larboardyuzu_block block;
+    input none;
 
-    CHECK(larboardyuzu_down_open(&many, ROOM, is_compact, is_paired) == LARBOARDYUZU_DONE);
-    CHECK(larboardyuzu_down_open(&one, ROOM, is_compact, is_paired) == LARBOARDYUZU_DONE);
-    while (at < WORDS) {
-        size_t count = random_number() % 60, size = random_number() % sizeof written;
-        size_t room = random_number() % (COUNT(pieces) + 1);
-        larboardyuzu_block block;
-        uint32_t status;
-        if (count > WORDS - at)
-            count = WORDS - at;
-        memset(written, 0xAA, sizeof written);
-        status = larboardyuzu_down_packets(&many, words + at, count, 4 * at, written, size, pieces, room,
-                                           &block);
-        CHECK(block.taken <= count && block.listed <= room && block.written <= size);
-        CHECK(status != LARBOARDYUZU_DONE || block.taken == count);
-        CHECK((status == LARBOARDYUZU_SMALL_BUFFER) == (block.need != 0));
-        for (size_t i = block.written; i < sizeof written; i++)
-            CHECK(written[i] == 0xAA);
-        CHECK(agrees_down(&one, at, written, pieces, &block, status) == block.taken);
-        refusals += status != LARBOARDYUZU_DONE && status != LARBOARDYUZU_SMALL_BUFFER;
-        at += block.taken;
-    }
-    CHECK(refusals > 0);
-    larboardyuzu_down_close(&many);
-    larboardyuzu_down_close(&one);
+    memset(&none, 0, sizeof none);
+    CHECK(it->open(&open, MOST_ROOM, 0) == LARBOARDYUZU_DONE);
+    memset(&block, 0x55, sizeof block);
+    CHECK(it->many(&open, none, 0, 0, NULL, 0, NULL, 0, &block) == LARBOARDYUZU_DONE);
+    CHECK(block.taken == 0 && block.written == 0 && block.items == 0 && block.refused == 0);
+    CHECK(block.need == 0 && block.need_items == 0);
+    it->close(&open);
+    memset(&block, 0x55, sizeof block);
+    CHECK(it->many(&open, none, 0, 0, NULL, 0, NULL, 0, &block) == LARBOARDYUZU_HANDLE_CLOSED);
+    CHECK(block.taken == 0 && block.written == 0 && block.items == 0 && block.refused == 0);
+    CHECK(block.need == 0 && block.need_items == 0);
 }
 
-/* The same of bytes. */
-static void up_blocks(bool is_paired)
+/* The loop of the header takes all, whatever is refused and however small the buffers are. */
+static void whole_loop(const subject *it, uint32_t room)
 {
-    static uint32_t written[4 * LARBOARDYUZU_UP_SIZE(ROOM)], packet[LARBOARDYUZU_UP_SIZE(ROOM)];
-    static larboardyuzu_line lines[8];
-    larboardyuzu_up many = LARBOARDYUZU_CLOSED, one = LARBOARDYUZU_CLOSED;
-    larboardyuzu_line end_of_many, end_of_one;
+    static places out;
+    static items all_items;
+    handle open = { LARBOARDYUZU_CLOSED };
+    const size_t all = it->takes_words ? WORDS : BYTES, size = it->most(room);
+    larboardyuzu_block block;
+    size_t at = 0;
     uint32_t status;
 
-    CHECK(larboardyuzu_up_open(&many, 2, ROOM, is_paired) == LARBOARDYUZU_DONE);
-    CHECK(larboardyuzu_up_open(&one, 2, ROOM, is_paired) == LARBOARDYUZU_DONE);
-    for (size_t at = 0; at < BYTES;) {
-        size_t count = random_number() % 60, size = random_number() % COUNT(written);
-        size_t line_count = random_number() % (COUNT(lines) + 1), length = 0, listed = 0;
-        larboardyuzu_block block;
-        if (count > BYTES - at)
-            count = BYTES - at;
-        status =
-            larboardyuzu_up_bytes(&many, bytes + at, count, at, written, size, lines, line_count, &block);
-        CHECK(block.taken <= count && block.listed <= line_count && block.written <= size);
-        CHECK(status != LARBOARDYUZU_DONE || block.taken == count);
-        CHECK((status == LARBOARDYUZU_SMALL_BUFFER) == (block.need != 0));
-        for (size_t i = 0; i < block.taken; i++) {
-            larboardyuzu_raised raised;
-            uint32_t single =
-                larboardyuzu_up_byte(&one, bytes[at + i], at + i, packet, COUNT(packet), &raised);
-            bool is_refused = i + 1 == block.taken && status != LARBOARDYUZU_SMALL_BUFFER;
-            CHECK(single == (is_refused ? status : (uint32_t)LARBOARDYUZU_DONE));
-            CHECK(!memcmp(packet, written + length, raised.words * sizeof packet[0]));
-            length += raised.words;
-            CHECK(raised.first.kind == LARBOARDYUZU_NO_LINE
-                  || is_same_line(&raised.first, &lines[listed++]));
-            CHECK(raised.second.kind == LARBOARDYUZU_NO_LINE
-                  || is_same_line(&raised.second, &lines[listed++]));
-        }
-        CHECK(length == block.written && listed == block.listed);
+    CHECK(it->open(&open, room, 0) == LARBOARDYUZU_DONE);
+    do {
+        status = it->many(&open, at_of(it, at), all - at, offset_of(it, at), &out, size, &all_items,
+                          1 + random_number() % ITEMS, &block);
         at += block.taken;
-    }
-    status = larboardyuzu_up_end(&many, &end_of_many);
-    CHECK(status == larboardyuzu_up_end(&one, &end_of_one));
-    CHECK(status != LARBOARDYUZU_DONE || is_same_line(&end_of_many, &end_of_one));
-    larboardyuzu_up_close(&many);
-    larboardyuzu_up_close(&one);
-}
-
-/* The parser: the messages of a call over many bytes follow each other. */
-static void parser_blocks(void)
-{
-    static uint8_t written[6 * LARBOARDYUZU_PARSER_SIZE(ROOM)], message[LARBOARDYUZU_PARSER_SIZE(ROOM)];
-    larboardyuzu_parser many = LARBOARDYUZU_CLOSED, one = LARBOARDYUZU_CLOSED;
-
-    CHECK(larboardyuzu_parser_open(&many, ROOM) == LARBOARDYUZU_DONE);
-    CHECK(larboardyuzu_parser_open(&one, ROOM) == LARBOARDYUZU_DONE);
-    for (size_t at = 0; at < BYTES;) {
-        size_t count = random_number() % 60, length = 0;
-        size_t size = random_number() % (sizeof written + 1);
-        larboardyuzu_outcome outcome, single;
-        uint32_t status;
-        if (count > BYTES - at)
-            count = BYTES - at;
-        status = larboardyuzu_parser_bytes(&many, bytes + at, count, at, written, size, &outcome);
-        if (status == LARBOARDYUZU_SMALL_BUFFER) {
-            CHECK(size < sizeof message && outcome.taken == 0 && outcome.length == sizeof message);
-            continue;
-        }
-        for (size_t i = 0; i < outcome.taken; i++) {
-            bool is_last = i + 1 == outcome.taken;
-            CHECK(larboardyuzu_parser_byte(&one, bytes[at + i], at + i, message, sizeof message, &single)
-                  == (is_last ? status : (uint32_t)LARBOARDYUZU_DONE));
-            CHECK(!memcmp(message, written + length, single.length));
-            length += single.length;
-            CHECK(is_last || single.first.kind == LARBOARDYUZU_NO_LINE);
-            CHECK(!is_last || is_same_line(&single.first, &outcome.first));
-            CHECK(!is_last || is_same_line(&single.second, &outcome.second));
-        }
-        CHECK(length == outcome.length);
-        at += outcome.taken;
-    }
-    larboardyuzu_parser_close(&many);
-    larboardyuzu_parser_close(&one);
+    } while (status != LARBOARDYUZU_DONE && block.taken > 0);
+    CHECK(status == LARBOARDYUZU_DONE && at == all);
+    it->close(&open);
 }
 
 int main(void)
 {
     for (int round = 0; round < ROUNDS; round++) {
-        make_words();
-        make_bytes();
-        down_blocks(round % 2, round / 2 % 2);
-        up_blocks(round % 2);
-        parser_blocks();
+        random_words(words, WORDS);
+        random_bytes(bytes, BYTES);
+        for (size_t i = 0; i < SUBJECTS; i++) {
+            uint32_t room = 6 + random_number() % (MOST_ROOM - 5);
+            blocks_of(&subjects[i], room, random_number() & subjects[i].flags);
+            whole_loop(&subjects[i], room);
+        }
     }
-    printf("blocks: %d rounds, ok\n", ROUNDS);
+    for (size_t i = 0; i < SUBJECTS; i++)
+        empty_blocks(&subjects[i]);
+    CHECK(stops[LARBOARDYUZU_DONE] > 0 && stops[LARBOARDYUZU_SMALL_BUFFER] > 0);
+    CHECK(stops[LARBOARDYUZU_BAD_WORD_COUNT] > 0 && stops[LARBOARDYUZU_BAD_COUNT] > 0);
+    CHECK(stops[LARBOARDYUZU_HIGH_BIT] > 0 && stops[LARBOARDYUZU_DATA_INCREMENT] > 0);
+    CHECK(stops[LARBOARDYUZU_EXCLUSIVE_TOO_LONG] > 0);
+    printf("blocks: %d rounds of %d kinds, ok\n", ROUNDS, SUBJECTS);
     return 0;
 }

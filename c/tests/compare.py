@@ -14,7 +14,7 @@ import time
 
 HERE = os.path.dirname(os.path.abspath(__file__))
 sys.path.insert(0, HERE)
-sys.path.insert(0, os.path.join(HERE, "..", "..", "examples", "python"))
+sys.path.insert(0, os.path.join(HERE, "..", "..", "bindings", "python"))
 import inputs  # noqa: E402
 
 
@@ -84,29 +84,31 @@ def lines_seen(said):
     return code, [it for it in output.split(b"\n") if not it.startswith(b"text")], errors, lanes
 
 
+def compare_both(bench, words, data, c_words=None, seen=lambda said: said):
+    """Compares the block calls, and the calls for one packet or byte."""
+    bench.compare(words, data, c_words, seen)
+    bench.compare(words, data, [*(c_words or words), "--single"], seen)
+
+
 def compare_recording(bench, r, data, little):
     order = ["--little"] if little else []
     room = ["--room", str(r.choice((6, 13, 200, 1048576)))]
     for style in ([], ["--compact"], ["--paired"], ["--compact", "--paired"]):
-        words = ["translate", "down", "--folder", "FOLDER", *order, *style, *room]
-        bench.compare(words, data)
-        bench.compare(words, data, [*words, "--single"])
+        compare_both(bench, ["translate", "down", "--folder", "FOLDER", *order, *style, *room], data)
     room8 = ["--room", str(r.choice((13, 40, 1048576))), "--streams", str(r.choice((1, 2, 64)))]
-    bench.compare(["sysex8", "--folder", "FOLDER", *order, *room8], data)
-    bench.compare(["endpoint", "setup.toml", *order, *room], data, seen=endpoint_seen)
+    compare_both(bench, ["sysex8", "--folder", "FOLDER", *order, *room8], data)
+    compare_both(bench, ["endpoint", "setup.toml", *order, *room], data, seen=endpoint_seen)
     bench.compare(["show", *order], data, ["lines", *order], lines_seen)
-    bench.compare(["show", "--state", *order, *room], data, ["state", *order, *room], state_seen)
+    compare_both(bench, ["show", "--state", *order, *room], data, ["state", *order, *room], state_seen)
 
 
 def compare_stream(bench, r, data):
     room = ["--room", str(r.choice((6, 12, 13, 100, 1048576)))]
     for style in ([], ["--paired"]):
-        words = ["translate", "up", "--group", str(r.randrange(16)), *style, *room]
-        bench.compare(words, data)
-        bench.compare(words, data, [*words, "--single"])
-    bench.compare(["usb", "pack", "--cable", str(r.randrange(16)), *room], data)
+        compare_both(bench, ["translate", "up", "--group", str(r.randrange(16)), *style, *room], data)
+    compare_both(bench, ["usb", "pack", "--cable", str(r.randrange(16)), *room], data)
     bench.compare(["usb", "split", "--folder", "FOLDER"], data)
-    bench.compare(["show", "--bytes", "--state", *room], data, ["state", "--bytes", *room], state_seen)
+    compare_both(bench, ["show", "--bytes", "--state", *room], data, ["state", "--bytes", *room], state_seen)
 
 
 def compare_seed(bench, seed, scale):
@@ -123,24 +125,34 @@ def compare_seed(bench, seed, scale):
 # ---- The module in Python.
 
 
+def placed(packets):
+    """Each packet with the word at which it begins."""
+    at = 0
+    for packet in packets:
+        yield at, packet
+        at += len(packet)
+
+
 def text_of(line):
-    return f"{line.offset} {'-' if line.group is None else line.group} {line.kind}\n"
+    if line is None:
+        return ""
+    return f"{line.offset} {'-' if line.group is None else line.group} {line.kind.name.lower().replace('_', '-')}\n"
 
 
 def refused_text(refused, offset):
-    return f"refused {refused.args[0].title().replace('_', '')} at {offset}\n"
+    return f"refused {refused.status.name.title().replace('_', '')} at {offset}\n"
 
 
 def python_down(module, words, compact, paired):
     lanes, errors = [b""] * 16, ""
-    with module.Down(1024, compact, paired) as down:
-        for at, packet in module.packets_of(words):
+    with module.Down(1024, compact=compact, paired=paired) as down:
+        for at, packet in placed(module.packets_of(words)):
             try:
                 piece = down.packet(packet, 4 * at)
             except module.Refused as refused:
                 return 1, b"", errors + refused_text(refused, 4 * at), lanes
             lanes[piece.lane] += piece.data
-            errors += "".join(map(text_of, piece.lines))
+            errors += text_of(piece.line)
         for group in range(16):
             if down.begun(group) is not None:
                 errors += f"{down.begun(group)} {group} open-exclusive\n"
@@ -149,7 +161,7 @@ def python_down(module, words, compact, paired):
 
 def python_up(module, data, group, paired):
     output, errors = b"", ""
-    with module.Up(group, 1024, paired) as up:
+    with module.Up(group, 1024, paired=paired) as up:
         for offset, byte in enumerate(data):
             try:
                 raised = up.byte(byte, offset)
@@ -157,15 +169,14 @@ def python_up(module, data, group, paired):
                 return 1, output, errors + refused_text(refused, offset), {}
             output += inputs.words_to_bytes(raised.words)
             errors += "".join(map(text_of, raised.lines))
-        if up.end():
-            errors += text_of(up.end())
+        errors += text_of(up.end())
     return 0, output, errors, {}
 
 
 def python_endpoint(module, words):
     output, errors = b"", ""
     with module.Endpoint(inputs.SETUP.encode(), 1024) as endpoint:
-        for at, packet in module.packets_of(words):
+        for at, packet in placed(module.packets_of(words)):
             try:
                 replies = endpoint.packet(packet, 4 * at)
             except module.Refused as refused:
@@ -173,11 +184,11 @@ def python_endpoint(module, words):
             output += inputs.words_to_bytes(replies.words)
             if replies.heard:
                 errors += text_of(module.Line(4 * at, replies.group, replies.heard))
-            errors += "".join(map(text_of, replies.lines))
+            errors += text_of(replies.line)
         for group in range(16):
             if endpoint.begun(group) is not None:
                 errors += f"{endpoint.begun(group)} {group} open-exclusive\n"
-        errors += f"protocol {endpoint.protocol()}\n"
+        errors += f"protocol {endpoint.protocol}\n"
         for block in range(2):
             muid = endpoint.muid(block)
             errors += "" if muid is None else f"block {block} muid {muid}\n"

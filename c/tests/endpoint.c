@@ -1,7 +1,7 @@
 /* Every status of the endpoint, what is written with it, and what the handle holds after it. */
 #include "check.h"
 #include "larboardyuzu.h"
-#include "setup.h"
+#include "broken_setups.h"
 
 #include <string.h>
 
@@ -47,6 +47,19 @@ static void opened(void)
     CHECK(!endpoint.is_open);
 }
 
+/* The number of the rule that a setup breaks. */
+static void broken_rules(void)
+{
+    static char text[2 * sizeof setup];
+    larboardyuzu_endpoint endpoint = LARBOARDYUZU_CLOSED;
+    uint8_t rule;
+
+    for (size_t i = 0; i < COUNT(broken_setups); i++) {
+        CHECK(open_with(&endpoint, text, break_setup(i, text), &rule) == LARBOARDYUZU_SETUP_RULE);
+        CHECK(rule == broken_setups[i].rule && !endpoint.is_open);
+    }
+}
+
 static void closed(void)
 {
     static const uint32_t discovery[] = { 0xF0000101, 0x00000001, 0, 0 };
@@ -58,11 +71,12 @@ static void closed(void)
     uint8_t protocol;
 
     CHECK(push(&endpoint, discovery, 4, &replies) == LARBOARDYUZU_HANDLE_CLOSED);
-    CHECK(replies.words == 0 && replies.heard == LARBOARDYUZU_HEARD_NOTHING && reply[0] == 0xAAAAAAAA);
+    CHECK(replies.written == 0 && replies.heard == LARBOARDYUZU_HEARD_NOTHING && reply[0] == 0xAAAAAAAA);
     CHECK(larboardyuzu_endpoint_protocol(&endpoint, &protocol) == LARBOARDYUZU_HANDLE_CLOSED);
     CHECK(larboardyuzu_endpoint_muid(&endpoint, 0, &muid) == LARBOARDYUZU_HANDLE_CLOSED);
     CHECK(larboardyuzu_endpoint_profile(&endpoint, 0, &profile) == LARBOARDYUZU_HANDLE_CLOSED);
     CHECK(larboardyuzu_endpoint_begun(&endpoint, 0, &offset) == LARBOARDYUZU_HANDLE_CLOSED);
+    CHECK(larboardyuzu_endpoint_reset(&endpoint) == LARBOARDYUZU_HANDLE_CLOSED);
     larboardyuzu_endpoint_close(&endpoint);
 }
 
@@ -75,12 +89,12 @@ static void refused(larboardyuzu_endpoint *endpoint, const uint32_t *words, size
 
     CHECK(push(endpoint, start, 2, &replies) == LARBOARDYUZU_DONE);
     CHECK(push(endpoint, words, count, &replies) == status);
-    CHECK(replies.words == 0 && replies.heard == LARBOARDYUZU_HEARD_NOTHING);
+    CHECK(replies.written == 0 && replies.heard == LARBOARDYUZU_HEARD_NOTHING);
     CHECK(replies.kind == LARBOARDYUZU_NO_LINE && reply[0] == 0xAAAAAAAA);
     CHECK(larboardyuzu_endpoint_begun(endpoint, 0, &offset) == LARBOARDYUZU_DONE && offset == 40);
     CHECK(push(endpoint, end, 2, &replies) == LARBOARDYUZU_DONE
           && replies.heard == LARBOARDYUZU_HEARD_NOT_CI);
-    CHECK(replies.group == 0 && replies.words == 0);
+    CHECK(replies.group == 0 && replies.written == 0);
 }
 
 static void packets(larboardyuzu_endpoint *endpoint)
@@ -92,15 +106,18 @@ static void packets(larboardyuzu_endpoint *endpoint)
 
     CHECK(larboardyuzu_endpoint_packet(endpoint, request, 4, 0, reply, COUNT(reply) - 1, &replies)
           == LARBOARDYUZU_SMALL_BUFFER);
-    CHECK(replies.words == COUNT(reply));
+    CHECK(replies.written == 0 && replies.need == COUNT(reply) && replies.group == 255);
+    /* the buffer is tested before the words */
+    CHECK(larboardyuzu_endpoint_packet(endpoint, request, 3, 0, reply, COUNT(reply) - 1, &replies)
+          == LARBOARDYUZU_SMALL_BUFFER);
     CHECK(larboardyuzu_endpoint_protocol(endpoint, &protocol) == LARBOARDYUZU_DONE && protocol == 2);
     refused(endpoint, request, 3, LARBOARDYUZU_BAD_WORD_COUNT);
     refused(endpoint, request, 0, LARBOARDYUZU_BAD_WORD_COUNT);
     refused(endpoint, high_bit, 1, LARBOARDYUZU_HIGH_BIT);
     refused(endpoint, too_many, 2, LARBOARDYUZU_BAD_COUNT);
-    CHECK(push(endpoint, stray, 2, &replies) == LARBOARDYUZU_DONE && replies.words == 0);
+    CHECK(push(endpoint, stray, 2, &replies) == LARBOARDYUZU_DONE && replies.written == 0);
     CHECK(replies.kind == LARBOARDYUZU_STRAY_EXCLUSIVE && replies.group == 2 && replies.offset == 40);
-    CHECK(push(endpoint, request, 4, &replies) == LARBOARDYUZU_DONE && replies.words == 4);
+    CHECK(push(endpoint, request, 4, &replies) == LARBOARDYUZU_DONE && replies.written == 4);
     CHECK(replies.heard == LARBOARDYUZU_HEARD_ANSWERED && replies.group == 255);
     CHECK(reply[0] == 0xF0060100 && reply[1] == 0 && reply[2] == 0 && reply[3] == 0
           && reply[4] == 0xAAAAAAAA);
@@ -117,14 +134,14 @@ static void too_long(larboardyuzu_endpoint *endpoint)
     CHECK(push(endpoint, start, 2, &replies) == LARBOARDYUZU_DONE);
     for (int i = 1; i < ROOM / 6; i++)
         CHECK(push(endpoint, more, 2, &replies) == LARBOARDYUZU_DONE);
-    CHECK(push(endpoint, more, 2, &replies) == LARBOARDYUZU_EXCLUSIVE_TOO_LONG && replies.words == 0);
+    CHECK(push(endpoint, more, 2, &replies) == LARBOARDYUZU_EXCLUSIVE_TOO_LONG && replies.written == 0);
     CHECK(larboardyuzu_endpoint_begun(endpoint, 0, &offset) == LARBOARDYUZU_NOTHING && offset == 7);
     CHECK(larboardyuzu_endpoint_begun(endpoint, 16, &offset) == LARBOARDYUZU_BAD_GROUP && offset == 7);
 }
 
 static void asked(larboardyuzu_endpoint *endpoint)
 {
-    larboardyuzu_profile profile;
+    larboardyuzu_profile profile = { 0, 0, 0, { 0 }, false };
     uint32_t muid = 7;
 
     CHECK(larboardyuzu_endpoint_muid(endpoint, 0, &muid) == LARBOARDYUZU_DONE && muid == 19088743);
@@ -133,6 +150,7 @@ static void asked(larboardyuzu_endpoint *endpoint)
     CHECK(profile.block == 0 && profile.group == 0 && profile.channel == 2 && !profile.is_on);
     CHECK(!memcmp(profile.id, "\x7E\0\1\1\0", 5));
     CHECK(larboardyuzu_endpoint_profile(endpoint, 1, &profile) == LARBOARDYUZU_NOTHING);
+    CHECK(profile.block == 255 && profile.group == 255 && profile.channel == 255 && !profile.is_on);
     CHECK(larboardyuzu_endpoint_profile(endpoint, SIZE_MAX, &profile) == LARBOARDYUZU_NOTHING);
 }
 
@@ -150,7 +168,7 @@ static void silent(larboardyuzu_endpoint *endpoint)
 
     for (size_t i = 0; i < COUNT(first); i += 2)
         CHECK(push(endpoint, first + i, 2, &replies) == LARBOARDYUZU_DONE);
-    CHECK(replies.heard == LARBOARDYUZU_HEARD_MOVED && replies.words == 0);
+    CHECK(replies.heard == LARBOARDYUZU_HEARD_MOVED && replies.written == 0);
     CHECK(larboardyuzu_endpoint_muid(endpoint, 0, &muid) == LARBOARDYUZU_DONE && muid == 300);
     for (size_t i = 0; i < COUNT(second); i += 2)
         CHECK(push(endpoint, second + i, 2, &replies) == LARBOARDYUZU_DONE);
@@ -163,6 +181,7 @@ int main(void)
     uint8_t rule;
 
     opened();
+    broken_rules();
     closed();
     CHECK(open_with(&endpoint, setup, sizeof setup - 1, &rule) == LARBOARDYUZU_DONE);
     packets(&endpoint);

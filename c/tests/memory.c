@@ -1,14 +1,16 @@
 /* Counts the requests for memory, which go through --wrap of malloc, realloc and free: the open calls make
- * some, the calls after them none, and after the close calls no block is left. */
+ * some; the calls after them none, neither single calls nor blocks, reads, resets and the facts of states
+ * that are full; and after the close calls no block is left. */
 #include "check.h"
-#include "larboardyuzu.h"
-#include "setup.h"
+#include "subjects.h"
 
 enum {
-    ROOM = 64,
+    ROOM = MOST_ROOM,
     NOTES = 2,
     PARAMS = 1,
-    TIMES = 100000
+    WORDS = 2000,
+    BYTES = 2000,
+    TIMES = 12
 };
 
 void *__real_malloc(size_t size);
@@ -41,127 +43,132 @@ void __wrap_free(void *at)
     __real_free(at);
 }
 
-/* Numbers that look random, the same in each run (xorshift). */
-static uint32_t random_number(void)
-{
-    static uint32_t state = 2463534242u;
-    state ^= state << 13;
-    state ^= state >> 17;
-    state ^= state << 5;
-    return state;
-}
-
-/* A packet of random bits, but with few high bits in its data bytes, so that most are taken. */
-static size_t random_packet(uint32_t *words)
-{
-    words[0] = random_number() & (random_number() % 8 ? 0xFFF77F7Fu : 0xFFFFFFFFu);
-    for (size_t i = 1; i < 4; i++)
-        words[i] = random_number() & 0x7F7F7F7Fu;
-    return larboardyuzu_words_in_packet(words[0]);
-}
-
-static larboardyuzu_down plain = LARBOARDYUZU_CLOSED, compact = LARBOARDYUZU_CLOSED;
-static larboardyuzu_up up = LARBOARDYUZU_CLOSED;
-static larboardyuzu_parser parser = LARBOARDYUZU_CLOSED;
-static larboardyuzu_endpoint endpoint = LARBOARDYUZU_CLOSED;
-static larboardyuzu_sysex8 sysex8 = LARBOARDYUZU_CLOSED;
-static larboardyuzu_usb usb = LARBOARDYUZU_CLOSED;
+static uint32_t words[WORDS];
+static uint8_t bytes[BYTES];
+static handle handles[SUBJECTS], others[SUBJECTS];
 static larboardyuzu_state packets = LARBOARDYUZU_CLOSED, stream = LARBOARDYUZU_CLOSED;
+static long calls;
+
+static input at_of(const subject *it, size_t at)
+{
+    input in;
+    if (it->takes_words)
+        in.words = words + at;
+    else
+        in.bytes = bytes + at;
+    return in;
+}
 
 static void open_all(void)
 {
-    uint8_t rule;
-
-    CHECK(larboardyuzu_down_open(&plain, ROOM, false, false) == LARBOARDYUZU_DONE);
-    CHECK(larboardyuzu_down_open(&compact, ROOM, true, true) == LARBOARDYUZU_DONE);
-    CHECK(larboardyuzu_up_open(&up, 3, ROOM, true) == LARBOARDYUZU_DONE);
-    CHECK(larboardyuzu_parser_open(&parser, ROOM) == LARBOARDYUZU_DONE);
-    CHECK(larboardyuzu_endpoint_open(&endpoint, (const uint8_t *)setup, sizeof setup - 1, ROOM, &rule)
+    for (size_t i = 0; i < SUBJECTS; i++) {
+        CHECK(subjects[i].open(&handles[i], ROOM, 0) == LARBOARDYUZU_DONE);
+        CHECK(subjects[i].open(&others[i], ROOM, subjects[i].flags) == LARBOARDYUZU_DONE);
+    }
+    CHECK(larboardyuzu_state_open(&packets, ROOM, NOTES, PARAMS, 0) == LARBOARDYUZU_DONE);
+    CHECK(larboardyuzu_state_open(&stream, ROOM, NOTES, PARAMS, LARBOARDYUZU_OF_BYTES)
           == LARBOARDYUZU_DONE);
-    CHECK(larboardyuzu_sysex8_open(&sysex8, 3, ROOM) == LARBOARDYUZU_DONE);
-    CHECK(larboardyuzu_usb_open(&usb, 15, ROOM) == LARBOARDYUZU_DONE);
-    CHECK(larboardyuzu_state_open(&packets, ROOM, NOTES, PARAMS, false) == LARBOARDYUZU_DONE);
-    CHECK(larboardyuzu_state_open(&stream, ROOM, NOTES, PARAMS, true) == LARBOARDYUZU_DONE);
 }
 
-/* What the states answered: each has to be full at times, and never to want memory. */
-static long full;
-
-static void see_state(uint32_t status)
+/* Single calls, blocks of random size, reads and a reset. */
+static void use(const subject *it, handle *one, handle *other)
 {
-    CHECK(status != LARBOARDYUZU_NO_MEMORY);
-    full += status == LARBOARDYUZU_STATE_FULL;
+    static places out;
+    static items all;
+    const size_t end = it->takes_words ? WORDS : BYTES;
+    larboardyuzu_block block;
+    uint32_t status;
+    size_t at = 0;
+
+    while (at < end) {
+        size_t count = it->takes_words ? larboardyuzu_words_in_packet(words[at]) : 1;
+        status = it->one(one, at_of(it, at), count, at, &out, it->most(ROOM), &all);
+        CHECK(status != LARBOARDYUZU_NO_MEMORY && status != LARBOARDYUZU_SMALL_BUFFER);
+        at += count;
+        calls++;
+    }
+    for (at = 0; at < end; at += block.taken) {
+        status = it->many(other, at_of(it, at), end - at, at, &out, it->most(ROOM) + random_number() % 40,
+                          &all, ITEMS, &block);
+        CHECK(status != LARBOARDYUZU_NO_MEMORY && block.taken > 0);
+        calls++;
+    }
+    it->reads_same(one, other);
+    CHECK(it->reset(one) == LARBOARDYUZU_DONE);
+    calls += 2;
 }
 
-/* The facts of both states. */
-static void take_facts(void)
+/* Fills every list and every place of a state of packets, in each channel, and one channel of a stream. */
+static void fill_states(void)
 {
-    static larboardyuzu_fact facts[256 * (259 + NOTES + 2 * PARAMS) + 32];
-    size_t length;
+    static const uint8_t opcodes[] = { 0x9, 0xB, 0xA, 0xC, 0xD, 0xE, 0x8, 0x2, 0x3, 0x0, 0x1 };
+    long full = 0;
 
-    CHECK(larboardyuzu_state_facts(&packets, facts, COUNT(facts), &length) == LARBOARDYUZU_DONE);
-    CHECK(length > 0);
-    CHECK(larboardyuzu_state_facts(&stream, facts, COUNT(facts), &length) == LARBOARDYUZU_DONE);
-    CHECK(length > 0);
+    for (uint32_t at = 0; at < 256u * 128u * COUNT(opcodes); at++) {
+        uint32_t channel = at / (128 * COUNT(opcodes)),
+                 index = 127 - at % 128; /* (121 resets those before) */
+        uint32_t opcode = opcodes[at / 128 % COUNT(opcodes)];
+        uint32_t packet[2] = { 0x40000000 | channel / 16 << 24 | opcode << 20 | channel % 16 << 16
+                                   | index << 8,
+                               random_number() & 0x7F7F7F7F };
+        uint32_t status = larboardyuzu_state_packet(&packets, packet, 2);
+        CHECK(status != LARBOARDYUZU_NO_MEMORY);
+        full += status == LARBOARDYUZU_STATE_FULL;
+    }
+    for (uint32_t at = 0; at < 16 * 128 * 7; at++) {
+        const uint8_t message[3] = { (uint8_t)(0x80 | at / 128 % 7 << 4 | at / (128 * 7)),
+                                     (uint8_t)(127 - at % 128), 5 };
+        larboardyuzu_block block;
+        uint32_t status = larboardyuzu_state_bytes(&stream, message, 3, &block);
+        CHECK(status != LARBOARDYUZU_NO_MEMORY);
+        full += status == LARBOARDYUZU_STATE_FULL;
+    }
+    for (uint32_t group = 0; group < 16; group++) {
+        const uint32_t system[] = { 0x10F10100 | group << 24, 0x10F80000 | group << 24 };
+        CHECK(larboardyuzu_state_packet(&packets, system, 1) == LARBOARDYUZU_DONE);
+        CHECK(larboardyuzu_state_packet(&packets, system + 1, 1) == LARBOARDYUZU_DONE);
+    }
+    CHECK(full > 256);
 }
 
-static void take_packet(uint64_t offset)
+/* The facts of a whole state, channel by channel: how many. */
+static size_t facts_of(const larboardyuzu_state *state)
 {
-    static uint32_t reply[LARBOARDYUZU_MOST_REPLY_WORDS];
-    uint8_t bytes[LARBOARDYUZU_DOWN_SIZE(ROOM)];
-    uint32_t words[4];
-    size_t count = random_packet(words);
-    larboardyuzu_piece piece;
-    larboardyuzu_replies replies;
-    larboardyuzu_part part;
+    static larboardyuzu_fact facts[259 + NOTES + 2 * PARAMS];
+    size_t count = 0, written, need;
 
-    CHECK(larboardyuzu_down_packet(&plain, words, count, offset, bytes, sizeof bytes, &piece)
-          != LARBOARDYUZU_SMALL_BUFFER);
-    CHECK(larboardyuzu_down_packet(&compact, words, count, offset, bytes, sizeof bytes, &piece)
-          != LARBOARDYUZU_SMALL_BUFFER);
-    CHECK(larboardyuzu_endpoint_packet(&endpoint, words, count, offset, reply, COUNT(reply), &replies)
-          != LARBOARDYUZU_SMALL_BUFFER);
-    CHECK(larboardyuzu_sysex8_packet(&sysex8, words, count, offset, bytes, sizeof bytes, &part)
-          != LARBOARDYUZU_SMALL_BUFFER);
-    see_state(larboardyuzu_state_packet(&packets, words, count));
-}
-
-static void take_byte(uint64_t offset)
-{
-    uint8_t byte = (uint8_t)(random_number() >> (random_number() % 4 ? 25 : 24));
-    uint8_t message[LARBOARDYUZU_USB_SIZE(ROOM)];
-    uint32_t words[LARBOARDYUZU_UP_SIZE(ROOM)];
-    larboardyuzu_raised raised;
-    larboardyuzu_outcome outcome;
-
-    CHECK(larboardyuzu_up_byte(&up, byte, offset, words, COUNT(words), &raised)
-          != LARBOARDYUZU_SMALL_BUFFER);
-    CHECK(larboardyuzu_parser_byte(&parser, byte, offset, message, sizeof message, &outcome)
-          != LARBOARDYUZU_SMALL_BUFFER);
-    CHECK(larboardyuzu_usb_byte(&usb, byte, offset, message, sizeof message, &outcome)
-          != LARBOARDYUZU_SMALL_BUFFER);
-    see_state(larboardyuzu_state_byte(&stream, byte));
+    for (unsigned i = 0; i < 16 * 17; i++) {
+        uint8_t channel = i % 17 == 16 ? LARBOARDYUZU_NO_CHANNEL : (uint8_t)(i % 17);
+        CHECK(larboardyuzu_state_facts(state, (uint8_t)(i / 17), channel, facts, COUNT(facts), &written,
+                                       &need)
+              == LARBOARDYUZU_DONE);
+        count += written;
+    }
+    return count;
 }
 
 int main(void)
 {
+    size_t facts;
+
     open_all();
-    printf("memory: %ld requests of nine open calls", requests);
+    printf("memory: %ld requests of %d open calls", requests, 2 * SUBJECTS + 2);
     requests = 0;
-    for (uint64_t i = 0; i < TIMES; i++) {
-        take_packet(16 * i);
-        take_byte(i);
+    for (int times = 0; times < TIMES; times++) {
+        random_words(words, WORDS);
+        random_bytes(bytes, BYTES);
+        for (size_t i = 0; i < SUBJECTS; i++)
+            use(&subjects[i], &handles[i], &others[i]);
     }
-    take_facts();
-    printf(", %ld of %d calls after them", requests, 9 * TIMES + 2);
-    CHECK(requests == 0 && full > 0);
-    larboardyuzu_down_close(&plain);
-    larboardyuzu_down_close(&compact);
-    larboardyuzu_up_close(&up);
-    larboardyuzu_parser_close(&parser);
-    larboardyuzu_endpoint_close(&endpoint);
-    larboardyuzu_sysex8_close(&sysex8);
-    larboardyuzu_usb_close(&usb);
+    fill_states();
+    facts = facts_of(&packets);
+    CHECK(facts > 256 * 240 && facts_of(&stream) > 16 * 120);
+    printf(", %ld of %ld calls after them and of %lu facts", requests, calls, (unsigned long)facts);
+    CHECK(requests == 0);
+    for (size_t i = 0; i < SUBJECTS; i++) {
+        subjects[i].close(&handles[i]);
+        subjects[i].close(&others[i]);
+    }
     larboardyuzu_state_close(&packets);
     larboardyuzu_state_close(&stream);
     printf(", %ld blocks left\n", blocks);

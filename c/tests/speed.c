@@ -64,23 +64,23 @@ static void down_block(larboardyuzu_down *down)
         status = larboardyuzu_down_packets(down, words + at, size / 4 - at, 4 * at, out,
                                            LARBOARDYUZU_DOWN_SIZE(ROOM) + EXTRA, pieces, PIECES, &block);
         at += block.taken;
-        packets += block.listed;
+        packets += block.items;
     } while (status == LARBOARDYUZU_SMALL_BUFFER);
     CHECK(status == LARBOARDYUZU_DONE);
 }
 
 static void up_single(larboardyuzu_up *up)
 {
-    larboardyuzu_raised raised;
+    larboardyuzu_outcome outcome;
     packets = size;
     for (size_t at = 0; at < size; at++)
-        CHECK(larboardyuzu_up_byte(up, data[at], at, out_words, LARBOARDYUZU_UP_SIZE(ROOM), &raised)
+        CHECK(larboardyuzu_up_byte(up, data[at], at, out_words, LARBOARDYUZU_UP_SIZE(ROOM), &outcome)
               == LARBOARDYUZU_DONE);
 }
 
 static void up_block(larboardyuzu_up *up)
 {
-    static larboardyuzu_line lines[PIECES];
+    static larboardyuzu_outcome outcomes[PIECES];
     larboardyuzu_block block;
     uint32_t status;
     size_t at = 0;
@@ -88,7 +88,7 @@ static void up_block(larboardyuzu_up *up)
     packets = size;
     do {
         status = larboardyuzu_up_bytes(up, data + at, size - at, at, out_words,
-                                       LARBOARDYUZU_UP_SIZE(ROOM) + EXTRA, lines, PIECES, &block);
+                                       LARBOARDYUZU_UP_SIZE(ROOM) + EXTRA, outcomes, PIECES, &block);
         at += block.taken;
     } while (status == LARBOARDYUZU_SMALL_BUFFER);
     CHECK(status == LARBOARDYUZU_DONE);
@@ -109,8 +109,8 @@ int main(int count, char **given)
         larboardyuzu_down down = LARBOARDYUZU_CLOSED;
         larboardyuzu_up up = LARBOARDYUZU_CLOSED;
         double begin, time;
-        CHECK(larboardyuzu_down_open(&down, ROOM, false, false) == LARBOARDYUZU_DONE);
-        CHECK(larboardyuzu_up_open(&up, 0, ROOM, false) == LARBOARDYUZU_DONE);
+        CHECK(larboardyuzu_down_open(&down, ROOM, 0) == LARBOARDYUZU_DONE);
+        CHECK(larboardyuzu_up_open(&up, 0, ROOM, 0) == LARBOARDYUZU_DONE);
         begin = seconds();
         if (is_down)
             (is_single ? down_single : down_block)(&down);

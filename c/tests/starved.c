@@ -1,23 +1,26 @@
-/* Each request for memory of each open call is refused in turn, by three functions of this test's own: the
- * call answers NO_MEMORY, the handle stays closed, and what was given before is given back. */
+/* Each request for memory of each open call is refused in its turn, by three functions of this test's own:
+ * the call returns NO_MEMORY, the handle stays closed, and what was given before is returned. The same of
+ * states whose lists are large, with a limit of bytes, and of setups that break a rule. */
 #include "check.h"
 #include "larboardyuzu.h"
 #include "larboardyuzu_heap.h"
-#include "setup.h"
+#include "broken_setups.h"
 
 enum {
     ROOM = 64
 };
 
-static long left = -1; /* how many more requests are granted; below 0: all */
+static long left = -1;         /* how many more requests are granted; below 0: all */
+static size_t most = SIZE_MAX; /* how many more bytes are */
 static long blocks;
 static char nothing;
 
-static bool is_granted(void)
+static bool is_granted(size_t size)
 {
-    if (left == 0)
+    if (left == 0 || size > most)
         return false;
     left -= left > 0;
+    most -= most == SIZE_MAX ? 0 : size;
     return true;
 }
 
@@ -30,7 +33,7 @@ static larboardyuzu_given given(void *at)
 larboardyuzu_given rattle_alloc(size_t size, size_t align)
 {
     (void)align;
-    if (!is_granted())
+    if (!is_granted(size))
         return given(NULL);
     blocks++;
     return given(malloc(size != 0 ? size : 1));
@@ -40,7 +43,7 @@ larboardyuzu_given rattle_realloc(void *at, size_t kept, size_t size, size_t ali
 {
     (void)kept;
     (void)align;
-    return given(is_granted() ? realloc(at, size != 0 ? size : 1) : NULL);
+    return given(is_granted(size) ? realloc(at, size != 0 ? size : 1) : NULL);
 }
 
 void rattle_dealloc(void *at)
@@ -59,12 +62,12 @@ static larboardyuzu_usb usb = LARBOARDYUZU_CLOSED;
 
 static uint32_t open_down(void)
 {
-    return larboardyuzu_down_open(&down, ROOM, true, true);
+    return larboardyuzu_down_open(&down, ROOM, LARBOARDYUZU_COMPACT | LARBOARDYUZU_PAIRED);
 }
 
 static uint32_t open_up(void)
 {
-    return larboardyuzu_up_open(&up, 0, ROOM, true);
+    return larboardyuzu_up_open(&up, 0, ROOM, LARBOARDYUZU_PAIRED);
 }
 
 static uint32_t open_parser(void)
@@ -80,7 +83,7 @@ static uint32_t open_endpoint(void)
 
 static uint32_t open_state(void)
 {
-    return larboardyuzu_state_open(&state, ROOM, 8, 8, false);
+    return larboardyuzu_state_open(&state, ROOM, 8, 8, 0);
 }
 
 static uint32_t open_sysex8(void)
@@ -111,6 +114,39 @@ static void starve(const char *name, uint32_t (*open)(void), const bool *is_open
     printf("starved: %s, %ld requests\n", name, requests);
 }
 
+/* A state that needs more bytes than there are: nothing is kept. */
+static void starve_large(uint32_t notes, uint32_t params, uint32_t flags)
+{
+    static const size_t limits[] = { 0, 1, 4096, 100000, 1000000, 5000000 };
+
+    for (size_t i = 0; i < COUNT(limits); i++) {
+        most = limits[i];
+        CHECK(larboardyuzu_state_open(&state, ROOM, notes, params, flags) == LARBOARDYUZU_NO_MEMORY);
+        CHECK(!state.is_open && blocks == 0);
+    }
+    most = SIZE_MAX;
+}
+
+/* A setup that breaks a rule: NO_MEMORY until there is enough to find out, and never more than that. */
+static void starve_rules(void)
+{
+    static char text[2 * sizeof setup];
+
+    for (size_t i = 0; i < COUNT(broken_setups); i++) {
+        size_t size = break_setup(i, text);
+        uint32_t status = LARBOARDYUZU_NO_MEMORY;
+        for (long requests = 0; status == LARBOARDYUZU_NO_MEMORY; requests++) {
+            uint8_t rule = 77;
+            left = requests;
+            status = larboardyuzu_endpoint_open(&endpoint, (const uint8_t *)text, size, ROOM, &rule);
+            CHECK(rule == (status == LARBOARDYUZU_NO_MEMORY ? 77 : broken_setups[i].rule));
+            CHECK(!endpoint.is_open && blocks == 0);
+        }
+        CHECK(status == LARBOARDYUZU_SETUP_RULE);
+    }
+    left = -1;
+}
+
 int main(void)
 {
     starve("down", open_down, &down.is_open);
@@ -127,6 +163,12 @@ int main(void)
     larboardyuzu_usb_close(&usb);
     starve("state", open_state, &state.is_open);
     larboardyuzu_state_close(&state);
+    starve_large(70000, 0, 0);
+    starve_large(0, LARBOARDYUZU_MOST_PARAMS, 0);
+    starve_large(0, LARBOARDYUZU_MOST_PARAMS, LARBOARDYUZU_OF_BYTES);
+    starve_large(LARBOARDYUZU_MOST_NOTES, LARBOARDYUZU_MOST_PARAMS, LARBOARDYUZU_OF_BYTES);
+    starve_rules();
+    printf("starved: large states and broken setups, ok\n");
     CHECK(blocks == 0);
     return 0;
 }

@@ -20,7 +20,7 @@ static void take_one(larboardyuzu_down *down, const uint32_t *packet, size_t len
     larboardyuzu_piece piece;
 
     CHECK(larboardyuzu_down_packet(down, packet, 2, 0, bytes, sizeof bytes, &piece) == LARBOARDYUZU_DONE);
-    CHECK(piece.length == length && !memcmp(bytes, wanted, length));
+    CHECK(piece.written == length && !memcmp(bytes, wanted, length));
 }
 
 static void *translates(void *unused)
@@ -29,7 +29,7 @@ static void *translates(void *unused)
     larboardyuzu_down down = LARBOARDYUZU_CLOSED;
 
     (void)unused;
-    CHECK(larboardyuzu_down_open(&down, ROOM, false, false) == LARBOARDYUZU_DONE);
+    CHECK(larboardyuzu_down_open(&down, ROOM, 0) == LARBOARDYUZU_DONE);
     for (int i = 0; i < TIMES; i++) {
         take_one(&down, note, 3, "\x90\x3C\x64");
         take_one(&down, start, 0, "");
@@ -55,7 +55,7 @@ int main(void)
         CHECK(pthread_create(&threads[i], NULL, translates, NULL) == 0);
     for (int i = 0; i < THREADS; i++)
         CHECK(pthread_join(threads[i], NULL) == 0);
-    CHECK(larboardyuzu_down_open(&down, ROOM, false, false) == LARBOARDYUZU_DONE);
+    CHECK(larboardyuzu_down_open(&down, ROOM, 0) == LARBOARDYUZU_DONE);
     take_one(&down, start, 0, "");
     CHECK(pthread_create(&other, NULL, ends, &down) == 0 && pthread_join(other, NULL) == 0);
     larboardyuzu_down_close(&down);

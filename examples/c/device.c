@@ -1,5 +1,6 @@
-/* A device: answers the host over a file that carries packets both ways, such as the kernel's gadget for MIDI
- * 2.0: device SETUP.toml /dev/snd/umpC1D0. Words have the machine's order. It ends when the device goes away. */
+/* A device: answers the host over a file that carries packets both ways, such as the kernel's gadget for
+ * MIDI 2.0: device SETUP.toml /dev/snd/umpC1D0. Words have the machine's order. It ends when the device goes
+ * away. */
 #include "larboardyuzu.h"
 
 #include <fcntl.h>
@@ -18,7 +19,7 @@ static int answer(int device, const uint32_t *packet, size_t count, uint64_t off
     if (larboardyuzu_endpoint_packet(&endpoint, packet, count, offset, reply,
                                      LARBOARDYUZU_MOST_REPLY_WORDS, &it) != LARBOARDYUZU_DONE)
         return 0;
-    return it.words > 0 && write(device, reply, 4 * it.words) < 0 ? -1 : 0;
+    return it.written > 0 && write(device, reply, 4 * it.written) < 0 ? -1 : 0;
 }
 
 int main(int count, char **words)

@@ -1,6 +1,7 @@
 /* A whole conversation with a peer: it discovers the endpoint and its function block, and by MIDI-CI the
  * block; then it uses the block's own MUID, so that the block takes its next one; it switches a profile
- * on; and it asks for the MIDI 1.0 protocol. Each packet of the peer and each packet of a reply is a line. */
+ * on; and it asks for the MIDI 1.0 protocol. Each packet of the peer and each packet of a reply is a line.
+ * Then the link breaks, and a reset makes the endpoint ready for the next peer. */
 #include "larboardyuzu.h"
 
 #include <stdio.h>
@@ -101,24 +102,24 @@ static uint32_t answer(larboardyuzu_endpoint *endpoint, const uint32_t *words, s
                        uint64_t offset)
 {
     static uint32_t reply[LARBOARDYUZU_MOST_REPLY_WORDS];
-    larboardyuzu_replies replies;
+    larboardyuzu_replies replies = { 0, 0, 0, 0, 0, 0 };
     uint32_t status = larboardyuzu_endpoint_packet(endpoint, words, count, offset, reply,
                                                    LARBOARDYUZU_MOST_REPLY_WORDS, &replies);
 
     print("peer:", words, count);
     if (status != LARBOARDYUZU_DONE)
         return status;
-    for (size_t at = 0; at < replies.words; at += larboardyuzu_words_in_packet(reply[at]))
+    for (size_t at = 0; at < replies.written; at += larboardyuzu_words_in_packet(reply[at]))
         print("    :", reply + at, larboardyuzu_words_in_packet(reply[at]));
     return status;
 }
 
 /* Prints what the conversation has left. */
-static void print_state(larboardyuzu_endpoint *endpoint)
+static void print_state(const larboardyuzu_endpoint *endpoint)
 {
-    uint8_t protocol;
-    uint32_t muid;
-    larboardyuzu_profile profile;
+    uint8_t protocol = 0;
+    uint32_t muid = 0;
+    larboardyuzu_profile profile = { 0, 0, 0, { 0 }, false };
 
     if (larboardyuzu_endpoint_protocol(endpoint, &protocol) == LARBOARDYUZU_DONE)
         printf("protocol %u\n", (unsigned)protocol);
@@ -141,9 +142,12 @@ int main(void)
         status = answer(&endpoint, peer + at, count, 4 * at);
         at += count;
     }
-    if (status == LARBOARDYUZU_DONE)
+    if (status == LARBOARDYUZU_DONE) {
         print_state(&endpoint);
-    else
+        larboardyuzu_endpoint_reset(&endpoint);
+        printf("after a reset:\n");
+        print_state(&endpoint);
+    } else
         fprintf(stderr, "status %lu, rule %u\n", (unsigned long)status, (unsigned)rule);
     larboardyuzu_endpoint_close(&endpoint);
     return status == LARBOARDYUZU_DONE ? 0 : 1;

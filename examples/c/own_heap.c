@@ -1,7 +1,7 @@
 /* A host's own memory for the library: a fixed block, and no malloc. Blocks are given from the front. The
- * last one that was given can grow where it stands and be given back; any other is lost until all are
- * given back, which frees the whole block. That fits handles that are opened at the start and closed
- * together. */
+ * last one that was given can grow where it stands and be returned; any other is lost until all are
+ * returned, which frees the whole block. That fits handles that are opened at the start and closed
+ * together. It has no lock: one thread at a time may open or close handles. */
 #include "own_heap.h"
 
 #include "larboardyuzu_heap.h"
@@ -11,7 +11,7 @@
 
 static _Alignas(16) unsigned char block[1024 * 1024];
 static size_t used;  /* how many bytes at the front are given */
-static size_t last;  /* where the last given one begins */
+static size_t last;  /* where the block begins that was given last */
 static size_t count; /* how many are given */
 static size_t requests;
 

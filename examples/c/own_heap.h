@@ -1,4 +1,4 @@
-/* own_heap.h: what the fixed block of own_heap.c tells of itself. */
+/* own_heap.h: what the fixed block of own_heap.c says of itself. */
 #ifndef OWN_HEAP_H
 #define OWN_HEAP_H
 

@@ -1,12 +1,12 @@
 /* MIDI 1.0 bytes to packets, all in one call: two notes, the second under running status with a clock in
- * its middle, and an exclusive. */
+ * its middle, and an exclusive. Each packet stands after the offset of the byte that completed it. */
 #include "larboardyuzu.h"
 
 #include <stdio.h>
 
 enum {
     ROOM = 1024,
-    LINES = 16
+    OUTCOMES = 16
 };
 
 int main(void)
@@ -17,17 +17,18 @@ int main(void)
         0xF0, 1,    2,    3, 4, 5, 6, 7, 0xF7, /* an exclusive */
     };
     static uint32_t words[2 * LARBOARDYUZU_UP_SIZE(ROOM)];
-    static larboardyuzu_line lines[LINES];
+    static larboardyuzu_outcome outcomes[OUTCOMES];
     larboardyuzu_up up = LARBOARDYUZU_CLOSED;
-    larboardyuzu_block block;
-    uint32_t status = larboardyuzu_up_open(&up, 0, ROOM, false);
+    larboardyuzu_block block = { 0, 0, 0, 0, 0, 0 };
+    uint32_t status = larboardyuzu_up_open(&up, 0, ROOM, 0);
 
     if (status == LARBOARDYUZU_DONE) {
         status = larboardyuzu_up_bytes(&up, bytes, sizeof bytes, 0, words, sizeof words / sizeof words[0],
-                                       lines, LINES, &block);
-        for (size_t at = 0; at < block.written; at += larboardyuzu_words_in_packet(words[at])) {
-            for (size_t i = 0; i < larboardyuzu_words_in_packet(words[at]); i++)
-                printf("%s%08lX", i > 0 ? " " : "", (unsigned long)words[at + i]);
+                                       outcomes, OUTCOMES, &block);
+        for (size_t i = 0, at = 0; i < block.items; at += outcomes[i].written, i++) {
+            printf("%lu:", (unsigned long)outcomes[i].offset);
+            for (size_t k = 0; k < outcomes[i].written; k++)
+                printf(" %08lX", (unsigned long)words[at + k]);
             printf("\n");
         }
     }

@@ -126,6 +126,16 @@ void list_line(const larboardyuzu_line *line, unsigned group)
         list(line->offset, group, line->kind);
 }
 
+bool goes_on(uint32_t status, const larboardyuzu_block *block)
+{
+    if (status == LARBOARDYUZU_SMALL_BUFFER)
+        must(block->taken > 0 && block->refused == 0 && block->need + block->need_items > 0,
+             "nothing fits");
+    else
+        must(block->need == 0 && block->need_items == 0, "a size is asked without a need");
+    return status == LARBOARDYUZU_SMALL_BUFFER;
+}
+
 static int say_refused(const char *reason, uint64_t offset)
 {
     fprintf(stderr, "refused %s at %llu\n", reason, (unsigned long long)offset);

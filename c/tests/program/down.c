@@ -13,12 +13,12 @@ static size_t buffer_size;
 
 static void put_piece(const larboardyuzu_piece *piece, const uint8_t *at)
 {
-    add_bytes(&lanes[piece->lane], at, piece->length);
+    add_bytes(&lanes[piece->lane], at, piece->written);
     if (piece->kind != LARBOARDYUZU_NO_LINE)
         list(piece->offset, piece->group, piece->kind);
 }
 
-/* A call for each packet: how many words are taken, and the status of the packet behind them. */
+/* A call for each packet: how many words are taken, and the status of the packet after them. */
 static size_t take_each(const recording *input, uint32_t *status)
 {
     size_t at = 0;
@@ -39,7 +39,7 @@ static size_t take_each(const recording *input, uint32_t *status)
     return at;
 }
 
-/* Calls over many packets. */
+/* Block calls. */
 static size_t take_many(const recording *input, uint32_t *status)
 {
     static larboardyuzu_piece pieces[PIECES];
@@ -50,15 +50,14 @@ static size_t take_many(const recording *input, uint32_t *status)
         size_t written = 0;
         *status = larboardyuzu_down_packets(&down, input->words + at, input->count - at, 4 * at, buffer,
                                             buffer_size, pieces, PIECES, &block);
-        for (size_t i = 0; i < block.listed; i++) {
+        for (size_t i = 0; i < block.items; i++) {
             put_piece(&pieces[i], buffer + written);
-            written += pieces[i].length;
-            at += larboardyuzu_words_in_packet(input->words[at]);
+            written += pieces[i].written;
         }
         must(written == block.written, "the pieces don't have the bytes");
-        if (*status != LARBOARDYUZU_SMALL_BUFFER)
-            return at;
-        must(block.listed > 0 && block.need > 0, "no piece fits");
+        at += block.taken;
+        if (!goes_on(*status, &block))
+            return at - block.refused;
     }
 }
 
@@ -72,7 +71,9 @@ int run_down(const options *given)
     buffer_size = LARBOARDYUZU_DOWN_SIZE((size_t)given->room) + (given->is_single ? 0 : 1000);
     buffer = malloc(buffer_size);
     must(buffer != NULL, "no memory");
-    must(larboardyuzu_down_open(&down, given->room, given->is_compact, given->is_paired)
+    must(larboardyuzu_down_open(&down, given->room,
+                                (given->is_compact ? LARBOARDYUZU_COMPACT : 0u)
+                                    | (given->is_paired ? LARBOARDYUZU_PAIRED : 0u))
              == LARBOARDYUZU_DONE,
          "not opened");
     at = given->is_single ? take_each(&input, &status) : take_many(&input, &status);

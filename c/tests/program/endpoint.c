@@ -3,6 +3,10 @@
 
 #include <stdlib.h>
 
+enum {
+    PACKETS = 100
+};
+
 static larboardyuzu_endpoint endpoint = LARBOARDYUZU_CLOSED;
 static bytes output;
 
@@ -59,8 +63,42 @@ static void say_end(void)
         say_profile(&profile);
 }
 
-/* Takes all packets: how many words are taken, and the status of the packet behind them. */
-static size_t take_all(const recording *input, bool is_little, uint32_t *status)
+static void put_replies(const larboardyuzu_replies *replies, const uint32_t *at, uint64_t offset,
+                        bool is_little)
+{
+    add_words(&output, at, replies->written, is_little);
+    say_heard(replies, offset);
+    if (replies->kind != LARBOARDYUZU_NO_LINE)
+        list(replies->offset, replies->group, replies->kind);
+}
+
+/* Block calls. */
+static size_t take_many(const recording *input, bool is_little, uint32_t *status)
+{
+    static uint32_t reply[LARBOARDYUZU_MOST_REPLY_WORDS + 100];
+    static larboardyuzu_replies replies[PACKETS];
+    size_t at = 0;
+
+    for (;;) {
+        larboardyuzu_block block;
+        size_t written = 0, packet = at;
+        *status =
+            larboardyuzu_endpoint_packets(&endpoint, input->words + at, input->count - at, 4 * at, reply,
+                                          sizeof reply / sizeof reply[0], replies, PACKETS, &block);
+        for (size_t i = 0; i < block.items; i++) {
+            put_replies(&replies[i], reply + written, 4 * packet, is_little);
+            written += replies[i].written;
+            packet += larboardyuzu_words_in_packet(input->words[packet]);
+        }
+        must(written == block.written, "the replies don't have the words");
+        at += block.taken;
+        if (!goes_on(*status, &block))
+            return at - block.refused;
+    }
+}
+
+/* A call for each packet: how many words are taken, and the status of the packet after them. */
+static size_t take_each(const recording *input, bool is_little, uint32_t *status)
 {
     static uint32_t reply[LARBOARDYUZU_MOST_REPLY_WORDS];
     size_t at = 0;
@@ -75,10 +113,7 @@ static size_t take_all(const recording *input, bool is_little, uint32_t *status)
                                                LARBOARDYUZU_MOST_REPLY_WORDS, &replies);
         if (*status != LARBOARDYUZU_DONE)
             break;
-        add_words(&output, reply, replies.words, is_little);
-        say_heard(&replies, 4 * at);
-        if (replies.kind != LARBOARDYUZU_NO_LINE)
-            list(replies.offset, replies.group, replies.kind);
+        put_replies(&replies, reply, 4 * at, is_little);
         at += count;
     }
     return at;
@@ -113,8 +148,9 @@ int run_endpoint(const options *given)
     int code = open_endpoint(given);
 
     if (code == 0) {
-        at = take_all(&input, given->is_little, &status);
-        if (status != LARBOARDYUZU_DONE)
+        at = given->is_single ? take_each(&input, given->is_little, &status)
+                              : take_many(&input, given->is_little, &status);
+        if (status != LARBOARDYUZU_DONE && status != LARBOARDYUZU_BAD_WORD_COUNT)
             code = refused(status, 4 * at);
         else if (4 * at < input.size)
             code = refused_input(4 * at);

@@ -18,7 +18,7 @@ typedef struct options {
     bool is_paired;
     bool is_little; /* each word has its least significant byte first */
     bool is_bytes;
-    bool is_single; /* a call for each packet or byte, in place of calls over many */
+    bool is_single; /* a call for each packet or byte, instead of block calls */
 } options;
 
 /* Bytes that grow. */
@@ -34,7 +34,7 @@ void add_words(bytes *to, const uint32_t *words, size_t count, bool is_little);
 /* All of a file. */
 bytes read_all(FILE *file);
 
-/* All words of a recording; the bytes behind the last whole word are left out. */
+/* All words of a recording; the bytes after the last whole word are left out. */
 typedef struct recording {
     uint32_t *words;
     size_t count;
@@ -55,7 +55,10 @@ void list_line(const larboardyuzu_line *line, unsigned group);
 int refused(uint32_t status, uint64_t offset);
 int refused_input(uint64_t offset);
 
-/* Ends the run where a call answers what it must not. */
+/* Whether there is more to take after a block call. */
+bool goes_on(uint32_t status, const larboardyuzu_block *block);
+
+/* Ends the run if a call returns what it must not. */
 void must(bool holds, const char *what);
 
 int run_down(const options *given);

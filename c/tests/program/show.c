@@ -13,7 +13,7 @@ int run_lines(const options *given)
 
     while (at < input.count) {
         size_t count = larboardyuzu_words_in_packet(input.words[at]), length;
-        uint8_t text[256];
+        uint8_t text[LARBOARDYUZU_MOST_LINE];
         if (count > input.count - at)
             break;
         status = larboardyuzu_packet_line(input.words + at, count, 4 * at, text, sizeof text, &length);
@@ -31,7 +31,7 @@ int run_lines(const options *given)
     return code;
 }
 
-/* The line of one thing that is told of a state. */
+/* The line of one fact. */
 static void say_fact(const larboardyuzu_fact *fact)
 {
     static const char *const names[] = { "on",         "off",        "mode",   "poly",
@@ -75,8 +75,8 @@ static void say_fact(const larboardyuzu_fact *fact)
 
 static larboardyuzu_state state = LARBOARDYUZU_CLOSED;
 
-/* The rooms of the state: more than a recording of these tests has. A longer one is compared with a program
-   that is built with more, as by -DNOTES=262144 -DPARAMS=4096. */
+/* The sizes of the state's lists: more than a recording of these tests has. A longer one is compared with a
+   program that is built with more, as by -DNOTES=262144 -DPARAMS=4096. */
 #ifndef NOTES
 #define NOTES 4096
 #endif
@@ -84,29 +84,46 @@ static larboardyuzu_state state = LARBOARDYUZU_CLOSED;
 #define PARAMS 128
 #endif
 
-static void say_facts(void)
+/* The facts of a channel, or of none, in a list that grows. */
+static void say_facts_of(uint8_t group, uint8_t channel)
 {
-    size_t length = 0;
-    larboardyuzu_fact *facts;
-    larboardyuzu_fact none;
+    static larboardyuzu_fact *facts;
+    static size_t size;
+    size_t written, need;
+    uint32_t status = larboardyuzu_state_facts(&state, group, channel, facts, size, &written, &need);
 
-    if (larboardyuzu_state_facts(&state, &none, 0, &length) == LARBOARDYUZU_DONE)
-        return;
-    facts = malloc((length + 1) * sizeof facts[0]);
-    must(facts != NULL, "no memory");
-    must(larboardyuzu_state_facts(&state, facts, length, &length) == LARBOARDYUZU_DONE, "no facts");
-    for (size_t i = 0; i < length; i++)
+    if (status == LARBOARDYUZU_SMALL_BUFFER) {
+        size = need;
+        facts = realloc(facts, size * sizeof facts[0]);
+        must(facts != NULL, "no memory");
+        status = larboardyuzu_state_facts(&state, group, channel, facts, size, &written, &need);
+    }
+    must(status == LARBOARDYUZU_DONE && need == 0, "no facts");
+    for (size_t i = 0; i < written; i++)
         say_fact(&facts[i]);
-    free(facts);
 }
 
-static int state_of_bytes(void)
+static void say_facts(void)
+{
+    for (uint8_t group = 0; group < 16; group++) {
+        for (uint8_t channel = 0; channel < 16; channel++)
+            say_facts_of(group, channel);
+        say_facts_of(group, LARBOARDYUZU_NO_CHANNEL);
+    }
+}
+
+static int state_of_bytes(bool is_single)
 {
     bytes input = read_all(stdin);
     uint32_t status = LARBOARDYUZU_DONE;
     size_t at = 0;
 
-    for (; at < input.size; at++) {
+    if (!is_single) {
+        larboardyuzu_block block;
+        status = larboardyuzu_state_bytes(&state, input.at, input.size, &block);
+        at = block.taken - block.refused;
+    }
+    for (; is_single && at < input.size; at++) {
         status = larboardyuzu_state_byte(&state, input.at[at]);
         if (status != LARBOARDYUZU_DONE)
             break;
@@ -115,13 +132,18 @@ static int state_of_bytes(void)
     return status != LARBOARDYUZU_DONE ? refused(status, at) : 0;
 }
 
-static int state_of_packets(bool is_little)
+static int state_of_packets(bool is_little, bool is_single)
 {
     recording input = read_recording(is_little);
     uint32_t status = LARBOARDYUZU_DONE;
     size_t at = 0;
 
-    while (at < input.count) {
+    if (!is_single) {
+        larboardyuzu_block block;
+        status = larboardyuzu_state_packets(&state, input.words, input.count, &block);
+        at = block.taken - block.refused;
+    }
+    while (is_single && at < input.count) {
         size_t count = larboardyuzu_words_in_packet(input.words[at]);
         if (count > input.count - at)
             break;
@@ -131,7 +153,7 @@ static int state_of_packets(bool is_little)
         at += count;
     }
     free(input.words);
-    if (status != LARBOARDYUZU_DONE)
+    if (status != LARBOARDYUZU_DONE && status != LARBOARDYUZU_BAD_WORD_COUNT)
         return refused(status, 4 * at);
     return 4 * at < input.size ? refused_input(4 * at) : 0;
 }
@@ -140,8 +162,12 @@ int run_state(const options *given)
 {
     int code;
 
-    must(larboardyuzu_state_open(&state, given->room, NOTES, PARAMS, given->is_bytes) == LARBOARDYUZU_DONE, "not opened");
-    code = given->is_bytes ? state_of_bytes() : state_of_packets(given->is_little);
+    must(larboardyuzu_state_open(&state, given->room, NOTES, PARAMS,
+                                 given->is_bytes ? LARBOARDYUZU_OF_BYTES : 0u)
+             == LARBOARDYUZU_DONE,
+         "not opened");
+    code = given->is_bytes ? state_of_bytes(given->is_single)
+                           : state_of_packets(given->is_little, given->is_single);
     if (code == 0)
         say_facts();
     larboardyuzu_state_close(&state);

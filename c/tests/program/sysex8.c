@@ -3,8 +3,13 @@
 
 #include <stdlib.h>
 
+enum {
+    PARTS = 100
+};
+
 static larboardyuzu_sysex8 sysex8 = LARBOARDYUZU_CLOSED;
 static uint8_t *buffer;
+static size_t buffer_size;
 
 static void say(uint64_t offset, unsigned group, const char *what)
 {
@@ -14,10 +19,10 @@ static void say(uint64_t offset, unsigned group, const char *what)
 static void say_whole(uint64_t offset, const larboardyuzu_part *part)
 {
     fprintf(stderr, "%llu %u sysex8 %u %lu\n", (unsigned long long)offset, (unsigned)part->group,
-            (unsigned)part->stream, (unsigned long)part->length);
+            (unsigned)part->stream, (unsigned long)part->written);
 }
 
-static void put_part(uint64_t offset, uint32_t first, const larboardyuzu_part *part)
+static void put_part(uint64_t offset, uint32_t first, const larboardyuzu_part *part, const uint8_t *at)
 {
     switch (part->answer) {
     case LARBOARDYUZU_JOINED_OTHER:
@@ -27,7 +32,7 @@ static void put_part(uint64_t offset, uint32_t first, const larboardyuzu_part *p
     case LARBOARDYUZU_JOINED_HELD:
         break;
     case LARBOARDYUZU_JOINED_WHOLE:
-        add_bytes(&lanes[part->group], buffer, part->length);
+        add_bytes(&lanes[part->group], at, part->written);
         say_whole(offset, part);
         break;
     case LARBOARDYUZU_JOINED_STRAY:
@@ -37,7 +42,7 @@ static void put_part(uint64_t offset, uint32_t first, const larboardyuzu_part *p
         say(part->cut_at, part->group, "cut-sysex8");
         break;
     case LARBOARDYUZU_JOINED_RESTARTED_WHOLE:
-        add_bytes(&lanes[part->group], buffer, part->length);
+        add_bytes(&lanes[part->group], at, part->written);
         say(part->cut_at, part->group, "cut-sysex8");
         say_whole(offset, part);
         break;
@@ -58,31 +63,71 @@ static uint32_t status_of_other(const uint32_t *words, size_t count, uint64_t of
     return larboardyuzu_packet_line(words, count, offset, text, sizeof text, &length);
 }
 
+/* A call for each packet: how many words are taken, and the status of the packet after them. */
+static size_t take_each(const recording *input, uint32_t *status)
+{
+    size_t at = 0;
+
+    *status = LARBOARDYUZU_DONE;
+    while (at < input->count) {
+        size_t count = larboardyuzu_words_in_packet(input->words[at]);
+        larboardyuzu_part part;
+        if (count > input->count - at)
+            break;
+        *status = larboardyuzu_sysex8_packet(&sysex8, input->words + at, count, 4 * at, buffer, buffer_size,
+                                             &part);
+        if (*status == LARBOARDYUZU_DONE)
+            *status = status_of_other(input->words + at, count, 4 * at);
+        if (*status != LARBOARDYUZU_DONE)
+            break;
+        put_part(4 * at, input->words[at], &part, buffer);
+        at += count;
+    }
+    return at;
+}
+
+/* Block calls. */
+static size_t take_many(const recording *input, uint32_t *status)
+{
+    static larboardyuzu_part parts[PARTS];
+    size_t at = 0;
+
+    for (;;) {
+        larboardyuzu_block block;
+        size_t written = 0, packet = at;
+        *status = larboardyuzu_sysex8_packets(&sysex8, input->words + at, input->count - at, 4 * at, buffer,
+                                              buffer_size, parts, PARTS, &block);
+        for (size_t i = 0; i < block.items; i++) {
+            size_t count = larboardyuzu_words_in_packet(input->words[packet]);
+            uint32_t other = status_of_other(input->words + packet, count, 4 * packet);
+            if (other != LARBOARDYUZU_DONE) {
+                *status = other;
+                return packet;
+            }
+            put_part(4 * packet, input->words[packet], &parts[i], buffer + written);
+            written += parts[i].written;
+            packet += count;
+        }
+        must(written == block.written, "the parts don't have the bytes");
+        at += block.taken;
+        if (!goes_on(*status, &block))
+            return at - block.refused;
+    }
+}
+
 int run_sysex8(const options *given)
 {
     recording input = read_recording(given->is_little);
-    uint32_t status = LARBOARDYUZU_DONE;
-    size_t at = 0;
+    uint32_t status;
+    size_t at;
     int code = 0;
 
-    buffer = malloc(given->room);
+    buffer_size = given->room + (given->is_single ? 0u : 1000u);
+    buffer = malloc(buffer_size);
     must(buffer != NULL, "no memory");
     must(larboardyuzu_sysex8_open(&sysex8, given->streams, given->room) == LARBOARDYUZU_DONE, "not opened");
-    while (at < input.count) {
-        size_t count = larboardyuzu_words_in_packet(input.words[at]);
-        larboardyuzu_part part;
-        if (count > input.count - at)
-            break;
-        status = larboardyuzu_sysex8_packet(&sysex8, input.words + at, count, 4 * at, buffer, given->room,
-                                            &part);
-        if (status == LARBOARDYUZU_DONE)
-            status = status_of_other(input.words + at, count, 4 * at);
-        if (status != LARBOARDYUZU_DONE)
-            break;
-        put_part(4 * at, input.words[at], &part);
-        at += count;
-    }
-    if (status != LARBOARDYUZU_DONE) {
+    at = given->is_single ? take_each(&input, &status) : take_many(&input, &status);
+    if (status != LARBOARDYUZU_DONE && status != LARBOARDYUZU_BAD_WORD_COUNT) {
         code = refused(status, 4 * at);
     } else if (4 * at < input.size) {
         code = refused_input(4 * at);

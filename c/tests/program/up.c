@@ -4,7 +4,7 @@
 #include <stdlib.h>
 
 enum {
-    LINES = 100
+    OUTCOMES = 100
 };
 
 static larboardyuzu_up up = LARBOARDYUZU_CLOSED;
@@ -12,41 +12,46 @@ static uint32_t *words;
 static size_t words_size;
 static bytes output;
 
-/* A call for each byte: how many bytes are taken, and the status of the byte behind them. */
+static void put_outcome(const larboardyuzu_outcome *outcome, const uint32_t *at, unsigned group)
+{
+    add_words(&output, at, outcome->written, false);
+    list_line(&outcome->first, group);
+    list_line(&outcome->second, group);
+}
+
+/* A call for each byte: how many bytes are taken, and the status of the byte after them. */
 static size_t take_each(const bytes *input, uint32_t *status, unsigned group)
 {
     *status = LARBOARDYUZU_DONE;
     for (size_t at = 0; at < input->size; at++) {
-        larboardyuzu_raised raised;
-        *status = larboardyuzu_up_byte(&up, input->at[at], at, words, words_size, &raised);
+        larboardyuzu_outcome outcome;
+        *status = larboardyuzu_up_byte(&up, input->at[at], at, words, words_size, &outcome);
         if (*status != LARBOARDYUZU_DONE)
             return at;
-        add_words(&output, words, raised.words, false);
-        list_line(&raised.first, group);
-        list_line(&raised.second, group);
+        put_outcome(&outcome, words, group);
     }
     return input->size;
 }
 
-/* Calls over many bytes. */
+/* Block calls. */
 static size_t take_many(const bytes *input, uint32_t *status, unsigned group)
 {
-    static larboardyuzu_line lines[LINES];
+    static larboardyuzu_outcome outcomes[OUTCOMES];
     size_t at = 0;
 
     for (;;) {
         larboardyuzu_block block;
-        *status = larboardyuzu_up_bytes(&up, input->at + at, input->size - at, at, words, words_size, lines,
-                                        LINES, &block);
-        add_words(&output, words, block.written, false);
-        for (size_t i = 0; i < block.listed; i++)
-            list_line(&lines[i], group);
+        size_t written = 0;
+        *status = larboardyuzu_up_bytes(&up, input->at + at, input->size - at, at, words, words_size,
+                                        outcomes, OUTCOMES, &block);
+        for (size_t i = 0; i < block.items; i++) {
+            put_outcome(&outcomes[i], words + written, group);
+            written += outcomes[i].written;
+        }
+        must(written == block.written, "the outcomes don't have the words");
         at += block.taken;
-        if (*status == LARBOARDYUZU_DONE)
-            return at;
-        if (*status != LARBOARDYUZU_SMALL_BUFFER)
-            return at - 1;
-        must(block.taken > 0 && block.need > 0, "no byte fits");
+        if (!goes_on(*status, &block))
+            return at - block.refused;
     }
 }
 
@@ -61,7 +66,8 @@ int run_up(const options *given)
     words_size = LARBOARDYUZU_UP_SIZE((size_t)given->room) + (given->is_single ? 0 : 1000);
     words = malloc(words_size * sizeof words[0]);
     must(words != NULL, "no memory");
-    must(larboardyuzu_up_open(&up, given->group, given->room, given->is_paired) == LARBOARDYUZU_DONE,
+    must(larboardyuzu_up_open(&up, given->group, given->room, given->is_paired ? LARBOARDYUZU_PAIRED : 0u)
+             == LARBOARDYUZU_DONE,
          "not opened");
     if (input.at == NULL)
         add_bytes(&input, NULL, 0);

@@ -28,7 +28,7 @@ pub fn release_down(velocity: u16) -> U7
     U7::low_bits((velocity >> 9) as u32)
 }
 
-/// The upper 7 bits of the 16-bit velocity of a note on, or 1 where they are 0: a MIDI 1.0 note on of
+/// The upper 7 bits of the 16-bit velocity of a note on, or 1 if they are 0: a MIDI 1.0 note on of
 /// velocity 0 would be a note off (M2-104-UM, translation of note on).
 #[tactic(auto, unfolding(crate::specs::Scaling::velocity_down))]
 pub fn velocity_down(velocity: u16) -> U7

@@ -1,1 +1,3 @@
+pub mod BlockLaws
+pub mod FrontLaws
 pub mod WithinLaws

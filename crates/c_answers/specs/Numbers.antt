@@ -28,6 +28,9 @@ number_of statuses.SetupRule = 17
 number_of statuses.BadBits = 18
 number_of statuses.BadValue = 19
 number_of statuses.StateFull = 20
+number_of statuses.BadFlags = 21
+number_of statuses.BadSize = 22
+number_of statuses.BadChannel = 23
 
 -- of the kinds of lines
 abbrev pub kind_number : Kind → ℕ

@@ -21,7 +21,7 @@ pub enum Status {
     BadRoom,
     /// The words aren't as many as the message type of the first one has.
     BadWordCount,
-    /// A buffer has fewer places than the call may have to write; nothing was taken.
+    /// A buffer has fewer places than the call may have to write; nothing more was taken.
     SmallBuffer,
     /// A packet of an exclusive counts more than six bytes.
     BadCount,
@@ -51,6 +51,12 @@ pub enum Status {
     BadValue,
     /// The message adds to a list of the running state that is full.
     StateFull,
+    /// A flag is set that the call doesn't have.
+    BadFlags,
+    /// The bytes aren't as many as the call takes.
+    BadSize,
+    /// A channel isn't 0 to 15, nor the number that stands for none.
+    BadChannel,
 }
 
 impl Status {
@@ -81,6 +87,9 @@ impl Status {
             Status::BadBits => 18,
             Status::BadValue => 19,
             Status::StateFull => 20,
+            Status::BadFlags => 21,
+            Status::BadSize => 22,
+            Status::BadChannel => 23,
         }
     }
 

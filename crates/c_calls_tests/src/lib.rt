@@ -3,4 +3,12 @@
 #![tactic(auto)]
 
 #[cfg(test)]
+mod pure;
+#[cfg(test)]
+mod states;
+#[cfg(test)]
+mod streams;
+#[cfg(test)]
 mod tests;
+#[cfg(test)]
+mod translators;

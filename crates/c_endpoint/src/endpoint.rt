@@ -1,17 +1,19 @@
 // The endpoint.
 ghost use Rattle.std.specs.Prelude.{◌≡◌, ◌≤◌, length};
-ghost use Rattle.ump_grammar.specs.Ranges.{IsPacket};
-ghost use Rattle.function_blocks.specs.Setups.{setup_of};
+ghost use Rattle.function_blocks.specs.Setups.{setup_of, MeetsRead};
+ghost use Rattle.ump_endpoint.specs.Held.{reset_endpoint};
+ghost use Rattle.c_answers.specs.Blocks.{nothing_taken};
 ghost use Rattle.c_answers.specs.Numbers.{number_of};
 ghost use Rattle.c_endpoint.specs.Asked.{IsBegun, IsMuid, IsProfile, is_on_in};
 ghost use Rattle.c_endpoint.specs.Opening.{OpensBy};
-ghost use Rattle.c_endpoint.specs.Packets.{IsAnswered, IsPacketAnswered};
+ghost use Rattle.c_endpoint.specs.Packets.{AreAnswered, IsPacketAnswered, IsRead, TakesOrRefuses};
 
 use crate::profile::EndpointProfile;
 use crate::replies::PacketReplies;
-use c_answers::{Status, framed, put_words};
+use c_answers::{Block, Status, framed, put_words};
 use ci_responder::ProfileId;
 use function_blocks::{Profile, Setup, SetupFault};
+use packet_words::words::words_in_packet;
 use small_types::{NoMemory, U4};
 use std::alloc::Global;
 use std::marker::Model;
@@ -21,48 +23,131 @@ use ump_grammar::{Packet, decode};
 /// An endpoint that answers a peer, and writes its replies into
 /// buffers of the caller's. A contract sees what it holds.
 #[derive(Drop)]
-pub struct AnsweringEndpoint {
-    endpoint: Endpoint,
+pub struct CEndpoint {
+    // On the heap, since it is larger than the other kinds of handle, and is moved when it is opened.
+    endpoint: Box<Endpoint>,
 }
 
-impl Model for AnsweringEndpoint {
+impl Model for CEndpoint {
     ghost use Rattle.ump_endpoint.specs.Held.{EndpointState};
 
     ghost Value = { EndpointState };
 
-    ghost view = { λ e. e.endpoint.held };
+    ghost view = { λ e. e.endpoint.value.held };
 }
 
-impl AnsweringEndpoint {
+// The setup in a text. To read it needs much of the stack, so the call isn't inlined: its frame is gone when
+// the endpoint is made.
+#[inline(never)]
+fn read_setup(alloc: Global, text: &[u8]) -> Result<Setup, SetupFault>
+    ensures { MeetsRead (setup_of text.now) result }
+{
+    Setup::read(alloc, text)
+}
+
+// The packet that the words encode, or why none has them.
+fn read(words: &[u32], offset: u64) -> Result<Packet, Status>
+    ensures { IsRead words.now result }
+{
+    let Some(framed) = framed(words, offset) else {
+        return Err(Status::BadWordCount);
+    };
+    match decode(&framed) {
+        Ok(packet) => Ok(packet),
+        Err(bad) => Err(Status::of_bad(bad)),
+    }
+}
+
+// Takes the packet that the words encode, and writes the words of the replies to it.
+fn take(
+    endpoint: &mut Endpoint,
+    words: &[u32],
+    offset: u64,
+    buffer: &mut [u32],
+) -> Result<PacketReplies, Status>
+    requires { MOST_REPLY_WORDS ≤ length buffer.old }
+    ensures { TakesOrRefuses endpoint.old.held offset words.now buffer.old
+        result buffer.new endpoint.new.held }
+{
+    match read(words, offset) {
+        Ok(packet) => match endpoint.packet(&packet, offset) {
+            Ok(taken) => {
+                let written = put_words(endpoint.replies().words(), buffer);
+                return Ok(PacketReplies::of(&packet, &taken, written));
+            }
+            Err(bad) => return Err(Status::of_step(bad)),
+        },
+        Err(why) => return Err(why),
+    }
+}
+
+// Takes packets as `packets` does, and counts them in the block, in which nothing is taken yet.
+fn take_all(
+    endpoint: &mut Endpoint,
+    words: &[u32],
+    offset: u64,
+    buffer: &mut [u32],
+    replies: &mut [PacketReplies],
+    block: &mut Block,
+) -> Status
+    requires { block.old ≡ nothing_taken }
+    ensures { AreAnswered endpoint.old.held words.now offset buffer.old replies.old
+        (number_of result) block.new buffer.new replies.new endpoint.new.held }
+{
+    let mut next = offset;
+    while block.taken < words.len() {
+        if block.is_full(buffer.len(), MOST_REPLY_WORDS, replies.len(), 1) {
+            return Status::SmallBuffer;
+        }
+        let rest = &words[block.taken..];
+        let count = words_in_packet(rest[0]);
+        if rest.len() < count {
+            return Status::BadWordCount;
+        }
+        match take(endpoint, &rest[..count], next, &mut buffer[block.written..]) {
+            Ok(told) => {
+                replies[block.items] = told;
+                block.add(count, told.written, 1);
+                next = next.wrapping_add(4 * count as u64);
+            }
+            Err(why) => {
+                block.refuse(count);
+                return why;
+            }
+        }
+    }
+    Status::Done
+}
+
+impl CEndpoint {
     ghost use Rattle.std.specs.Prelude.{IfOk};
     ghost use Rattle.ump_endpoint.specs.Held.{new_endpoint};
 
     /// An endpoint of this setup, to which nothing has come, for exclusives of `room` bytes, 6 to 1,048,576.
-    /// All memory that is ever needed is taken here; `NoMemory` when there isn't that much.
-    pub fn new(alloc: Global, setup: Setup, room: u32) -> Result<AnsweringEndpoint, NoMemory>
+    /// All memory that is ever needed is taken here; `NoMemory` if there isn't that much.
+    #[inline(never)]
+    pub fn new(alloc: Global, setup: Setup, room: u32) -> Result<CEndpoint, NoMemory>
         requires least { 6 ≤ room }
         requires most { room ≤ 1048576 }
         ensures { IfOk result (λ endpoint. endpoint ≡ new_endpoint setup room) }
     {
         let endpoint = Endpoint::new(alloc, setup, room)?;
-        Ok(AnsweringEndpoint { endpoint })
+        match Box::new(alloc, endpoint) {
+            Ok(endpoint) => Ok(CEndpoint { endpoint }),
+            Err(_) => Err(NoMemory),
+        }
     }
 
-    /// The same of the setup in a text (docs/setup.md). `Err` is `SetupSyntax` where the text isn't UTF-8, or
-    /// isn't TOML; `SetupRule` where it breaks a rule, of which the first is then told by its number, 0 to
-    /// 31; and else `NoMemory`.
-    pub fn opened(
-        alloc: Global,
-        text: &[u8],
-        room: u32,
-        rule: &mut u8,
-    ) -> Result<AnsweringEndpoint, Status>
+    /// The same of the setup in a text (docs/setup.md). `Err` is `SetupSyntax` if the text isn't UTF-8, or
+    /// isn't TOML; `SetupRule` if it breaks a rule, of which the first is then told by its number, 0 to 31;
+    /// and otherwise `NoMemory`.
+    pub fn opened(alloc: Global, text: &[u8], room: u32, rule: &mut u8) -> Result<CEndpoint, Status>
         requires least { 6 ≤ room }
         requires most { room ≤ 1048576 }
         ensures { OpensBy (setup_of text.now) room result rule.old rule.new }
     {
-        match Setup::read(alloc, text) {
-            Ok(setup) => match AnsweringEndpoint::new(alloc, setup, room) {
+        match read_setup(alloc, text) {
+            Ok(setup) => match CEndpoint::new(alloc, setup, room) {
                 Ok(made) => Ok(made),
                 Err(NoMemory) => Err(Status::NoMemory),
             },
@@ -75,38 +160,13 @@ impl AnsweringEndpoint {
         }
     }
 
-    // Takes a packet, and writes the replies to it.
-    fn take(
-        &mut self,
-        packet: &Packet,
-        offset: u64,
-        buffer: &mut [u32],
-        replies: &mut PacketReplies,
-    ) -> Status
-        requires packet { IsPacket packet.now }
-        requires fits { MOST_REPLY_WORDS ≤ length buffer.old }
-        ensures { IsAnswered self.old packet.now offset buffer.old
-            (number_of result) replies.new buffer.new self.new }
-    {
-        match self.endpoint.packet(packet, offset) {
-            Ok(taken) => {
-                let words = put_words(self.endpoint.replies().words(), buffer);
-                *replies = PacketReplies::of(packet, &taken, words);
-                Status::Done
-            }
-            Err(bad) => {
-                *replies = PacketReplies::none(0);
-                Status::of_step(bad)
-            }
-        }
-    }
-
     /// Takes one packet of the peer, and writes the words of the replies to the front of the buffer, packet
-    /// after packet (M2-104-UM, UMP stream messages; M2-101-UM). The answer is `BadWordCount` where the words
-    /// aren't those of one packet, `SmallBuffer` where the buffer has fewer than 1,024 words, which are
-    /// enough for any replies, and `BadCount` or `HighBit` where the words spell no packet; then nothing is
-    /// taken. It is `ExclusiveTooLong` where an exclusive has more bytes than the room: it is dropped, and
-    /// nothing is written.
+    /// after packet (M2-104-UM, UMP stream messages; M2-101-UM).
+    ///
+    /// The answer is `SmallBuffer` if the buffer has fewer than 1,024 words, which do for any replies;
+    /// `BadWordCount` if the words aren't as many as the message type of the first one has; `BadCount` or
+    /// `HighBit` if no packet has them. Then nothing is taken. It is `ExclusiveTooLong` if an exclusive has
+    /// more bytes than the room: the exclusive is dropped, and nothing is written.
     pub fn packet(
         &mut self,
         words: &[u32],
@@ -117,21 +177,60 @@ impl AnsweringEndpoint {
         ensures { IsPacketAnswered self.old words.now offset buffer.old
             (number_of result) replies.new buffer.new self.new }
     {
-        let Some(framed) = framed(words, offset) else {
-            *replies = PacketReplies::none(0);
-            return Status::BadWordCount;
-        };
         if buffer.len() < MOST_REPLY_WORDS {
-            *replies = PacketReplies::none(MOST_REPLY_WORDS);
+            *replies = PacketReplies::needing(MOST_REPLY_WORDS);
             return Status::SmallBuffer;
         }
-        match decode(&framed) {
-            Ok(packet) => self.take(&packet, offset, buffer, replies),
-            Err(bad) => {
-                *replies = PacketReplies::none(0);
-                Status::of_bad(bad)
+        match take(&mut self.endpoint, words, offset, buffer) {
+            Ok(told) => {
+                *replies = told;
+                Status::Done
+            }
+            Err(why) => {
+                *replies = PacketReplies::none();
+                why
             }
         }
+    }
+
+    /// Takes the packets of the peer whose words follow one another, each as `packet` does. The words of the
+    /// replies follow one another in the buffer. What each packet led to is in `replies`, an item for each
+    /// packet. The offset is that of the first packet; each word adds 4 to it, modulo 2^64. The block says
+    /// how far the call came.
+    ///
+    /// `Done` comes when all words are taken. `SmallBuffer` comes before a packet for which there is no item
+    /// left, or fewer than 1,024 words in the rest of the buffer; `BadWordCount` before one whose words
+    /// aren't all there. A packet that is refused ends the call with its status; its words count as taken.
+    pub fn packets(
+        &mut self,
+        words: &[u32],
+        offset: u64,
+        buffer: &mut [u32],
+        replies: &mut [PacketReplies],
+        block: &mut Block,
+    ) -> Status
+        ensures { AreAnswered self.old words.now offset buffer.old replies.old
+            (number_of result) block.new buffer.new replies.new self.new }
+    {
+        let mut so_far = Block::nothing();
+        let status = take_all(
+            &mut self.endpoint,
+            words,
+            offset,
+            buffer,
+            replies,
+            &mut so_far,
+        );
+        *block = so_far;
+        status
+    }
+
+    /// Begins again: the endpoint is as it was made of its setup, with the MUIDs, the profiles and the
+    /// protocol of the setup, and nothing open. Takes no memory (own rule).
+    pub fn reset(&mut self)
+        ensures { self.new ≡ reset_endpoint self.old }
+    {
+        self.endpoint.reset();
     }
 
     /// The protocol in force: 1 for MIDI 1.0, 2 for MIDI 2.0.
@@ -141,8 +240,8 @@ impl AnsweringEndpoint {
         self.endpoint.protocol()
     }
 
-    /// The MUID in force of a function block, counted from 0. The answer is `Nothing` where the block has no
-    /// MIDI-CI or has used up its MUIDs, or where there is no such block.
+    /// The MUID in force of a function block, counted from 0. The answer is `Nothing` if the block has no
+    /// MIDI-CI or has used up its MUIDs, or if there is no such block.
     pub fn muid(&self, block: u8, muid: &mut u32) -> Status
         ensures { IsMuid self.now block (number_of result) muid.old muid.new }
     {
@@ -169,7 +268,7 @@ impl AnsweringEndpoint {
     }
 
     /// A profile, counted from 0 in the order of the setup, and whether it is on. The answer is `Nothing`
-    /// where there is no such profile.
+    /// if there is no such profile.
     pub fn profile(&self, index: usize, profile: &mut EndpointProfile) -> Status
         ensures { IsProfile self.now index (number_of result) profile.new }
     {
@@ -185,8 +284,8 @@ impl AnsweringEndpoint {
         }
     }
 
-    /// The offset of the packet that began the exclusive of a group. The answer is `BadGroup` where the group
-    /// is above 15, and `Nothing` where the group has none open.
+    /// The offset of the packet that began the exclusive of a group. The answer is `BadGroup` if the group is
+    /// above 15, and `Nothing` if the group has none open.
     pub fn begun(&self, group: u8, offset: &mut u64) -> Status
         ensures { IsBegun self.now group (number_of result) offset.old offset.new }
     {

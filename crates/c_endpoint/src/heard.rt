@@ -35,7 +35,7 @@ fn hearing_number(heard: Heard) -> u8
     }
 }
 
-/// The number of what became of a message; 0 where a packet ended none.
+/// The number of what became of a message; 0 if a packet ended none.
 pub fn heard_number(outcome: Option<Outcome>) -> u8
     ensures { result ≡ number_of_outcome outcome }
 {

@@ -7,7 +7,7 @@ pub mod heard;
 pub mod profile;
 pub mod replies;
 
-pub use crate::endpoint::AnsweringEndpoint;
+pub use crate::endpoint::CEndpoint;
 pub use crate::heard::heard_number;
 pub use crate::profile::EndpointProfile;
 pub use crate::replies::PacketReplies;

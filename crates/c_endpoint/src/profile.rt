@@ -4,7 +4,7 @@ ghost use Rattle.c_endpoint.specs.Profiles.{no_profile, profile_of};
 
 use function_blocks::{Place, Profile};
 
-// What stands where a profile has no group or channel.
+// What stands for no group or channel of a profile.
 const NO_PLACE: u8 = 255;
 
 /// A profile of the setup, and whether it is on now.
@@ -13,9 +13,9 @@ const NO_PLACE: u8 = 255;
 pub struct EndpointProfile {
     /// Its function block, counted from 0.
     pub block: u8,
-    /// Its group, 0 to 15; 255 where it is of the whole function block.
+    /// Its group, 0 to 15; 255 if it is of the whole function block.
     pub group: u8,
-    /// Its channel, 0 to 15; 255 where it is of a whole group or of the whole function block.
+    /// Its channel, 0 to 15; 255 if it is of a whole group or of the whole function block.
     pub channel: u8,
     /// Its id, five bytes below 128 (M2-101-UM, profile id).
     pub id: [u8; 5],

@@ -1,6 +1,6 @@
 // What comes of one packet.
 ghost use Rattle.std.specs.Prelude.{◌≡◌};
-ghost use Rattle.c_endpoint.specs.Packets.{group_number, no_replies, replies_of};
+ghost use Rattle.c_endpoint.specs.Packets.{group_number, needing, no_replies, replies_of};
 
 use crate::heard::heard_number;
 use c_answers::ListingLine;
@@ -11,17 +11,18 @@ use ump_grammar::Packet;
 #[repr(C)]
 #[derive(Clone, Copy)]
 pub struct PacketReplies {
-    /// How many words of replies were written, packet after packet; where
-    /// the buffer is too small, how many it would have to have.
-    pub words: usize,
+    /// How many words of replies were written, packet after packet.
+    pub written: usize,
+    /// If the buffer is too small, how many words it has to have; otherwise 0.
+    pub need: usize,
     /// The offset of the line of the listing: where the exclusive began
     /// that is cut off, or that of the packet that is stray.
     pub offset: u64,
-    /// What became of the message that the packet ended; 0 where it ended none.
+    /// What became of the message that the packet ended; 0 if it ended none.
     pub heard: u8,
     /// The group of a packet of an exclusive, 0 to 15; 255 for all other packets.
     pub group: u8,
-    /// The number of the kind of the line; 0 where there is no line.
+    /// The number of the kind of the line; 0 if there is no line.
     pub kind: u8,
 }
 
@@ -36,16 +37,28 @@ fn group_number(packet: &Packet) -> u8
 }
 
 impl PacketReplies {
-    /// There are no replies, and a buffer would have to have this size.
-    pub fn none(size: usize) -> PacketReplies
-        ensures { result ≡ no_replies size }
+    /// There are no replies.
+    #[inline(always)]
+    pub fn none() -> PacketReplies
+        ensures { result ≡ no_replies }
     {
         PacketReplies {
-            words: size,
+            written: 0,
+            need: 0,
             offset: 0,
             heard: 0,
             group: 255,
             kind: 0,
+        }
+    }
+
+    /// Nothing is taken, since the buffer is too small; one of this size does.
+    pub fn needing(size: usize) -> PacketReplies
+        ensures { result ≡ needing size }
+    {
+        PacketReplies {
+            need: size,
+            ..PacketReplies::none()
         }
     }
 
@@ -55,7 +68,8 @@ impl PacketReplies {
     {
         let line = ListingLine::listed(taken.listed);
         PacketReplies {
-            words,
+            written: words,
+            need: 0,
             offset: line.offset,
             heard: heard_number(taken.outcome),
             group: group_number(packet),

@@ -1,26 +1,26 @@
 // What a handle holds.
-use c_endpoint::AnsweringEndpoint;
-use c_streams::{MessageParser, Sysex8Joiner, UsbPacker};
-use c_translators::{SizedDown, SizedUp};
-use c_voice_state::{ByteState, PacketState};
+use c_endpoint::CEndpoint;
+use c_streams::{CParser, CSysex8, CUsb};
+use c_translators::{CDown, CUp};
+use c_voice_state::{CByteState, CPacketState};
 
 /// What was opened.
 #[derive(Drop)]
 pub enum Engine {
     /// A translator of packets to MIDI 1.0 bytes.
-    Down(SizedDown),
+    Down(CDown),
     /// A translator of MIDI 1.0 bytes to packets.
-    Up(SizedUp),
+    Up(CUp),
     /// A parser of the bytes of a MIDI 1.0 stream.
-    Parser(MessageParser),
+    Parser(CParser),
     /// A packer of the bytes of a MIDI 1.0 stream into USB-MIDI events.
-    Usb(UsbPacker),
+    Usb(CUsb),
     /// A join of 8-bit exclusives.
-    Sysex8(Sysex8Joiner),
+    Sysex8(CSysex8),
     /// An endpoint that answers a peer.
-    Endpoint(AnsweringEndpoint),
+    Endpoint(CEndpoint),
     /// What packets have left in a receiver.
-    PacketState(PacketState),
+    PacketState(CPacketState),
     /// What the bytes of a MIDI 1.0 stream have left in a receiver.
-    ByteState(ByteState),
+    ByteState(CByteState),
 }

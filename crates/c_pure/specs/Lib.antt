@@ -1,3 +1,5 @@
+pub mod Names
+pub mod Packets
 pub mod Scaling
 pub mod Sysex8
 pub mod Texts

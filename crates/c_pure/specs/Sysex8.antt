@@ -22,15 +22,15 @@ abbrev pub cuts : Option Part8 → List ℕ → ℕ → List ℕ → Type 0
 cuts None old status new = Leaves statuses.Nothing old status new
 cuts (Some part) old status new = IsWrittenOut part old status new
 
-abbrev pub fits_four : Bool → Option Part8 → List ℕ → ℕ → List ℕ → Type 0
-fits_four true part old status new = Leaves statuses.SmallBuffer old status new
-fits_four false part old status new = cuts part old status new
-
 abbrev pub in_range : Bool → Option Part8 → List ℕ → ℕ → List ℕ → Type 0
 in_range false part old status new = Leaves statuses.BadGroup old status new
-in_range true part old status new = fits_four (nat_lt (length old) 4) part old status new
+in_range true part old status new = cuts part old status new
+
+abbrev pub fits_four : Bool → ℕ → Option Part8 → List ℕ → ℕ → List ℕ → Type 0
+fits_four true group part old status new = Leaves statuses.SmallBuffer old status new
+fits_four false group part old status new = in_range (nat_lt group 16) part old status new
 
 -- packet `index` of an exclusive of a stream with these bytes
 abbrev pub IsCut : ℕ → ℕ → List ℕ → ℕ → List ℕ → ℕ → List ℕ → Type 0
 IsCut group stream payload index old status new =
-    in_range (nat_lt group 16) (part8_at group stream payload index) old status new
+    fits_four (nat_lt (length old) 4) group (part8_at group stream payload index) old status new

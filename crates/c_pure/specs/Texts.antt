@@ -13,8 +13,8 @@ use Rattle.c_answers.specs.declared.status.Status.{Status}
 use Rattle.c_answers.specs.declared.status.Status.TheVariants as statuses
 
 -- nothing is written
-abbrev pub IsUntold : Status → ℕ → List ℕ → ℕ → List ℕ → ℕ → Type 0
-IsUntold why size old status new count = (status ≡ number_of why) × (new ≡ old) × (count ≡ size)
+abbrev pub IsUntold : Status → List ℕ → ℕ → List ℕ → ℕ → Type 0
+IsUntold why old status new count = (status ≡ number_of why) × (new ≡ old) × (count ≡ 0)
 
 -- the line of the packet that the words spell is at the front of the buffer
 pub record HasText (words : List ℕ) (offset : ℕ) (old : List ℕ) (status : ℕ) (new : List ℕ) (count : ℕ) : Type 0 where
@@ -25,15 +25,15 @@ pub record HasText (words : List ℕ) (offset : ℕ) (old : List ℕ) (status : 
   pub size : count ≡ length (packet_text packet words offset)
 
 abbrev pub tells : Option Bad → List ℕ → ℕ → List ℕ → ℕ → List ℕ → ℕ → Type 0
-tells (Some why) words offset old status new count = IsUntold (status_of_bad why) 0 old status new count
+tells (Some why) words offset old status new count = IsUntold (status_of_bad why) old status new count
 tells None words offset old status new count = HasText words offset old status new count
 
 abbrev pub tells_whole : Bool → List ℕ → ℕ → List ℕ → ℕ → List ℕ → ℕ → Type 0
-tells_whole false words offset old status new count = IsUntold statuses.BadWordCount 0 old status new count
+tells_whole false words offset old status new count = IsUntold statuses.BadWordCount old status new count
 tells_whole true words offset old status new count = tells (reason words) words offset old status new count
 
 abbrev pub tells_fitting : Bool → List ℕ → ℕ → List ℕ → ℕ → List ℕ → ℕ → Type 0
-tells_fitting true words offset old status new count = IsUntold statuses.SmallBuffer 256 old status new count
+tells_fitting true words offset old status new count = IsUntold statuses.SmallBuffer old status new count
 tells_fitting false words offset old status new count = tells_whole (is_whole words) words offset old status new count
 
 abbrev pub IsTold : List ℕ → ℕ → List ℕ → ℕ → List ℕ → ℕ → Type 0

@@ -4,10 +4,10 @@ ghost use Rattle.bit_scaling.specs.Scaling.{IsScaling};
 ghost use Rattle.c_answers.specs.Numbers.{number_of};
 ghost use Rattle.c_pure.specs.Scaling.{IsLowered, IsRaised, raises_value};
 
-use bit_scaling::up;
+use bit_scaling::{down7, down14, release_down, up};
 use c_answers::Status;
 
-// Raises a value, where it has no more bits than its width.
+// Raises a value, if it has no more bits than its width.
 fn raise(value: u32, narrow: u32, wide: u32, scaled: &mut u32) -> Status
     requires { IsScaling narrow wide }
     ensures { raises_value value narrow wide scaled.old (number_of result) scaled.new }
@@ -19,9 +19,10 @@ fn raise(value: u32, narrow: u32, wide: u32, scaled: &mut u32) -> Status
     Status::Done
 }
 
-/// A value of 7 bits as one of 16 or of 32, or one of 14 as one of 32: the least, the centre and the greatest
-/// stay the least, the centre and the greatest (M2-115-U, min-centre-max). `BadBits` where the widths are
-/// others, and `BadValue` where the value has more bits than its width; nothing is written then.
+/// Raises a value of 7 bits to 16 or 32, or one of 14 bits to 32: the least, the centre and the greatest
+/// value stay the least, the centre and the greatest (M2-115-U, min-centre-max). The status is `BadBits` when
+/// the widths are others, and `BadValue` when the value has more bits than its width; nothing is written
+/// then.
 pub fn scale_up(value: u32, narrow: u8, wide: u8, scaled: &mut u32) -> Status
     ensures { IsRaised value narrow wide scaled.old (number_of result) scaled.new }
 {
@@ -33,27 +34,20 @@ pub fn scale_up(value: u32, narrow: u8, wide: u8, scaled: &mut u32) -> Status
     }
 }
 
-/// The upper 7 of 16 bits, or the upper 7 or 14 of 32 (M2-115-U, downscaling). `BadBits` where the widths are
-/// others, and `BadValue` where the value has more bits than its width; nothing is written then.
+/// The upper 7 of 16 bits, or the upper 7 or 14 of 32 (M2-115-U, downscaling). The status is `BadBits` when
+/// the widths are others, and `BadValue` when the value has more bits than its width; nothing is written
+/// then.
 pub fn scale_down(value: u32, wide: u8, narrow: u8, scaled: &mut u32) -> Status
     ensures { IsLowered value wide narrow scaled.old (number_of result) scaled.new }
 {
-    match (wide, narrow) {
-        (16, 7) => {
-            if value >= 1 << 16 {
-                return Status::BadValue;
-            }
-            *scaled = value >> 9;
-            Status::Done
-        }
-        (32, 7) => {
-            *scaled = value >> 25;
-            Status::Done
-        }
-        (32, 14) => {
-            *scaled = value >> 18;
-            Status::Done
-        }
-        _ => Status::BadBits,
-    }
+    *scaled = match (wide, narrow) {
+        (16, 7) => match u16::try_from(value) {
+            Ok(velocity) => release_down(velocity).get() as u32,
+            Err(_) => return Status::BadValue,
+        },
+        (32, 7) => down7(value).get() as u32,
+        (32, 14) => down14(value).get() as u32,
+        _ => return Status::BadBits,
+    };
+    Status::Done
 }

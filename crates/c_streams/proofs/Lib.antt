@@ -1,5 +1,5 @@
-pub mod BlockLaws
 pub mod EndedLaws
-pub mod FrontLaws
+pub mod JoinLaws
+pub mod MessageLaws
 pub mod PackedLaws
-pub mod SpokenLaws
+pub mod ReaderLaws

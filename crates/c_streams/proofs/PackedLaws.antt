@@ -1,10 +1,9 @@
 -- The events of what a byte completes: how many bytes they have, and the lines beside them.
-use Rattle.std.proofs.Common.{◌≡◌, ◌≢◌, ℕ, ◌+◌, ◌*◌, ◌<◌, ◌≤◌, Bool, false, List, [], ◌∷◌, ◌++◌, length, take, drop, arith}
+use Rattle.std.proofs.Common.{◌≡◌, ◌≢◌, ℕ, ◌+◌, ◌*◌, ◌<◌, ◌≤◌, List, [], ◌∷◌, ◌++◌, length, take, drop, arith}
 use Rattle.std.proofs.Common.{Option, Some, None, refl, ap, sym, subst, ◌∙◌, append_assoc, length-append, length-drop}
-use Rattle.std.proofs.lemmas.Bool.{le-ltb}
 use Rattle.std.proofs.lemmas.List.{append-nil}
 use Rattle.std.proofs.lemmas.List.Folds.{concat-append}
-use Rattle.std.specs.Prelude.{map, IfSome}
+use Rattle.std.specs.Prelude.{map, IfSome, Ok}
 use Rattle.std.specs.List.{concat}
 use Rattle.std.specs.Option.{option_map, option_to_list}
 use Rattle.midi1_bytes.specs.Answers.{framed}
@@ -15,20 +14,19 @@ use Rattle.midi_meaning.specs.declared.listed.Kind.{Kind}
 use Rattle.midi_meaning.specs.declared.listed.Listed.{Listed}
 use Rattle.midi_meaning.specs.StepListing.{kinds_of_step, line_up}
 use Rattle.listing_terms.specs.declared.byte_lines.ByteLine as told
-use Rattle.listing_terms.specs.ByteLines.{line_by, AreInOrder}
+use Rattle.listing_terms.specs.ByteLines.{first_in, line_by, second_in, AreInOrder}
 use Rattle.usb_midi1.specs.Packed.{IsPacked, cable_in, events_from, events_in, whole_in, whole_of}
-use Rattle.usb_midi1.specs.Held.{PackerState, packer_after, step_in}
 use Rattle.usb_midi1.specs.Laws.{ExclusiveEventsComeInOrder}
 use Rattle.usb_midi1.specs.Packing.{code_before, event, exclusive_events, first_event}
 use Rattle.usb_midi1.specs.declared.packed.Packed.{Packed}
 use Rattle.c_answers.specs.Lines.{first_line, line_of, listed_line, second_line}
-use Rattle.c_answers.specs.Numbers.{number_of}
 use Rattle.c_answers.specs.declared.status.Status.TheVariants as statuses
 use Rattle.c_answers.specs.Fronts.{with_front}
-use Rattle.c_streams.specs.Outcomes.{held_unless, is_too_small, quiet_outcome, status_of, takes, IsShown}
-use Rattle.c_streams.specs.Usb.{events_size, most_packed, packed, HasPacked, IsBytePacked}
-use Rattle.c_streams.specs.declared.outcome.ByteOutcome.{ByteOutcome}
-use Rattle.c_streams.proofs.FrontLaws.{then_front}
+use Rattle.c_answers.specs.Outcomes.{outcome_of}
+use Rattle.c_answers.specs.declared.outcome.ByteOutcome.{ByteOutcome}
+use Rattle.c_answers.proofs.FrontLaws.{then_front}
+use Rattle.c_streams.specs.Readers.{ShowsStep, refusal_of}
+use Rattle.c_streams.specs.Usb.{events_size, packed}
 use Rattle.c_answers.specs.Within.{CompletesWithin}
 
 -- ---- how many bytes they have
@@ -103,7 +101,7 @@ are_lines cable group (Some first) (Some second) (kind ∷ other ∷ kinds) orde
 
 -- ---- a byte
 
-accepted : (step : Step) → step ≢ too_long → number_of (status_of step) ≡ number_of statuses.Done
+accepted : (step : Step) → step ≢ too_long → refusal_of step ≡ None
 accepted held within = refl
 accepted (completes message) within = refl
 accepted stray within = refl
@@ -111,40 +109,23 @@ accepted undefined within = refl
 accepted (cut start what after) within = refl
 accepted too_long within = absurd (within refl)
 
-pub shown : (cable offset : ℕ) (step : Step) (one : Packed) (old : List ℕ) (status : ℕ) (outcome : ByteOutcome) (new : List ℕ) →
-    IsPacked cable offset step one → HasPacked one old status outcome new → IsShown step offset (packed cable step) old status outcome new
-shown cable offset step one old status outcome new is has =
-    let lines = are_lines cable one.lines.group.number one.lines.first one.lines.second (kinds_of_step step offset) is.in_order is.lines in
-    record {
-      answer = has.answer ∙ sym (accepted step is.within);
-      shown = record {
-        taken = has.taken;
-        size = has.size ∙ ap (λ events. length (concat events)) is.events;
-        front = has.front ∙ ap (λ events. with_front (concat events) old) is.events;
-        first = has.first ∙ lines.one;
-        second = has.second ∙ lines.two;
-      };
-    }
+-- the outcome of what comes of a byte that is not refused
+abbrev pub outcome_in : Packed → ℕ → ByteOutcome
+outcome_in one offset =
+    outcome_of offset (length (concat (events_in one))) (listed_line (first_in one.lines)) (listed_line (second_in one.lines))
 
--- one that exceeds the limit completes nothing, and has no line
-pub refused : (cable offset : ℕ) (step : Step) (old : List ℕ) → step ≡ too_long →
-    IsShown step offset (packed cable step) old (number_of statuses.ExclusiveTooLong) (quiet_outcome 1 0) old
-refused cable offset step old is =
-    let S : Step → Type 0 = λ s. IsShown s offset (packed cable s) old (number_of statuses.ExclusiveTooLong) (quiet_outcome 1 0) old in
-    subst S (sym is) (record { answer = refl; shown = record { taken = refl; size = refl; front = refl; first = refl; second = refl } })
+pub shown : (cable offset : ℕ) (step : Step) (one : Packed) (old new : List ℕ) → IsPacked cable offset step one
+    → new ≡ with_front (concat (events_in one)) old → ShowsStep step offset (packed cable step) old (Ok (outcome_in one offset)) new
+shown cable offset step one old new is front =
+    let lines = are_lines cable one.lines.group.number one.lines.first one.lines.second (kinds_of_step step offset) is.in_order is.lines in (
+      accepted step is.within,
+      (λ i. outcome_of offset (length (concat (is.events i))) (lines.one i) (lines.two i)),
+      front ∙ ap (λ events. with_front (concat events) old) is.events,
+    )
 
--- the buffer takes the events of any message
-pub packs : (packer : PackerState) (byte offset : ℕ) (old : List ℕ) (status : ℕ) (outcome : ByteOutcome) (new : List ℕ)
-    (after : PackerState) →
-    most_packed packer ≤ length old
-    → IsShown (step_in packer offset byte) offset (packed packer.cable (step_in packer offset byte)) old status outcome new →
-    after ≡ packer_after packer offset byte → IsBytePacked packer byte offset old status outcome new after
-packs packer byte offset old status outcome new after fits is_shown behind =
-    let big : is_too_small (most_packed packer) old ≡ false = le-ltb (length old) (most_packed packer) fits in
-    let step = step_in packer offset byte in
-    let T : Bool → Type 0 = λ small. takes small (most_packed packer) step offset (packed packer.cable step) old status outcome new in
-    let H : Bool → Type 0 = λ small. after ≡ held_unless small packer (packer_after packer offset byte) in
-    record { answer = subst T (sym big) is_shown; held = subst H (sym big) behind }
+-- one that exceeds the limit
+pub refused : (step : Step) → step ≡ too_long → refusal_of step ≡ Some statuses.ExclusiveTooLong
+refused step is = ap refusal_of is
 
 -- ---- the events of an exclusive, one by one
 

@@ -1,5 +1,5 @@
-pub mod Blocks
-pub mod Outcomes
+pub mod ForProofs
 pub mod Parser
+pub mod Readers
 pub mod Sysex8
 pub mod Usb

@@ -6,9 +6,12 @@ use Rattle.sysex8_streams.specs.History.{Answer8, held8, whole8, stray8, restart
 use Rattle.sysex8_streams.specs.Reading.{is_left_out, Spells8}
 use Rattle.sysex8_streams.specs.Table.{Table8, answer8_to, begun8_in, with_part8}
 use Rattle.sysex8_streams.specs.declared.part8.Part8.{Part8}
+use Rattle.packet_words.specs.Words.{words_asked}
+use Rattle.c_answers.specs.Blocks.{AreTaken, Taking}
 use Rattle.c_answers.specs.Fronts.{with_front}
 use Rattle.c_answers.specs.Numbers.{number_of}
 use Rattle.c_answers.specs.Whole.{is_whole}
+use Rattle.c_answers.specs.declared.block.Block.{Block}
 use Rattle.c_answers.specs.declared.status.Status.{Status}
 use Rattle.c_answers.specs.declared.status.Status.TheVariants as statuses
 use Rattle.c_streams.specs.declared.sysex8.JoinedPart.{JoinedPart}
@@ -37,49 +40,132 @@ reply_number full8 = 6
 reply_number too_long8 = 7
 
 -- an exclusive that exceeds its limit is dropped; no other part is refused
-abbrev pub status_of : Answer8 → Status
-status_of too_long8 = statuses.ExclusiveTooLong
-status_of _ = statuses.Done
+abbrev pub refusal_of : Answer8 → Option Status
+refusal_of too_long8 = Some statuses.ExclusiveTooLong
+refusal_of _ = None
 
--- What a part does to the exclusive of its stream; the bytes of one that it ends are written.
-pub record IsJoined (part : Part8) (reply : Answer8) (old : List ℕ) (status : ℕ) (joined : JoinedPart) (new : List ℕ) : Type 0 where
-  pub answer : status ≡ number_of (status_of reply)
-  pub size : joined.length ≡ length (ended_by reply)
-  pub front : new ≡ with_front (ended_by reply) old
-  pub kind : joined.answer ≡ reply_number reply
-  pub cut_at : joined.cut_at ≡ cut_by reply
-  pub group : joined.group ≡ part.group
-  pub stream : joined.stream ≡ part.stream
+-- what a part does to the exclusive of its stream
+abbrev pub joined_by : Part8 → Answer8 → JoinedPart
+joined_by part reply =
+    record {
+      written = length (ended_by reply);
+      need = 0;
+      cut_at = cut_by reply;
+      answer = reply_number reply;
+      group = part.group;
+      stream = part.stream;
+    }
 
--- ---- packets
+-- there is no part
+abbrev pub no_part : JoinedPart
+no_part = record { written = 0; need = 0; cut_at = 0; answer = 0; group = 0; stream = 0 }
 
--- there is no part, and a buffer would have to have this size
-abbrev pub no_part : ℕ → JoinedPart
-no_part size = record { length = size; cut_at = 0; answer = 0; group = 0; stream = 0 }
+-- and a buffer would have to have this size
+abbrev pub needing_part : ℕ → JoinedPart
+needing_part size = record no_part { need = size }
 
--- nothing is written, and nothing is taken
-abbrev pub IsPassed : Status → ℕ → Table8 → List ℕ → ℕ → JoinedPart → List ℕ → Table8 → Type 0
-IsPassed why size table old status joined new after = (status ≡ number_of why) × (joined ≡ no_part size) × (new ≡ old) × (after ≡ table)
+-- ---- what a packet does
+
+-- its part, the bytes of the exclusive that it ends, why it is refused, if it is, and what is begun after it
+pub record Reply : Type 0 where
+  pub joined : JoinedPart
+  pub ended : List ℕ
+  pub refusal : Option Status
+  pub after : Table8
+
+abbrev pub part_reply : Table8 → Part8 → ℕ → Reply
+part_reply table part offset =
+    let reply = answer8_to table (part_of part offset) in
+    record {
+      joined = joined_by part reply;
+      ended = ended_by reply;
+      refusal = refusal_of reply;
+      after = with_part8 (part_of part offset) table;
+    }
 
 -- whether the words of a packet have a part of an 8-bit exclusive
 abbrev pub has_part : List ℕ → Bool
 has_part words = type_of words == 5 && not (is_left_out words)
 
-abbrev pub reads : Bool → Table8 → List ℕ → ℕ → List ℕ → ℕ → JoinedPart → List ℕ → Table8 → Type 0
-reads false table words offset old status joined new after = IsPassed statuses.Done 0 table old status joined new after
-reads true table words offset old status joined new after =
-    (part : Part8) × Spells8 part words × IsJoined part (answer8_to table (part_of part offset)) old status joined new
-    × (after ≡ with_part8 (part_of part offset) table)
+-- a packet that has none changes nothing
+abbrev pub replies : Bool → Table8 → List ℕ → ℕ → Reply → Type 0
+replies false table words offset reply =
+    reply ≡ record { joined = no_part; ended = []; refusal = None; after = table }
+replies true table words offset reply = (part : Part8) × Spells8 part words × (reply ≡ part_reply table part offset)
 
--- by whether the words are as many as their type has, and whether the buffer is too small for an exclusive of the limit
-abbrev pub takes : Bool → Bool → Table8 → List ℕ → ℕ → List ℕ → ℕ → JoinedPart → List ℕ → Table8 → Type 0
-takes false small table words offset old status joined new after = IsPassed statuses.BadWordCount 0 table old status joined new after
-takes true true table words offset old status joined new after = IsPassed statuses.SmallBuffer table.room table old status joined new after
-takes true false table words offset old status joined new after = reads (has_part words) table words offset old status joined new after
+abbrev pub IsReply : Table8 → List ℕ → ℕ → Reply → Type 0
+IsReply table words offset reply = replies (has_part words) table words offset reply
+
+-- ---- one packet
+
+-- nothing is written, and nothing is taken
+abbrev pub IsPassed : Status → JoinedPart → Table8 → List ℕ → ℕ → JoinedPart → List ℕ → Table8 → Type 0
+IsPassed why shown table old status joined new after =
+    (status ≡ number_of why) × (joined ≡ shown) × (new ≡ old) × (after ≡ table)
+
+-- the status, by why a packet is refused, if it is
+abbrev pub status_of : Option Status → Status
+status_of None = statuses.Done
+status_of (Some why) = why
+
+-- the bytes of the exclusive that the packet ends are at the front of the buffer
+pub record IsJoined (table : Table8) (words : List ℕ) (offset : ℕ) (old : List ℕ) (status : ℕ) (joined : JoinedPart) (new : List ℕ)
+    (after : Table8) : Type 0 where
+  pub reply : Reply
+  pub replied : IsReply table words offset reply
+  pub answer : status ≡ number_of (status_of reply.refusal)
+  pub shown : joined ≡ reply.joined
+  pub front : new ≡ with_front reply.ended old
+  pub after_is : after ≡ reply.after
+
+-- by whether the words are as many as their type has
+abbrev pub takes_whole : Bool → Table8 → List ℕ → ℕ → List ℕ → ℕ → JoinedPart → List ℕ → Table8 → Type 0
+takes_whole false table words offset old status joined new after = IsPassed statuses.BadWordCount no_part table old status joined new after
+takes_whole true table words offset old status joined new after = IsJoined table words offset old status joined new after
+
+-- by whether the buffer is too small for an exclusive of the limit
+abbrev pub takes : Bool → Table8 → List ℕ → ℕ → List ℕ → ℕ → JoinedPart → List ℕ → Table8 → Type 0
+takes true table words offset old status joined new after =
+    IsPassed statuses.SmallBuffer (needing_part table.room) table old status joined new after
+takes false table words offset old status joined new after =
+    takes_whole (is_whole words) table words offset old status joined new after
 
 abbrev pub IsPacketJoined : Table8 → List ℕ → ℕ → List ℕ → ℕ → JoinedPart → List ℕ → Table8 → Type 0
 IsPacketJoined table words offset old status joined new after =
-    takes (is_whole words) (nat_lt (length old) table.room) table words offset old status joined new after
+    takes (nat_lt (length old) table.room) table words offset old status joined new after
+
+-- ---- many packets
+
+-- one of them that isn't refused, with its part
+pub record JoinsPacket (table : Table8) (offset : ℕ) (words written : List ℕ) (parts : List JoinedPart) (after : Table8) : Type 0 where
+  pub reply : Reply
+  pub replied : IsReply table words offset reply
+  pub accepted : reply.refusal ≡ None
+  pub written_are : written ≡ reply.ended
+  pub parts_are : parts ≡ reply.joined ∷ []
+  pub after_is : after ≡ reply.after
+
+pub record RefusesPacket (table : Table8) (offset : ℕ) (words : List ℕ) (why : Status) (after : Table8) : Type 0 where
+  pub reply : Reply
+  pub replied : IsReply table words offset reply
+  pub refused : reply.refusal ≡ Some why
+  pub after_is : after ≡ reply.after
+
+-- each word adds 4 to the offset
+abbrev pub joining : Taking Table8 JoinedPart
+joining =
+    record {
+      size_of = words_asked;
+      step = 4;
+      Takes = JoinsPacket;
+      Refuses = RefusesPacket;
+      most_written = λ table. table.room;
+      most_items = 1;
+    }
+
+abbrev pub ArePacketsJoined : Table8 → ℕ → List ℕ → List ℕ → List JoinedPart → ℕ → Block → List ℕ → List JoinedPart → Table8 → Type 0
+ArePacketsJoined table offset words old old_parts status block new parts after =
+    AreTaken joining table offset words old old_parts status block new parts after
 
 -- ---- what is begun
 

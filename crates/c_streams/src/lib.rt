@@ -1,13 +1,12 @@
 //! The readers of the library for C as safe functions: the parser of MIDI 1.0 bytes, the packer of USB-MIDI
-//! events and the join of 8-bit exclusives. Each takes a buffer of the caller's, and answers with a status.
+//! events and the join of 8-bit exclusives. Each takes buffers of the caller's, and returns a status.
 #![tactic(auto)]
 
-pub mod outcome;
 pub mod parser;
+mod reader;
 pub mod sysex8;
 pub mod usb;
 
-pub use crate::outcome::ByteOutcome;
-pub use crate::parser::MessageParser;
-pub use crate::sysex8::{JoinedPart, Sysex8Joiner};
-pub use crate::usb::{CarriedBytes, UsbPacker, split_event};
+pub use crate::parser::{CParser, parser_size};
+pub use crate::sysex8::{CSysex8, JoinedPart};
+pub use crate::usb::{CUsb, CarriedBytes, split_event, usb_size};

@@ -1,114 +1,118 @@
 // The parser of a MIDI 1.0 stream.
-ghost use Rattle.std.specs.Prelude.{◌≡◌, ◌≤◌, ◌+◌, length, IfOk};
+ghost use Rattle.std.specs.Prelude.{◌≡◌, ◌≤◌, length, IfOk};
 ghost use Rattle.midi1_bytes.specs.Answers.{step_view, LendsFramed};
-ghost use Rattle.midi1_bytes.specs.Parsing.{idle, open_of, parse};
-ghost use Rattle.midi_meaning.specs.StepListing.{kinds_of_step};
+ghost use Rattle.midi1_bytes.specs.Parsing.{idle, open_of};
+ghost use Rattle.midi1_bytes.specs.Steps as steps;
 ghost use Rattle.c_answers.specs.Fronts.{with_front};
-ghost use Rattle.c_answers.specs.Lines.{first_line, second_line};
+ghost use Rattle.c_answers.specs.Lines.{line_of, no_line};
 ghost use Rattle.c_answers.specs.Numbers.{number_of};
-ghost use Rattle.c_streams.specs.Blocks.{is_quiet, AreBytesParsed};
-ghost use Rattle.c_streams.specs.Outcomes.{status_of, IsEnd, IsShown};
-ghost use Rattle.c_streams.specs.Parser.{most_spoken, spoken, IsByteParsed};
+ghost use Rattle.c_answers.specs.Outcomes.{outcome_of};
+ghost use Rattle.c_streams.specs.Parser.{longest_message, message_in, messages};
+ghost use Rattle.c_streams.specs.Readers.{AreBytesTaken, IsByteTaken, IsEnd, ShowsStep};
 
-use crate::outcome::ByteOutcome;
+use crate::reader::{ByteReader, take_byte, take_bytes};
 use c_answers::laws::exclusives_stay_within_their_limit;
-use c_answers::{ListingLine, Status, put_bytes};
+use c_answers::{Block, ByteOutcome, ListingLine, Status, put_bytes};
 use midi_meaning::{Kind, kind_of_cut, kind_of_open};
-use midi1_bytes::{AfterCut, Parser, Step, System, write_system, write_voice};
+use midi1_bytes::{AfterCut, CutKind, Parser, Step, System, write_system, write_voice};
 use small_types::NoMemory;
 use std::alloc::Global;
 use std::marker::Model;
 
-// Writes the message that a step completes, with its status byte, and returns how many bytes it has.
+/// The size of a buffer that takes any message, if exclusives have at most `room` bytes between F0 and F7:
+/// two bytes more than those (own rule).
+pub fn parser_size(room: u32) -> usize
+    ensures { result ≡ longest_message room }
+{
+    room as usize + 2
+}
+
+// Writes a whole message, and returns what comes of the byte at this offset that completes it.
 #[inline(always)]
-fn put_message(step: &Step<'_>, buffer: &mut [u8]) -> usize
+fn whole(bytes: &[u8], offset: u64, buffer: &mut [u8]) -> ByteOutcome
+    requires { length bytes.now ≤ length buffer.old }
+    ensures outcome { result ≡ outcome_of offset (length bytes.now) no_line no_line }
+    ensures written { buffer.new ≡ with_front bytes.now buffer.old }
+{
+    let none = ListingLine::none();
+    ByteOutcome::of(offset, put_bytes(bytes, buffer), none, none)
+}
+
+// What comes of the byte at this offset that is only listed.
+fn listed(kind: Kind, offset: u64) -> ByteOutcome
+    ensures { result ≡ outcome_of offset 0 (line_of (kind, offset)) no_line }
+{
+    ByteOutcome::of(
+        offset,
+        0,
+        ListingLine::of(kind, offset),
+        ListingLine::none(),
+    )
+}
+
+// What comes of the byte at this offset that cuts off what started at `start`.
+fn cut(start: u64, what: CutKind, after: AfterCut, offset: u64, buffer: &mut [u8]) -> ByteOutcome
+    requires { length (message_in (steps.cut start what after)) ≤ length buffer.old }
+    ensures { ShowsStep (steps.cut start what after) offset (message_in (steps.cut start what after))
+        buffer.old (Ok result) buffer.new }
+{
+    let first = ListingLine::of(kind_of_cut(what), start);
+    let none = ListingLine::none();
+    match after {
+        AfterCut::Begins => ByteOutcome::of(offset, 0, first, none),
+        AfterCut::Tune => {
+            let tune = write_system(&System::Tune);
+            ByteOutcome::of(offset, put_bytes(tune.as_slice(), buffer), first, none)
+        }
+        AfterCut::Undefined => {
+            let second = ListingLine::of(Kind::Undefined, offset);
+            ByteOutcome::of(offset, 0, first, second)
+        }
+        AfterCut::Stray => {
+            let second = ListingLine::of(Kind::Stray, offset);
+            ByteOutcome::of(offset, 0, first, second)
+        }
+    }
+}
+
+// Shows what a byte does: writes the message that it completes, with its status byte.
+#[inline(always)]
+fn show(step: &Step<'_>, offset: u64, buffer: &mut [u8]) -> Result<ByteOutcome, Status>
     requires framed { LendsFramed step.now }
-    requires fits { length (spoken (step_view step.now)) ≤ length buffer.old }
-    ensures count { result ≡ length (spoken (step_view step.now)) }
-    ensures written { buffer.new ≡ with_front (spoken (step_view step.now)) buffer.old }
+    requires fits { length (message_in (step_view step.now)) ≤ length buffer.old }
+    ensures { ShowsStep (step_view step.now) offset (message_in (step_view step.now))
+        buffer.old result buffer.new }
 {
     match *step {
-        Step::Voice(message) => put_bytes(write_voice(&message.message()).as_slice(), buffer),
-        Step::Common(message) => put_bytes(write_system(&message.message()).as_slice(), buffer),
-        Step::RealTime(message) => put_bytes(write_system(&message.message()).as_slice(), buffer),
-        Step::Exclusive(whole) => put_bytes(whole, buffer),
-        Step::Cut { after, .. } => match after {
-            AfterCut::Tune => put_bytes(write_system(&System::Tune).as_slice(), buffer),
-            AfterCut::Begins | AfterCut::Undefined | AfterCut::Stray => 0,
-        },
-        Step::Held | Step::Stray | Step::Undefined | Step::TooLong => 0,
+        Step::Held => return Ok(ByteOutcome::empty(offset)),
+        Step::Voice(message) => {
+            let bytes = write_voice(&message.message());
+            return Ok(whole(bytes.as_slice(), offset, buffer));
+        }
+        Step::Common(message) => {
+            let bytes = write_system(&message.message());
+            return Ok(whole(bytes.as_slice(), offset, buffer));
+        }
+        Step::RealTime(message) => {
+            let bytes = write_system(&message.message());
+            return Ok(whole(bytes.as_slice(), offset, buffer));
+        }
+        Step::Exclusive(exclusive) => return Ok(whole(exclusive, offset, buffer)),
+        Step::Stray => return Ok(listed(Kind::Stray, offset)),
+        Step::Undefined => return Ok(listed(Kind::Undefined, offset)),
+        Step::Cut { start, what, after } => return Ok(cut(start, what, after, offset, buffer)),
+        Step::TooLong => return Err(Status::ExclusiveTooLong),
     }
-}
-
-// The first line of a step: what it cuts off, or else what it is.
-fn first_line(step: &Step<'_>, offset: u64) -> ListingLine
-    ensures { result ≡ first_line (kinds_of_step (step_view step.now) offset) }
-{
-    match *step {
-        Step::Stray => ListingLine::of(Kind::Stray, offset),
-        Step::Undefined => ListingLine::of(Kind::Undefined, offset),
-        Step::Cut { start, what, .. } => ListingLine::of(kind_of_cut(what), start),
-        _ => ListingLine::none(),
-    }
-}
-
-// The second line of a step: what it is, where it cuts something off.
-fn second_line(step: &Step<'_>, offset: u64) -> ListingLine
-    ensures { result ≡ second_line (kinds_of_step (step_view step.now) offset) }
-{
-    match *step {
-        Step::Cut { after, .. } => match after {
-            AfterCut::Undefined => ListingLine::of(Kind::Undefined, offset),
-            AfterCut::Stray => ListingLine::of(Kind::Stray, offset),
-            AfterCut::Begins | AfterCut::Tune => ListingLine::none(),
-        },
-        _ => ListingLine::none(),
-    }
-}
-
-fn status_of(step: &Step<'_>) -> Status
-    ensures { result ≡ status_of (step_view step.now) }
-{
-    match *step {
-        Step::TooLong => Status::ExclusiveTooLong,
-        _ => Status::Done,
-    }
-}
-
-fn is_quiet(step: &Step<'_>) -> bool
-    ensures { result ≡ is_quiet (step_view step.now) }
-{
-    match *step {
-        Step::Held | Step::Voice(_) | Step::Common(_) | Step::RealTime(_) | Step::Exclusive(_) =>
-            true,
-        Step::Stray | Step::Undefined | Step::Cut { .. } | Step::TooLong => false,
-    }
-}
-
-// Shows what a byte does.
-fn show(step: &Step<'_>, offset: u64, buffer: &mut [u8], outcome: &mut ByteOutcome) -> Status
-    requires framed { LendsFramed step.now }
-    requires fits { length (spoken (step_view step.now)) ≤ length buffer.old }
-    ensures { IsShown (step_view step.now) offset (spoken (step_view step.now)) buffer.old
-        (number_of result) outcome.new buffer.new }
-{
-    *outcome = ByteOutcome {
-        taken: 1,
-        length: put_message(step, buffer),
-        first: first_line(step, offset),
-        second: second_line(step, offset),
-    };
-    status_of(step)
 }
 
 /// A parser of the bytes of a MIDI 1.0 stream that knows its limit. A contract sees what it holds.
 #[derive(Drop)]
-pub struct MessageParser {
+pub struct CParser {
     parser: Parser,
     room: u32,
 }
 
-impl Model for MessageParser {
+impl Model for CParser {
     ghost use Rattle.std.specs.Prelude.{◌≡◌, ◌≤◌};
     ghost use Rattle.midi1_bytes.specs.Parsing.{Parsing};
     ghost use Rattle.c_answers.specs.Within.{IsWithin};
@@ -121,43 +125,26 @@ impl Model for MessageParser {
         × (p.room ≤ 1048576) × IsWithin p.parser };
 }
 
-impl MessageParser {
+impl CParser {
     /// A parser with nothing open and no running status, for exclusives of `room` bytes between F0 and F7, 6
     /// to 1,048,576. All memory that it ever needs is taken here; `NoMemory` when there isn't that much.
-    pub fn new(alloc: Global, room: u32) -> Result<MessageParser, NoMemory>
+    pub fn new(alloc: Global, room: u32) -> Result<CParser, NoMemory>
         requires least { 6 ≤ room }
         requires most { room ≤ 1048576 }
         ensures { IfOk result (λ parser. parser ≡ idle room) }
     {
         let parser = Parser::new(alloc, room)?;
-        Ok(MessageParser { parser, room })
-    }
-
-    // Takes one more byte, and tells whether it goes with those around it.
-    fn take(
-        &mut self,
-        byte: u8,
-        offset: u64,
-        buffer: &mut [u8],
-        outcome: &mut ByteOutcome,
-    ) -> (Status, bool)
-        requires { self.old.room + 2 ≤ length buffer.old }
-        ensures shown { IsShown (parse self.old offset byte).step offset
-            (spoken (parse self.old offset byte).step) buffer.old
-            (number_of result.0) outcome.new buffer.new }
-        ensures quiet { result.1 ≡ is_quiet (parse self.old offset byte).step }
-        ensures after { self.new ≡ (parse self.old offset byte).after }
-        ensures room { self.new.room ≡ self.old.room }
-    {
-        exclusives_stay_within_their_limit();
-        let step = self.parser.byte(byte, offset);
-        (show(&step, offset, buffer, outcome), is_quiet(&step))
+        Ok(CParser { parser, room })
     }
 
     /// Takes one more byte (MIDI 1.0 Detailed Specification). The message that it completes is written to the
-    /// front of the buffer, its status byte first, also where that was running; an exclusive from F0 to F7.
-    /// The answer is `SmallBuffer`, and nothing is taken, exactly where the buffer has fewer than two bytes
-    /// more than the limit.
+    /// front of the buffer, its status byte first, also when that was running; an exclusive from F0 to F7.
+    /// The outcome has the number of bytes written, and the lines of the byte (own rules).
+    ///
+    /// The status is `SmallBuffer` exactly when the buffer has fewer than two bytes more than the limit of an
+    /// exclusive; nothing is taken then, and `need` is that size. It is `ExclusiveTooLong` at the byte that
+    /// makes an exclusive longer than the limit, which is dropped.
+    #[inline]
     pub fn byte(
         &mut self,
         byte: u8,
@@ -165,69 +152,43 @@ impl MessageParser {
         buffer: &mut [u8],
         outcome: &mut ByteOutcome,
     ) -> Status
-        ensures { IsByteParsed self.old byte offset buffer.old
+        ensures { IsByteTaken messages self.old byte offset buffer.old
             (number_of result) outcome.new buffer.new self.new }
     {
-        let most_spoken = self.most_spoken();
-        if buffer.len() < most_spoken {
-            *outcome = ByteOutcome::asking(most_spoken);
-            return Status::SmallBuffer;
-        }
-        self.take(byte, offset, buffer, outcome).0
+        take_byte(self, byte, offset, buffer, outcome)
     }
 
-    /// Takes bytes from the front of these, of which the first has this offset, as `byte` takes each; their
-    /// messages are written one behind the other. It goes on to the last of them, or to one that has a line
-    /// or exceeds the limit, which is taken too, or until the buffer has fewer than two bytes more than the
-    /// limit left. Offsets count modulo 2^64.
+    /// Takes bytes from the front of these, each as `byte` does. Their messages follow each other in the
+    /// buffer, and `outcomes` has an outcome for each byte that completes a message or has a line. The offset
+    /// is that of the first byte; each byte adds 1 to it, modulo 2^64. The block tells how far the call came.
+    ///
+    /// The status is `Done` when all bytes are taken. It is `SmallBuffer` before a byte for which no outcome
+    /// is left, or fewer places in the rest of the buffer than the longest message needs. `ExclusiveTooLong`
+    /// ends the call after the byte that is refused, which counts as taken (own rules).
     pub fn bytes(
         &mut self,
         bytes: &[u8],
         offset: u64,
         buffer: &mut [u8],
-        outcome: &mut ByteOutcome,
+        outcomes: &mut [ByteOutcome],
+        block: &mut Block,
     ) -> Status
-        ensures { AreBytesParsed self.old bytes.now offset buffer.old
-            (number_of result) outcome.new buffer.new self.new }
+        ensures { AreBytesTaken messages self.old offset bytes.now buffer.old outcomes.old
+            (number_of result) block.new buffer.new outcomes.new self.new }
     {
-        let most_spoken = self.most_spoken();
-        if buffer.len() < most_spoken {
-            *outcome = ByteOutcome::asking(most_spoken);
-            return Status::SmallBuffer;
-        }
-        let (mut at, mut written) = (offset, 0);
-        for (k, byte) in bytes.iter().enumerate() {
-            if buffer.len() - written < most_spoken {
-                *outcome = ByteOutcome::quiet(k, written);
-                return Status::Done;
-            }
-            let mut one = ByteOutcome::silent();
-            let (status, is_quiet) = self.take(*byte, at, &mut buffer[written..], &mut one);
-            written += one.length;
-            if !is_quiet {
-                *outcome = ByteOutcome {
-                    taken: k + 1,
-                    length: written,
-                    first: one.first,
-                    second: one.second,
-                };
-                return status;
-            }
-            at = at.wrapping_add(1);
-        }
-        *outcome = ByteOutcome::quiet(bytes.len(), written);
-        Status::Done
+        take_bytes(self, bytes, offset, buffer, outcomes, block)
     }
 
-    // The size of a buffer that takes any message.
-    fn most_spoken(&self) -> usize
-        ensures { result ≡ most_spoken self.now }
+    /// Makes the parser as if it were new, with the same limit: nothing is open, and there is no running
+    /// status (own rule). Takes no memory.
+    pub fn reset(&mut self)
+        ensures { self.new ≡ idle self.old.room }
     {
-        self.room as usize + 2
+        self.parser.reset();
     }
 
-    /// The line of what is open, a message or an exclusive, with the offset at which it starts. The answer is
-    /// `Nothing`, and no line is written, exactly where nothing is.
+    /// Writes the line of what is open, a message or an exclusive, with the offset at which it starts. The
+    /// status is `Nothing`, and no line is written, exactly when nothing is open.
     pub fn end(&self, line: &mut ListingLine) -> Status
         ensures { IsEnd (open_of self.now) (number_of result) line.old line.new }
     {
@@ -238,5 +199,20 @@ impl MessageParser {
                 Status::Done
             }
         }
+    }
+}
+
+impl ByteReader for CParser {
+    ghost reader = { messages };
+
+    #[inline(always)]
+    fn most_written(&self) -> usize {
+        parser_size(self.room)
+    }
+
+    #[inline(always)]
+    fn take(&mut self, byte: u8, offset: u64, buffer: &mut [u8]) -> Result<ByteOutcome, Status> {
+        exclusives_stay_within_their_limit();
+        show(&self.parser.byte(byte, offset), offset, buffer)
     }
 }

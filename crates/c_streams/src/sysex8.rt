@@ -7,10 +7,13 @@ ghost use Rattle.sysex8_streams.specs.Reading.{Spells8};
 ghost use Rattle.sysex8_streams.specs.Table.{answer8_to, empty_table8, with_part8};
 ghost use Rattle.c_answers.specs.Fronts.{with_front};
 ghost use Rattle.c_answers.specs.Numbers.{number_of};
-ghost use Rattle.c_streams.specs.Sysex8.{cut_by, ended_by, has_part, no_part, reply_number, status_of, IsBegun, IsJoined, IsPacketJoined};
+ghost use Rattle.c_streams.specs.ForProofs.Joined.{Shows, TakesPacket};
+ghost use Rattle.c_streams.specs.Sysex8.{cut_by, ended_by, has_part, needing_part, no_part, part_reply};
+ghost use Rattle.c_streams.specs.Sysex8.{reply_number, ArePacketsJoined, IsBegun, IsPacketJoined};
 
-use c_answers::{Status, framed, put_bytes};
+use c_answers::{Block, Status, framed, put_bytes};
 use packet_words::Words;
+use packet_words::words::words_in_packet;
 use small_types::{NoMemory, U4};
 use std::alloc::Global;
 use std::marker::Model;
@@ -21,9 +24,10 @@ use ump_grammar::fields::bits;
 #[repr(C)]
 #[derive(Clone, Copy)]
 pub struct JoinedPart {
-    /// How many bytes were written: those of the exclusive that it ends; where the buffer is too small, how
-    /// many it would have to have.
-    pub length: usize,
+    /// The number of bytes written: those of the exclusive that it ends.
+    pub written: usize,
+    /// After `SmallBuffer`, the size of a buffer that does. Otherwise 0.
+    pub need: usize,
     /// The offset at which the exclusive started that it cuts off.
     pub cut_at: u64,
     /// 1: it is kept. 2: it ends an exclusive. 3: it continues or ends one, and none is begun. 4: it begins
@@ -38,18 +42,32 @@ pub struct JoinedPart {
 }
 
 impl JoinedPart {
-    /// There is no part, and a buffer would have to have this size.
-    pub fn none(size: usize) -> JoinedPart
-        ensures { result ≡ no_part size }
+    /// There is no part.
+    pub fn none() -> JoinedPart
+        ensures { result ≡ no_part }
+    {
+        JoinedPart::needing(0)
+    }
+
+    /// Nothing was taken, since the buffer is too small; one of this size does.
+    pub fn needing(size: usize) -> JoinedPart
+        ensures { result ≡ needing_part size }
     {
         JoinedPart {
-            length: size,
+            written: 0,
+            need: size,
             cut_at: 0,
             answer: 0,
             group: 0,
             stream: 0,
         }
     }
+}
+
+// A part that makes its exclusive longer than the limit.
+#[derive(Clone, Copy)]
+struct TooLong {
+    joined: JoinedPart,
 }
 
 // The part of an 8-bit exclusive in a packet.
@@ -101,23 +119,103 @@ fn reply_number(fed: &Fed8<'_>) -> u8
     }
 }
 
-fn status_of(fed: &Fed8<'_>) -> Status
-    ensures { result ≡ status_of (fed8_view fed.now) }
+// Takes the part of a packet, and writes the exclusive that it ends.
+fn take_part(
+    streams: &mut Streams,
+    part: &Part8,
+    offset: u64,
+    buffer: &mut [u8],
+) -> Result<JoinedPart, TooLong>
+    requires limit { 13 ≤ streams.old.room }
+    requires fits { streams.old.room ≤ length buffer.old }
+    requires short { length part.now.bytes ≤ 13 }
+    ensures reply { Shows (part_reply streams.old part.now offset) buffer.old result buffer.new streams.new }
+    ensures room { streams.new.room ≡ streams.old.room }
 {
-    match *fed {
-        Fed8::TooLong => Status::ExclusiveTooLong,
-        _ => Status::Done,
+    let fed = streams.feed8(part, offset);
+    let joined = JoinedPart {
+        written: put_ended(&fed, buffer),
+        need: 0,
+        cut_at: cut_by(&fed),
+        answer: reply_number(&fed),
+        group: part.group.get(),
+        stream: part.stream,
+    };
+    match fed {
+        Fed8::TooLong => Err(TooLong { joined }),
+        _ => Ok(joined),
     }
+}
+
+// Takes the part of a packet, if it has one.
+fn take(
+    streams: &mut Streams,
+    words: &Words,
+    offset: u64,
+    buffer: &mut [u8],
+) -> Result<JoinedPart, TooLong>
+    requires whole { IsWhole words.now }
+    requires limit { 13 ≤ streams.old.room }
+    requires fits { streams.old.room ≤ length buffer.old }
+    ensures reply { TakesPacket streams.old words.now offset buffer.old result buffer.new streams.new }
+    ensures room { streams.new.room ≡ streams.old.room }
+{
+    match part_in(words) {
+        Some(part) => take_part(streams, &part, offset, buffer),
+        None => Ok(JoinedPart::none()),
+    }
+}
+
+// Takes packets from the front of these words, if an exclusive has at most so many bytes, and returns how
+// far that came.
+fn take_all(
+    streams: &mut Streams,
+    most: usize,
+    words: &[u32],
+    offset: u64,
+    buffer: &mut [u8],
+    parts: &mut [JoinedPart],
+) -> (Status, Block)
+    requires most { most ≡ streams.old.room }
+    requires limit { 13 ≤ streams.old.room }
+    ensures answer { ArePacketsJoined streams.old offset words.now buffer.old parts.old
+        (number_of result.0) result.1 buffer.new parts.new streams.new }
+    ensures room { streams.new.room ≡ streams.old.room }
+{
+    let mut block = Block::nothing();
+    let mut next = offset;
+    while block.taken < words.len() {
+        if block.is_full(buffer.len(), most, parts.len(), 1) {
+            return (Status::SmallBuffer, block);
+        }
+        let count = words_in_packet(words[block.taken]);
+        if words.len() - block.taken < count {
+            return (Status::BadWordCount, block);
+        }
+        let own = Words::from_slice(&words[block.taken..block.taken + count]);
+        match take(streams, &own, next, &mut buffer[block.written..]) {
+            Ok(part) => {
+                parts[block.items] = part;
+                block.add(count, part.written, 1);
+                next = next.wrapping_add(4 * count as u64);
+            }
+            Err(_) => {
+                block.refuse(count);
+                return (Status::ExclusiveTooLong, block);
+            }
+        }
+    }
+    (Status::Done, block)
 }
 
 /// The exclusives that streams have begun, with their limit. A contract sees what each slot holds.
 #[derive(Drop)]
-pub struct Sysex8Joiner {
+pub struct CSysex8 {
     streams: Streams,
     room: u32,
 }
 
-impl Model for Sysex8Joiner {
+impl Model for CSysex8 {
     ghost use Rattle.std.specs.Prelude.{◌≡◌, ◌≤◌};
     ghost use Rattle.sysex8_streams.specs.Table.{Table8};
 
@@ -128,10 +226,10 @@ impl Model for Sysex8Joiner {
     ghost invariant = { λ j. (j.room ≡ j.streams.room) × (13 ≤ j.room) };
 }
 
-impl Sysex8Joiner {
+impl CSysex8 {
     /// This many slots, 1 to 64, all idle, each for an exclusive of `room` bytes, 13 to 1,048,576. All memory
     /// that is ever needed is taken here; `NoMemory` when there isn't that much.
-    pub fn new(alloc: Global, slots: u8, room: u32) -> Result<Sysex8Joiner, NoMemory>
+    pub fn new(alloc: Global, slots: u8, room: u32) -> Result<CSysex8, NoMemory>
         requires some { 1 ≤ slots }
         requires few { slots ≤ 64 }
         requires least { 13 ≤ room }
@@ -139,38 +237,16 @@ impl Sysex8Joiner {
         ensures { IfOk result (λ joiner. joiner ≡ empty_table8 slots room) }
     {
         let streams = Streams::new(alloc, slots, room)?;
-        Ok(Sysex8Joiner { streams, room })
-    }
-
-    // Takes the part of a packet.
-    fn part(
-        &mut self,
-        part: &Part8,
-        offset: u64,
-        buffer: &mut [u8],
-        joined: &mut JoinedPart,
-    ) -> Status
-        requires fits { self.old.room ≤ length buffer.old }
-        requires short { length part.now.bytes ≤ 13 }
-        ensures answer { IsJoined part.now (answer8_to self.old (part_of part.now offset))
-            buffer.old (number_of result) joined.new buffer.new }
-        ensures held { self.new ≡ with_part8 (part_of part.now offset) self.old }
-    {
-        let fed = self.streams.feed8(part, offset);
-        *joined = JoinedPart {
-            length: put_ended(&fed, buffer),
-            cut_at: cut_by(&fed),
-            answer: reply_number(&fed),
-            group: part.group.get(),
-            stream: part.stream,
-        };
-        status_of(&fed)
+        Ok(CSysex8 { streams, room })
     }
 
     /// Takes one packet (M2-104-UM, system exclusive 8-bit messages). The exclusive that it ends is written
-    /// to the front of the buffer. The answer is `BadWordCount` where the words aren't those of one packet,
-    /// and else `SmallBuffer` where the buffer has fewer bytes than the limit; then nothing is taken. A
-    /// packet that has no part of an 8-bit exclusive changes nothing.
+    /// to the front of the buffer. A packet that has no part of an 8-bit exclusive changes nothing.
+    ///
+    /// The status is `SmallBuffer` exactly when the buffer has fewer bytes than the limit of an exclusive,
+    /// and `need` is then that size. Otherwise it is `BadWordCount` when the words aren't those of one
+    /// packet. Nothing is taken in both cases. It is `ExclusiveTooLong` at the part that makes an exclusive
+    /// longer than the limit, which is dropped (own rules).
     pub fn packet(
         &mut self,
         words: &[u32],
@@ -181,26 +257,62 @@ impl Sysex8Joiner {
         ensures { IsPacketJoined self.old words.now offset buffer.old
             (number_of result) joined.new buffer.new self.new }
     {
-        let Some(framed) = framed(words, offset) else {
-            *joined = JoinedPart::none(0);
-            return Status::BadWordCount;
-        };
         let most = self.room as usize;
         if buffer.len() < most {
-            *joined = JoinedPart::none(most);
+            *joined = JoinedPart::needing(most);
             return Status::SmallBuffer;
         }
-        match part_in(&framed.words) {
-            Some(part) => self.part(&part, offset, buffer, joined),
-            None => {
-                *joined = JoinedPart::none(0);
+        let Some(framed) = framed(words, offset) else {
+            *joined = JoinedPart::none();
+            return Status::BadWordCount;
+        };
+        match take(&mut self.streams, &framed.words, offset, buffer) {
+            Ok(taken) => {
+                *joined = taken;
                 Status::Done
+            }
+            Err(refused) => {
+                *joined = refused.joined;
+                Status::ExclusiveTooLong
             }
         }
     }
 
-    /// The offset of the packet that began the exclusive of a stream. The answer is `BadGroup` where the
-    /// group is above 15, and `Nothing` where the stream has none begun.
+    /// Takes packets from the front of these words, each as `packet` does. The exclusives that they end
+    /// follow each other in the buffer, and `parts` has one for each packet. The offset is that of the first
+    /// packet; each word adds 4 to it, modulo 2^64. The block tells how far the call came.
+    ///
+    /// The status is `Done` when all words are taken. It is `SmallBuffer` before a packet for which no part
+    /// is left, or fewer bytes in the rest of the buffer than the limit of an exclusive; `BadWordCount`
+    /// before a last packet whose words aren't all there. `ExclusiveTooLong` ends the call after the packet
+    /// that is refused, which counts as taken (own rules).
+    pub fn packets(
+        &mut self,
+        words: &[u32],
+        offset: u64,
+        buffer: &mut [u8],
+        parts: &mut [JoinedPart],
+        block: &mut Block,
+    ) -> Status
+        ensures { ArePacketsJoined self.old offset words.now buffer.old parts.old
+            (number_of result) block.new buffer.new parts.new self.new }
+    {
+        let most = self.room as usize;
+        let (status, taken) = take_all(&mut self.streams, most, words, offset, buffer, parts);
+        *block = taken;
+        status
+    }
+
+    /// Makes the join as if it were new, with as many slots of the same size: all of them are idle (own
+    /// rule). Takes no memory.
+    pub fn reset(&mut self)
+        ensures { self.new ≡ empty_table8 (length self.old.slots) self.old.room }
+    {
+        self.streams.reset();
+    }
+
+    /// Returns the offset of the packet that began the exclusive of a stream. The status is `BadGroup` when
+    /// the group is above 15, and `Nothing` when the stream has none begun; nothing is written then.
     pub fn begun(&self, group: u8, stream: u8, offset: &mut u64) -> Status
         ensures { IsBegun self.now group stream (number_of result) offset.old offset.new }
     {

@@ -6,18 +6,26 @@ ghost use Rattle.usb_midi1.specs.Packed.{IsApart, events_in, whole_in};
 ghost use Rattle.usb_midi1.specs.Packing.{exclusive_events};
 ghost use Rattle.c_answers.specs.Fronts.{with_front};
 ghost use Rattle.c_answers.specs.Numbers.{number_of};
-ghost use Rattle.c_streams.specs.Outcomes.{IsEnd};
-ghost use Rattle.c_streams.specs.Usb.{HasPacked, IsBytePacked, IsCarried};
+ghost use Rattle.c_streams.specs.Readers.{AreBytesTaken, IsByteTaken, IsEnd};
+ghost use Rattle.c_streams.specs.Usb.{events, longest_events, IsCarried};
 
-use crate::outcome::ByteOutcome;
+use crate::reader::{ByteReader, take_byte, take_bytes};
 use c_answers::laws::exclusives_stay_within_their_limit;
-use c_answers::{ListingLine, Status, put_bytes};
+use c_answers::{Block, ByteOutcome, ListingLine, Status, put_bytes};
 use item_reader::Cut;
 use small_types::{NoMemory, U4};
 use std::alloc::Global;
 use std::marker::Model;
 use usb_midi1::laws::exclusive_events_come_in_order;
 use usb_midi1::{EachEvent, Packed, Packer, carried, exclusive_event, is_reserved};
+
+/// The size of a buffer that takes the events of any message, if exclusives have at most `room` bytes between
+/// F0 and F7: four bytes for each three of theirs, with F0 and F7 (own rule).
+pub fn usb_size(room: u32) -> usize
+    ensures { result ≡ longest_events room }
+{
+    4 * ((room as usize + 4) / 3)
+}
 
 /// What an event carries.
 #[repr(C)]
@@ -31,14 +39,14 @@ pub struct CarriedBytes {
     pub bytes: [u8; 3],
 }
 
-/// Tells the cable of an event of four bytes, and how many of its three places it carries (USB Device Class
-/// Definition for MIDI Devices 1.0, event packets). The answer is `BadWordCount` where there are more or
-/// fewer bytes, and else `Nothing` where its code is reserved.
+/// Returns the cable of an event of four bytes, its three other bytes, and how many of them it carries (USB
+/// Device Class Definition for MIDI Devices 1.0, event packets). The status is `BadSize` when there are more
+/// or fewer bytes, and otherwise `Nothing` when the code is reserved; nothing is written then.
 pub fn split_event(event: &[u8], split: &mut CarriedBytes) -> Status
     ensures { IsCarried event.now (number_of result) split.old split.new }
 {
     if event.len() != 4 {
-        return Status::BadWordCount;
+        return Status::BadSize;
     }
     let (event, _) = EachEvent.item(0, event);
     if is_reserved(&event) {
@@ -86,31 +94,15 @@ fn put_events(packed: Packed<'_>, buffer: &mut [u8]) -> usize
     }
 }
 
-// Shows what comes of a byte.
-fn show(packed: &Packed<'_>, buffer: &mut [u8], outcome: &mut ByteOutcome) -> Status
-    requires apart { IsApart packed.now }
-    requires both_ends { IfSome (whole_in packed.now) (λ whole. 2 ≤ length whole) }
-    requires fits { length (concat (events_in packed.now)) ≤ length buffer.old }
-    ensures { HasPacked packed.now buffer.old (number_of result) outcome.new buffer.new }
-{
-    *outcome = ByteOutcome {
-        taken: 1,
-        length: put_events(*packed, buffer),
-        first: ListingLine::listed(packed.lines.first()),
-        second: ListingLine::listed(packed.lines.second()),
-    };
-    Status::Done
-}
-
 /// A packer of the bytes of one MIDI 1.0 stream into events of one cable
 /// that knows its limit. A contract sees what it holds.
 #[derive(Drop)]
-pub struct UsbPacker {
+pub struct CUsb {
     packer: Packer,
     room: u32,
 }
 
-impl Model for UsbPacker {
+impl Model for CUsb {
     ghost use Rattle.std.specs.Prelude.{◌≡◌, ◌≤◌};
     ghost use Rattle.usb_midi1.specs.Held.{PackerState};
     ghost use Rattle.c_answers.specs.Within.{IsWithin};
@@ -123,22 +115,26 @@ impl Model for UsbPacker {
         × (p.room ≤ 1048576) × IsWithin p.packer.parsing };
 }
 
-impl UsbPacker {
+impl CUsb {
     /// A packer into events of a cable, for exclusives of `room` bytes between F0 and F7, 6 to 1,048,576. All
     /// memory that it ever needs is taken here; `NoMemory` when there isn't that much.
-    pub fn new(alloc: Global, cable: U4, room: u32) -> Result<UsbPacker, NoMemory>
+    pub fn new(alloc: Global, cable: U4, room: u32) -> Result<CUsb, NoMemory>
         requires least { 6 ≤ room }
         requires most { room ≤ 1048576 }
         ensures { IfOk result (λ packer. packer ≡ record { cable = cable; parsing = idle room }) }
     {
         let packer = Packer::new(alloc, cable, room)?;
-        Ok(UsbPacker { packer, room })
+        Ok(CUsb { packer, room })
     }
 
     /// Takes one more byte (USB Device Class Definition for MIDI Devices 1.0, code index numbers). The events
     /// of the message that it completes are written to the front of the buffer, four bytes each, those of an
-    /// exclusive all at once. The answer is `SmallBuffer`, and nothing is taken, exactly where the buffer has
-    /// no room for the events of an exclusive of the limit.
+    /// exclusive all at once. The outcome has the number of bytes written, and the lines of the byte (own
+    /// rules).
+    ///
+    /// The status is `SmallBuffer` exactly when the buffer has no room for the events of an exclusive of the
+    /// limit; nothing is taken then, and `need` is the size that does. It is `ExclusiveTooLong` at the byte
+    /// that makes an exclusive longer than the limit, which is dropped.
     pub fn byte(
         &mut self,
         byte: u8,
@@ -146,26 +142,43 @@ impl UsbPacker {
         buffer: &mut [u8],
         outcome: &mut ByteOutcome,
     ) -> Status
-        ensures { IsBytePacked self.old byte offset buffer.old
+        ensures { IsByteTaken events self.old byte offset buffer.old
             (number_of result) outcome.new buffer.new self.new }
     {
-        let most_packed = 4 * ((self.room as usize + 4) / 3);
-        if buffer.len() < most_packed {
-            *outcome = ByteOutcome::asking(most_packed);
-            return Status::SmallBuffer;
-        }
-        exclusives_stay_within_their_limit();
-        match self.packer.byte(byte, offset) {
-            Ok(packed) => show(&packed, buffer, outcome),
-            Err(_) => {
-                *outcome = ByteOutcome::silent();
-                Status::ExclusiveTooLong
-            }
-        }
+        take_byte(self, byte, offset, buffer, outcome)
     }
 
-    /// The line of what is open, a message or an exclusive, with the offset at which it starts. The answer is
-    /// `Nothing`, and no line is written, exactly where nothing is.
+    /// Takes bytes from the front of these, each as `byte` does. Their events follow each other in the
+    /// buffer, and `outcomes` has an outcome for each byte that completes a message or has a line. The offset
+    /// is that of the first byte; each byte adds 1 to it, modulo 2^64. The block tells how far the call came.
+    ///
+    /// The status is `Done` when all bytes are taken. It is `SmallBuffer` before a byte for which no outcome
+    /// is left, or fewer places in the rest of the buffer than the events of the longest message need.
+    /// `ExclusiveTooLong` ends the call after the byte that is refused, which counts as taken (own rules).
+    pub fn bytes(
+        &mut self,
+        bytes: &[u8],
+        offset: u64,
+        buffer: &mut [u8],
+        outcomes: &mut [ByteOutcome],
+        block: &mut Block,
+    ) -> Status
+        ensures { AreBytesTaken events self.old offset bytes.now buffer.old outcomes.old
+            (number_of result) block.new buffer.new outcomes.new self.new }
+    {
+        take_bytes(self, bytes, offset, buffer, outcomes, block)
+    }
+
+    /// Makes the packer as if it were new, with the same cable and limit: nothing is open, and there is no
+    /// running status (own rule). Takes no memory.
+    pub fn reset(&mut self)
+        ensures { self.new ≡ record { cable = self.old.cable; parsing = idle self.old.parsing.room } }
+    {
+        self.packer.reset();
+    }
+
+    /// Writes the line of what is open, a message or an exclusive, with the offset at which it starts. The
+    /// status is `Nothing`, and no line is written, exactly when nothing is open.
     pub fn end(&self, line: &mut ListingLine) -> Status
         ensures { IsEnd (open_of self.now.parsing) (number_of result) line.old line.new }
     {
@@ -175,6 +188,27 @@ impl UsbPacker {
                 *line = ListingLine::of(listed.kind, listed.offset);
                 Status::Done
             }
+        }
+    }
+}
+
+impl ByteReader for CUsb {
+    ghost reader = { events };
+
+    fn most_written(&self) -> usize {
+        usb_size(self.room)
+    }
+
+    fn take(&mut self, byte: u8, offset: u64, buffer: &mut [u8]) -> Result<ByteOutcome, Status> {
+        exclusives_stay_within_their_limit();
+        match self.packer.byte(byte, offset) {
+            Ok(packed) => Ok(ByteOutcome::of(
+                offset,
+                put_events(packed, buffer),
+                ListingLine::listed(packed.lines.first()),
+                ListingLine::listed(packed.lines.second()),
+            )),
+            Err(_) => Err(Status::ExclusiveTooLong),
         }
     }
 }

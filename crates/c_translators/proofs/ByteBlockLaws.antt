@@ -1,112 +1,169 @@
 -- Bytes that are taken one after another.
-use Rattle.std.proofs.Common.{ℕ, ◌≡◌, ◌≤◌, ◌<◌, ◌+◌, ◌%◌, ◌^◌, ◌∙◌, refl, ap, sym, arith, true, false}
-use Rattle.std.proofs.Common.{List, [], ◌∷◌, ◌++◌, length, take, drop, get_or, Some}
-use Rattle.std.proofs.Math.Seq.{drop-cons}
+use Rattle.std.proofs.Common.{ℕ, ◌≡◌, ◌≤◌, ◌<◌, ◌+◌, ◌*◌, ◌-◌, ◌%◌, ◌^◌, ◌∙◌, refl, ap, sym, subst, arith, false}
+use Rattle.std.proofs.Common.{List, [], ◌∷◌, ◌++◌, length, take, drop}
+use Rattle.std.proofs.lemmas.List.{drop-drop}
 use Rattle.std.specs.Prelude.{slice_index}
-use Rattle.midi_meaning.specs.UpRefusal.{refusal_of_step}
-use Rattle.midi_meaning.specs.declared.listed.BadStep.{BadStep}
-use Rattle.up_translator.specs.Held.{UpState, step_in, up_after}
+use Rattle.up_translator.specs.Held.{KeepsAfter, UpState, step_in, up_after}
+use Rattle.c_answers.specs.Blocks.{is_full, nothing_taken, with_item}
 use Rattle.c_answers.specs.Fronts.{with_front}
-use Rattle.c_answers.specs.Numbers.{number_of}
-use Rattle.c_answers.specs.Refusals.{status_of_step}
-use Rattle.c_answers.specs.Within.{IsWithin}
-use Rattle.c_answers.specs.declared.status.Status.TheVariants as statuses
-use Rattle.c_answers.specs.declared.line.ListingLine.{ListingLine}
-use Rattle.c_translators.specs.Blocks.{is_full, nothing_taken}
-use Rattle.c_translators.specs.ByteBlocks.{AreTaken, bytes, line_list, lines_shown, lines_told}
-use Rattle.c_translators.specs.Up.{IsAccepted, after_refused, most_words}
-use Rattle.c_translators.specs.declared.block.Block.{Block}
-use Rattle.c_translators.specs.declared.raised.RaisedWords.{RaisedWords}
-use Rattle.c_translators.proofs.BlockLaws as laws
-use Rattle.c_translators.proofs.FrontLaws.{written_behind}
+use Rattle.c_answers.specs.Outcomes.{items_of}
+use Rattle.c_answers.specs.Within.{ExclusivesStayWithinTheirLimit}
+use Rattle.c_answers.specs.declared.block.Block.{Block}
+use Rattle.c_answers.specs.declared.status.Status.{Status}
+use Rattle.c_answers.specs.declared.outcome.ByteOutcome.{ByteOutcome}
+use Rattle.c_translators.specs.ByteBlocks.{RefusesByte, TakesByte, TakesRun, bytes}
+use Rattle.c_translators.specs.Up.{IsAccepted, IsSound, most_words, outcome_shown}
+use Rattle.c_answers.proofs.BlockLaws as laws
+use Rattle.c_answers.proofs.FrontLaws.{written_behind}
+use Rattle.c_translators.proofs.UpLaws.{refused_after, sound_after, stays_within}
 
--- a buffer that was large enough stays so, and an exclusive within its limit
+-- the first of some bytes, as the list of one
+pub first_byte : (bytes : List ℕ) → 0 < length bytes → take 1 bytes ≡ slice_index bytes 0 ∷ []
+first_byte [] some = absurd (omega (arith, some))
+first_byte (byte ∷ more) some = refl
+
+-- the first of the bytes at the front, and the others
+first_of : (byte : ℕ) (more all : List ℕ) → byte ∷ more ≡ take (length (byte ∷ more)) all → byte ∷ [] ≡ take 1 all
+first_of byte more [] is = absurd (omega (arith, ap length is))
+first_of byte more (first ∷ all) is = ap (take 1) is
+
+rest_of : (byte : ℕ) (more all : List ℕ) → byte ∷ more ≡ take (length (byte ∷ more)) all → more ≡ take (length more) (drop 1 all)
+rest_of byte more [] is = absurd (omega (arith, ap length is))
+rest_of byte more (first ∷ all) is = ap (drop 1) is
+
+-- a byte that is accepted is taken with its item
+pub byte_taken : (up : UpState) (byte offset : ℕ) (old : List ℕ) (outcome : ByteOutcome) (new : List ℕ) (after : UpState)
+    (accepted : IsAccepted up byte offset old outcome new) → after ≡ up_after up offset byte →
+    TakesByte up offset (byte ∷ []) accepted.written.words.words (items_of outcome) after
+byte_taken up byte offset old outcome new after accepted after_is =
+    record {
+      byte = byte;
+      raised = accepted.raised;
+      accepts = accepted.accepts;
+      keeps = accepted.keeps;
+      encoded = accepted.written.words.encoded;
+      bytes_are = refl;
+      outcomes_are = ap items_of (accepted.written.shown
+          ∙ ap (λ n. outcome_shown offset n accepted.raised) accepted.written.words.count_is);
+      after_is = after_is;
+    }
+
+-- ---- so far
+
+-- a buffer that was large enough stays so, and the translator sound
 abbrev pub Stays : UpState → UpState → Type 0
-Stays up held = (most_words held ≡ most_words up) × IsWithin held.parsing
+Stays up held = (most_words held ≡ most_words up) × IsSound held
 
-abbrev pub AreSoFar : UpState → ℕ → List ℕ → List ℕ → List ListingLine → Block → ℕ → UpState → List ℕ → List ListingLine → Type 0
-AreSoFar up offset taken old old_lines block next now words lines =
-    laws.AreSoFar bytes (Stays up) up offset taken old old_lines block next now words lines
+abbrev pub AreSoFar : UpState → ℕ → List ℕ → List ℕ → List ByteOutcome → Block → ℕ → UpState → List ℕ → List ByteOutcome → Type 0
+AreSoFar up offset input old old_outcomes block next now words outcomes =
+    laws.AreSoFar bytes (Stays up) up offset input old old_outcomes block next now words outcomes
 
-pub none_yet : (up : UpState) (offset : ℕ) (taken old : List ℕ) (old_lines : List ListingLine) → IsWithin up.parsing
-    → AreSoFar up offset taken old old_lines nothing_taken offset up old old_lines
-none_yet up offset taken old old_lines within = laws.none_yet bytes (Stays up) up offset taken old old_lines (refl, within)
+pub none_yet : (up : UpState) (offset : ℕ) (input old : List ℕ) (old_outcomes : List ByteOutcome) → IsSound up
+    → AreSoFar up offset input old old_outcomes nothing_taken offset up old old_outcomes
+none_yet up offset input old old_outcomes sound = laws.none_yet bytes (Stays up) up offset input old old_outcomes (refl, sound)
 
--- the next byte, as the list of one
-pub byte_taken : (taken : List ℕ) (k : ℕ) → k < length taken → get_or taken k 0 ∷ [] ≡ take 1 (drop k taken)
-byte_taken taken k some = sym (ap (take 1) (drop-cons taken k 0 some))
+-- a byte keeps what stays
+stays_after : ExclusivesStayWithinTheirLimit → (up now : UpState) (offset byte : ℕ) (after : UpState) → Stays up now
+    → KeepsAfter now.holding (step_in now offset byte) → after ≡ up_after now offset byte → Stays up after
+stays_after law up now offset byte after stays keeps is =
+    subst (Stays up) (sym is) (
+      (stays_within law now offset byte stays.1.within).0 ∙ stays.0,
+      sound_after law now offset byte stays.1 keeps,
+    )
 
--- the lines that are shown of what is raised
-same_lines : (up : UpState) (byte offset : ℕ) (old : List ℕ) (shown : RaisedWords) (new : List ℕ)
-    (taken : IsAccepted up byte offset old shown new) →
-    lines_shown shown ≡ lines_told taken.raised
-same_lines up byte offset old shown new taken = λ i. line_list (taken.written.first i) ++ line_list (taken.written.second i)
+module _ (law : ExclusivesStayWithinTheirLimit) (up : UpState) (offset : ℕ) (input old : List ℕ) (old_outcomes : List ByteOutcome) where
+  -- one more byte, with what it writes in both buffers
+  one_more : (block : Block) (next : ℕ) (now : UpState) (words : List ℕ) (outcomes : List ByteOutcome)
+      (are : AreSoFar up offset input old old_outcomes block next now words outcomes) (byte : ℕ) (put : List ℕ)
+      (items : List ByteOutcome) (rest : List ℕ) (rest_items : List ByteOutcome) (after : UpState)
+      → byte ∷ [] ≡ take 1 (drop block.taken input) → 1 ≤ length input - block.taken →
+      is_full bytes old old_outcomes are.progress ≡ false → TakesByte now next (byte ∷ []) put items after → Stays up after →
+      rest ≡ with_front put (drop block.written words) → rest_items ≡ with_front items (drop block.items outcomes) →
+      AreSoFar up offset input old old_outcomes (with_item block 1 (length put) (length items)) ((next + 1) % 2 ^ 64) after
+      (take block.written words ++ rest) (take block.items outcomes ++ rest_items)
+  one_more block next now words outcomes are byte put items rest rest_items after byte_is some full takes stays rest_is items_is =
+      let told : block.items ≡ length are.progress.items = ap (λ (b : Block). b.items) are.block_is in
+      laws.one_more bytes (Stays up) up offset input old old_outcomes block next now words outcomes are (byte ∷ []) put items (length put) rest
+      (take block.items outcomes ++ rest_items) after byte_is (omega (arith, some)) full refl takes refl rest_is
+      (written_behind are.progress.items items old_outcomes outcomes rest_items block.items told are.items_are items_is) stays
 
-module _ (up : UpState) (offset : ℕ) (taken old : List ℕ) (old_lines : List ListingLine) (block : Block) (next : ℕ) (now : UpState)
-    (words : List ℕ) (lines : List ListingLine)
-    (are : AreSoFar up offset taken old old_lines block next now words lines) where
-  -- one more byte, whose words and lines are written behind those before them
-  pub one_more : (byte : ℕ) (shown : RaisedWords) (rest : List ℕ) (more_lines : List ListingLine) (after : UpState)
-      → block.taken < length taken → byte ∷ [] ≡ take 1 (drop block.taken taken) →
-      IsAccepted now byte next (drop block.written words) shown rest → more_lines ≡ with_front (lines_shown shown) (drop block.listed lines)
-      → after ≡ up_after now next byte → Stays up after →
-      AreSoFar up offset taken old old_lines
-      (record {
+  -- the bytes that a call takes at once
+  pub run_more : (run : List ℕ) (block : Block) (next : ℕ) (now : UpState) (words : List ℕ) (outcomes : List ByteOutcome)
+      → AreSoFar up offset input old old_outcomes block next now words outcomes → (put : List ℕ) (items : List ByteOutcome) (rest : List ℕ)
+      (rest_items : List ByteOutcome) (after : UpState)
+      → run ≡ take (length run) (drop block.taken input) → length run ≤ length input - block.taken →
+      (1 < length run → next + length run < 2 ^ 64) → 0 < length run → most_words now ≤ length old - block.written →
+      1 ≤ length old_outcomes - block.items → TakesRun now next run put items after →
+      rest ≡ with_front put (drop block.written words) → rest_items ≡ with_front items (drop block.items outcomes) →
+      AreSoFar up offset input old old_outcomes (with_item block (length run) (length put) (length items))
+      ((next + length run) % 2 ^ 64) after (take block.written words ++ rest) (take block.items outcomes ++ rest_items)
+  run_more [] block next now words outcomes are put items rest rest_items after run_is there wrap some room item_room takes rest_is items_is =
+      absurd (omega (arith, some))
+  run_more (byte ∷ []) block next now words outcomes are put items rest rest_items after run_is there wrap some room item_room takes rest_is
+      items_is =
+      let full = laws.room_left bytes (Stays up) up offset input old old_outcomes block next now words outcomes are room item_room in
+      one_more block next now words outcomes are byte put items rest rest_items after run_is (omega (arith, there)) full takes
+      (stays_after law up now next takes.byte after are.keeps takes.keeps takes.after_is) rest_is items_is
+  run_more (byte ∷ second ∷ more) block next now words outcomes are put items rest rest_items after run_is there wrap some room item_room
+      takes rest_is items_is =
+      let full = laws.room_left bytes (Stays up) up offset input old old_outcomes block next now words outcomes are room item_room in
+      let silent = takes.0 in
+      let mid : UpState = up_after now next byte in
+      let stays = stays_after law up now next silent.byte mid are.keeps silent.keeps silent.after_is in
+      let first = first_of byte (second ∷ more) (drop block.taken input) run_is in
+      let one : 1 ≤ length input - block.taken = omega (arith, there) in
+      let step =
+      laws.one_silent bytes (Stays up) up offset input old old_outcomes block next now words outcomes are (byte ∷ []) mid first one full refl
+      silent stays in
+      let block1 : Block = record {
         taken = block.taken + 1;
-        written = block.written + shown.words;
-        listed = block.listed + length (lines_shown shown);
+        written = block.written;
+        items = block.items;
+        refused = block.refused;
         need = block.need;
-      })
-      ((next + 1) % 2 ^ 64) after (take block.written words ++ rest) (take block.listed lines ++ more_lines)
-  one_more byte shown rest more_lines after some byte_is accepted lines_is after_is stays =
-      let told = lines_told accepted.raised in
-      let shown_are : lines_shown shown ≡ told = same_lines now byte next (drop block.written words) shown rest accepted in
-      let listed : block.listed ≡ length are.progress.listed = ap (λ (b : Block). b.listed) are.block_is in
-      let rows = written_behind are.progress.listed (lines_shown shown) old_lines lines more_lines block.listed listed are.rows_are lines_is in
-      laws.one_more bytes (Stays up) up offset taken old old_lines block next now words lines are (byte ∷ []) accepted.written.words.words
-      (lines_shown shown) (take block.listed lines ++ more_lines) shown.words rest after byte_is (omega (arith, some))
+        need_items = block.need_items;
+      } in
+      let e_written : block.written + 0 ≡ block.written = omega arith in
+      let e_items : block.items + 0 ≡ block.items = omega arith in
+      let same1 : with_item block 1 0 0 ≡ block1 = λ i. record {
+        taken = block.taken + 1;
+        written = e_written i;
+        items = e_items i;
+        refused = block.refused;
+        need = block.need;
+        need_items = block.need_items;
+      } in
+      let within : next + length (byte ∷ second ∷ more) < 2 ^ 64 = wrap (omega arith) in
+      let at : (next + 1 * 1) % 2 ^ 64 ≡ next + 1 = omega (arith, within) in
+      let are1 : AreSoFar up offset input old old_outcomes block1 (next + 1) mid words outcomes =
+      subst (λ n. AreSoFar up offset input old old_outcomes block1 n mid words outcomes) at
+      (subst (λ b. AreSoFar up offset input old old_outcomes b ((next + 1 * 1) % 2 ^ 64) mid words outcomes) same1 step) in
+      let run1 : second ∷ more ≡ take (length (second ∷ more)) (drop (block.taken + 1) input) =
+      rest_of byte (second ∷ more) (drop block.taken input) run_is
+      ∙ ap (take (length (second ∷ more))) (drop-drop 1 block.taken input) in
+      let room1 : most_words mid ≤ length old - block.written = omega (arith, room, stays.0, are.keeps.0) in
+      let all =
+      run_more (second ∷ more) block1 (next + 1) mid words outcomes are1 put items rest rest_items after run1 (omega (arith, there))
+      (λ longer. omega (arith, within)) (omega arith) room1 item_room takes.1 rest_is items_is in
+      let e_taken : block.taken + 1 + length (second ∷ more) ≡ block.taken + length (byte ∷ second ∷ more) = omega arith in
+      let e_next : next + 1 + length (second ∷ more) ≡ next + length (byte ∷ second ∷ more) = omega arith in
+      let S : ℕ → ℕ → Type 0 =
+      λ t n. AreSoFar up offset input old old_outcomes
       (record {
-        byte = byte;
-        raised = accepted.raised;
-        accepts = accepted.accepts;
-        encoded = accepted.written.words.encoded;
-        bytes_are = refl;
-        lines_are = shown_are;
-        after_is = after_is;
+        taken = t;
+        written = block.written + length put;
+        items = block.items + length items;
+        refused = block.refused;
+        need = block.need;
+        need_items = block.need_items;
       })
-      accepted.written.words.count_is accepted.written.words.front rows stays
+      (n % 2 ^ 64) after (take block.written words ++ rest) (take block.items outcomes ++ rest_items) in
+      subst (λ t. S t (next + length (byte ∷ second ∷ more))) e_taken
+      (subst (λ n. S (block.taken + 1 + length (second ∷ more)) n) e_next all)
 
-  -- all bytes are taken
-  pub ends_done : length taken ≤ block.taken → AreTaken up offset taken old old_lines (number_of statuses.Done) block words lines now
-  ends_done = laws.ends_done bytes (Stays up) up offset taken old old_lines block next now words lines are
-
-  -- a buffer may be too small for one more
-  pub ends_full : (most : ℕ) → block.taken < length taken → is_full bytes up old old_lines are.progress ≡ true → most ≡ most_words now →
-      AreTaken up offset taken old old_lines (number_of statuses.SmallBuffer)
-      (record { taken = block.taken; written = block.written; listed = block.listed; need = most }) words lines now
-  ends_full = laws.ends_full bytes (Stays up) up offset taken old old_lines block next now words lines are
-
-  -- the next byte is refused
-  pub ends_refused : (byte : ℕ) (why : BadStep) (status : ℕ) (after : UpState) → block.taken < length taken
-      → is_full bytes up old old_lines are.progress ≡ false →
-      byte ≡ slice_index (drop block.taken taken) 0 → status ≡ number_of (status_of_step why)
-      → refusal_of_step (step_in now next byte) ≡ Some why →
-      after ≡ after_refused now next byte →
-      AreTaken up offset taken old old_lines status
-      (record { taken = block.taken + 1; written = block.written; listed = block.listed; need = block.need }) words lines after
-  ends_refused byte why status after some full byte_is answer refused after_is =
-      laws.ends_stopped bytes (Stays up) up offset taken old old_lines block next now words lines are status
-      (record { taken = block.taken + 1; written = block.written; listed = block.listed; need = block.need }) after some full
-      (λ first more is.
-      let same : byte ≡ first = byte_is ∙ ap (λ rest. slice_index rest 0) is in (
-        why,
-        answer,
-        (λ i. record {
-          taken = (are.block_is i).taken + 1;
-          written = (are.block_is i).written;
-          listed = (are.block_is i).listed;
-          need = (are.block_is i).need;
-        }),
-        (λ i. refusal_of_step (step_in (sym are.left i) (sym are.next_is i) (sym same i))) ∙ refused,
-        after_is ∙ (λ i. after_refused (are.left i) (are.next_is i) (same i)),
-      ))
+-- a byte that is refused keeps what stays
+pub refused_keeps : ExclusivesStayWithinTheirLimit → (up now : UpState) (offset : ℕ) (own : List ℕ) (why : Status) (after : UpState)
+    → Stays up now → RefusesByte now offset own why after → Stays up after
+refused_keeps law up now offset own why after stays refuses =
+    stays_after law up now offset refuses.byte after stays refuses.keeps
+    (refuses.after_is ∙ sym (refused_after now offset refuses.byte refuses.step refuses.refused))

@@ -22,7 +22,9 @@ use Rattle.midi_meaning.specs.Parts.{group_of}
 use Rattle.midi_meaning.specs.Refusal.{bad_role, bad_voice1, bad_voice2}
 use Rattle.down_translator.specs.Held.{DownState, bad_answer, down_after, refusal_in, unless_refused, whole_in}
 use Rattle.down_translator.specs.KeptLanes.{lane_written, lanes_after}
+use Rattle.c_answers.specs.Fronts.{with_front}
 use Rattle.c_answers.specs.Whole.{is_whole}
+use Rattle.c_answers.proofs.FrontLaws.{nothing_in_front}
 use Rattle.c_answers.specs.declared.status.Status.{Status}
 use Rattle.c_answers.specs.declared.status.Status.TheVariants as statuses
 use Rattle.c_answers.specs.Numbers.{number_of}
@@ -148,7 +150,7 @@ refused_keeps bad.DataDecrement group state = refl
 refused_keeps bad.ExclusiveTooLong None state = refl
 refused_keeps bad.ExclusiveTooLong (Some group) state = refl
 
-refuses_keeps : (whole : Bool) (reason : Option Bad) (state : DownState) (words : List ℕ) (why : Status) (after : DownState) →
+pub refuses_keeps : (whole : Bool) (reason : Option Bad) (state : DownState) (words : List ℕ) (why : Status) (after : DownState) →
     Refuses whole reason state words why after → most_bytes after ≡ most_bytes state
 refuses_keeps true None state words why after r = ap most_bytes r.held ∙ refused_keeps r.step (group_of r.packet) state
 refuses_keeps true (Some bad) state words why after r = ap most_bytes r.1
@@ -158,3 +160,9 @@ pub taken_keeps : (state : DownState) (offset : ℕ) (words old : List ℕ) (res
     IsTakenOrRefused state offset words old result new after → most_bytes after ≡ most_bytes state
 taken_keeps state offset words old (Ok piece) new after t = ap most_bytes t.1.held ∙ most_stays offset t.0 state
 taken_keeps state offset words old (Err why) new after t = refuses_keeps (is_whole words) (reason words) state words why after t.0
+
+-- ---- nothing is put
+
+-- nothing at the front leaves a buffer
+pub nothing_put : (front old : List ℕ) → length front ≡ 0 → old ≡ with_front front old
+nothing_put front old none = nothing_in_front front old none

@@ -17,7 +17,7 @@ use Rattle.ump_grammar.specs.Reading.{Encodes}
 use Rattle.ump_grammar.specs.declared.packet.Packet.{Packet}
 use Rattle.c_answers.specs.Fronts.{with_front}
 use Rattle.c_translators.specs.Encoded.{AreEncoded, EncodesAll}
-use Rattle.c_translators.proofs.FrontLaws.{then_front}
+use Rattle.c_answers.proofs.FrontLaws.{then_front}
 
 -- one more packet
 pub one_more : (packets : List Packet) (words : List ℕ) (packet : Packet) (own : List ℕ) → EncodesAll packets words → Encodes packet own →

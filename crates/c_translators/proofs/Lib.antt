@@ -1,10 +1,9 @@
-pub mod BlockLaws
-pub mod ByteBlockLaws
 pub mod PacketBlockLaws
 pub mod DownLaws
 pub mod EncodedLaws
 pub mod ExclusiveLaws
-pub mod FrontLaws
 pub mod DirectLaws
 pub mod PieceFits
 pub mod UpLaws
+pub mod RunLaws
+pub mod ByteBlockLaws

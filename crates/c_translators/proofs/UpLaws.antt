@@ -3,7 +3,7 @@ use Rattle.std.proofs.Common.{ℕ, ◌≡◌, ◌≤◌, ◌*◌, ◌∙◌, ref
 use Rattle.std.proofs.Math.Nat.{le-max_left, le-max_right}
 use Rattle.std.proofs.lemmas.Bool.{le-ltb}
 use Rattle.std.proofs.lemmas.Grind.{div_ceil_times}
-use Rattle.std.specs.Prelude.{is_none, max, ◌&&◌, Ok, Err}
+use Rattle.std.specs.Prelude.{is_none, max, ◌&&◌, Result, Ok, Err}
 use Rattle.std.specs.Int.{div_ceil}
 use Rattle.voice_messages.specs.declared.voice1.Voice1.TheVariants as voice1
 use Rattle.midi1_bytes.specs.declared.step.AfterCut.TheVariants as after
@@ -19,7 +19,7 @@ use Rattle.midi_meaning.specs.declared.listed.BadStep.{BadStep}
 use Rattle.midi_meaning.specs.declared.listed.Listed.{Listed}
 use Rattle.up_translator.specs.ByteLines.{first_in, has_none, second_in}
 use Rattle.up_translator.specs.Raised.{packets_in}
-use Rattle.up_translator.specs.Held.{UpState, holding_after_step, step_in, up_after}
+use Rattle.up_translator.specs.Held.{KeepsAfter, UpState, holding_after_step, state_after, step_in, up_after}
 use Rattle.up_translator.specs.Step.{Accepts, payload_by}
 use Rattle.up_translator.specs.declared.raised.Raised.{Raised}
 use Rattle.c_answers.specs.Within.{CompletesWithin, ExclusivesStayWithinTheirLimit, IsWithin}
@@ -28,9 +28,10 @@ use Rattle.c_answers.specs.Numbers.{number_of}
 use Rattle.c_translators.specs.Encoded.{AreEncoded}
 use Rattle.c_answers.specs.Refusals.{status_of_step}
 use Rattle.c_answers.specs.declared.status.Status.TheVariants as statuses
-use Rattle.c_translators.specs.Up.{CutsWithin, HasRaised, IsAccepted, IsAnswered, RaisesWithin}
-use Rattle.c_translators.specs.Up.{after_refused, answers, asking, most_words, nothing_raised}
-use Rattle.c_translators.specs.declared.raised.RaisedWords.{RaisedWords}
+use Rattle.c_answers.specs.Outcomes.{outcome_of}
+use Rattle.c_answers.specs.declared.outcome.ByteOutcome.{ByteOutcome}
+use Rattle.c_translators.specs.Up.{CutsWithin, HasRaised, IsAccepted, IsAnswered, IsRefused, IsSound, IsTakenOrRefused, RaisesWithin}
+use Rattle.c_translators.specs.Up.{after_refused, answers, most_words}
 
 -- ---- the limit
 
@@ -108,6 +109,18 @@ pub refused_after : (up : UpState) (offset byte : ℕ) (why : BadStep) → refus
 refused_after up offset byte why is =
     ap (λ holding. record (after_refused up offset byte) { holding = holding }) (step_keeps (step_in up offset byte) up.holding why is)
 
+-- ---- between two bytes
+
+pub sound_after : ExclusivesStayWithinTheirLimit → (up : UpState) (offset byte : ℕ) → IsSound up
+    → KeepsAfter up.holding (step_in up offset byte) → IsSound (up_after up offset byte)
+sound_after law up offset byte sound keeps =
+    record {
+      below = sound.below;
+      within = (stays_within law up offset byte sound.within).1;
+      state = state_after up.holding.paired sound.state (completed_by (step_in up offset byte));
+      keeps = keeps sound.state sound.keeps;
+    }
+
 -- ---- what is shown
 
 no_lines : (first second : Option Listed) → is_none first && is_none second ≡ true
@@ -117,29 +130,34 @@ no_lines None (Some second) none = absurd (let e = none in cc)
 no_lines (Some first) second none = absurd (let e = none in cc)
 
 -- a byte that has no line
-pub shows_alone : (raised : Raised) (old new : List ℕ) (count : ℕ) → AreEncoded (packets_in raised) old count new
+pub shows_alone : (raised : Raised) (offset : ℕ) (old new : List ℕ) (count : ℕ) → AreEncoded (packets_in raised) old count new
     → has_none raised.lines ≡ true →
-    HasRaised raised old (asking count) new
-shows_alone raised old new count encoded none =
+    HasRaised raised offset old (outcome_of offset count no_line no_line) new
+shows_alone raised offset old new count encoded none =
     let lines = no_lines (first_in raised.lines) (second_in raised.lines) none in
-    record { words = encoded; first = lines.0; second = lines.1 }
+    record { words = encoded; shown = λ i. outcome_of offset count (lines.0 i) (lines.1 i) }
 
 -- ---- the call
 
-pub answered : (up : UpState) (byte offset : ℕ) (old : List ℕ) (shown : RaisedWords) (new : List ℕ) (after : UpState)
+pub answered : (up : UpState) (byte offset : ℕ) (old : List ℕ) (outcome : ByteOutcome) (new : List ℕ) (after : UpState)
     → most_words up ≤ length old →
-    IsAccepted up byte offset old shown new → after ≡ up_after up offset byte
-    → IsAnswered up byte offset old (number_of statuses.Done) shown new after
-answered up byte offset old shown new after fits taken left =
-    subst (λ small. answers small up byte offset old (number_of statuses.Done) shown new after)
+    IsAccepted up byte offset old outcome new → after ≡ up_after up offset byte
+    → IsAnswered up byte offset old (number_of statuses.Done) outcome new after
+answered up byte offset old outcome new after fits taken left =
+    subst (λ small. answers small up byte offset old (number_of statuses.Done) outcome new after)
     (sym (le-ltb (length old) (most_words up) fits))
-    (Ok shown, taken, left, (refl, refl))
+    (Ok tt, taken, refl, left)
 
-pub refused : (up : UpState) (byte offset : ℕ) (old : List ℕ) (why : BadStep) (status : ℕ) (new : List ℕ) (after : UpState)
-    → most_words up ≤ length old →
-    refusal_of_step (step_in up offset byte) ≡ Some why → new ≡ old → status ≡ number_of (status_of_step why)
-    → after ≡ up_after up offset byte →
-    IsAnswered up byte offset old status nothing_raised new after
-refused up byte offset old why status new after fits is same answer left =
-    subst (λ small. answers small up byte offset old status nothing_raised new after) (sym (le-ltb (length old) (most_words up) fits))
-    (Err why, (is, same), left ∙ refused_after up offset byte why is, (answer, refl))
+pub refused : (up : UpState) (byte offset : ℕ) (old : List ℕ) (why : BadStep) (status : ℕ) (outcome : ByteOutcome) (new : List ℕ)
+    (after : UpState) → most_words up ≤ length old →
+    IsRefused up byte offset old why outcome new → status ≡ number_of (status_of_step why) → after ≡ up_after up offset byte →
+    IsAnswered up byte offset old status outcome new after
+refused up byte offset old why status outcome new after fits taken answer left =
+    subst (λ small. answers small up byte offset old status outcome new after) (sym (le-ltb (length old) (most_words up) fits))
+    (Err why, taken, answer, left ∙ refused_after up offset byte why taken.refused)
+
+-- what is kept is kept after it, whether the byte is refused or not
+pub result_keeps : (up : UpState) (byte offset : ℕ) (old : List ℕ) (result : Result (Unit {0}) BadStep) (outcome : ByteOutcome) (new : List ℕ) →
+    IsTakenOrRefused up byte offset old result outcome new → KeepsAfter up.holding (step_in up offset byte)
+result_keeps up byte offset old (Ok done) outcome new taken = taken.keeps
+result_keeps up byte offset old (Err why) outcome new taken = taken.keeps

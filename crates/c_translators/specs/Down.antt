@@ -12,21 +12,22 @@ use Rattle.midi_meaning.specs.declared.listed.BadStep.TheVariants as bad
 use Rattle.midi_meaning.specs.Listing.{is_carried, listed}
 use Rattle.midi_meaning.specs.Parts.{group_of}
 use Rattle.down_translator.specs.Held.{DownState, begun_at_in, down_after, limit_of, paired_of, refusal_in, whole_in}
-use Rattle.down_translator.specs.Lowered.{IsDirectStep}
 use Rattle.down_translator.specs.Step.{lane_of, piece_of}
-use Rattle.down_translator.specs.declared.lowered.LoweredMessage.{LoweredMessage}
 use Rattle.c_answers.specs.Fronts.{with_front}
 use Rattle.c_answers.specs.Numbers.{number_of}
 use Rattle.c_answers.specs.Refusals.{status_of_bad, status_of_step}
 use Rattle.c_answers.specs.Whole.{is_whole}
 use Rattle.c_answers.specs.declared.status.Status.{Status}
 use Rattle.c_answers.specs.declared.status.Status.TheVariants as statuses
-use Rattle.c_translators.specs.Pieces.{asking, empty_piece, piece_shown}
+use Rattle.c_translators.specs.Pieces.{needing, no_piece, piece_shown}
 use Rattle.c_translators.specs.declared.piece.Piece.{Piece}
 
--- The size of a buffer that takes the piece of any packet: an exclusive of the limit with its F0 and F7, or else four messages.
+-- The size of a buffer that takes the piece of any packet: an exclusive of this limit with its F0 and F7, or else four messages.
+abbrev pub most_bytes_of : ℕ → ℕ
+most_bytes_of room = max (room + 2) 12
+
 abbrev pub most_bytes : DownState → ℕ
-most_bytes state = max (limit_of state + 2) 12
+most_bytes state = most_bytes_of (limit_of state)
 
 -- ---- one packet
 
@@ -108,20 +109,16 @@ IsTakenOrRefused state offset words old (Ok piece) new after =
 IsTakenOrRefused state offset words old (Err why) new after =
     Refuses (is_whole words) (reason words) state words why after × (new ≡ old)
 
--- these words are of a packet that one message carries
-abbrev pub IsLowered : DownState → List ℕ → LoweredMessage → Type 0
-IsLowered state words message = (packet : Packet) × Reads words packet × IsDirectStep state packet message
-
 -- ---- the call
 
 -- the status and the piece of a packet that is taken, or refused
 abbrev pub Shows : Result Piece Status → ℕ → Piece → Type 0
 Shows (Ok shown) status piece = (status ≡ number_of statuses.Done) × (piece ≡ shown)
-Shows (Err why) status piece = (status ≡ number_of why) × (piece ≡ empty_piece)
+Shows (Err why) status piece = (status ≡ number_of why) × (piece ≡ no_piece)
 
 abbrev pub answers : Bool → DownState → ℕ → List ℕ → List ℕ → ℕ → Piece → List ℕ → DownState → Type 0
 answers true state offset words old status piece new after =
-    (status ≡ number_of statuses.SmallBuffer) × (piece ≡ asking (most_bytes state)) × (new ≡ old) × (after ≡ state)
+    (status ≡ number_of statuses.SmallBuffer) × (piece ≡ needing (most_bytes state)) × (new ≡ old) × (after ≡ state)
 answers false state offset words old status piece new after =
     (result : Result Piece Status) × IsTakenOrRefused state offset words old result new after × Shows result status piece
 

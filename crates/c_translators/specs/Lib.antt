@@ -1,4 +1,3 @@
-pub mod Blocks
 pub mod ByteBlocks
 pub mod Down
 pub mod Encoded

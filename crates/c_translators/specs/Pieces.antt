@@ -4,13 +4,13 @@ use Rattle.midi_meaning.specs.declared.listed.Listed.{Listed}
 use Rattle.c_answers.specs.Numbers.{kind_number}
 use Rattle.c_translators.specs.declared.piece.Piece.{Piece}
 
--- nothing was taken, and a buffer would have to have this size
-abbrev pub asking : ℕ → Piece
-asking size = record { length = size; offset = 0; lane = 0; kind = 0; group = 255 }
+-- nothing was taken, since the buffer is short; one of this size does
+abbrev pub needing : ℕ → Piece
+needing size = record { written = 0; need = size; offset = 0; lane = 0; kind = 0; group = 255 }
 
 -- no bytes and no line
-abbrev pub empty_piece : Piece
-empty_piece = asking 0
+abbrev pub no_piece : Piece
+no_piece = needing 0
 
 abbrev pub group_shown : Option ℕ → ℕ
 group_shown None = 255
@@ -18,6 +18,6 @@ group_shown (Some group) = group
 
 -- so many bytes in a lane, and a line
 abbrev pub piece_shown : ℕ → ℕ → Option Listed → Piece
-piece_shown count lane None = record { length = count; offset = 0; lane = lane; kind = 0; group = 255 }
+piece_shown count lane None = record { written = count; need = 0; offset = 0; lane = lane; kind = 0; group = 255 }
 piece_shown count lane (Some line) =
-    record { length = count; offset = line.offset; lane = lane; kind = kind_number line.kind; group = group_shown line.group }
+    record { written = count; need = 0; offset = line.offset; lane = lane; kind = kind_number line.kind; group = group_shown line.group }

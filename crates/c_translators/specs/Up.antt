@@ -1,35 +1,36 @@
 -- What the translator up answers a caller with a buffer of its own.
-use Rattle.std.specs.Prelude.{◌≡◌, ◌≤◌, ◌*◌, nat_lt, max, ℕ, Bool, true, false, List, length, Option, Some, None, Result, Ok, Err}
+use Rattle.std.specs.Prelude.{◌≡◌, ◌<◌, ◌≤◌, ◌*◌, nat_lt, max, ℕ, Bool, true, false, List, length, Option, Some, None, Result, Ok, Err}
 use Rattle.std.specs.Int.{div_ceil}
 use Rattle.midi1_bytes.specs.Parsing.{open_of, parse}
 use Rattle.midi1_bytes.specs.Stream.{Open}
 use Rattle.sysex_groups.specs.Cut.{part_count}
+use Rattle.param_collector.specs.Keeps.{Keeps}
+use Rattle.midi_meaning.specs.State.{GroupState}
 use Rattle.midi_meaning.specs.StepListing.{open_kind}
 use Rattle.midi_meaning.specs.UpRefusal.{refusal_of_step}
 use Rattle.midi_meaning.specs.declared.listed.BadStep.{BadStep}
 use Rattle.up_translator.specs.ByteLines.{first_in, second_in}
-use Rattle.up_translator.specs.Held.{UpState, step_in, up_after}
+use Rattle.up_translator.specs.Held.{KeepsAfter, UpState, step_in, up_after}
 use Rattle.up_translator.specs.Raised.{packets_in, payload_in}
 use Rattle.up_translator.specs.Step.{Accepts}
 use Rattle.up_translator.specs.declared.raised.Raised.{Raised}
-use Rattle.c_answers.specs.Lines.{line_of, listed_line, no_line}
+use Rattle.c_answers.specs.Lines.{line_of, listed_line}
 use Rattle.c_answers.specs.Numbers.{number_of}
+use Rattle.c_answers.specs.Outcomes.{empty_outcome, needing, outcome_of}
 use Rattle.c_answers.specs.Refusals.{status_of_step}
+use Rattle.c_answers.specs.Within.{IsWithin}
 use Rattle.c_answers.specs.declared.line.ListingLine.{ListingLine}
+use Rattle.c_answers.specs.declared.outcome.ByteOutcome.{ByteOutcome}
+use Rattle.c_answers.specs.declared.status.Status.{Status}
 use Rattle.c_answers.specs.declared.status.Status.TheVariants as statuses
 use Rattle.c_translators.specs.Encoded.{AreEncoded}
-use Rattle.c_translators.specs.declared.raised.RaisedWords.{RaisedWords}
 
--- nothing was taken, and a buffer would have to have this size
-abbrev pub asking : ℕ → RaisedWords
-asking size = record { words = size; first = no_line; second = no_line }
+-- The size of a buffer that takes the words of any byte: two for each packet of an exclusive of this limit, or else those of a packet.
+abbrev pub most_words_of : ℕ → ℕ
+most_words_of room = max (div_ceil room 6 * 2) 4
 
-abbrev pub nothing_raised : RaisedWords
-nothing_raised = asking 0
-
--- The size of a buffer that takes the words of any byte: two for each packet of an exclusive of the limit, or else those of a packet.
 abbrev pub most_words : UpState → ℕ
-most_words up = max (div_ceil up.parsing.room 6 * 2) 4
+most_words up = most_words_of up.parsing.room
 
 abbrev pub CutsWithin : Option (List ℕ) → ℕ → Type 0
 CutsWithin None size = Unit {0}
@@ -39,54 +40,69 @@ CutsWithin (Some payload) size = 2 * part_count payload ≤ size
 abbrev pub RaisesWithin : Raised → ℕ → Type 0
 RaisesWithin raised size = (4 ≤ size) × CutsWithin (payload_in raised) size
 
+-- What is so of a translator between two bytes: its group is one of sixteen, what is open of an exclusive is within the limit, and what
+-- control changes have set is kept of some state.
+pub record IsSound (up : UpState) : Type 0 where
+  pub below : up.group < 16
+  pub within : IsWithin up.parsing
+  pub state : GroupState
+  pub keeps : Keeps up.holding state
+
 -- ---- one byte
 
--- what is raised of a byte: its words are at the front of the buffer, and its lines are shown
-pub record HasRaised (raised : Raised) (old : List ℕ) (shown : RaisedWords) (new : List ℕ) : Type 0 where
-  pub words : AreEncoded (packets_in raised) old shown.words new
-  pub first : shown.first ≡ listed_line (first_in raised.lines)
-  pub second : shown.second ≡ listed_line (second_in raised.lines)
+-- the outcome of a byte at this offset, of which this is raised, in so many words
+abbrev pub outcome_shown : ℕ → ℕ → Raised → ByteOutcome
+outcome_shown offset written raised =
+    outcome_of offset written (listed_line (first_in raised.lines)) (listed_line (second_in raised.lines))
 
--- a byte that is accepted
-pub record IsAccepted (up : UpState) (byte offset : ℕ) (old : List ℕ) (shown : RaisedWords) (new : List ℕ) : Type 0 where
+-- what is raised of a byte: its words are at the front of the buffer, and its lines are shown
+pub record HasRaised (raised : Raised) (offset : ℕ) (old : List ℕ) (outcome : ByteOutcome) (new : List ℕ) : Type 0 where
+  pub words : AreEncoded (packets_in raised) old outcome.written new
+  pub shown : outcome ≡ outcome_shown offset outcome.written raised
+
+-- A byte that is accepted. Each state that was kept before it is kept after it, as it then is, so that the next byte's packets are
+-- those of that state.
+pub record IsAccepted (up : UpState) (byte offset : ℕ) (old : List ℕ) (outcome : ByteOutcome) (new : List ℕ) : Type 0 where
   pub raised : Raised
   pub accepts : Accepts up.holding up.group offset (step_in up offset byte) raised
-  pub written : HasRaised raised old shown new
+  pub keeps : KeepsAfter up.holding (step_in up offset byte)
+  pub written : HasRaised raised offset old outcome new
 
--- one that is refused leaves the buffer
-abbrev pub IsTakenOrRefused : UpState → ℕ → ℕ → List ℕ → Result RaisedWords BadStep → List ℕ → Type 0
-IsTakenOrRefused up byte offset old (Ok shown) new = IsAccepted up byte offset old shown new
-IsTakenOrRefused up byte offset old (Err why) new = (refusal_of_step (step_in up offset byte) ≡ Some why) × (new ≡ old)
+-- one that is refused: nothing is written, and no line is shown
+pub record IsRefused (up : UpState) (byte offset : ℕ) (old : List ℕ) (why : BadStep) (outcome : ByteOutcome) (new : List ℕ) : Type 0 where
+  pub refused : refusal_of_step (step_in up offset byte) ≡ Some why
+  pub keeps : KeepsAfter up.holding (step_in up offset byte)
+  pub empty : outcome ≡ empty_outcome offset
+  pub same : new ≡ old
 
--- the answer with what is written where it is done
-abbrev pub with_words : Result (Unit {0}) BadStep → RaisedWords → Result RaisedWords BadStep
-with_words (Ok done) shown = Ok shown
-with_words (Err why) shown = Err why
+abbrev pub IsTakenOrRefused : UpState → ℕ → ℕ → List ℕ → Result (Unit {0}) BadStep → ByteOutcome → List ℕ → Type 0
+IsTakenOrRefused up byte offset old (Ok done) outcome new = IsAccepted up byte offset old outcome new
+IsTakenOrRefused up byte offset old (Err why) outcome new = IsRefused up byte offset old why outcome new
 
 -- what is held after a byte that is refused: what control changes have set stays
 abbrev pub after_refused : UpState → ℕ → ℕ → UpState
 after_refused up offset byte = record { group = up.group; parsing = (parse up.parsing offset byte).after; holding = up.holding }
 
-abbrev pub Leaves : UpState → ℕ → ℕ → Result RaisedWords BadStep → UpState → Type 0
-Leaves up byte offset (Ok shown) after = after ≡ up_after up offset byte
-Leaves up byte offset (Err why) after = after ≡ after_refused up offset byte
+abbrev pub after_result : UpState → ℕ → ℕ → Result (Unit {0}) BadStep → UpState
+after_result up offset byte (Ok done) = up_after up offset byte
+after_result up offset byte (Err why) = after_refused up offset byte
 
 -- the status of a byte that is taken, or refused
-abbrev pub Shows : Result RaisedWords BadStep → ℕ → RaisedWords → Type 0
-Shows (Ok taken) status shown = (status ≡ number_of statuses.Done) × (shown ≡ taken)
-Shows (Err why) status shown = (status ≡ number_of (status_of_step why)) × (shown ≡ nothing_raised)
+abbrev pub status_by : Result (Unit {0}) BadStep → Status
+status_by (Ok done) = statuses.Done
+status_by (Err why) = status_of_step why
 
-abbrev pub answers : Bool → UpState → ℕ → ℕ → List ℕ → ℕ → RaisedWords → List ℕ → UpState → Type 0
-answers true up byte offset old status shown new after =
-    (status ≡ number_of statuses.SmallBuffer) × (shown ≡ asking (most_words up)) × (new ≡ old) × (after ≡ up)
-answers false up byte offset old status shown new after =
-    (result : Result RaisedWords BadStep) × IsTakenOrRefused up byte offset old result new × Leaves up byte offset result after
-    × Shows result status shown
+abbrev pub answers : Bool → UpState → ℕ → ℕ → List ℕ → ℕ → ByteOutcome → List ℕ → UpState → Type 0
+answers true up byte offset old status outcome new after =
+    (status ≡ number_of statuses.SmallBuffer) × (outcome ≡ needing offset (most_words up)) × (new ≡ old) × (after ≡ up)
+answers false up byte offset old status outcome new after =
+    (result : Result (Unit {0}) BadStep) × IsTakenOrRefused up byte offset old result outcome new
+    × (status ≡ number_of (status_by result)) × (after ≡ after_result up offset byte result)
 
--- The byte comes at an offset: refused before it is taken where the buffer may be too small.
-abbrev pub IsAnswered : UpState → ℕ → ℕ → List ℕ → ℕ → RaisedWords → List ℕ → UpState → Type 0
-IsAnswered up byte offset old status shown new after =
-    answers (nat_lt (length old) (most_words up)) up byte offset old status shown new after
+-- The byte comes at an offset: it isn't taken if the buffer may be too small.
+abbrev pub IsAnswered : UpState → ℕ → ℕ → List ℕ → ℕ → ByteOutcome → List ℕ → UpState → Type 0
+IsAnswered up byte offset old status outcome new after =
+    answers (nat_lt (length old) (most_words up)) up byte offset old status outcome new after
 
 -- ---- the end
 

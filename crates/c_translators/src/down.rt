@@ -1,20 +1,20 @@
 // The translator down, into a buffer of the caller's.
-ghost use Rattle.std.specs.Prelude.{◌≡◌, ◌≤◌, length, IfErr, IfOk, IfSome};
+ghost use Rattle.std.specs.Prelude.{◌≡◌, ◌≤◌, ◌<◌, ℕ, List, length, slice_index, take, true, false, None, IfErr, IfOk, IfSome, IsTrue};
+ghost use Rattle.packet_words.specs.Words.{words_asked};
 ghost use Rattle.ump_grammar.specs.Ranges.{IsPacket};
-ghost use Rattle.down_translator.specs.Held.{down_after, new_down};
+ghost use Rattle.down_translator.specs.Held.{down_after, limit_of, new_down, paired_of, style_of};
 ghost use Rattle.down_translator.specs.KeptLanes.{style_in};
 ghost use Rattle.down_translator.specs.Lowered.{attribute_line, lowered_bytes, shortened_bytes};
 ghost use Rattle.c_answers.specs.Fronts.{with_front};
 ghost use Rattle.c_answers.specs.Numbers.{number_of};
-ghost use Rattle.c_translators.specs.PacketBlocks.{AreTaken};
-ghost use Rattle.c_translators.specs.Down.{most_bytes, with_piece, HasBegun, IsAnswered, IsCarried, IsLowered, IsRead, IsTakenOrRefused};
+ghost use Rattle.c_translators.specs.PacketBlocks.{AreTaken, IsFrontTaken, IsPairTaken};
+ghost use Rattle.c_translators.specs.Down.{most_bytes, most_bytes_of, with_piece, HasBegun, IsAccepted, IsAnswered, IsCarried, IsRead, IsTakenOrRefused, Reads};
 ghost use Rattle.c_translators.specs.Pieces.{piece_shown};
 
-use crate::block::Block;
 use crate::piece::Piece;
-use c_answers::{Status, framed, put_bytes};
-use direct_packets::EncodedPacket;
+use c_answers::{Block, Status, framed, put_bytes};
 use down_translator::{BadStep, Down, Kind, Listed, LoweredMessage, ShortenedMessage, Style};
+use encoded_packets::EncodedPacket;
 use packet_words::words::words_in_packet;
 use small_types::{NoMemory, U4};
 use std::alloc::Global;
@@ -23,8 +23,19 @@ use std::marker::Model;
 /// The size of a buffer that takes any piece but that of an exclusive.
 const LEAST_SIZE: usize = 12;
 
-/// The message type of voice messages of the MIDI 2.0 protocol (M2-104-UM).
-const VOICE2: u32 = 4;
+// The packet of the two words at the front of these, if there are so many and the packet is known by them. Most
+// are, so that what comes next rests on no table of lengths.
+#[inline(always)]
+fn pair_in(words: &[u32]) -> Option<EncodedPacket>
+    ensures packet { IfSome result (λ packet. Reads (take 2 words.now) packet) }
+    ensures two { IfSome result (λ packet. words_asked (slice_index words.now 0) ≡ 2) }
+    ensures there { IfSome result (λ packet. 2 ≤ length words.now) }
+{
+    if words.len() < 2 {
+        return None;
+    }
+    EncodedPacket::of_two(words[0], words[1])
+}
 
 // The packet that the words encode, or why none has them.
 #[inline(always)]
@@ -42,7 +53,7 @@ fn read(words: &[u32], offset: u64) -> Result<EncodedPacket, Status>
 
 // Copies a message to the front of the buffer, and returns how many
 // bytes it has. Most packets of an exclusive have none.
-#[tactic(auto, using(crate::proofs::FrontLaws::nothing_in_front))]
+#[tactic(auto, using(crate::proofs::DownLaws::nothing_put))]
 #[inline(always)]
 fn put(message: &[u8], buffer: &mut [u8]) -> usize
     requires { length message.now ≤ length buffer.old }
@@ -66,19 +77,38 @@ fn write(message: &[u8], lane: U4, listed: Option<Listed>, buffer: &mut [u8]) ->
     Piece::of(count, lane, listed)
 }
 
-// The line of an attribute that is left out.
-#[inline(always)]
-fn attribute_line(offset: u64, lane: U4, has_attribute: bool) -> Option<Listed>
-    ensures { result ≡ attribute_line offset lane has_attribute }
+// Shows the line of an attribute that is left out. Few messages have one.
+#[inline(never)]
+fn show_attribute(offset: u64, lane: U4, piece: &mut Piece)
+    requires { piece.old ≡ piece_shown piece.old.written lane None }
+    ensures { piece.new ≡ piece_shown piece.old.written lane (attribute_line offset lane true) }
 {
+    let listed = Listed {
+        offset,
+        group: Some(lane),
+        kind: Kind::NoteAttribute,
+    };
+    *piece = Piece::of(piece.written, lane, Some(listed));
+}
+
+// Writes a message in a lane, and its piece, with the line of an attribute that is left out.
+#[inline(always)]
+fn write_message(
+    message: &[u8],
+    lane: U4,
+    has_attribute: bool,
+    offset: u64,
+    buffer: &mut [u8],
+    piece: &mut Piece,
+)
+    requires { length message.now ≤ length buffer.old }
+    ensures written { buffer.new ≡ with_front message.now buffer.old }
+    ensures piece { piece.new ≡ piece_shown (length message.now) lane
+        (attribute_line offset lane has_attribute) }
+{
+    *piece = write(message, lane, None, buffer);
     if has_attribute {
-        Some(Listed {
-            offset,
-            group: Some(lane),
-            kind: Kind::NoteAttribute,
-        })
-    } else {
-        None
+        show_attribute(offset, lane, piece);
     }
 }
 
@@ -90,11 +120,18 @@ fn write_direct(message: &LoweredMessage, offset: u64, buffer: &mut [u8], piece:
     ensures piece { piece.new ≡ piece_shown (length (lowered_bytes message.now)) message.now.lane
         (attribute_line offset message.now.lane message.now.has_attribute) }
 {
-    let listed = attribute_line(offset, message.lane, message.has_attribute);
-    let (lane, status, first) = (message.lane, message.status, message.first.get());
+    let (lane, has_attribute) = (message.lane, message.has_attribute);
+    let (status, first) = (message.status, message.first.get());
     match message.second {
-        Some(second) => *piece = write(&[status, first, second.get()], lane, listed, buffer),
-        None => *piece = write(&[status, first], lane, listed, buffer),
+        Some(second) => write_message(
+            &[status, first, second.get()],
+            lane,
+            has_attribute,
+            offset,
+            buffer,
+            piece,
+        ),
+        None => write_message(&[status, first], lane, has_attribute, offset, buffer, piece),
     }
 }
 
@@ -106,21 +143,37 @@ fn write_shortened(message: &ShortenedMessage, offset: u64, buffer: &mut [u8], p
     ensures piece { piece.new ≡ piece_shown (length (shortened_bytes message.now)) message.now.lane
         (attribute_line offset message.now.lane message.now.has_attribute) }
 {
-    let listed = attribute_line(offset, message.lane, message.has_attribute);
-    let (lane, first) = (message.lane, message.first.get());
+    let (lane, has_attribute) = (message.lane, message.has_attribute);
+    let first = message.first.get();
     match (message.status, message.second) {
-        (Some(status), Some(second)) => {
-            *piece = write(&[status, first, second.get()], lane, listed, buffer);
+        (Some(status), Some(second)) => write_message(
+            &[status, first, second.get()],
+            lane,
+            has_attribute,
+            offset,
+            buffer,
+            piece,
+        ),
+        (Some(status), None) => {
+            write_message(&[status, first], lane, has_attribute, offset, buffer, piece);
         }
-        (Some(status), None) => *piece = write(&[status, first], lane, listed, buffer),
-        (None, Some(second)) => *piece = write(&[first, second.get()], lane, listed, buffer),
-        (None, None) => *piece = write(&[first], lane, listed, buffer),
+        (None, Some(second)) => {
+            write_message(
+                &[first, second.get()],
+                lane,
+                has_attribute,
+                offset,
+                buffer,
+                piece,
+            );
+        }
+        (None, None) => write_message(&[first], lane, has_attribute, offset, buffer, piece),
     }
 }
 
-// Takes a packet that isn't carried by one message, and writes its piece.
+// Takes a packet, and writes its piece.
 #[inline(always)]
-fn carry_encoded(
+fn carry(
     down: &mut Down,
     packet: &EncodedPacket,
     offset: u64,
@@ -144,32 +197,7 @@ fn carry_encoded(
     }
 }
 
-// Takes a packet, and writes its piece.
-#[inline(always)]
-fn carry(
-    down: &mut Down,
-    packet: &EncodedPacket,
-    offset: u64,
-    buffer: &mut [u8],
-    piece: &mut Piece,
-) -> Result<(), BadStep>
-    requires packet { IsPacket packet.now }
-    requires room { most_bytes down.old ≤ length buffer.old }
-    ensures answer { IsCarried down.old offset packet.now buffer.old
-        (with_piece result piece.new) buffer.new }
-    ensures after { down.new ≡ down_after offset packet.now down.old }
-    ensures kept { IfErr result (λ why. piece.new ≡ piece.old) }
-{
-    match down.shortened(packet) {
-        Some(message) => {
-            write_shortened(&message, offset, buffer, piece);
-            return Ok(());
-        }
-        None => return carry_encoded(down, packet, offset, buffer, piece),
-    }
-}
-
-// Takes the packet that the words encode, whatever it is.
+// Takes the packet that the words encode, whatever it is, and writes its piece.
 #[inline(never)]
 fn take_any(
     down: &mut Down,
@@ -192,24 +220,61 @@ fn take_any(
     }
 }
 
-// The message that alone carries the packet that the words encode, where one does.
+// Takes a packet if one message alone carries it, or if it only adds six bytes to an exclusive, and writes its
+// piece. Most packets are so. Otherwise nothing changes.
 #[inline(always)]
-fn lowered(down: &Down, words: &[u32]) -> Option<LoweredMessage>
-    ensures { IfSome result (λ message. IsLowered down.now words.now message) }
+fn take_simple(
+    down: &mut Down,
+    packet: &EncodedPacket,
+    offset: u64,
+    buffer: &mut [u8],
+    piece: &mut Piece,
+) -> bool
+    requires { 12 ≤ length buffer.old }
+    ensures taken { IsTrue result → IsAccepted down.old offset packet.now buffer.old piece.new buffer.new
+        × (down.new ≡ down_after offset packet.now down.old) }
+    ensures same { result ≡ false →
+        (down.new ≡ down.old) × (buffer.new ≡ buffer.old) × (piece.new ≡ piece.old) }
 {
-    // Other types have no such message.
-    if words.is_empty() || words[0] >> 28 != VOICE2 {
-        return None;
+    if let Some(message) = down.lowered(packet) {
+        write_direct(&message, offset, buffer, piece);
+        return true;
     }
-    match read(words, 0) {
-        Ok(packet) => down.lowered(&packet),
-        Err(_) => None,
+    if down.holds(packet) {
+        *piece = Piece::none();
+        return true;
+    }
+    if let Some(message) = down.shortened(packet) {
+        write_shortened(&message, offset, buffer, piece);
+        return true;
+    }
+    false
+}
+
+// Takes the packet of the two words at the front of these, if it is simple. Otherwise nothing changes.
+#[inline(always)]
+fn take_pair(
+    down: &mut Down,
+    words: &[u32],
+    offset: u64,
+    buffer: &mut [u8],
+    piece: &mut Piece,
+) -> bool
+    requires { 12 ≤ length buffer.old }
+    ensures taken { IsTrue result →
+        IsPairTaken down.old offset words.now buffer.old piece.new buffer.new down.new }
+    ensures same { result ≡ false →
+        (down.new ≡ down.old) × (buffer.new ≡ buffer.old) × (piece.new ≡ piece.old) }
+{
+    match pair_in(words) {
+        Some(packet) => take_simple(down, &packet, offset, buffer, piece),
+        None => false,
     }
 }
 
 // Takes the packet that the words encode, and writes its piece.
 #[inline(always)]
-fn take(
+fn take_one(
     down: &mut Down,
     words: &[u32],
     offset: u64,
@@ -221,16 +286,45 @@ fn take(
         (with_piece result piece.new) buffer.new down.new }
     ensures kept { IfErr result (λ why. piece.new ≡ piece.old) }
 {
-    match lowered(down, words) {
-        Some(message) => {
-            write_direct(&message, offset, buffer, piece);
+    if words.len() == 2 {
+        if take_pair(down, words, offset, buffer, piece) {
             return Ok(());
         }
-        None => return take_any(down, words, offset, buffer, piece),
+    }
+    take_any(down, words, offset, buffer, piece)
+}
+
+// Takes the packet at the front of the words, writes its piece, and returns how many words it has. If it isn't
+// taken, it returns why, and how many words are refused with it: none if they aren't all there.
+#[inline(always)]
+fn take_front(
+    down: &mut Down,
+    words: &[u32],
+    offset: u64,
+    buffer: &mut [u8],
+    piece: &mut Piece,
+) -> Result<usize, (Status, usize)>
+    requires some { 0 < length words.now }
+    requires room { most_bytes down.old ≤ length buffer.old }
+    ensures answer { IsFrontTaken down.old offset words.now buffer.old
+        result piece.new buffer.new down.new }
+    ensures kept { IfErr result (λ refused. piece.new ≡ piece.old) }
+{
+    if take_pair(down, words, offset, buffer, piece) {
+        return Ok(2);
+    }
+    let count = words_in_packet(words[0]);
+    if words.len() < count {
+        return Err((Status::BadWordCount, 0));
+    }
+    match take_any(down, &words[..count], offset, buffer, piece) {
+        Ok(()) => return Ok(count),
+        Err(why) => return Err((why, count)),
     }
 }
 
 // Takes the packets whose words follow one another, where any piece has at most so many bytes.
+#[inline(always)]
 fn take_all(
     down: &mut Down,
     most_written: usize,
@@ -248,31 +342,19 @@ fn take_all(
     *block = Block::nothing();
     let mut next = offset;
     while block.taken < words.len() {
-        let rest = &words[block.taken..];
-        if buffer.len() - block.written < most_written || pieces.len() - block.listed < 1 {
-            block.need = most_written;
+        if block.is_full(buffer.len(), most_written, pieces.len(), 1) {
             return Status::SmallBuffer;
         }
-        let count = words_in_packet(rest[0]);
-        if rest.len() < count {
-            return Status::BadWordCount;
-        }
-        let piece = &mut pieces[block.listed];
-        match take(
-            down,
-            &rest[..count],
-            next,
-            &mut buffer[block.written..],
-            piece,
-        ) {
-            Ok(()) => {
-                block.taken += count;
-                block.written += piece.length;
-                block.listed += 1;
+        let rest = &words[block.taken..];
+        let piece = &mut pieces[block.items];
+        match take_front(down, rest, next, &mut buffer[block.written..], piece) {
+            Ok(count) => {
+                let written = piece.written;
+                block.add(count, written, 1);
                 next = next.wrapping_add(4 * count as u64);
             }
-            Err(why) => {
-                block.taken += count;
+            Err((why, count)) => {
+                block.refuse(count);
                 return why;
             }
         }
@@ -280,15 +362,23 @@ fn take_all(
     Status::Done
 }
 
+/// The size of a buffer that takes the piece of any packet, if the limit of an exclusive is `room`: two more
+/// than the limit, or 12 (own rule). There is one for every number.
+pub fn down_size(room: u32) -> usize
+    ensures { result ≡ most_bytes_of room }
+{
+    (room as usize + 2).max(LEAST_SIZE)
+}
+
 /// A translator down that knows the size of a buffer which takes the piece of any packet. A contract sees
 /// what the translator holds.
 #[derive(Drop)]
-pub struct SizedDown {
+pub struct CDown {
     down: Down,
     most_written: usize,
 }
 
-impl Model for SizedDown {
+impl Model for CDown {
     ghost use Rattle.std.specs.Prelude.{◌≡◌};
     ghost use Rattle.down_translator.specs.Held.{DownState};
     ghost use Rattle.c_translators.specs.Down.{most_bytes};
@@ -300,37 +390,39 @@ impl Model for SizedDown {
     ghost invariant = { λ sized. sized.most_written ≡ most_bytes sized.down };
 }
 
-impl SizedDown {
+impl CDown {
     /// A translator in which nothing is open. All memory that it ever needs is taken here: for exclusives of
     /// `room` bytes between F0 and F7 in each group, 6 to 1,048,576 (own rule). `NoMemory` when there isn't
     /// that much.
-    pub fn new(
-        alloc: Global,
-        room: u32,
-        style: Style,
-        is_paired: bool,
-    ) -> Result<SizedDown, NoMemory>
+    pub fn new(alloc: Global, room: u32, style: Style, is_paired: bool) -> Result<CDown, NoMemory>
         requires least { 6 ≤ room }
         requires most { room ≤ 1048576 }
         ensures { IfOk result (λ down. down ≡ new_down is_paired (style_in style) room) }
     {
         let down = Down::new(alloc, room, style, is_paired)?;
-        Ok(SizedDown {
+        Ok(CDown {
             down,
-            most_written: (room as usize + 2).max(LEAST_SIZE),
+            most_written: down_size(room),
         })
     }
 
-    /// Takes the packet that the words encode. Its MIDI 1.0 bytes are written
-    /// to the front of the buffer, and its line to the piece.
+    /// Begins again: the translator is then as `new` makes it with the same arguments. Nothing is open, and in
+    /// compact style nothing is known of what a receiver holds (own rule). Takes no memory.
+    pub fn reset(&mut self)
+        ensures { self.new ≡ new_down (paired_of self.old) (style_of self.old) (limit_of self.old) }
+    {
+        self.down.reset();
+    }
+
+    /// Takes the packet that the words encode. Its MIDI 1.0 bytes are written to the front of the buffer, and
+    /// their number, their lane and the packet's line to `piece` (M2-104-UM, default translation).
     ///
     /// Nothing is taken, and nothing written to the buffer, in these cases, of which the first that holds is
-    /// answered: `SmallBuffer`, where the buffer has fewer places than any piece may need, two more than the
-    /// limit of an exclusive or twelve; `BadWordCount`, where the words aren't as many as the message type of
-    /// the first one has; `BadCount`, where they are of a 7-bit exclusive and count more than six bytes;
-    /// `HighBit`, where a byte that carries seven bits is 128 or more. `DataIncrement` and `DataDecrement`
-    /// leave the translator as it was; after `ExclusiveTooLong` the group has nothing open, and all else is
-    /// as it was (M2-104-UM; own rules).
+    /// returned: `SmallBuffer` if the buffer has fewer places than any piece may need (`down_size`);
+    /// `BadWordCount` if the words aren't as many as the message type of the first one has; `BadCount` if they
+    /// are of a 7-bit exclusive and count more than six bytes; `HighBit` if a byte that carries seven bits is
+    /// 128 or more. `DataIncrement` and `DataDecrement` leave the translator as it was; after
+    /// `ExclusiveTooLong` the group has nothing open, and all else is as it was (own rules).
     #[tactic(auto, using(crate::proofs::DownLaws::taken_keeps))]
     #[inline(always)]
     pub fn packet(
@@ -344,13 +436,13 @@ impl SizedDown {
             (number_of result) piece.new buffer.new self.new }
     {
         if buffer.len() < self.most_written {
-            *piece = Piece::asking(self.most_written);
+            *piece = Piece::needing(self.most_written);
             return Status::SmallBuffer;
         }
-        match take(&mut self.down, words, offset, buffer, piece) {
+        match take_one(&mut self.down, words, offset, buffer, piece) {
             Ok(()) => return Status::Done,
             Err(why) => {
-                *piece = Piece::empty();
+                *piece = Piece::none();
                 return why;
             }
         }
@@ -360,10 +452,10 @@ impl SizedDown {
     /// another in the buffer, and their pieces in `pieces`. The offset is that of the first; each word adds 4
     /// to it, modulo 2^64. The block says how far it came.
     ///
-    /// `Done` comes where all words are taken. `SmallBuffer` comes before a packet for which there is no
-    /// piece left, or fewer places in the rest of the buffer than any piece may need; `BadWordCount` before
-    /// one whose words aren't all there. A packet that is refused ends the call with its status, and its
-    /// words count as taken.
+    /// `Done` comes exactly when all words are taken. `SmallBuffer` comes exactly before the first packet for
+    /// which there is no piece left, or fewer places in the rest of the buffer than any piece may need;
+    /// `BadWordCount` before a last packet whose words aren't all there. A packet that is refused ends the call
+    /// with its status, has no piece, and its words count as taken and as refused (own rules).
     pub fn packets(
         &mut self,
         words: &[u32],
@@ -375,19 +467,22 @@ impl SizedDown {
         ensures { AreTaken self.old offset words.now buffer.old pieces.old
             (number_of result) block.new buffer.new pieces.new self.new }
     {
-        take_all(
+        let mut taken = Block::nothing();
+        let status = take_all(
             &mut self.down,
             self.most_written,
             words,
             offset,
             buffer,
             pieces,
-            block,
-        )
+            &mut taken,
+        );
+        *block = taken;
+        status
     }
 
-    /// Where the exclusive began that a group has open: the offset of its first packet. `BadGroup` where the
-    /// group isn't 0 to 15, and `Nothing` where it has none open; the offset is then left as it was.
+    /// Where the exclusive began that a group has open: the offset of its first packet. `BadGroup` if the group
+    /// isn't 0 to 15, and `Nothing` if it has none open; the offset is then left as it was.
     pub fn begun(&self, group: u8, offset: &mut u64) -> Status
         ensures { HasBegun self.now group offset.old (number_of result) offset.new }
     {

@@ -1,12 +1,12 @@
 // The packets of an exclusive.
-ghost use Rattle.std.specs.Prelude.{◌≡◌, ◌≤◌, length};
+ghost use Rattle.std.specs.Prelude.{◌≡◌, ◌≤◌, false, length};
 ghost use Rattle.sysex_groups.specs.Cut.{part_at};
 ghost use Rattle.ump_grammar.specs.Ranges.{IsPacket};
 ghost use Rattle.ump_grammar.specs.Reading.{Encodes};
 ghost use Rattle.ump_grammar.specs.Reason.{has_high};
 ghost use Rattle.ump_grammar.specs.declared.packet.Packet.TheVariants as packet;
 ghost use Rattle.c_answers.specs.Numbers.{number_of};
-ghost use Rattle.c_translators.specs.Exclusives.{IsCut, cuts};
+ghost use Rattle.c_translators.specs.Exclusives.{IsCut, cuts, is_refused};
 
 use c_answers::{Status, put_words};
 use small_types::{ShortList, U4};
@@ -19,6 +19,16 @@ fn has_high(bytes: &[u8]) -> bool
     ensures { result ≡ has_high bytes.now }
 {
     bytes.iter().any(|byte| *byte >= 128)
+}
+
+// Whether a byte is refused before packet `index`, which has these bytes: before the first one any of the
+// payload, so that no part is sent of an exclusive that has such a byte.
+#[tactic(auto, using(crate::proofs::ExclusiveLaws::allowed))]
+fn is_refused(index: usize, payload: &[u8], own: &[u8]) -> bool
+    ensures refused { result ≡ is_refused index payload.now own.now }
+    ensures allowed { result ≡ false → has_high own.now ≡ false }
+{
+    has_high(own) || index == 0 && has_high(payload)
 }
 
 /// The two words of a packet of an exclusive.
@@ -35,31 +45,32 @@ pub fn exclusive_words(group: U4, form: Form, bytes: ShortList<u8, 6>) -> [u32; 
 // Writes the words of packet `index` of an exclusive with these bytes between F0 and F7, if there is one.
 fn put_part(group: U4, payload: &[u8], index: usize, words: &mut [u32]) -> Status
     requires { 2 ≤ length words.old }
-    ensures { cuts (part_at payload.now index) group words.old (number_of result) words.new }
+    ensures { cuts (part_at payload.now index) group payload.now index
+        words.old (number_of result) words.new }
 {
     let Some((form, bytes)) = part(payload, index) else {
         return Status::Nothing;
     };
-    if has_high(bytes.as_slice()) {
+    if is_refused(index, payload, bytes.as_slice()) {
         return Status::HighBit;
     }
     put_words(&exclusive_words(group, form, bytes), words);
     Status::Done
 }
 
-/// The words of a packet, counted from 0, of an exclusive with these bytes between F0 and F7 (M2-104-UM,
-/// system exclusive 7-bit messages), at the front of the buffer. Nothing is written in these cases, of which
-/// the first that holds is answered: `BadGroup`, where the group isn't 0 to 15; `SmallBuffer`, where the
-/// buffer has fewer than two places; `Nothing`, where the exclusive has no such packet; `HighBit`, where one
-/// of the packet's bytes is 128 or more.
+/// Writes the two words of a packet, counted from 0, of an exclusive with these bytes between F0 and F7
+/// (M2-104-UM, system exclusive 7-bit messages) to the front of the buffer. Nothing is written in these
+/// cases, of which the status tells the first: `SmallBuffer` when the buffer has fewer than two places;
+/// `BadGroup` when the group isn't 0 to 15; `Nothing` when the exclusive has no such packet; `HighBit` when a
+/// byte is 128 or more: one of the packet's bytes, or with index 0 any byte of the exclusive.
 pub fn exclusive_packet(group: u8, payload: &[u8], index: usize, words: &mut [u32]) -> Status
     ensures { IsCut group payload.now index words.old (number_of result) words.new }
 {
-    let Some(group) = U4::new(group) else {
-        return Status::BadGroup;
-    };
     if words.len() < 2 {
         return Status::SmallBuffer;
     }
+    let Some(group) = U4::new(group) else {
+        return Status::BadGroup;
+    };
     put_part(group, payload, index, words)
 }

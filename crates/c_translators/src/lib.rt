@@ -2,16 +2,12 @@
 //! may not fit is refused before anything is taken.
 #![tactic(auto)]
 
-pub mod block;
 pub mod down;
 pub mod exclusive;
 pub mod piece;
-pub mod raised;
 pub mod up;
 
-pub use crate::block::Block;
-pub use crate::down::SizedDown;
+pub use crate::down::{CDown, down_size};
 pub use crate::exclusive::exclusive_packet;
 pub use crate::piece::Piece;
-pub use crate::raised::RaisedWords;
-pub use crate::up::SizedUp;
+pub use crate::up::{CUp, up_size};

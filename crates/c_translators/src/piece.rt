@@ -1,6 +1,6 @@
 // What a caller gets of a packet that goes down.
 ghost use Rattle.std.specs.Prelude.{◌≡◌};
-ghost use Rattle.c_translators.specs.Pieces.{asking, empty_piece, piece_shown};
+ghost use Rattle.c_translators.specs.Pieces.{needing, no_piece, piece_shown};
 
 use c_answers::kind_number;
 use midi_meaning::Listed;
@@ -10,34 +10,37 @@ use small_types::U4;
 #[repr(C)]
 #[derive(Clone, Copy)]
 pub struct Piece {
-    /// How many bytes were written; where the buffer is too small, how many places it would have to have.
-    pub length: usize,
+    /// How many bytes were written.
+    pub written: usize,
+    /// After `SmallBuffer`, the size of a buffer that does. Otherwise 0.
+    pub need: usize,
     /// The offset of the line.
     pub offset: u64,
     /// The lane of the bytes, 0 to 15.
     pub lane: u8,
-    /// The number of the kind of the line; 0 where there is no line.
+    /// The number of the kind of the line; 0 if there is no line.
     pub kind: u8,
-    /// The group of the line; 255 where it has none.
+    /// The group of the line; 255 if it has none.
     pub group: u8,
 }
 
 impl Piece {
     /// No bytes and no line.
     #[inline(always)]
-    pub fn empty() -> Piece
-        ensures { result ≡ empty_piece }
+    pub fn none() -> Piece
+        ensures { result ≡ no_piece }
     {
-        Piece::asking(0)
+        Piece::needing(0)
     }
 
-    /// Nothing was taken, and a buffer would have to have this size.
+    /// Nothing was taken, since the buffer is short; one of this size does.
     #[inline(always)]
-    pub fn asking(size: usize) -> Piece
-        ensures { result ≡ asking size }
+    pub fn needing(size: usize) -> Piece
+        ensures { result ≡ needing size }
     {
         Piece {
-            length: size,
+            written: 0,
+            need: size,
             offset: 0,
             lane: 0,
             kind: 0,
@@ -47,20 +50,22 @@ impl Piece {
 
     /// So many bytes in a lane, and a line.
     #[inline(always)]
-    pub fn of(length: usize, lane: U4, listed: Option<Listed>) -> Piece
-        ensures { result ≡ piece_shown length lane listed }
+    pub fn of(written: usize, lane: U4, listed: Option<Listed>) -> Piece
+        ensures { result ≡ piece_shown written lane listed }
     {
         let lane = lane.get();
         match listed {
             None => Piece {
-                length,
+                written,
+                need: 0,
                 offset: 0,
                 lane,
                 kind: 0,
                 group: 255,
             },
             Some(listed) => Piece {
-                length,
+                written,
+                need: 0,
                 offset: listed.offset,
                 lane,
                 kind: kind_number(listed.kind),

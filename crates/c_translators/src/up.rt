@@ -1,5 +1,5 @@
 // The translator up, into a buffer of the caller's.
-ghost use Rattle.std.specs.Prelude.{◌≡◌, ◌≤◌, ◌<◌, ◌*◌, length, IfOk, IfSome};
+ghost use Rattle.std.specs.Prelude.{◌≡◌, ◌≤◌, ◌<◌, ◌+◌, ◌*◌, ◌^◌, length, false, IfOk, IfSome};
 ghost use Rattle.midi1_bytes.specs.Messages.{AreData};
 ghost use Rattle.midi1_bytes.specs.Parsing.{idle};
 ghost use Rattle.param_collector.specs.Holding.{fresh};
@@ -8,19 +8,18 @@ ghost use Rattle.ump_grammar.specs.Ranges.{IsPacket};
 ghost use Rattle.up_translator.specs.Held.{up_after};
 ghost use Rattle.up_translator.specs.Raised.{packet_in, packets_in, payload_in, IsApart};
 ghost use Rattle.midi_meaning.specs.Raising.{exclusive_packets};
-ghost use Rattle.c_answers.specs.Lines.{listed_line};
+ghost use Rattle.c_answers.specs.Lines.{listed_line, no_line};
 ghost use Rattle.c_answers.specs.Numbers.{number_of};
 ghost use Rattle.c_answers.specs.Within.{IsWithin};
 ghost use Rattle.c_answers.specs.Fronts.{with_front};
-ghost use Rattle.c_translators.specs.ByteBlocks.{line_list, lines_shown, AreTaken};
+ghost use Rattle.c_translators.specs.ByteBlocks.{AreTaken, IsFrontTaken, IsRun};
 ghost use Rattle.c_translators.specs.Encoded.{AreEncoded, IsEncoded};
-ghost use Rattle.c_translators.specs.Up.{HasEnd, HasRaised, IsAnswered, IsTakenOrRefused, RaisesWithin, most_words, with_words};
+ghost use Rattle.c_answers.specs.Outcomes.{empty_outcome, items_of};
+ghost use Rattle.c_translators.specs.Up.{HasEnd, HasRaised, IsAnswered, IsSound, IsTakenOrRefused, RaisesWithin, most_words, most_words_of};
 
-use crate::block::Block;
 use crate::exclusive::exclusive_words;
-use crate::raised::RaisedWords;
 use c_answers::laws::exclusives_stay_within_their_limit;
-use c_answers::{ListingLine, Status, kind_number, put_words};
+use c_answers::{Block, ByteOutcome, ListingLine, Status, kind_number, put_words};
 use small_types::{NoMemory, U4};
 use std::alloc::Global;
 use std::marker::Model;
@@ -50,7 +49,8 @@ fn put_pair(pair: [u32; 2], words: &mut [u32]) -> usize
 fn put_packet(packet: &RaisedPacket, words: &mut [u32]) -> usize
     requires packet { IsPacket packet.now }
     requires room { 4 ≤ length words.old }
-    ensures { IsEncoded packet.now words.old result words.new }
+    ensures encoded { IsEncoded packet.now words.old result words.new }
+    ensures some { 0 < result }
 {
     match packet.pair() {
         Some(pair) => put_pair(pair, words),
@@ -100,150 +100,217 @@ fn put_packets(raised: &Raised<'_>, words: &mut [u32]) -> usize
     }
 }
 
-// Takes one more byte.
-#[inline(always)]
-fn take(up: &mut Up, byte: u8, offset: u64, words: &mut [u32]) -> Result<RaisedWords, BadStep>
-    requires within { IsWithin up.old.parsing }
-    requires room { most_words up.old ≤ length words.old }
-    ensures answer { IsTakenOrRefused up.old byte offset words.old result words.new }
-    ensures after { up.new ≡ up_after up.old offset byte }
-{
-    exclusives_stay_within_their_limit();
-    match up.byte(byte, offset) {
-        Ok(raised) => {
-            return Ok(RaisedWords {
-                words: put_packets(&raised, words),
-                first: ListingLine::listed(raised.lines.first()),
-                second: ListingLine::listed(raised.lines.second()),
-            });
-        }
-        Err(bad) => return Err(bad),
-    }
-}
-
 // Shows a line, if there is one.
 #[inline(always)]
 fn show_line(listed: Option<Listed>, line: &mut ListingLine)
+    requires { line.old ≡ no_line }
     ensures { line.new ≡ listed_line listed }
 {
-    match listed {
-        None => {
-            line.offset = 0;
-            line.kind = 0;
-        }
-        Some(listed) => {
-            line.offset = listed.offset;
-            line.kind = kind_number(listed.kind);
-        }
+    if let Some(listed) = listed {
+        line.offset = listed.offset;
+        line.kind = kind_number(listed.kind);
     }
 }
 
-// Writes the words of the packets of a byte, and shows how many they
-// are and its lines. Most bytes have none of these.
+// What comes of a byte: writes the words of its packets, and shows how many they are, and its lines. Most bytes
+// have none of these.
 #[tactic(auto, using(crate::proofs::UpLaws::shows_alone))]
 #[inline(always)]
-fn show(raised: &Raised<'_>, words: &mut [u32], shown: &mut RaisedWords)
+fn show(raised: &Raised<'_>, offset: u64, words: &mut [u32], outcome: &mut ByteOutcome)
     requires apart { IsApart raised.now }
     requires packet { IfSome (packet_in raised.now) IsPacket }
     requires data_bytes { IfSome (payload_in raised.now) AreData }
     requires room { RaisesWithin raised.now (length words.old) }
-    ensures { HasRaised raised.now words.old shown.new words.new }
+    requires empty { outcome.old ≡ empty_outcome offset }
+    ensures { HasRaised raised.now offset words.old outcome.new words.new }
 {
-    let count = put_packets(raised, words);
-    if raised.lines.is_empty() {
-        *shown = RaisedWords::asking(count);
-        return;
+    outcome.written = put_packets(raised, words);
+    if !raised.lines.is_empty() {
+        show_line(raised.lines.first(), &mut outcome.first);
+        show_line(raised.lines.second(), &mut outcome.second);
     }
-    shown.words = count;
-    show_line(raised.lines.first(), &mut shown.first);
-    show_line(raised.lines.second(), &mut shown.second);
 }
 
 // Takes one more byte, and writes what comes of it.
 #[inline(always)]
-fn take_one(
+fn take(
     up: &mut Up,
     byte: u8,
     offset: u64,
     words: &mut [u32],
-    shown: &mut RaisedWords,
+    outcome: &mut ByteOutcome,
 ) -> Result<(), BadStep>
     requires within { IsWithin up.old.parsing }
     requires room { most_words up.old ≤ length words.old }
-    ensures answer { IsTakenOrRefused up.old byte offset words.old (with_words result shown.new) words.new }
+    ensures answer { IsTakenOrRefused up.old byte offset words.old result outcome.new words.new }
     ensures after { up.new ≡ up_after up.old offset byte }
 {
     exclusives_stay_within_their_limit();
+    *outcome = ByteOutcome::empty(offset);
     match up.byte(byte, offset) {
         Ok(raised) => {
-            show(&raised, words, shown);
+            show(&raised, offset, words, outcome);
             return Ok(());
         }
         Err(bad) => return Err(bad),
     }
 }
 
-// Writes a line, if there is one, and returns how many that are.
-#[inline(always)]
-fn put_line(line: ListingLine, lines: &mut [ListingLine]) -> usize
-    requires { 0 < length lines.old }
-    ensures count { result ≡ length (line_list line) }
-    ensures written { lines.new ≡ with_front (line_list line) lines.old }
-{
-    if line.kind == 0 {
-        return 0;
-    }
-    lines[0] = line;
-    1
+// How many bytes were taken at once, and how many words and outcomes were written for them.
+#[derive(Clone, Copy)]
+pub(crate) struct Run {
+    count: usize,
+    written: usize,
+    items: usize,
 }
 
-// Writes the lines of a byte, and returns how many they are.
+// Takes bytes at the front of these at once, if nothing is raised of them, or one direct message of the last
+// one.
 #[inline(always)]
-fn put_lines(raised: &RaisedWords, lines: &mut [ListingLine]) -> usize
-    requires { 2 ≤ length lines.old }
-    ensures count { result ≡ length (lines_shown raised.now) }
-    ensures written { lines.new ≡ with_front (lines_shown raised.now) lines.old }
+fn take_run(
+    up: &mut Up,
+    bytes: &[u8],
+    next: u64,
+    words: &mut [u32],
+    outcomes: &mut [ByteOutcome],
+) -> Run
+    requires sound { IsSound up.old }
+    requires room { most_words up.old ≤ length words.old }
+    requires item_room { 0 < length outcomes.old }
+    requires offsets { next + length bytes.now < 2 ^ 64 }
+    ensures { IsRun up.old next bytes.now words.old outcomes.old result words.new outcomes.new up.new }
 {
-    let count = put_line(raised.first, lines);
-    count + put_line(raised.second, &mut lines[count..])
+    exclusives_stay_within_their_limit();
+    match up.front(bytes) {
+        Some((message, count)) => {
+            let written = put_packet(&RaisedPacket::of_value(&message), words);
+            let last = next + (count - 1) as u64;
+            outcomes[0] = ByteOutcome::of(last, written, ListingLine::none(), ListingLine::none());
+            Run {
+                count,
+                written,
+                items: 1,
+            }
+        }
+        None => Run {
+            count: up.take_data(bytes),
+            written: 0,
+            items: 0,
+        },
+    }
+}
+
+// Writes the item of a byte, if it has one, and returns how many that are.
+#[inline(always)]
+fn put_item(outcome: ByteOutcome, outcomes: &mut [ByteOutcome]) -> usize
+    requires { 0 < length outcomes.old }
+    ensures count { result ≡ length (items_of outcome) }
+    ensures written { outcomes.new ≡ with_front (items_of outcome) outcomes.old }
+{
+    if outcome.is_told() {
+        outcomes[0] = outcome;
+        return 1;
+    }
+    0
+}
+
+// Takes the first of these bytes, and writes what comes of it.
+#[inline(always)]
+fn take_first(
+    up: &mut Up,
+    bytes: &[u8],
+    next: u64,
+    words: &mut [u32],
+    outcomes: &mut [ByteOutcome],
+) -> Result<Run, BadStep>
+    requires sound { IsSound up.old }
+    requires room { most_words up.old ≤ length words.old }
+    requires item_room { 0 < length outcomes.old }
+    requires some { 0 < length bytes.now }
+    ensures { IsFrontTaken up.old next bytes.now words.old outcomes.old result words.new outcomes.new up.new }
+{
+    exclusives_stay_within_their_limit();
+    let mut outcome = ByteOutcome::empty(next);
+    match up.byte(bytes[0], next) {
+        Ok(raised) => {
+            show(&raised, next, words, &mut outcome);
+            return Ok(Run {
+                count: 1,
+                written: outcome.written,
+                items: put_item(outcome, outcomes),
+            });
+        }
+        Err(bad) => return Err(bad),
+    }
+}
+
+// Takes bytes at the front of these, several at once if it can.
+#[inline(always)]
+fn take_front(
+    up: &mut Up,
+    bytes: &[u8],
+    next: u64,
+    has_wrap: bool,
+    words: &mut [u32],
+    outcomes: &mut [ByteOutcome],
+) -> Result<Run, BadStep>
+    requires sound { IsSound up.old }
+    requires room { most_words up.old ≤ length words.old }
+    requires item_room { 0 < length outcomes.old }
+    requires some { 0 < length bytes.now }
+    requires offsets { has_wrap ≡ false → next + length bytes.now < 2 ^ 64 }
+    ensures { IsFrontTaken up.old next bytes.now words.old outcomes.old result words.new outcomes.new up.new }
+{
+    if !has_wrap {
+        let run = take_run(up, bytes, next, words, outcomes);
+        if run.count != 0 {
+            return Ok(run);
+        }
+    }
+    take_first(up, bytes, next, words, outcomes)
 }
 
 // Takes bytes that follow one another, where any byte has at most so many words.
+#[inline(always)]
 fn take_all(
     up: &mut Up,
     most_written: usize,
     bytes: &[u8],
     offset: u64,
     words: &mut [u32],
-    lines: &mut [ListingLine],
+    outcomes: &mut [ByteOutcome],
     block: &mut Block,
 ) -> Status
     requires most { most_written ≡ most_words up.old }
-    requires within { IsWithin up.old.parsing }
-    ensures answer { AreTaken up.old offset bytes.now words.old lines.old
-        (number_of result) block.new words.new lines.new up.new }
+    requires sound { IsSound up.old }
+    ensures answer { AreTaken up.old offset bytes.now words.old outcomes.old
+        (number_of result) block.new words.new outcomes.new up.new }
     ensures most { most_words up.new ≡ most_words up.old }
-    ensures within { IsWithin up.new.parsing }
+    ensures sound { IsSound up.new }
 {
     exclusives_stay_within_their_limit();
     *block = Block::nothing();
+    // Where the offsets begin again at 0, bytes are taken one by one.
+    let has_wrap = offset.checked_add(bytes.len() as u64).is_none();
     let mut next = offset;
     while block.taken < bytes.len() {
-        if words.len() - block.written < most_written || lines.len() - block.listed < 2 {
-            block.need = most_written;
+        if block.is_full(words.len(), most_written, outcomes.len(), 1) {
             return Status::SmallBuffer;
         }
-        let byte = bytes[block.taken];
-        match take(up, byte, next, &mut words[block.written..]) {
-            Ok(raised) => {
-                let count = put_lines(&raised, &mut lines[block.listed..]);
-                block.taken += 1;
-                block.written += raised.words;
-                block.listed += count;
-                next = next.wrapping_add(1);
+        match take_front(
+            up,
+            &bytes[block.taken..],
+            next,
+            has_wrap,
+            &mut words[block.written..],
+            &mut outcomes[block.items..],
+        ) {
+            Ok(run) => {
+                block.add(run.count, run.written, run.items);
+                next = next.wrapping_add(run.count as u64);
             }
             Err(bad) => {
-                block.taken += 1;
+                block.refuse(1);
                 return Status::of_step(bad);
             }
         }
@@ -251,49 +318,68 @@ fn take_all(
     Status::Done
 }
 
+/// The size of a buffer that takes the words of any byte, if the limit of an exclusive is `room`: two for
+/// each packet of such an exclusive, or 4 (own rule). There is one for every number.
+pub fn up_size(room: u32) -> usize
+    ensures { result ≡ most_words_of room }
+{
+    ((room as usize).div_ceil(PACKET_BYTES) * 2).max(LEAST_SIZE)
+}
+
 /// A translator up that knows the size of a buffer which takes the words
 /// of any byte. A contract sees what the translator holds.
 #[derive(Drop)]
-pub struct SizedUp {
+pub struct CUp {
     up: Up,
     most_written: usize,
 }
 
-impl Model for SizedUp {
+impl Model for CUp {
     ghost use Rattle.std.specs.Prelude.{◌≡◌};
     ghost use Rattle.up_translator.specs.Held.{UpState};
-    ghost use Rattle.c_answers.specs.Within.{IsWithin};
-    ghost use Rattle.c_translators.specs.Up.{most_words};
+    ghost use Rattle.c_translators.specs.Up.{most_words, IsSound};
 
     ghost Value = { UpState };
 
     ghost view = { λ sized. sized.up };
 
-    ghost invariant = { λ sized. (sized.most_written ≡ most_words sized.up) × IsWithin sized.up.parsing };
+    ghost invariant = { λ sized. (sized.most_written ≡ most_words sized.up) × IsSound sized.up };
 }
 
-impl SizedUp {
+impl CUp {
     /// A translator into a group, for a stream that has had no byte yet. All memory that it ever needs is
     /// taken here: for exclusives of `room` bytes between F0 and F7, 6 to 1,048,576 (own rule). `NoMemory`
     /// when there isn't that much.
-    pub fn new(alloc: Global, group: U4, room: u32, is_paired: bool) -> Result<SizedUp, NoMemory>
+    pub fn new(alloc: Global, group: U4, room: u32, is_paired: bool) -> Result<CUp, NoMemory>
         requires least { 6 ≤ room }
         requires most { room ≤ 1048576 }
         ensures { IfOk result (λ up.
             up ≡ record { group = group; parsing = idle room; holding = fresh is_paired }) }
     {
         let up = Up::new(alloc, group, room, is_paired)?;
-        Ok(SizedUp {
+        Ok(CUp {
             up,
-            most_written: ((room as usize).div_ceil(PACKET_BYTES) * 2).max(LEAST_SIZE),
+            most_written: up_size(room),
         })
     }
 
+    /// Begins again: the translator is then as `new` makes it with the same arguments, for a stream that has had
+    /// no byte yet (own rule). Takes no memory.
+    pub fn reset(&mut self)
+        ensures { self.new ≡ record {
+          group = self.old.group;
+          parsing = idle self.old.parsing.room;
+          holding = fresh self.old.holding.paired;
+        } }
+    {
+        self.up.reset();
+    }
+
     /// Takes one more byte (M2-104-UM, translation from MIDI 1.0; M2-115-U). The words of its packets are
-    /// written to the front of the buffer, those of an exclusive all at once, and its lines to `raised`.
+    /// written to the front of the buffer, those of an exclusive all at once, and its lines to `outcome`.
     ///
-    /// `SmallBuffer`, and nothing is taken, exactly where the buffer has fewer places than any byte may need:
-    /// two for each packet of the longest exclusive, or four. `DataIncrement` and `DataDecrement` come at the
+    /// `SmallBuffer` comes, and nothing is taken, exactly when the buffer has fewer places than any byte may
+    /// need (`up_size`). `DataIncrement` and `DataDecrement` come at the
     /// byte that completes a control change 96 or 97; what control changes have set stays as it was.
     /// `ExclusiveTooLong` comes at the byte that makes an exclusive longer than the limit, which is dropped
     /// (own rules). Nothing is written then.
@@ -304,51 +390,53 @@ impl SizedUp {
         byte: u8,
         offset: u64,
         words: &mut [u32],
-        raised: &mut RaisedWords,
+        outcome: &mut ByteOutcome,
     ) -> Status
-        ensures { IsAnswered self.old byte offset words.old (number_of result) raised.new words.new self.new }
+        ensures { IsAnswered self.old byte offset words.old
+            (number_of result) outcome.new words.new self.new }
     {
         exclusives_stay_within_their_limit();
         if words.len() < self.most_written {
-            *raised = RaisedWords::asking(self.most_written);
+            *outcome = ByteOutcome::needing(offset, self.most_written);
             return Status::SmallBuffer;
         }
-        match take_one(&mut self.up, byte, offset, words, raised) {
+        match take(&mut self.up, byte, offset, words, outcome) {
             Ok(()) => return Status::Done,
-            Err(bad) => {
-                *raised = RaisedWords::nothing();
-                return Status::of_step(bad);
-            }
+            Err(bad) => return Status::of_step(bad),
         }
     }
 
     /// Takes bytes that follow one another, each as `byte` does. Their words follow one another in the
-    /// buffer, and their lines in `lines`. The offset is that of the first; each byte adds 1 to it, modulo
-    /// 2^64. The block says how far it came.
+    /// buffer. An outcome is written for each byte that completes a packet or has a line. The offset is that
+    /// of the first byte; each adds 1 to it, modulo 2^64. The block says how far it came.
     ///
-    /// `Done` comes where all bytes are taken. `SmallBuffer` comes before a byte for which there are fewer
-    /// than two lines left, or fewer places in the rest of the buffer than any byte may need. A byte that is
-    /// refused ends the call with its status, and counts as taken.
+    /// `Done` comes exactly when all bytes are taken. `SmallBuffer` comes exactly before the first byte for
+    /// which there is no outcome left, or fewer places in the rest of the buffer than any byte may need. A byte
+    /// that is refused ends the call with its status, has no outcome, and counts as taken and as refused (own
+    /// rules).
     pub fn bytes(
         &mut self,
         bytes: &[u8],
         offset: u64,
         words: &mut [u32],
-        lines: &mut [ListingLine],
+        outcomes: &mut [ByteOutcome],
         block: &mut Block,
     ) -> Status
-        ensures { AreTaken self.old offset bytes.now words.old lines.old
-            (number_of result) block.new words.new lines.new self.new }
+        ensures { AreTaken self.old offset bytes.now words.old outcomes.old
+            (number_of result) block.new words.new outcomes.new self.new }
     {
-        take_all(
+        let mut taken = Block::nothing();
+        let status = take_all(
             &mut self.up,
             self.most_written,
             bytes,
             offset,
             words,
-            lines,
-            block,
-        )
+            outcomes,
+            &mut taken,
+        );
+        *block = taken;
+        status
     }
 
     /// What is open at the end of the stream: its line, or `Nothing`, and the line is then left as it was.

@@ -1,6 +1,5 @@
 -- What a packet leaves.
 use Rattle.std.proofs.Common.{◌≡◌, ℕ, List, None, Result, Ok, Err, OnOk, OnErr, refl, sym, subst, ◌∙◌, inl, inr}
-use Rattle.small_types.specs.declared.few_bits.U4.{U4}
 use Rattle.voice_messages.specs.declared.voice2.Form.{Form}
 use Rattle.ump_grammar.specs.declared.packet.Packet.{Packet}
 use Rattle.ump_grammar.specs.declared.packet.Packet.TheVariants as packets

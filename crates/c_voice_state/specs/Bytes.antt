@@ -1,5 +1,5 @@
 -- What a running state of the bytes of a MIDI 1.0 stream answers a caller.
-use Rattle.std.specs.Prelude.{◌≡◌, ℕ, List, Option, Some, None}
+use Rattle.std.specs.Prelude.{◌≡◌, ◌≢◌, ℕ, List, [], ◌∷◌, Option, Some, None}
 use Rattle.midi1_bytes.specs.Messages.{Message, voice}
 use Rattle.midi1_bytes.specs.Parsing.{Parsing, parse}
 use Rattle.midi1_bytes.specs.Steps.{Step, completed_by, too_long}
@@ -7,9 +7,12 @@ use Rattle.midi_meaning.specs.Messages.{as_they_come}
 use Rattle.voice_state.specs.Kept.{KeptGroup}
 use Rattle.voice_state.specs.Rooms.{GroupIs, IsGroupFull1}
 use Rattle.voice_state.specs.States.{States, after_message}
+use Rattle.c_answers.specs.Blocks.{AreTakenAlone, Taking}
 use Rattle.c_answers.specs.Numbers.{number_of}
+use Rattle.c_answers.specs.declared.block.Block.{Block}
+use Rattle.c_answers.specs.declared.status.Status.{Status}
 use Rattle.c_answers.specs.declared.status.Status.TheVariants as statuses
-use Rattle.c_voice_state.specs.Kept.{Changes}
+use Rattle.c_voice_state.specs.Kept.{Changes, alone}
 
 -- what is kept of the groups, and what the parser holds
 pub record ByteKept : Type 0 where
@@ -35,3 +38,19 @@ takes_step step old status new =
 abbrev pub IsByteTaken : ByteKept → ℕ → ℕ → ByteKept → Type 0
 IsByteTaken old byte status new =
     (new.parsing ≡ (parse old.parsing 0 byte).after) × takes_step (parse old.parsing 0 byte).step old.kept status new.kept
+
+-- ---- a block of bytes
+
+-- one byte is taken
+abbrev pub TakesByte : ByteKept → List ℕ → ByteKept → Type 0
+TakesByte held own after = (byte : ℕ) × (own ≡ byte ∷ []) × IsByteTaken held byte (number_of statuses.Done) after
+
+-- or refused
+abbrev pub RefusesByte : ByteKept → List ℕ → Status → ByteKept → Type 0
+RefusesByte held own why after = (byte : ℕ) × (own ≡ byte ∷ []) × (why ≢ statuses.Done) × IsByteTaken held byte (number_of why) after
+
+abbrev pub bytes_in : Taking ByteKept (Unit {0})
+bytes_in = alone (λ byte. 1) TakesByte RefusesByte
+
+abbrev pub AreBytesTaken : ByteKept → List ℕ → ℕ → Block → ByteKept → Type 0
+AreBytesTaken old bytes status block new = AreTakenAlone bytes_in old bytes status block new

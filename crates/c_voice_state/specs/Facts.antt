@@ -1,53 +1,31 @@
 -- What is told of a running state, by numbers.
-use Rattle.std.specs.Prelude.{◌≡◌, ℕ, nat_lt, Bool, true, false, List, length, map, Option, Some, None, is_some, unwrap_or}
+use Rattle.std.specs.Prelude.{◌≡◌, ◌==◌, ◌||◌, if◌then◌else◌, ℕ, nat_lt, Bool, true, false, List, length, map, Option, Some, None, Result, Ok, Err, is_some, unwrap_or}
+use Rattle.midi_meaning.specs.Messages.{Scale}
 use Rattle.voice_messages.specs.declared.voice2.Bank.{Bank}
 use Rattle.voice_messages.specs.declared.voice2.Param.{Param}
 use Rattle.voice_messages.specs.declared.voice2.ParamKind.TheVariants.{Registered, Assignable}
+use Rattle.voice_state.specs.Addresses.{address_of}
+use Rattle.voice_state.specs.Facts.{channel_facts, count_of, group_counts}
+use Rattle.voice_state.specs.Kept.{KeptGroup, Keeps}
+use Rattle.voice_state.specs.States.{States}
 use Rattle.voice_state.specs.declared.fact.Fact.{Fact}
 use Rattle.voice_state.specs.declared.fact.Fact.TheVariants as facts
+use Rattle.voice_state.specs.declared.fact.FactAddress.{FactAddress}
 use Rattle.c_answers.specs.Fronts.{with_front}
 use Rattle.c_answers.specs.Numbers.{number_of}
+use Rattle.c_answers.specs.declared.status.Status.{Status}
 use Rattle.c_answers.specs.declared.status.Status.TheVariants as statuses
 use Rattle.c_voice_state.specs.declared.fact_numbers.FactNumbers.{FactNumbers}
 
--- the group that a fact is about, and its channel; 0 where it is about the whole group
-abbrev pub group_of : Fact → ℕ
-group_of (facts.On group channel note velocity) = group
-group_of (facts.Off group channel note velocity) = group
-group_of (facts.Mode group channel index value) = group
-group_of (facts.Poly group channel note value) = group
-group_of (facts.Control group channel index value) = group
-group_of (facts.Pressure group channel value) = group
-group_of (facts.Bend group channel value) = group
-group_of (facts.Program group channel program bank) = group
-group_of (facts.Registered group channel bank index value is_loose) = group
-group_of (facts.Assignable group channel bank index value is_loose) = group
-group_of (facts.System group count) = group
-group_of (facts.RealTime group count) = group
-
-abbrev pub channel_of : Fact → ℕ
-channel_of (facts.On group channel note velocity) = channel
-channel_of (facts.Off group channel note velocity) = channel
-channel_of (facts.Mode group channel index value) = channel
-channel_of (facts.Poly group channel note value) = channel
-channel_of (facts.Control group channel index value) = channel
-channel_of (facts.Pressure group channel value) = channel
-channel_of (facts.Bend group channel value) = channel
-channel_of (facts.Program group channel program bank) = channel
-channel_of (facts.Registered group channel bank index value is_loose) = channel
-channel_of (facts.Assignable group channel bank index value is_loose) = channel
-channel_of (facts.System group count) = 0
-channel_of (facts.RealTime group count) = 0
-
--- nothing is told yet, of this group and channel
-abbrev pub nothing_at : ℕ → ℕ → FactNumbers
-nothing_at group channel =
+-- nothing is told yet, of this group and channel; the channel is 0 if it is about the whole group
+abbrev pub nothing_at : FactAddress → FactNumbers
+nothing_at address =
     record {
       count = 0;
       value = 0;
       kind = 0;
-      group = group;
-      channel = channel;
+      group = address.group;
+      channel = unwrap_or address.channel 0;
       number = 0;
       bank = 0;
       bank_lsb = 0;
@@ -104,14 +82,47 @@ told_at at (facts.System group count) = counted at 10 count
 told_at at (facts.RealTime group count) = counted at 11 count
 
 abbrev pub numbers_of : Fact → FactNumbers
-numbers_of fact = told_at (nothing_at (group_of fact) (channel_of fact)) fact
+numbers_of fact = told_at (nothing_at (address_of fact)) fact
 
--- ---- all of them
+-- ---- the facts of one channel, or the counts of a group
 
--- they are written where the buffer has room for them all
-abbrev pub tells : Bool → List Fact → List FactNumbers → ℕ → List FactNumbers → Type 0
-tells true told old status new = (status ≡ number_of statuses.SmallBuffer) × (new ≡ old)
-tells false told old status new = (status ≡ number_of statuses.Done) × (new ≡ with_front (map numbers_of told) old)
+-- what stands for no channel
+abbrev pub no_channel : ℕ
+no_channel = 255
 
-abbrev pub AreTold : List Fact → List FactNumbers → ℕ → ℕ → List FactNumbers → Type 0
-AreTold told old status count new = (count ≡ length told) × tells (nat_lt (length old) (length told)) told old status new
+-- the facts of a channel of a group, or if it is no channel the counts of the group's system messages
+abbrev pub facts_at : Scale → States → ℕ → ℕ → List Fact
+facts_at scale states group channel =
+    if nat_lt channel 16 then channel_facts scale group channel ((states group).channels channel) else group_counts group (states group)
+
+-- As many as they are were written, if the buffer has room for them all. Otherwise nothing was written; so many need room, at most the
+-- greatest number of 64 bits.
+abbrev pub ArePut : List Fact → List FactNumbers → Result ℕ ℕ → List FactNumbers → Type 0
+ArePut told old (Ok written) new =
+    (nat_lt (length old) (length told) ≡ false) × (written ≡ length told) × (new ≡ with_front (map numbers_of told) old)
+ArePut told old (Err need) new = (nat_lt (length old) (length told) ≡ true) × (need ≡ count_of told) × (new ≡ old)
+
+-- by whether the buffer has fewer places than there are facts
+abbrev pub tells : Bool → List Fact → List FactNumbers → ℕ → ℕ → ℕ → List FactNumbers → Type 0
+tells true told old status written need new =
+    (status ≡ number_of statuses.SmallBuffer) × (written ≡ 0) × (need ≡ count_of told) × (new ≡ old)
+tells false told old status written need new =
+    (status ≡ number_of statuses.Done) × (written ≡ length told) × (need ≡ 0) × (new ≡ with_front (map numbers_of told) old)
+
+abbrev pub AreTold : List Fact → List FactNumbers → ℕ → ℕ → ℕ → List FactNumbers → Type 0
+AreTold told old status written need new = tells (nat_lt (length old) (length told)) told old status written need new
+
+-- nothing is told
+abbrev pub IsUntold : Status → List FactNumbers → ℕ → ℕ → ℕ → List FactNumbers → Type 0
+IsUntold why old status written need new = (status ≡ number_of why) × (written ≡ 0) × (need ≡ 0) × (new ≡ old)
+
+-- by whether the group and the channel are in range
+abbrev pub tells_at : Bool → Bool → List KeptGroup → ℕ → ℕ → List FactNumbers → ℕ → ℕ → ℕ → List FactNumbers → Type 0
+tells_at false is_channel kept group channel old status written need new = IsUntold statuses.BadGroup old status written need new
+tells_at true false kept group channel old status written need new = IsUntold statuses.BadChannel old status written need new
+tells_at true true kept group channel old status written need new =
+    (scale : Scale) (states : States) → Keeps scale kept states → AreTold (facts_at scale states group channel) old status written need new
+
+abbrev pub HasFacts : List KeptGroup → ℕ → ℕ → List FactNumbers → ℕ → ℕ → ℕ → List FactNumbers → Type 0
+HasFacts kept group channel old status written need new =
+    tells_at (nat_lt group 16) (nat_lt channel 16 || channel == no_channel) kept group channel old status written need new

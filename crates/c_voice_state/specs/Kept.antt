@@ -1,5 +1,6 @@
 -- What a running state answers a caller.
-use Rattle.std.specs.Prelude.{◌≡◌, ◌≢◌, ◌==◌, ◌↔◌, ℕ, Bool, true, false, List, [], ◌∷◌, length, Option, Some, None, Result, Ok, Err, ◌⊎◌}
+use Rattle.std.specs.Prelude.{◌≡◌, ◌≢◌, ◌↔◌, ℕ, Bool, true, false, List, [], Option, Some, None, Result, Ok, Err, ◌⊎◌}
+use Rattle.packet_words.specs.Words.{words_asked}
 use Rattle.ump_grammar.specs.Reason.{reason}
 use Rattle.ump_grammar.specs.Spelling.{Spells}
 use Rattle.ump_grammar.specs.declared.packet.Bad.{Bad}
@@ -15,9 +16,12 @@ use Rattle.voice_state.specs.declared.not_kept.NotKept.TheVariants as not_kept
 use Rattle.voice_state.specs.Kept.{KeptGroup, Keeps}
 use Rattle.voice_state.specs.Rooms.{IsPacketFull, KeepsAllRooms}
 use Rattle.voice_state.specs.States.{States, after_packet, at_group}
+use Rattle.c_answers.specs.Blocks.{AreTakenAlone, Taking}
 use Rattle.c_answers.specs.Numbers.{number_of}
 use Rattle.c_answers.specs.Whole.{is_whole}
 use Rattle.c_answers.specs.Refusals.{status_of_bad}
+use Rattle.c_answers.specs.declared.block.Block.{Block}
+use Rattle.c_answers.specs.declared.status.Status.{Status}
 use Rattle.c_answers.specs.declared.status.Status.TheVariants as statuses
 
 -- what is kept of the groups, and the exclusives that they have open
@@ -71,3 +75,28 @@ takes true None old words status new = (packet : Packet) × Spells packet words 
 
 abbrev pub IsPacketTaken : StateKept → List ℕ → ℕ → StateKept → Type 0
 IsPacketTaken old words status new = takes (is_whole words) (reason words) old words status new
+
+-- ---- a block
+
+-- How a state takes one item, by how many words or bytes the item has that begins with this one: it writes nothing, and has no offset.
+abbrev pub alone : {Held : Type 0} → (ℕ → ℕ) → (Held → List ℕ → Held → Type 0) → (Held → List ℕ → Status → Held → Type 0)
+    → Taking Held (Unit {0})
+alone size_of Takes Refuses =
+    record {
+      size_of = size_of;
+      step = 0;
+      Takes = λ held offset own written items after. (written ≡ []) × (items ≡ []) × Takes held own after;
+      Refuses = λ held offset own why after. Refuses held own why after;
+      most_written = λ held. 0;
+      most_items = 0;
+    }
+
+-- one packet is refused
+abbrev pub RefusesPacket : StateKept → List ℕ → Status → StateKept → Type 0
+RefusesPacket held words why after = (why ≢ statuses.Done) × IsPacketTaken held words (number_of why) after
+
+abbrev pub packets_in : Taking StateKept (Unit {0})
+packets_in = alone words_asked (λ held words after. IsPacketTaken held words (number_of statuses.Done) after) RefusesPacket
+
+abbrev pub ArePacketsTaken : StateKept → List ℕ → ℕ → Block → StateKept → Type 0
+ArePacketsTaken old words status block new = AreTakenAlone packets_in old words status block new

@@ -4,34 +4,34 @@ ghost use Rattle.midi1_bytes.specs.Answers.{step_view};
 ghost use Rattle.midi1_bytes.specs.Messages.{voice};
 ghost use Rattle.midi1_bytes.specs.Parsing.{idle};
 ghost use Rattle.midi_meaning.specs.Messages.{as_they_come, Scale};
-ghost use Rattle.voice_state.specs.Facts.{facts_of};
 ghost use Rattle.voice_state.specs.Kept.{Keeps};
-ghost use Rattle.voice_state.specs.Rooms.{GroupIs, HasRoom, IsGroupFull1};
+ghost use Rattle.voice_state.specs.Rooms.{GroupIs, HasRoom, IsGroupFull1, KeepsAllRooms};
 ghost use Rattle.voice_state.specs.States.{after_message, first_states, States};
+ghost use Rattle.c_answers.specs.Blocks.{nothing_taken};
 ghost use Rattle.c_answers.specs.Numbers.{number_of};
-ghost use Rattle.c_voice_state.specs.Bytes.{takes_step, IsByteTaken};
-ghost use Rattle.c_voice_state.specs.Facts.{AreTold};
+ghost use Rattle.c_voice_state.specs.Bytes.{takes_step, AreBytesTaken, IsByteTaken};
+ghost use Rattle.c_voice_state.specs.Facts.{HasFacts};
 ghost use Rattle.c_voice_state.specs.Kept.{Changes};
 
-use crate::fact_numbers::{FactNumbers, tell_state, told_facts};
+use crate::fact_numbers::FactNumbers;
 use crate::state::kept_status;
-use c_answers::Status;
+use crate::told::tell_facts;
+use c_answers::{Block, Status};
 use midi1_bytes::{AfterCut, Parser, Step, Voice1};
 use small_types::{NoMemory, U4};
 use std::alloc::Global;
 use std::marker::Model;
-use voice_state::{Fact, VoiceState};
+use voice_state::VoiceState;
 
 /// What the bytes of a MIDI 1.0 stream so far have left in a receiver. A contract sees what is kept of the
 /// groups, and what the parser holds. A stream has no groups: all its messages are in group 0 (own rule).
 #[derive(Drop)]
-pub struct ByteState {
+pub struct CByteState {
     state: VoiceState,
     parser: Parser,
-    facts: Vec<Fact>,
 }
 
-impl Model for ByteState {
+impl Model for CByteState {
     ghost use Rattle.c_voice_state.specs.Bytes.{ByteKept};
 
     ghost Value = { ByteKept };
@@ -84,11 +84,11 @@ fn take_step(state: &mut VoiceState, step: &Step<'_>) -> Status
     }
 }
 
-impl ByteState {
+impl CByteState {
     /// The state before the first byte, for exclusives of `room` bytes between F0 and F7, 6 to 1,048,576,
     /// for `notes` notes and mode messages of each channel, and `params` parameters of each kind and channel.
-    /// `NoMemory` where there isn't enough for all that it ever needs.
-    pub fn new(alloc: Global, room: u32, notes: u32, params: u32) -> Result<ByteState, NoMemory>
+    /// `NoMemory` if there isn't enough for all that it ever needs.
+    pub fn new(alloc: Global, room: u32, notes: u32, params: u32) -> Result<CByteState, NoMemory>
         requires least { 6 ≤ room }
         requires most { room ≤ 1048576 }
         ensures parsing { IfOk result (λ state. state.parsing ≡ idle room) }
@@ -97,17 +97,12 @@ impl ByteState {
     {
         let state = VoiceState::of_stream(alloc, notes as usize, params as usize)?;
         let parser = Parser::new(alloc, room)?;
-        let facts = told_facts(alloc, 1, notes, params)?;
-        Ok(ByteState {
-            state,
-            parser,
-            facts,
-        })
+        Ok(CByteState { state, parser })
     }
 
-    /// Takes one more byte (MIDI 1.0 Detailed Specification; RP-015). The answer is `ExclusiveTooLong` where
-    /// it exceeds the limit of the exclusive, which is dropped, `StateFull` where the message that it completes
-    /// adds to a list that is full, and `NoMemory` where there isn't enough for it; the byte is taken then, too.
+    /// Takes one more byte (MIDI 1.0 Detailed Specification; RP-015). The answer is `ExclusiveTooLong` if it
+    /// exceeds the limit of the exclusive, which is dropped, `StateFull` if the message that it completes
+    /// adds to a list that is full, and `NoMemory` if there isn't enough for it; the byte is taken then, too.
     pub fn byte(&mut self, byte: u8) -> Status
         ensures { IsByteTaken self.old byte (number_of result) self.new }
     {
@@ -115,14 +110,63 @@ impl ByteState {
         take_step(&mut self.state, &step)
     }
 
-    /// Tells what isn't at its first value, as the state of packets does.
-    pub fn facts(&mut self, buffer: &mut [FactNumbers], count: &mut usize) -> Status
-        ensures same { self.new ≡ self.old }
-        ensures memory { number_of result ≡ 1 → (count.new ≡ count.old) × (buffer.new ≡ buffer.old) }
-        ensures told { number_of result ≢ 1 → (scale : Scale) (states : States)
-            → Keeps scale self.old.kept states
-            → AreTold (facts_of scale states) buffer.old (number_of result) count.new buffer.new }
+    // Takes bytes as `bytes` does, and counts them in the block, in which nothing is taken yet.
+    fn take_all(&mut self, bytes: &[u8], block: &mut Block) -> Status
+        requires { block.old ≡ nothing_taken }
+        ensures { AreBytesTaken self.old bytes.now (number_of result) block.new self.new }
     {
-        tell_state(&self.state, &mut self.facts, buffer, count)
+        while block.taken < bytes.len() {
+            match self.byte(bytes[block.taken]) {
+                Status::Done => block.add(1, 0, 0),
+                why => {
+                    block.refuse(1);
+                    return why;
+                }
+            }
+        }
+        Status::Done
+    }
+
+    /// Takes the bytes one after another, each as `byte` does. The block says how far the call came: `Done`
+    /// comes when all are taken. A byte for which the answer isn't `Done` ends the call with that status; it
+    /// counts as taken.
+    pub fn bytes(&mut self, bytes: &[u8], block: &mut Block) -> Status
+        ensures { AreBytesTaken self.old bytes.now (number_of result) block.new self.new }
+    {
+        let mut so_far = Block::nothing();
+        let status = self.take_all(bytes, &mut so_far);
+        *block = so_far;
+        status
+    }
+
+    /// Empties the state: it is as `new` made it, with the same limit of an exclusive and the same room for
+    /// notes and parameters. Takes no memory (own rule).
+    pub fn reset(&mut self)
+        ensures parsing { self.new.parsing ≡ idle self.old.parsing.room }
+        ensures kept { Keeps as_they_come self.new.kept (first_states as_they_come) }
+        ensures rooms { KeepsAllRooms self.old.kept self.new.kept }
+    {
+        self.state.reset();
+        self.parser.reset();
+    }
+
+    /// Tells the facts of one channel of a group: what isn't at its first value, in order. With channel 255
+    /// it tells the counts of the group's system messages. `written` is how many facts were written.
+    ///
+    /// `BadGroup` comes if the group isn't 0 to 15, and `BadChannel` if the channel isn't 0 to 15 or 255. If
+    /// the buffer has fewer places than there are facts, the answer is `SmallBuffer`: nothing is written, and
+    /// `need` is how many there are, at most the greatest number of 64 bits. Otherwise `need` is 0.
+    pub fn facts(
+        &self,
+        group: u8,
+        channel: u8,
+        buffer: &mut [FactNumbers],
+        written: &mut usize,
+        need: &mut usize,
+    ) -> Status
+        ensures { HasFacts self.now.kept group channel buffer.old
+            (number_of result) written.new need.new buffer.new }
+    {
+        tell_facts(&self.state, group, channel, buffer, written, need)
     }
 }

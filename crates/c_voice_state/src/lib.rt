@@ -5,7 +5,8 @@
 pub mod bytes;
 pub mod fact_numbers;
 pub mod state;
+pub mod told;
 
-pub use crate::bytes::ByteState;
+pub use crate::bytes::CByteState;
 pub use crate::fact_numbers::FactNumbers;
-pub use crate::state::PacketState;
+pub use crate::state::CPacketState;

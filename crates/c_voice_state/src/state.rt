@@ -4,23 +4,25 @@ ghost use Rattle.ump_grammar.specs.Ranges.{IsPacket};
 ghost use Rattle.sysex_groups.specs.Exclusives.{IsData};
 ghost use Rattle.sysex_groups.specs.Table.{answer_to, empty_table, with_part};
 ghost use Rattle.midi_meaning.specs.Messages.{raised, Scale};
-ghost use Rattle.voice_state.specs.Facts.{facts_of};
 ghost use Rattle.voice_state.specs.Kept.{Keeps};
-ghost use Rattle.voice_state.specs.Rooms.{HasRoom, IsPacketFull};
+ghost use Rattle.voice_state.specs.Rooms.{HasRoom, IsPacketFull, KeepsAllRooms};
 ghost use Rattle.voice_state.specs.States.{after_packet, first_states, States};
+ghost use Rattle.c_answers.specs.Blocks.{nothing_taken};
 ghost use Rattle.c_answers.specs.Numbers.{number_of};
-ghost use Rattle.c_voice_state.specs.Facts.{AreTold};
-ghost use Rattle.c_voice_state.specs.Kept.{kept_status, takes_part, Changes, IsPacketTaken, IsTaken};
+ghost use Rattle.c_voice_state.specs.Facts.{HasFacts};
+ghost use Rattle.c_voice_state.specs.Kept.{kept_status, takes_part, ArePacketsTaken, Changes, IsPacketTaken, IsTaken};
 
-use crate::fact_numbers::{FactNumbers, tell_state, told_facts};
-use c_answers::{Status, framed};
+use crate::fact_numbers::FactNumbers;
+use crate::told::tell_facts;
+use c_answers::{Block, Status, framed};
+use packet_words::words::words_in_packet;
 use small_types::{NoMemory, U4};
 use std::alloc::Global;
 use std::marker::Model;
 use sysex_groups::{Fed, Groups};
 use ump_grammar::{Packet, decode};
 use voice_messages::Form;
-use voice_state::{Fact, NotKept, VoiceState};
+use voice_state::{NotKept, VoiceState};
 
 // What is answered of a message, by whether it is kept.
 pub(crate) fn kept_status(kept: Result<(), NotKept>) -> Status
@@ -39,13 +41,12 @@ pub(crate) fn kept_status(kept: Result<(), NotKept>) -> Status
 /// Notes and channel mode messages are kept as the list of all that came, parameters by their numbers. All
 /// memory is taken when it is made.
 #[derive(Drop)]
-pub struct PacketState {
+pub struct CPacketState {
     state: VoiceState,
     groups: Groups,
-    facts: Vec<Fact>,
 }
 
-impl Model for PacketState {
+impl Model for CPacketState {
     ghost use Rattle.c_voice_state.specs.Kept.{StateKept};
 
     ghost Value = { StateKept };
@@ -53,11 +54,11 @@ impl Model for PacketState {
     ghost view = { λ s. record { kept = s.state; exclusives = s.groups } };
 }
 
-impl PacketState {
+impl CPacketState {
     /// The state before the first packet, for exclusives of `room` bytes between F0 and F7, 6 to 1,048,576,
     /// for `notes` notes and mode messages of each channel, and `params` parameters of each kind and channel.
-    /// `NoMemory` where there isn't enough for all that it ever needs.
-    pub fn new(alloc: Global, room: u32, notes: u32, params: u32) -> Result<PacketState, NoMemory>
+    /// `NoMemory` if there isn't enough for all that it ever needs.
+    pub fn new(alloc: Global, room: u32, notes: u32, params: u32) -> Result<CPacketState, NoMemory>
         requires least { 6 ≤ room }
         requires most { room ≤ 1048576 }
         ensures exclusives { IfOk result (λ state. state.exclusives ≡ empty_table room) }
@@ -66,12 +67,7 @@ impl PacketState {
     {
         let state = VoiceState::with_room(alloc, notes as usize, params as usize)?;
         let groups = Groups::new(alloc, room)?;
-        let facts = told_facts(alloc, 16, notes, params)?;
-        Ok(PacketState {
-            state,
-            groups,
-            facts,
-        })
+        Ok(CPacketState { state, groups })
     }
 
     // Takes a part of an exclusive; one that is whole is counted.
@@ -119,10 +115,10 @@ impl PacketState {
         kept_status(self.state.take_packet(packet))
     }
 
-    /// Takes the packet that the words encode (M2-104-UM). The answer is `BadWordCount` where they aren't
-    /// those of one packet, `BadCount` or `HighBit` where no packet has them, and `StateFull` where the message
-    /// adds to a list that is full; then, and where it is `NoMemory`, nothing has changed. Where it is
-    /// `ExclusiveTooLong`, the exclusive of the group is dropped.
+    /// Takes the packet that the words encode (M2-104-UM). The answer is `BadWordCount` if they aren't those
+    /// of one packet, `BadCount` or `HighBit` if no packet has them, and `StateFull` if the message adds to
+    /// a list that is full; then, and if it is `NoMemory`, nothing has changed. If it is `ExclusiveTooLong`,
+    /// the exclusive of the group is dropped.
     pub fn packet(&mut self, words: &[u32]) -> Status
         ensures { IsPacketTaken self.old words.now (number_of result) self.new }
     {
@@ -135,16 +131,68 @@ impl PacketState {
         }
     }
 
-    /// Tells what isn't at its first value, in order: how many facts there are, and their numbers where the
-    /// buffer has room for all of them; else the answer is `SmallBuffer`. The facts are written to a list of
-    /// its own first, which has places for all that can be kept; where it hasn't, the answer is `NoMemory`.
-    pub fn facts(&mut self, buffer: &mut [FactNumbers], count: &mut usize) -> Status
-        ensures same { self.new ≡ self.old }
-        ensures memory { number_of result ≡ 1 → (count.new ≡ count.old) × (buffer.new ≡ buffer.old) }
-        ensures told { number_of result ≢ 1 → (scale : Scale) (states : States)
-            → Keeps scale self.old.kept states
-            → AreTold (facts_of scale states) buffer.old (number_of result) count.new buffer.new }
+    // Takes packets as `packets` does, and counts them in the block, in which nothing is taken yet.
+    fn take_all(&mut self, words: &[u32], block: &mut Block) -> Status
+        requires { block.old ≡ nothing_taken }
+        ensures { ArePacketsTaken self.old words.now (number_of result) block.new self.new }
     {
-        tell_state(&self.state, &mut self.facts, buffer, count)
+        while block.taken < words.len() {
+            let rest = &words[block.taken..];
+            let count = words_in_packet(rest[0]);
+            if rest.len() < count {
+                return Status::BadWordCount;
+            }
+            match self.packet(&rest[..count]) {
+                Status::Done => block.add(count, 0, 0),
+                why => {
+                    block.refuse(count);
+                    return why;
+                }
+            }
+        }
+        Status::Done
+    }
+
+    /// Takes the packets whose words follow one another, each as `packet` does. The block says how far the
+    /// call came: `Done` comes when all words are taken, and `BadWordCount` before a packet whose words
+    /// aren't all there. A packet that is refused ends the call with its status; its words count as taken.
+    pub fn packets(&mut self, words: &[u32], block: &mut Block) -> Status
+        ensures { ArePacketsTaken self.old words.now (number_of result) block.new self.new }
+    {
+        let mut so_far = Block::nothing();
+        let status = self.take_all(words, &mut so_far);
+        *block = so_far;
+        status
+    }
+
+    /// Empties the state: it is as `new` made it, with the same limit of an exclusive and the same room for
+    /// notes and parameters. Takes no memory (own rule).
+    pub fn reset(&mut self)
+        ensures exclusives { self.new.exclusives ≡ empty_table self.old.exclusives.room }
+        ensures kept { Keeps raised self.new.kept (first_states raised) }
+        ensures rooms { KeepsAllRooms self.old.kept self.new.kept }
+    {
+        self.state.reset();
+        self.groups.reset();
+    }
+
+    /// Tells the facts of one channel of a group: what isn't at its first value, in order. With channel 255
+    /// it tells the counts of the group's system messages. `written` is how many facts were written.
+    ///
+    /// `BadGroup` comes if the group isn't 0 to 15, and `BadChannel` if the channel isn't 0 to 15 or 255. If
+    /// the buffer has fewer places than there are facts, the answer is `SmallBuffer`: nothing is written, and
+    /// `need` is how many there are, at most the greatest number of 64 bits. Otherwise `need` is 0.
+    pub fn facts(
+        &self,
+        group: u8,
+        channel: u8,
+        buffer: &mut [FactNumbers],
+        written: &mut usize,
+        need: &mut usize,
+    ) -> Status
+        ensures { HasFacts self.now.kept group channel buffer.old
+            (number_of result) written.new need.new buffer.new }
+    {
+        tell_facts(&self.state, group, channel, buffer, written, need)
     }
 }

@@ -41,7 +41,7 @@ abbrev pub asked_with : (ℕ → ℕ → Watch → List ℕ) → ℕ → Option 
 asked_with write muid (Some peer) (Some watch) = Some (write muid peer watch)
 asked_with write muid _ _ = None
 
--- The message that an initiator with this MUID and this peer writes. There is none where the watch isn't there, or where the
+-- The message that an initiator with this MUID and this peer writes. There is none if the watch isn't there, or if the
 -- message is for a peer and none is known.
 abbrev pub asked : ℕ → Option ℕ → List Watch → Ask → Option (List ℕ)
 asked muid peer watches ask.Discover = Some (discovery muid)

@@ -16,7 +16,7 @@ abbrev pub since_gone : List Entry → List Entry
 since_gone [] = []
 since_gone (entry ∷ past) = if is_gone entry.noted then [] else entry ∷ since_gone past
 
--- the older of two, where it is there
+-- the older of two, if it is there
 abbrev pub older_or : {A : Type 0} → Option A → Option A → Option A
 older_or (Some older) newer = Some older
 older_or None newer = newer

@@ -31,7 +31,7 @@ StageIsTheCourse =
     stage_after (stage_of setup course) (next_stage (stage_of setup course) event)
     ≡ stage_of setup (more setup course event)
 
--- Whatever events there were, so whatever was lost, repeated or out of order: where a watch is held on, a reply told that its
+-- Whatever events there were, so whatever was lost, repeated or out of order: if a watch is held on, a reply told that its
 -- profile is on, and when that reply was made it was on; and likewise off.
 abbrev pub HeldIsTold : Type 0
 HeldIsTold =

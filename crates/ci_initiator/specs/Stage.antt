@@ -51,7 +51,7 @@ event_of kind number =
     else if kind == 2 then Some (event.ToInitiator number)
     else None
 
--- one more message where there are fewer than 1,024
+-- one more message if there are fewer than 1,024
 abbrev pub if_few : List Sent → Told × Stage → Result (Told × Stage) EventFault
 if_few messages next = if nat_lt (length messages) 1024 then Ok next else Err fault.TooMany
 

@@ -55,7 +55,7 @@ watch_at first (place.Group group) id = record { group = group; address = addres
 watch_at first (place.Channel group channel) id =
     record { group = group; address = address.Channel channel; id = record { bytes = id } }
 
--- the watch of a profile, where it is of the watched block, which has this first group
+-- the watch of a profile, if it is of the watched block, which has this first group
 abbrev pub watch_where : Option ℕ → ℕ → Profile → List Watch
 watch_where None first profile = []
 watch_where (Some number) first profile =

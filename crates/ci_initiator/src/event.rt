@@ -33,8 +33,8 @@ pub enum EventFault {
     /// It is of no kind, or there is no such message or watch, or the initiator asks a peer and knows none.
     #[error("the event is of no kind, or asks for what is not there")]
     BadEvent,
-    /// There are 1,024 messages already where the one that the event may make would be kept. It comes also if the event would make
-    /// none.
+    /// The list in which the event's message would be kept has 1,024 messages already. It is returned even if
+    /// the event would make no message.
     #[error("the side that would send has sent 1,024 messages already")]
     TooMany,
 }

@@ -43,17 +43,14 @@ impl Model for Initiator {
 impl Initiator {
     /// An initiator with a MUID of its own, below 0FFFFF00, and at most 64 watches that are all different
     /// (`watches_differ`). At first no peer is known, and nothing is held. Takes all memory that it ever
-    /// takes; `NoMemory` where there isn't so much.
+    /// takes; `NoMemory` if there isn't enough.
     pub fn new(alloc: Global, muid: u32, watches: &[Watch]) -> Result<Initiator, NoMemory>
         requires muid { muid < 0x0FFFFF00 }
         requires few { length watches.now ≤ 64 }
         requires different { are_different watches.now ≡ true }
         ensures { IfOk result (λ initiator. initiator ≡ known_at muid watches.now []) }
     {
-        let Some(muid) = Muid::new(muid) else {
-            // it is below 0FFFFF00
-            unreachable!();
-        };
+        let muid = Muid::unreserved(muid);
         let Ok(mut watched) = Vec::with_capacity(alloc, watches.len()) else {
             return Err(NoMemory);
         };
@@ -100,7 +97,7 @@ impl Initiator {
     /// What is asked, as a message (M2-101-UM): Discovery to all at the function block, with an identity of
     /// zeros, the category of profiles, 512 as the most bytes and the output path 0; the others to the peer
     /// at the watch's address, Set Profile On with the count 1 for a channel and 0 otherwise. All are of
-    /// version 02. `None` exactly where the watch isn't there, or, for all but Discovery, no peer is known.
+    /// version 02. `None` exactly when the watch isn't there, or, except for Discovery, no peer is known.
     pub fn asked(&self, what: Ask) -> Option<CiMessage>
         ensures { result ≡ asked_by self.now what }
     {
@@ -129,10 +126,8 @@ impl Initiator {
         ensures bytes { asked_by self.now what ≡ Some into.new }
         ensures message { IsMessage into.new }
     {
-        match self.asked(what) {
-            Some(message) => into.extend(message.as_slice()),
-            // it can be asked
-            None => unreachable!(),
+        if let Some(message) = self.asked(what) {
+            into.extend(message.as_slice());
         }
     }
 
@@ -173,7 +168,7 @@ impl Initiator {
     }
 
     /// The group on which is asked: that of the watch, and for Discovery
-    /// that of watch 0; 0 where there is no such watch.
+    /// that of watch 0; 0 if there is no such watch.
     pub fn group_asked(&self, what: Ask) -> U4
         ensures { result ≡ group_asked (watches_of self.now) what }
     {
@@ -195,7 +190,7 @@ impl Initiator {
     }
 
     /// What is held of watch `k`, counted from 0: whether the peer has last told that the profile is on.
-    /// `None` exactly where nothing is held.
+    /// `None` exactly when nothing is held.
     pub fn holds(&self, k: usize) -> Option<bool>
         requires { k < length self.now.watched }
         ensures { option_map (λ watched. watched.held) (slice_get self.now.watched k) ≡ Some result }
@@ -203,7 +198,7 @@ impl Initiator {
         self.watched[k].held
     }
 
-    /// The peer's MUID, below 2^28. `None` exactly where no peer is known.
+    /// The peer's MUID, below 2^28. `None` exactly when no peer is known.
     pub fn peer(&self) -> Option<u32>
         ensures value { result ≡ self.now.peer }
         ensures fits { IfSome result (λ muid. muid < 2 ^ 28) }

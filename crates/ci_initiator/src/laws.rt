@@ -32,7 +32,7 @@ pub fn stage_is_the_course()
     held_is_the_history();
 }
 
-/// Whatever was lost, repeated or out of order in a rehearsal: where the initiator holds a profile on, a
+/// Whatever was lost, repeated or out of order in a rehearsal: if the initiator holds a profile on, a
 /// reply of the responder told that it is on, by a report or by an inventory, and when that reply was made
 /// the responder's profile was on. The same holds of off. It isn't promised that the profile still is so.
 pub fn what_is_held_was_told()

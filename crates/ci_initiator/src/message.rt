@@ -58,7 +58,7 @@ fn keep(messages: &mut Vec<Sent>, sent: Sent)
 {
     match messages.push(sent) {
         Ok(()) => {}
-        // there is room for one more
+        // Memory is reserved for 1,024 messages, and fewer are kept, so the push takes none.
         Err(_) => unreachable!(),
     }
 }

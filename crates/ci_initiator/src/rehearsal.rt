@@ -105,7 +105,7 @@ fn respond(responder: &mut Responder, sent: &Sent) -> (Heard, Option<CiMessage>)
     ci_responder::views_tell_their_bytes();
     match read(sent.bytes.as_slice()) {
         Ok(view) => responder.hear_message(sent.group, &view),
-        // a message that was sent has no fault
+        // Each side sends messages without a fault only, and such a message is read.
         Err(_) => unreachable!(),
     }
 }
@@ -119,7 +119,7 @@ fn note(initiator: &mut Initiator, sent: &Sent) -> Noted
     crate::laws::views_tell_their_bytes();
     match read(sent.bytes.as_slice()) {
         Ok(view) => initiator.hear(sent.group, &view),
-        // a message that was sent has no fault
+        // Each side sends messages without a fault only, and such a message is read.
         Err(_) => unreachable!(),
     }
 }
@@ -127,9 +127,9 @@ fn note(initiator: &mut Initiator, sent: &Sent) -> Noted
 impl Rehearsal {
     /// The rehearsal of a setup (own rule). The responder is the setup's. The initiator has the least MUID
     /// from 1 on that the setup doesn't name, and watches the profiles of one function block, in the setup's
-    /// order: of the first profile's whose block has MIDI-CI. Where no profile's block has it, nothing is
+    /// order: of the first profile's whose block has MIDI-CI. If no profile's block has it, nothing is
     /// watched. A profile of the function block is watched on its first group. Takes all memory that it ever
-    /// takes; `NoMemory` where there isn't so much.
+    /// takes; `NoMemory` if there isn't enough.
     pub fn new(alloc: Global, setup: &Setup) -> Result<Rehearsal, NoMemory>
         ensures first { IfOk result (λ rehearsal. rehearsal ≡ first_stage setup.now) }
         ensures least { IfOk result (λ rehearsal.
@@ -157,7 +157,7 @@ impl Rehearsal {
     }
 
     /// What the initiator holds of watch `k`, counted from 0: whether the responder has last told it that the
-    /// profile is on (M2-101-UM, profile configuration). `None` exactly where nothing is held.
+    /// profile is on (M2-101-UM, profile configuration). `None` exactly when nothing is held.
     pub fn holds(&self, k: usize) -> Option<bool>
         requires { k < length self.now.initiator.watched }
         ensures { option_map (λ watched. watched.held) (slice_get self.now.initiator.watched k)
@@ -167,7 +167,7 @@ impl Rehearsal {
     }
 
     /// Whether a profile of the responder is on (M2-101-UM, profile
-    /// configuration); `None` exactly where the setup doesn't name it.
+    /// configuration); `None` exactly when the setup doesn't name it.
     pub fn profile_is_on(&self, key: &Key) -> Option<bool>
         ensures { result ≡ state_in self.now.responder.states key.now }
     {

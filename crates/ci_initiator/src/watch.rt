@@ -22,7 +22,7 @@ pub struct Watch {
 #[derive(Clone, Copy, Debug, PartialEq, Eq)]
 pub struct Watched {
     pub watch: Watch,
-    /// Whether the peer has last told that the profile is on; `None` where it has told nothing.
+    /// Whether the peer has last told that the profile is on; `None` if it has told nothing.
     pub held: Option<bool>,
 }
 

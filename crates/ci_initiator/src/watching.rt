@@ -87,7 +87,7 @@ fn watched_block(setup: &Setup) -> Option<u8>
     None
 }
 
-// The first group of the block of a number; 0 where there is none.
+// The first group of the block of a number; 0 if there is none.
 fn first_group_of(setup: &Setup, number: u8) -> U4
     ensures { result ≡ first_group_of_block (slice_get setup.now.blocks number) }
 {
@@ -97,7 +97,7 @@ fn first_group_of(setup: &Setup, number: u8) -> U4
     }
 }
 
-// The first group of the watched block; 0 where there is none.
+// The first group of the watched block; 0 if there is none.
 fn first_group(setup: &Setup, watched: Option<u8>) -> U4
     ensures { result ≡ first_group_watched setup.now.blocks watched }
 {
@@ -161,7 +161,7 @@ fn push_watch(
     }
 }
 
-// Adds the watch of a profile, where it is of the watched block.
+// Adds the watch of a profile, if it is of the watched block.
 fn add_watch(
     watches: &mut Vec<Watch>,
     watched: Option<u8>,

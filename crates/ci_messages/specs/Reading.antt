@@ -78,20 +78,20 @@ pub record CiSpells (view : CiView) (message : List ℕ) : Type 0 where
   pub destination : view.destination ≡ number4_at message 10
   pub body : SpellsBody (message_format message) (message_kind message) view.body (body_of message)
 
--- the view that the message spells where it has no fault, and otherwise the fault
+-- the view that the message spells if it has no fault, and otherwise the fault
 abbrev pub Reads : List ℕ → Result CiView CiFault → Type 0
 Reads message result =
     MatchResult result
     (λ view. (ci_fault message ≡ None) × CiSpells view message)
     (λ fault. ci_fault message ≡ Some fault)
 
--- the body of a kind that bytes spell, where they are long enough
+-- the body of a kind that bytes spell, if they are long enough
 abbrev pub ReadsBody : Format → Kind → List ℕ → Option Body → Type 0
 ReadsBody form kind bytes (Some body) =
     (is_short_body form kind bytes ≡ false) × SpellsBody form kind body bytes
 ReadsBody form kind bytes None = is_short_body form kind bytes ≡ true
 
--- the values that fields hold from a place on, where the bytes are long enough
+-- the values that fields hold from a place on, if the bytes are long enough
 abbrev pub ReadsFields : List Field → List ℕ → ℕ → Option (List Value) → Type 0
 ReadsFields fields bytes at (Some values) =
     (end_of_fields fields bytes at ≤ length bytes) × HasFields fields values bytes at

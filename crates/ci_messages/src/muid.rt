@@ -38,7 +38,7 @@ pub(crate) fn is_reserved(number: u32) -> bool
 }
 
 impl Muid {
-    /// The MUID of this number (M2-101-UM, MUID); `None` exactly where it has more than 28 bits.
+    /// The MUID of this number (M2-101-UM, MUID); `None` exactly if it has more than 28 bits.
     pub fn new(number: u32) -> Option<Muid>
         ensures { MatchOption result (2 ^ 28 ≤ number) (λ muid. (muid ≡ number) × (number < 2 ^ 28)) }
     {
@@ -47,6 +47,14 @@ impl Muid {
         } else {
             None
         }
+    }
+
+    /// The MUID of a number below 0FFFFF00, which a device may have as its own (M2-101-UM, MUID).
+    pub fn unreserved(number: u32) -> Muid
+        requires { number < 0x0FFFFF00 }
+        ensures { result ≡ number }
+    {
+        Muid { number }
     }
 
     /// The number, of 28 bits (M2-101-UM, MUID).

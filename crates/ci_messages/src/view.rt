@@ -149,7 +149,7 @@ pub enum Body<'a> {
         category: u8,
         size: u32,
         path: u8,
-        /// The number of the function block, or 7F where there is none.
+        /// The number of the function block, or 7F if there is none.
         block: u8,
     },
     /// 72: Inquiry: Endpoint.

@@ -70,7 +70,7 @@ fn put_identity(
     into.extend(revision);
 }
 
-// The path of a Discovery, where it has a place.
+// The path of a Discovery, if it has a place.
 fn put_path(format: Format, path: u8, into: &mut Message)
     requires { length into.old + length (bytes_of_fields (path_in format ∷ []) (number path ∷ [])) ≤ 512 }
     ensures { into.new ≡ into.old ++ bytes_of_fields (path_in format ∷ []) (number path ∷ []) }
@@ -81,7 +81,7 @@ fn put_path(format: Format, path: u8, into: &mut Message)
     }
 }
 
-// The path and the block of a Reply to Discovery, where they have a place.
+// The path and the block of a Reply to Discovery, if they have a place.
 fn put_path_and_block(format: Format, path: u8, block: u8, into: &mut Message)
     requires { length into.old + length (bytes_of_fields (path_in format ∷ block_in format ∷ [])
         (number path ∷ number block ∷ [])) ≤ 512 }
@@ -105,7 +105,7 @@ struct NakReason {
     value: u8,
 }
 
-// The fields of a NAK, where they have a place.
+// The fields of a NAK, if they have a place.
 fn put_nak(format: Format, reason: NakReason, details: &[u8; 5], text: &[u8], into: &mut Message)
     requires { length into.old + length (bytes_of_fields (fields_of format kind.Nak)
         (number reason.original ∷ number reason.code ∷ number reason.value
@@ -126,7 +126,7 @@ fn put_nak(format: Format, reason: NakReason, details: &[u8; 5], text: &[u8], in
     }
 }
 
-// A profile's id, and the number of channels, where it has a place.
+// A profile's id, and the number of channels, if it has a place.
 fn put_switch(format: Format, id: &ProfileId, channels: u16, into: &mut Message)
     requires fits { channels < 2 ^ 14 }
     requires capacity { length into.old + length (bytes_of_fields (bytes 5 ∷ channels_in format ∷ [])
@@ -141,7 +141,7 @@ fn put_switch(format: Format, id: &ProfileId, channels: u16, into: &mut Message)
     }
 }
 
-// A profile's id, and two reserved bytes, where they have a place.
+// A profile's id, and two reserved bytes, if they have a place.
 fn put_set_off(format: Format, id: &ProfileId, into: &mut Message)
     requires { length into.old + length (bytes_of_fields (fields_of format kind.SetOff)
         (list id.now.bytes ∷ nothing ∷ [])) ≤ 512 }
@@ -155,57 +155,24 @@ fn put_set_off(format: Format, id: &ProfileId, into: &mut Message)
     }
 }
 
-// The body of a Discovery.
-fn put_discovery(format: Format, body: &Body<'_>, into: &mut Message)
-    requires kind { body_kind body.now ≡ kind.Discovery }
-    requires fits { FitsBody format body.now }
-    requires capacity { length into.old + length (body_bytes format body.now) ≤ 512 }
-    ensures { into.new ≡ into.old ++ body_bytes format body.now }
+// The fields with which a Discovery and the reply to it begin.
+fn put_device(
+    manufacturer: &[u8; 3],
+    family: &[u8; 2],
+    model: &[u8; 2],
+    revision: &[u8; 4],
+    category: u8,
+    size: u32,
+    into: &mut Message,
+)
+    requires fits { size < 2 ^ 28 }
+    requires capacity { length into.old + 16 ≤ 512 }
+    ensures { into.new ≡ into.old ++ (manufacturer.now ++ (family.now ++ (model.now ++ (revision.now
+        ++ (category ∷ [] ++ bytes4 size))))) }
 {
-    let Body::Discovery {
-        manufacturer,
-        family,
-        model,
-        revision,
-        category,
-        size,
-        path,
-    } = body
-    else {
-        // the body is a Discovery
-        unreachable!()
-    };
     put_identity(manufacturer, family, model, revision, into);
-    into.push(*category);
-    put_four(*size, into);
-    put_path(format, *path, into);
-}
-
-// The body of a Reply to Discovery.
-fn put_discovery_reply(format: Format, body: &Body<'_>, into: &mut Message)
-    requires kind { body_kind body.now ≡ kind.DiscoveryReply }
-    requires fits { FitsBody format body.now }
-    requires capacity { length into.old + length (body_bytes format body.now) ≤ 512 }
-    ensures { into.new ≡ into.old ++ body_bytes format body.now }
-{
-    let Body::DiscoveryReply {
-        manufacturer,
-        family,
-        model,
-        revision,
-        category,
-        size,
-        path,
-        block,
-    } = body
-    else {
-        // the body is a Reply to Discovery
-        unreachable!()
-    };
-    put_identity(manufacturer, family, model, revision, into);
-    into.push(*category);
-    put_four(*size, into);
-    put_path_and_block(format, *path, *block, into);
+    into.push(category);
+    put_four(size, into);
 }
 
 fn put_body(format: Format, body: &Body<'_>, into: &mut Message)
@@ -214,8 +181,47 @@ fn put_body(format: Format, body: &Body<'_>, into: &mut Message)
     ensures { into.new ≡ into.old ++ body_bytes format body.now }
 {
     match body {
-        Body::Discovery { .. } => put_discovery(format, body, into),
-        Body::DiscoveryReply { .. } => put_discovery_reply(format, body, into),
+        Body::Discovery {
+            manufacturer,
+            family,
+            model,
+            revision,
+            category,
+            size,
+            path,
+        } => {
+            put_device(
+                manufacturer,
+                family,
+                model,
+                revision,
+                *category,
+                *size,
+                into,
+            );
+            put_path(format, *path, into);
+        }
+        Body::DiscoveryReply {
+            manufacturer,
+            family,
+            model,
+            revision,
+            category,
+            size,
+            path,
+            block,
+        } => {
+            put_device(
+                manufacturer,
+                family,
+                model,
+                revision,
+                *category,
+                *size,
+                into,
+            );
+            put_path_and_block(format, *path, *block, into);
+        }
         Body::EndpointInquiry { status } => into.push(*status),
         Body::EndpointReply { status, text } => {
             into.push(*status);

@@ -6,4 +6,6 @@ pub mod OneBlock
 pub mod PacketLaws
 pub mod ReplyLaws
 pub mod ReceivedLaws
+pub mod ResetLaws
 pub mod RowLaws
+pub mod StayLaws

@@ -1,5 +1,5 @@
 -- Items of a list by their places.
-use Rattle.std.proofs.Common.{arith, ◌≡◌, ◌<◌, ◌+◌, ◌-◌, ◌∙◌, ap, sym, refl, ℕ, zero, suc, List, [], ◌∷◌, ◌++◌}
+use Rattle.std.proofs.Common.{arith, ◌≡◌, ◌<◌, ◌≤◌, ◌+◌, ◌-◌, ◌∙◌, ap, sym, refl, ℕ, zero, suc, List, [], ◌∷◌, ◌++◌}
 use Rattle.std.proofs.Common.{length, length-append, take, drop, get_or, slice_get, None, Some, is_some, true≢false}
 use Rattle.std.proofs.lemmas.List.{take_more}
 
@@ -17,10 +17,17 @@ take-next xs k x is =
     let at = got xs k x x is in
     take_more xs k x at.0 ∙ ap (λ y. take k xs ++ y ∷ []) (sym at.1)
 
-pub past : {X : Type 0} (xs : List X) (k : ℕ) → None ≡ slice_get xs k → k < length xs → ⊥
-past [] k none within = omega (arith, within)
-past (x ∷ xs) zero none within = true≢false (sym (ap is_some none))
-past (x ∷ xs) (suc k) none within = past xs k none (omega (arith, within))
+-- where no item is at a place, all items stand before it
+pub past-last : {X : Type 0} (xs : List X) (k : ℕ) → None ≡ slice_get xs k → length xs ≤ k
+past-last [] k none = omega arith
+past-last (x ∷ xs) zero none = absurd (true≢false (sym (ap is_some none)))
+past-last (x ∷ xs) (suc k) none = omega (arith, past-last xs k none)
+
+pub all-taken : {X : Type 0} (xs : List X) (k : ℕ) → length xs ≤ k → take k xs ≡ xs
+all-taken [] zero all = refl
+all-taken [] (suc k) all = refl
+all-taken (x ∷ xs) zero all = absurd (omega (arith, all))
+all-taken (x ∷ xs) (suc k) all = ap (λ rest. x ∷ rest) (all-taken xs k (omega (arith, all)))
 
 take-front : (xs ys : List ℕ) → take (length xs) (xs ++ ys) ≡ xs
 take-front [] ys = refl

@@ -34,7 +34,7 @@ abbrev pub accepted_by : Key → Option ℕ → Heard → Received → Option Bo
 accepted_by key (Some block) heard.Answered received = switched key block received received.message.said
 accepted_by key _ _ received = None
 
--- the newer of two, where it is there
+-- the newer of two, if it is there
 abbrev pub newer_or : {A : Type 0} → Option A → Option A → Option A
 newer_or (Some newer) older = Some newer
 newer_or None older = older
@@ -79,7 +79,7 @@ module _ (setup : SetupData) where
   abbrev pub heard_at : List Received → Received → Heard
   heard_at past received = heard_with (block_of received.group) (spent_at past) received
 
-  -- the switch of a profile that a message after these is, where it is accepted
+  -- the switch of a profile that a message after these is, if it is accepted
   abbrev pub accepted_at : List Received → Received → Key → Option Bool
   accepted_at past received key = accepted_by key (block_of received.group) (heard_at past received) received
 
@@ -88,7 +88,7 @@ module _ (setup : SetupData) where
   last_switch [] key = None
   last_switch (received ∷ past) key = newer_or (accepted_at past received key) (last_switch past key)
 
-  -- whether a profile is on: by its last accepted switch, else as the setup says; none where the setup doesn't name it
+  -- whether a profile is on: by its last accepted switch, else as the setup says; none if the setup doesn't name it
   abbrev pub on_at : List Received → Key → Option Bool
   on_at past key = option_map (unwrap_or (last_switch past key)) (state_in (first_states setup.profiles) key)
 

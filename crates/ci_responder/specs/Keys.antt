@@ -17,6 +17,6 @@ key_of profile = record { block = profile.block; place = profile.place; id = rec
 abbrev pub first_states : List Profile → List (Key × Bool)
 first_states profiles = map (λ profile. (key_of profile, profile.on)) profiles
 
--- whether a profile is on; none where it isn't named
+-- whether a profile is on; none if it isn't named
 abbrev pub state_in : List (Key × Bool) → Key → Option Bool
 state_in profiles key = lookup (same_key key) profiles

@@ -10,7 +10,8 @@ use Rattle.ci_messages.specs.Reading.{CiSpells}
 use Rattle.ci_responder.specs.Keys.{same_key, state_in}
 use Rattle.ci_responder.specs.Messages.{Received, received_of}
 use Rattle.ci_responder.specs.Read.{received_in}
-use Rattle.ci_responder.specs.Held.{after, heard_in, muid_in, replies_in, reply_in}
+use Rattle.ci_responder.specs.Reset.{IsOf}
+use Rattle.ci_responder.specs.Held.{Held, after, heard_in, muid_in, replies_in, reply_in}
 use Rattle.ci_responder.specs.History.{accepted_at, block_of, covers, heard_at, responder_at, muid_at, on_at, replies_at, reply_at}
 
 -- What is held after a history is what the history says: `heard`, `replies`, `muid` and `on` of it are those of the history, and
@@ -50,3 +51,9 @@ abbrev pub ViewsTellTheirBytes : Type 0
 ViewsTellTheirBytes =
     (group : ℕ) (message : List ℕ) (view : CiView) → CiSpells view message →
     received_of group view ≡ received_in group message
+
+-- a responder is one of its setup and keeps its room, whatever it hears
+pub record StaysOfItsSetup : Type 0 where
+  pub room : (held : Held) (received : Received) → (after held received).room ≡ held.room
+  pub at : (setup : SetupData) (room : ℕ) (past : List Received) → IsOf setup (responder_at setup room past)
+  pub after : (setup : SetupData) (held : Held) (received : Received) → IsOf setup held → IsOf setup (after held received)

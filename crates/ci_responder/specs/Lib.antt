@@ -6,5 +6,6 @@ pub mod Laws
 pub mod Messages
 pub mod Read
 pub mod Replies
+pub mod Reset
 pub mod RowOrder
 pub mod Rows

@@ -62,7 +62,7 @@ abbrev pub is_listed : Bool → ℕ → Place → (Key × Bool) → Bool
 is_listed on block place state =
     state.0.block == block && (same_place state.0.place place && (if on then state.1 else not state.1))
 
--- its id, where it is
+-- its id, if it is
 abbrev pub listed : Bool → ℕ → Place → (Key × Bool) → List ℕ
 listed on block place state = if is_listed on block place state then state.0.id.bytes else []
 
@@ -109,7 +109,7 @@ first_packets group bytes (suc k) =
     first_packets group bytes k
     ++ packet.Exclusive group (form_at (part_count bytes) k) (slice_chunk bytes 6 k) ∷ []
 
--- all of them, where there is a payload
+-- all of them, if there is a payload
 abbrev pub packets_of : ℕ → List ℕ → List Packet
 packets_of group bytes = first_packets group bytes (part_count bytes)
 
@@ -128,7 +128,7 @@ reply_to sender _ received = None
 abbrev pub message_of_payload : List ℕ → List ℕ
 message_of_payload bytes = 0xF0 ∷ bytes ++ 0xF7 ∷ []
 
--- the message that a reply is, where there is one
+-- the message that a reply is, if there is one
 abbrev pub message_of_reply : Option (List ℕ) → Option (List ℕ)
 message_of_reply reply = option_map message_of_payload reply
 

@@ -36,7 +36,7 @@ abbrev pub is_discovery : SaidToResponder → Bool
 is_discovery (discovery path) = true
 is_discovery _ = false
 
--- It is answered. A switch is, where the setup names its profile.
+-- It is answered. A switch is, if the setup names its profile.
 abbrev pub is_answered : Bool → SaidToResponder → Bool
 is_answered named (discovery path) = true
 is_answered named (endpoint status) = status == 0
@@ -44,7 +44,7 @@ is_answered named profiles = true
 is_answered named (switch id on) = named
 is_answered named _ = false
 
--- the row of a message for a block in which this MUID is in force, where it is for that block, from another device, and not of
+-- the row of a message for a block in which this MUID is in force, if it is for that block, from another device, and not of
 -- version 00
 abbrev pub row_of_ours : ℕ → Bool → Message → Heard
 row_of_ours muid named message =

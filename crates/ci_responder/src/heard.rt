@@ -18,7 +18,7 @@ pub enum Heard {
     /// The block's MUID is invalidated. It takes the next of its list or becomes silent, without a reply.
     Moved,
     /// Sub-ids 21, 24 to 27, 29, 71, 73, 7D and 7F: a reply, a report, an ACK or a NAK. Those of Process
-    /// Inquiry (41, 43 and 44) aren't among them, and are `Nak` where nothing before it applies (own rule).
+    /// Inquiry (41, 43 and 44) aren't among them, and are `Nak` if nothing before it applies (own rule).
     /// Nothing is done.
     Report,
     /// To broadcast, and not Discovery. Nothing is done.

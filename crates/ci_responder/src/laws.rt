@@ -1,10 +1,16 @@
 // Laws over the definitions alone.
 ghost use Rattle.ci_responder.specs.RowOrder.{RowsInOrder, WorkedRows};
-ghost use Rattle.ci_responder.specs.Laws.{BlockOfIsTheOne, HeldIsTheHistory, SwitchesStandAlone, ViewsTellTheirBytes};
+ghost use Rattle.ci_responder.specs.Laws.{
+  BlockOfIsTheOne,
+  HeldIsTheHistory,
+  StaysOfItsSetup,
+  SwitchesStandAlone,
+  ViewsTellTheirBytes,
+};
 
 /// What a responder holds after any messages, of all groups, is what their history says, searched from the
 /// newest message back: the MUID in force of each block, what one more message is heard as, the reply to it,
-/// and whether each profile is on. Where no two profiles have the same key, hearing one more message leaves
+/// and whether each profile is on. If no two profiles have the same key, hearing one more message leaves
 /// what the longer history says; so a switch leaves all other profiles as they were, and a change of MUID all
 /// of them.
 pub fn held_is_the_history()
@@ -17,8 +23,8 @@ pub fn switches_stand_alone()
 {}
 
 /// The block of a group, by which the history tells which block hears a message, is an active block with
-/// MIDI-CI that has the group. Where no two of them share a group, as in each setup, it is the only one, and
-/// there is none only where no block has it.
+/// MIDI-CI that has the group. If no two of them share a group, as in each setup, it is the only one, and
+/// there is none only if no block has it.
 pub fn block_of_a_group_is_the_one()
     ensures { BlockOfIsTheOne }
 {}
@@ -27,6 +33,12 @@ pub fn block_of_a_group_is_the_one()
 /// bytes and its group, by the places of M2-101-UM.
 pub fn views_tell_their_bytes()
     ensures { ViewsTellTheirBytes }
+{}
+
+/// A responder stays one of its setup, so that it can begin again with it: hearing a message uses up MUIDs and
+/// switches profiles, and changes nothing else.
+pub fn responders_stay_of_their_setup()
+    ensures { StaysOfItsSetup }
 {}
 
 /// The rows of a message stand in their order: a message from the block's own MUID is a collision, whatever

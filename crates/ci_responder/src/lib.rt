@@ -13,14 +13,15 @@ mod owner;
 mod packets;
 mod profiles;
 mod replying;
+mod reset;
 pub mod responder;
 mod rows;
 
 pub use crate::heard::Heard;
 pub use crate::keys::Key;
 pub use crate::laws::{
-    block_of_a_group_is_the_one, held_is_the_history, rows_stand_in_their_order,
-    switches_stand_alone, views_tell_their_bytes,
+    block_of_a_group_is_the_one, held_is_the_history, responders_stay_of_their_setup,
+    rows_stand_in_their_order, switches_stand_alone, views_tell_their_bytes,
 };
 pub use crate::message::CiMessage;
 pub use crate::responder::Responder;

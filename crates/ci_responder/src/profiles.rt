@@ -27,14 +27,14 @@ pub(crate) fn place_of(address: Address, group: U4) -> Place
     }
 }
 
-/// Whether a profile is on; `None` exactly where it isn't named.
+/// Whether a profile is on; `None` exactly if it isn't named.
 pub(crate) fn state(states: &IndexMap<Key, bool>, key: &Key) -> Option<bool>
     ensures { result ≡ state_in states.now.entries key.now }
 {
     states.get(key).copied()
 }
 
-/// The number of the first profile of a key; `None` exactly where it isn't named.
+/// The number of the first profile of a key; `None` exactly if it isn't named.
 pub(crate) fn number_of(states: &IndexMap<Key, bool>, key: &Key) -> Option<usize>
     ensures named { is_some result ≡ is_some (state_in states.now.entries key.now) }
     ensures first { IfSome result (λ number. IsFirstOf key.now states.now.entries number) }
@@ -104,12 +104,10 @@ pub(crate) fn ids_at(states: &IndexMap<Key, bool>, block: u8, place: &Place) -> 
         on: ShortList::new(),
         off: ShortList::new(),
     };
-    for k in 0..states.len() {
-        match states.get_index(k) {
-            Some((key, on)) => add_listed(&mut ids, key, *on, block, place),
-            // there is a profile for each number below the count
-            None => unreachable!(),
-        }
+    let mut k = 0;
+    while let Some((key, on)) = states.get_index(k) {
+        add_listed(&mut ids, key, *on, block, place);
+        k += 1;
     }
     ids
 }

@@ -43,7 +43,7 @@ fn reply_version(view: &CiView<'_>) -> u8
     }
 }
 
-// A number of a message of a version, or what it is where version 01 has no place for it.
+// A number of a message of a version, or what it is if version 01 has no place for it.
 fn placed(version: u8, value: u8, otherwise: u8) -> u8
     requires { value < 128 }
     ensures fits { FitsField (full_only (format_of version) byte (number otherwise)) (number result) }
@@ -57,7 +57,7 @@ fn placed(version: u8, value: u8, otherwise: u8) -> u8
 }
 
 // The number of channels that a report tells: that of its address, and
-// none where version 01 has no place for it (own rule).
+// none if version 01 has no place for it (own rule).
 fn channels_told(version: u8, address: Address) -> u16
     ensures fits { FitsField (channels_in (format_of version)) (number result) }
     ensures bytes { bytes_of_field (channels_in (format_of version)) (number result)

@@ -19,6 +19,7 @@ ghost use Rattle.ci_responder.specs.History.{responder_at};
 ghost use Rattle.ci_responder.specs.Keys.{state_in};
 ghost use Rattle.ci_responder.specs.Messages.{said_in, received_of};
 ghost use Rattle.ci_responder.specs.Replies.{message_of_reply, reply_to};
+ghost use Rattle.ci_responder.specs.Reset.{IsOf};
 
 use crate::action::Action;
 use crate::blocks::{block_of, muid_of, spend};
@@ -30,6 +31,7 @@ use crate::opening::{first_states, kept_blocks};
 use crate::owner::Owner;
 use crate::packets::push_message;
 use crate::profiles::{set, state};
+use crate::reset::{reset_blocks, reset_states};
 use ci_messages::CiView;
 use function_blocks::{Identity, Setup};
 use indexmap::IndexMap;
@@ -74,7 +76,7 @@ impl Model for Responder {
 impl Responder {
     /// A responder that has used up no MUID, with its profiles as the setup has them. `room` is the most
     /// bytes of a System Exclusive message that it tells to take, 6 to 1,048,576. Takes all memory that it
-    /// ever takes; `NoMemory` where there isn't so much.
+    /// ever takes; `NoMemory` if there isn't that much.
     pub fn new(alloc: Global, setup: &Setup, room: u32) -> Result<Responder, NoMemory>
         requires least { 6 ≤ room }
         requires most { room ≤ 1048576 }
@@ -93,8 +95,19 @@ impl Responder {
         })
     }
 
-    /// The MUID in force of a function block, counted from 0; it is below 0FFFFF00. `None` exactly where the
-    /// block has no MIDI-CI or has used up its MUIDs, or where there is no such block.
+    /// Begins again: the responder is as `new` makes one of the same setup and room, so no MUID is used up, and
+    /// each profile is on or off as the setup has it (own rule). It takes no memory. The setup is the one that
+    /// it was made of.
+    pub fn reset(&mut self, setup: &Setup)
+        requires { IsOf setup.now self.old }
+        ensures { self.new ≡ responder_at setup.now self.old.room [] }
+    {
+        reset_blocks(self.blocks.as_mut_slice());
+        reset_states(&mut self.states, setup.profiles());
+    }
+
+    /// The MUID in force of a function block, counted from 0; it is below 0FFFFF00. `None` exactly if the
+    /// block has no MIDI-CI or has used up its MUIDs, or if there is no such block.
     pub fn muid(&self, block: u8) -> Option<u32>
         ensures value { result ≡ muid_in self.now.blocks block }
         ensures fits { IfSome result (λ muid. muid < 0x0FFFFF00) }
@@ -105,7 +118,7 @@ impl Responder {
         }
     }
 
-    /// Whether a profile is on; `None` exactly where the setup doesn't name it.
+    /// Whether a profile is on; `None` exactly if the setup doesn't name it.
     pub fn profile_is_on(&self, key: &Key) -> Option<bool>
         ensures { result ≡ state_in self.now.states key.now }
     {
@@ -131,7 +144,7 @@ impl Responder {
     }
 
     /// The same, but gives the reply as a message, which goes out on
-    /// the same group; `None` where there is no reply.
+    /// the same group; `None` if there is no reply.
     pub fn hear_message(&mut self, group: U4, view: &CiView<'_>) -> (Heard, Option<CiMessage>)
         requires { IsView view.now }
         ensures heard { result.0 ≡ heard_in self.old (received_of group view.now) }

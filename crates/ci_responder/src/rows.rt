@@ -77,7 +77,7 @@ impl Responder {
         }
     }
 
-    // The switch of the profile with this id at a message's place in the block; a NAK where it isn't named.
+    // The switch of the profile with this id at a message's place in the block; a NAK if it isn't named.
     fn switch_of(&self, owner: &Owner, view: &CiView<'_>, id: &ProfileId, on: bool) -> Action
         ensures { IsSwitchOf self.now.states
             (key_at owner.now.block (received_of owner.now.group view.now) id.now) on result }

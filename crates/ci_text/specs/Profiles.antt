@@ -13,7 +13,7 @@ abbrev pub put_at : LinePlace → List ℕ → Put
 put_at line.Output text = in_output text
 put_at line.Notes text = in_notes text
 
--- the line of a profile: on or off, where that is known, else as the setup says
+-- the line of a profile: on or off, if that is known, else as the setup says
 abbrev pub profile_line_of : LinePlace → (Key → Option Bool) → ℕ → Profile → List Put
 profile_line_of place on number profile =
     put_at place (profile_text profile (unwrap_or (on (key_of profile)) profile.on)) ∷ []

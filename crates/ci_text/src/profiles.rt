@@ -21,10 +21,10 @@ pub enum LinePlace {
 
 /// Tells which profiles are on.
 pub trait ProfileStates {
-    /// Whether a profile is on, by its key, where that is known.
+    /// Whether a profile is on, by its key, if that is known.
     ghost states: { Self → Key → Option Bool };
 
-    /// Whether the profile with this key is on; `None` where that isn't known.
+    /// Whether the profile with this key is on; `None` if that isn't known.
     fn profile_is_on(&self, key: &Key) -> Option<bool>
         ensures { result ≡ states self.now key.now };
 }
@@ -37,7 +37,7 @@ impl ProfileStates for Responder {
     }
 }
 
-// Whether a profile is on: as the setup says, where nothing else is known.
+// Whether a profile is on: as the setup says, if nothing else is known.
 fn is_on<P: ProfileStates>(known: &P, profile: &Profile) -> bool
     ensures { result ≡ unwrap_or (P.states known.now (key_of profile.now)) profile.now.on }
 {
@@ -77,7 +77,7 @@ fn put_profile<P: ProfileStates, O: Outputs>(
 
 /// Puts the line of each profile of a setup, in its order: whether it is on, as `known` tells, else as the
 /// setup says (own rule). An `Err` is the fault of the place, `OutputFault` or `NoteFault`, and comes only
-/// where the place's count of faults rose.
+/// if the place's count of faults rose.
 pub fn put_profiles<P: ProfileStates, O: Outputs>(
     setup: &Setup,
     known: &P,

@@ -56,13 +56,13 @@ abbrev pub size_over : List (Framed × Packet) → ℕ
 size_over [] = length header_bytes
 size_over (item ∷ past) = size_over past + 4 * length item.0.words
 
--- where the clip has not ended, the input is refused at its end
+-- if the clip has not ended, the input is refused at its end
 abbrev pub end_refusal : Bool → ℕ → Tail
 end_refusal true size = None
 end_refusal false size = Some (NoEnd, size)
 
--- What is done with a clip file. A packet is refused where it starts a clip without the ticks for a quarter note, or comes after the
--- end, and the input where it ends before the clip. What is put are the lines of the clip.
+-- What is done with a clip file. A packet is refused if it starts a clip without the ticks for a quarter note, or comes after the
+-- end, and the input if it ends before the clip. What is put are the lines of the clip.
 abbrev pub clipping : Work (Framed × Packet)
 clipping =
     record {

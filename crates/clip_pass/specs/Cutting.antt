@@ -1,5 +1,5 @@
 -- A clip file, cut into packets: its header, and the packets after it, whose words have their most significant byte first. The header
--- counts: offsets are those from the start of the file, and the limit is that of the whole file. Where there is no header, the file is
+-- counts: offsets are those from the start of the file, and the limit is that of the whole file. If there is no header, the file is
 -- refused at its start.
 use Rattle.std.specs.Prelude.{◌≡◌, ◌≢◌, ◌⊎◌, ℕ, List, [], ◌++◌, Some, map}
 use Rattle.midi_clip.specs.Header.{header_bytes}

@@ -22,16 +22,16 @@ use ump_grammar::Packet;
 use ump_words::{Framed, Order, WordReader};
 
 /// Shows the events of a clip file, to its end or to the first refusal: puts in the output a line for the
-/// ticks for a quarter note where the clip starts, the ticks and the line of the packet for each event, and a
+/// ticks for a quarter note when the clip starts, the ticks and the line of the packet for each event, and a
 /// line for the ticks at the end of the clip. A clip file is the eight bytes `SMF2CLIP` and packets whose
 /// words have their most significant byte first (own rule; M2-104-UM, Delta Clockstamps, Start of Clip and
 /// End of Clip). Takes no memory.
 ///
-/// `Refused` comes for `NotClip`, at 0, where the input doesn't begin with the header; for `Truncated`,
+/// `Refused` comes for `NotClip`, at 0, if the input doesn't begin with the header; for `Truncated`,
 /// `InputTooLong`, `BadCount`, `HighBit`, `NoResolution` and `AfterEnd`, with the number of bytes before what
-/// is refused, those of the header among them; and for `NoEnd`, with the number of all bytes, where the input
-/// ends before the clip. `ReadFault` and `OutputFault` come only where the count of that object rose. The
-/// lanes and the notes stay as they are.
+/// is refused, those of the header among them; and for `NoEnd`, with the number of all bytes, if the input
+/// ends before the clip. `ReadFault` and `OutputFault` come only if the count of that object rose. The
+/// lanes and the notes are unchanged.
 pub fn run_clip<S: Source, L: Lanes, W: Sink, N: Sink>(
     input: &mut S,
     lanes: &mut L,
@@ -118,7 +118,7 @@ fn show_packets<S: Source, O: Outputs>(
     }
 }
 
-// Writes out what was put, where the next packet has to be read.
+// Writes out what was put before the next packet has to be read.
 #[inline(always)]
 fn write_out_before<S: Source, O: Outputs>(words: &WordReader, input: &S, outputs: &mut O)
     ensures { O.places outputs.new ≡ O.places outputs.old }

@@ -23,7 +23,7 @@ pub fn a_clip_file_has_one_first_refusal()
     clip_files_are_cut_once();
 }
 
-/// Where the pass is done, the input is the header and packets, among them one Start of Clip that starts the
+/// When the pass is done, the input is the header and packets, among them one Start of Clip that starts the
 /// clip and after it one End of Clip, which is the last packet. The output gained exactly the lines of the
 /// clip, in which each event stands at the sum of the Delta Clockstamps between the start and it.
 pub fn a_clip_that_is_done_is_that_of_the_input()

@@ -69,6 +69,6 @@ asked_in name rows =
 abbrev pub asked_by : List Text → Option Asked
 asked_by words = option_and_then (λ p. asked_in p.0 p.1) (subcommand_of cli words)
 
--- the command of the words, or none where `clap` doesn't take them or a rule is broken
+-- the command of the words, or none if `clap` doesn't take them or a rule is broken
 unfoldable pub command_of : List Text → Option Asked
 command_of words = if is_taken words then asked_by words else None

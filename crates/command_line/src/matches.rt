@@ -43,7 +43,7 @@ fn fault_of(kind: ErrorKind) -> WordsFault
     }
 }
 
-// The value of an option or positional, where it is given.
+// The value of an option or positional, if it is given.
 pub fn text<'a>(matches: &ArgMatches<'a>, id: &str) -> Option<&'a str>
     ensures { option_copied result ≡ first_of id.now (rows_of (found_of matches.now)) }
 {

@@ -13,7 +13,7 @@ fn is_digits(text: &str) -> bool
     text.as_bytes().iter().all(|byte| byte.is_ascii_digit())
 }
 
-// The number of 1 to 10 digits; none where the text is no such number or it isn't in the range.
+// The number of 1 to 10 digits; none if the text is no such number or it isn't in the range.
 pub fn number(text: &str, least: u32, most: u32) -> Option<u32>
     ensures number { result ≡ number_of least most text.now }
     ensures range { IfSome result (λ n. (least ≤ n) × (n ≤ most)) }

@@ -69,7 +69,7 @@ fn command_below<'a>(matches: &ArgMatches<'a>) -> Option<Command<'a>>
 /// The command of the words, which come without the program's name (own rule). A folder and the name of a
 /// setup are borrowed from the words.
 ///
-/// `Usage` only where `clap` doesn't take the words, as with a request for help, or a rule of ours is broken,
+/// `Usage` only if `clap` doesn't take the words, as with a request for help, or a rule of ours is broken,
 /// and such words never give a command: the direction of a translation is `down`, `up` or `back`, and that of
 /// USB-MIDI events `split` or `pack`; `--folder`, which may be empty, is given with `down` and `split` and
 /// with no other direction, and with `sysex8`; `--compact` is given with no other direction than `down`,
@@ -77,7 +77,7 @@ fn command_below<'a>(matches: &ArgMatches<'a>) -> Option<Command<'a>>
 /// `--little` isn't given with `back`, nor with `--bytes`; a number has 1 to 10 digits and lies in its range,
 /// a group or a cable 0 to 15 (at first 0), a room 6 to 1,048,576 (at first the greatest), that of an 8-bit
 /// exclusive 13 to 1,048,576, a number of streams 1 to 64 (at first 16), a seed 0 to 4,294,967,295, and a
-/// number of packets 1 to 1,000,000 (at first 10,000). The name of a setup may be any text. `NoMemory` where
+/// number of packets 1 to 1,000,000 (at first 10,000). The name of a setup may be any text. `NoMemory` if
 /// `clap` finds no memory.
 #[tactic(auto, unfolding(crate::specs::Rules::command_of))]
 pub fn command_line<'a>(alloc: Global, words: &'a [String]) -> Result<Command<'a>, WordsFault>

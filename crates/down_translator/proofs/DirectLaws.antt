@@ -1,10 +1,10 @@
 -- Direct control changes by their index.
 use Rattle.std.proofs.Common.{ℕ, ◌≡◌, ◌/◌, refl, Bool}
 use Rattle.std.specs.Prelude.{◌&&◌, not}
-use Rattle.direct_packets.specs.declared.direct_message.DirectKind.{DirectKind}
-use Rattle.direct_packets.specs.declared.direct_message.DirectKind.TheVariants as direct
-use Rattle.direct_packets.specs.declared.direct_message.DirectMessage.{DirectMessage}
-use Rattle.direct_packets.specs.DirectMessages.{kind_by}
+use Rattle.encoded_packets.specs.declared.direct_message.DirectKind.{DirectKind}
+use Rattle.encoded_packets.specs.declared.direct_message.DirectKind.TheVariants as direct
+use Rattle.encoded_packets.specs.declared.direct_message.DirectMessage.{DirectMessage}
+use Rattle.encoded_packets.specs.DirectMessages.{kind_by}
 use Rattle.midi_meaning.specs.Controllers.{is_direct, is_direct_in, pairing, role_of}
 use Rattle.midi_meaning.specs.Styles.{Style, plain_style, compact_style}
 use Rattle.down_translator.specs.KeptLanes.{is_plain, when_compact, when_plain}

@@ -9,8 +9,8 @@ use Rattle.std.proofs.lemmas.List.Elements.{All-take}
 use Rattle.sysex_groups.specs.Exclusives.{IsData}
 use Rattle.std.specs.Option.{option_map, option_to_list}
 use Rattle.bit_scaling.specs.Scaling.{down7, down14, release_down}
-use Rattle.direct_packets.specs.declared.direct_message.DirectMessage.{DirectMessage}
-use Rattle.direct_packets.specs.DirectMessages.{IsDirectMessage, has_direct_kind, kind_by, message_by, direct_voice, one_of_six}
+use Rattle.encoded_packets.specs.declared.direct_message.DirectMessage.{DirectMessage}
+use Rattle.encoded_packets.specs.DirectMessages.{IsDirectMessage, has_direct_kind, kind_by, message_by, direct_voice, one_of_six}
 use Rattle.voice_messages.specs.declared.voice1.Voice1.{Voice1}
 use Rattle.voice_messages.specs.declared.voice1.Voice1.TheVariants as voice1
 use Rattle.voice_messages.specs.declared.voice2.Voice2.{Voice2}

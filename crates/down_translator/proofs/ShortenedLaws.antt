@@ -3,8 +3,8 @@
 use Rattle.std.proofs.Common.{◌≡◌, ◌∙◌, ◌++◌, ◌∷◌, ap, sym, refl, arith, cond, ℕ, Bool, List, true, false, Option, Some, None}
 use Rattle.std.specs.Prelude.{◌&&◌, not, slice_index}
 use Rattle.std.specs.Option.{option_to_list}
-use Rattle.direct_packets.specs.declared.direct_message.DirectMessage.{DirectMessage}
-use Rattle.direct_packets.specs.DirectMessages.{IsDirectMessage, direct_voice, has_direct_kind}
+use Rattle.encoded_packets.specs.declared.direct_message.DirectMessage.{DirectMessage}
+use Rattle.encoded_packets.specs.DirectMessages.{IsDirectMessage, direct_voice, has_direct_kind}
 use Rattle.midi1_bytes.specs.Messages.{spelled_voice}
 use Rattle.midi1_bytes.specs.RunningStatus.{is_running, running_over, without_status}
 use Rattle.ump_grammar.specs.declared.packet.Packet.{Packet}

@@ -1,6 +1,6 @@
 -- Packets of which only their bytes are kept: they continue an exclusive by six bytes (M2-104-UM, system exclusive 7-bit messages).
 use Rattle.std.specs.Prelude.{◌≡◌, ◌&&◌, ℕ, Bool, true, false, [], Option, Some, None}
-use Rattle.direct_packets.specs.Parts.{continues_by_six}
+use Rattle.encoded_packets.specs.Parts.{continues_by_six}
 use Rattle.ump_grammar.specs.declared.packet.Packet.{Packet}
 use Rattle.sysex_groups.specs.Exclusives.{Answer, Part, held}
 use Rattle.sysex_groups.specs.Table.{Table, answer_to}

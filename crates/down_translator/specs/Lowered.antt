@@ -5,10 +5,10 @@ use Rattle.voice_messages.specs.declared.voice1.Voice1.{Voice1}
 use Rattle.voice_messages.specs.declared.voice1.Voice1.TheVariants as voice1
 use Rattle.voice_messages.specs.declared.voice2.Voice2.TheVariants as voice2
 use Rattle.bit_scaling.specs.Scaling.{down7, down14, release_down, velocity_down}
-use Rattle.direct_packets.specs.declared.direct_message.DirectMessage.{DirectMessage}
-use Rattle.direct_packets.specs.DirectMessages.{has_direct_kind, kind_by}
-use Rattle.direct_packets.specs.declared.direct_message.DirectKind.{DirectKind}
-use Rattle.direct_packets.specs.declared.direct_message.DirectKind.TheVariants as direct
+use Rattle.encoded_packets.specs.declared.direct_message.DirectMessage.{DirectMessage}
+use Rattle.encoded_packets.specs.DirectMessages.{has_direct_kind, kind_by}
+use Rattle.encoded_packets.specs.declared.direct_message.DirectKind.{DirectKind}
+use Rattle.encoded_packets.specs.declared.direct_message.DirectKind.TheVariants as direct
 use Rattle.midi_meaning.specs.Controllers.{is_direct, pairing, role_of}
 use Rattle.midi_meaning.specs.declared.listed.Kind.TheVariants as kinds
 use Rattle.midi_meaning.specs.declared.listed.Listed.{Listed}

@@ -2,7 +2,7 @@
 ghost use Rattle.std.specs.Prelude.{◌≡◌, ◌≤◌, ◌<◌, ◌&&◌, not, IfOk, IsTrue, MatchOption, true, false, Some, None, length, take};
 ghost use Rattle.sysex_groups.specs.Exclusives.{IsData};
 ghost use Rattle.ump_grammar.specs.Ranges.{IsPacket};
-ghost use Rattle.direct_packets.specs.DirectMessages.{IsDirectMessage, direct_voice};
+ghost use Rattle.encoded_packets.specs.DirectMessages.{IsDirectMessage, direct_voice};
 ghost use Rattle.down_translator.specs.HeldStep.{IsHeldStep, goes_held};
 ghost use Rattle.down_translator.specs.KeptLanes.{is_plain};
 ghost use Rattle.down_translator.specs.Lowered.{IsDirectStep, IsShortenedStep, message_goes_direct, goes_direct, goes_shortened};
@@ -17,7 +17,7 @@ use crate::pieces::{Piece, write_paired, write_system, write_voice1, write_voice
 use crate::refusals::{bad_voice1, bad_voice2};
 use crate::shortened::{ShortenedMessage, control_index, unless_running};
 use crate::style::Style;
-use direct_packets::{DirectMessage, EncodedPacket, ExclusivePart};
+use encoded_packets::{DirectMessage, EncodedPacket, ExclusivePart};
 use midi_meaning::laws::carried_packets_have_a_piece;
 use midi_meaning::{BadStep, Kind, Listed};
 use small_types::{NoMemory, U4};
@@ -48,7 +48,7 @@ impl Down {
     ghost use Rattle.std.specs.Borrow.{sem};
     ghost use Rattle.std.specs.Option.{option_map};
     ghost use Rattle.sysex_groups.specs.Table.{begun_in};
-    ghost use Rattle.down_translator.specs.Held.{down_after, new_down};
+    ghost use Rattle.down_translator.specs.Held.{down_after, limit_of, new_down, paired_of, style_of};
     ghost use Rattle.down_translator.specs.KeptLanes.{IsUnpaired, style_in};
     ghost use Rattle.down_translator.specs.Lend.{KeepsDown};
     ghost use Rattle.down_translator.specs.Step.{Translates};
@@ -69,6 +69,15 @@ impl Down {
             lanes,
             piece: Piece::new(),
         })
+    }
+
+    /// Drops what is open, and what is kept of the lanes: the translator is as a new one of the same limit,
+    /// in the same style, with paired controllers or without as before (own rule). Takes no memory.
+    pub fn reset(&mut self)
+        ensures { self.new ≡ new_down (paired_of self.old) (style_of self.old) (limit_of self.old) }
+    {
+        self.groups.reset();
+        self.lanes.reset();
     }
 
     /// Takes one more packet of an exclusive.

@@ -106,6 +106,15 @@ impl KeptLanes {
         })
     }
 
+    /// Forgets what is kept: nothing is written of any lane.
+    pub fn reset(&mut self)
+        ensures { self.new ≡ new_lanes self.old.paired self.old.style }
+    {
+        for lane in self.lanes.iter_mut() {
+            lane.forget();
+        }
+    }
+
     /// Whether controllers are paired (own rule).
     #[inline(always)]
     pub fn paired(&self) -> bool

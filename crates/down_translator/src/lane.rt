@@ -202,8 +202,9 @@ impl Lane {
         self.running = RunningStatus::none();
     }
 
+    /// Forgets the running status and the registers: nothing is written of the lane.
     #[tactic(auto, using(crate::proofs::UnsetLaws::none_set))]
-    fn forget(&mut self)
+    pub fn forget(&mut self)
         ensures { self.new ≡ new_lane }
     {
         self.running = RunningStatus::none();

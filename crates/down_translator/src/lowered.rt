@@ -1,11 +1,11 @@
 // Messages that one MIDI 1.0 message with their status byte carries.
 ghost use Rattle.std.specs.Prelude.{◌≡◌};
-ghost use Rattle.direct_packets.specs.DirectMessages.{IsDirectMessage};
+ghost use Rattle.encoded_packets.specs.DirectMessages.{IsDirectMessage};
 ghost use Rattle.midi1_bytes.specs.Messages.{spelled_voice};
 ghost use Rattle.down_translator.specs.Lowered.{lowered_bytes, first_by, has_attribute, is_note, second_by, voice_of};
 
 use bit_scaling::{down7, down14, velocity_down};
-use direct_packets::{DirectKind, DirectMessage};
+use encoded_packets::{DirectKind, DirectMessage};
 use small_types::U4;
 use voice_messages::U7;
 
@@ -25,9 +25,9 @@ pub struct LoweredMessage {
     pub has_attribute: bool,
 }
 
-// The data bytes, by the kind: the note or the index, and the value; of a bend the low and the high seven bits
-// of its value, of a channel pressure the value alone. They are chosen as values, since nothing could guess
-// which kind comes next: only a channel pressure, which has one byte, is asked for by a branch.
+// The data bytes, by the kind: the note or the index, and the value; of a bend the low and the high seven
+// bits of its value, of a channel pressure the value alone. Branchless, since the kind of the next message
+// can't be predicted, but for a channel pressure, which has one byte.
 #[inline(always)]
 fn data_bytes(kind: DirectKind, message: &DirectMessage) -> (U7, Option<U7>)
     ensures first { result.0 ≡ first_by kind message.now }

@@ -1,9 +1,9 @@
 // Messages that compact style writes without their packets being taken apart.
 ghost use Rattle.std.specs.Prelude.{◌≡◌, ◌/◌, if◌then◌else◌, Some, None};
-ghost use Rattle.direct_packets.specs.DirectMessages.{kind_by};
+ghost use Rattle.encoded_packets.specs.DirectMessages.{kind_by};
 ghost use Rattle.down_translator.specs.Lowered.{index_by};
 
-use direct_packets::{DirectKind, DirectMessage};
+use encoded_packets::{DirectKind, DirectMessage};
 use voice_messages::{U4, U7};
 
 /// A MIDI 1.0 channel voice message in compact style, which alone carries a message of the MIDI 2.0 protocol.
@@ -22,8 +22,8 @@ pub struct ShortenedMessage {
     pub has_attribute: bool,
 }
 
-/// The index of a control change. Another message has that of a control change that is direct, so that
-/// nothing need be guessed.
+/// The index of a control change. Another message has that of a control change that is direct, so that what
+/// asks for it is branchless: the kind of the next message can't be predicted.
 #[inline(always)]
 pub fn control_index(message: &DirectMessage) -> U7
     ensures { result ≡ index_by (kind_by (message.now.status / 16)) message.now }

@@ -3,20 +3,18 @@ use Rattle.std.proofs.Common.{◌≡◌, ℕ, Bool, true, false, List, [], ◌++
 use Rattle.std.specs.Prelude.{Result, Ok, Err}
 use Rattle.std.specs.Option.{option_to_list}
 use Rattle.packet_words.specs.declared.words.Order.{Order}
-use Rattle.voice_messages.specs.declared.voice2.Form.{Form}
 use Rattle.ump_grammar.specs.declared.packet.Packet.{Packet}
-use Rattle.ump_grammar.specs.declared.packet.Packet.TheVariants as packets
 use Rattle.ump_grammar.specs.Replies.{AddsPackets}
 use Rattle.listing_terms.specs.declared.listed.BadStep.{BadStep}
 use Rattle.pass_loop.specs.Pass.{Takes}
 use Rattle.pass_loop.specs.Places.{Places, Puts}
 use Rattle.pass_loop.specs.Put.{Put}
-use Rattle.pass_loop.specs.ForProofs.PutLaws.{over_puts-none, stops_more, then_puts}
+use Rattle.pass_loop.specs.ForProofs.PutLaws.{stops_more, then_puts}
 use Rattle.pass_loop.specs.declared.ends.RunEnd.{RunEnd}
 use Rattle.pass_loop.specs.declared.ends.RunEnd.TheVariants.{Refused}
 use Rattle.listing_lines.specs.Lines.{line_puts}
 use Rattle.listing_lines.specs.Refusal.{reason_of, refusal_by}
-use Rattle.ump_endpoint.specs.Held.{EndpointState, after_packet, refusal_in, replies_in, taken_by, taken_in}
+use Rattle.ump_endpoint.specs.Held.{EndpointState, refusal_in, replies_in, taken_by, taken_in}
 use Rattle.ump_endpoint.specs.declared.taken.Taken.{Taken}
 use Rattle.endpoint_pass.specs.Answering.{outcome_lines}
 use Rattle.endpoint_pass.specs.ForProofs.Taking.{PutsPackets, TakesPacket, lines_in}
@@ -81,19 +79,3 @@ module _ (order : Order) (held : EndpointState) (offset : ℕ) (packet : Packet)
         subst (TakesBy written.0 s s (Err (Refused (reason_of bad) offset))) (sym (refused_is (refusal_in held packet) _ bad is))
             (refl, refl),
       )
-
--- a packet that is neither a part of an exclusive nor a stream message changes nothing, and nothing is put for it
-pub passed_over : (order : Order) (held : EndpointState) (offset : ℕ) (s : Places) (packet : Packet)
-    → ((group : ℕ) (form : Form) (bytes : List ℕ) → packet ≡ packets.Exclusive group form bytes → ⊥)
-    → ((format status low second third fourth : ℕ) → packet ≡ packets.Stream format status low second third fourth → ⊥)
-    → (held ≡ after_packet offset packet held) × TakesPacket order held offset packet s s (Ok tt)
-passed_over order held offset s (packets.Utility status value) no_part no_stream = (refl, ([], ([], refl, refl), sym (over_puts-none s)))
-passed_over order held offset s (packets.System group message) no_part no_stream = (refl, ([], ([], refl, refl), sym (over_puts-none s)))
-passed_over order held offset s (packets.Voice1 group message) no_part no_stream = (refl, ([], ([], refl, refl), sym (over_puts-none s)))
-passed_over order held offset s (packets.Exclusive group form bytes) no_part no_stream = absurd (no_part group form bytes refl)
-passed_over order held offset s (packets.Voice2 group message) no_part no_stream = (refl, ([], ([], refl, refl), sym (over_puts-none s)))
-passed_over order held offset s (packets.Data8 group words) no_part no_stream = (refl, ([], ([], refl, refl), sym (over_puts-none s)))
-passed_over order held offset s (packets.Flex group words) no_part no_stream = (refl, ([], ([], refl, refl), sym (over_puts-none s)))
-passed_over order held offset s (packets.Stream format status low second third fourth) no_part no_stream =
-    absurd (no_stream format status low second third fourth refl)
-passed_over order held offset s (packets.Reserved words) no_part no_stream = (refl, ([], ([], refl, refl), sym (over_puts-none s)))

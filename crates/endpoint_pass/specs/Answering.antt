@@ -93,7 +93,7 @@ abbrev pub AreBytesOf : EndpointOptions → List Packet → List ℕ → Type 0
 AreBytesOf options packets bytes = (written : List Put) × AreWritten options.order packets written × (bytes ≡ output_in written)
 
 -- What is done with the packets of a peer: the words of the replies to each are put in the output, each packet by one put, and
--- then its lines in the notes. A packet is refused where it makes its exclusive too long. What is put in the output is the words of
+-- then its lines in the notes. A packet is refused if it makes its exclusive too long. What is put in the output is the words of
 -- the replies to all packets, and what is put in the notes all their lines.
 abbrev pub answering : EndpointOptions → Work (Framed × Packet)
 answering options =

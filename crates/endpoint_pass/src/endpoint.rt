@@ -26,7 +26,7 @@ ghost use Rattle.endpoint_pass.specs.ForProofs.Taking.{TakesPacket};
 use crate::lines::put_taken;
 use crate::replies::put_replies;
 use ci_text::{LinePlace, ProfileStates, put_profiles};
-use direct_packets::EncodedPacket;
+use encoded_packets::EncodedPacket;
 use function_blocks::{Block, Setup};
 use listing_lines::{OpenExclusives, list_open, refused};
 use outside::{Lanes, Sink, Source};
@@ -190,7 +190,7 @@ fn put_blocks<O: Outputs>(setup: &Setup, endpoint: &Endpoint, outputs: &mut O) -
 
 impl EndpointEngine {
     // Takes one more packet: puts the words of the replies to it in the output, and its lines in the notes.
-    // Only exclusives and stream messages have any; most packets are direct messages, which aren't decoded.
+    // Most packets are direct messages, which an endpoint ignores, so they aren't decoded.
     #[inline(always)]
     fn take_packet<O: Outputs>(
         &mut self,
@@ -206,12 +206,7 @@ impl EndpointEngine {
     {
         match packet.direct_message() {
             Some(_) => Ok(()),
-            None => match packet.decode() {
-                packet @ (Packet::Exclusive { .. } | Packet::Stream { .. }) => {
-                    self.take_decoded(offset, &packet, outputs)
-                }
-                _ => Ok(()),
-            },
+            None => self.take_decoded(offset, &packet.decode(), outputs),
         }
     }
 
@@ -276,8 +271,8 @@ impl EndpointEngine {
 /// reply and no line. Takes no memory.
 ///
 /// `Refused` comes for `Truncated`, `InputTooLong`, `BadCount`, `HighBit` and `ExclusiveTooLong`, with the
-/// number of bytes before what is refused. `ReadFault`, `OutputFault` and `NoteFault` come only where the
-/// count of that object rose. The lanes stay as they are.
+/// number of bytes before what is refused. `ReadFault`, `OutputFault` and `NoteFault` are returned only if
+/// the count of that object rose. The lanes are unchanged.
 // Never inlined, so that the loops of the other passes keep their registers.
 #[inline(never)]
 pub fn run_endpoint<S: Source, L: Lanes, W: Sink, N: Sink>(

@@ -16,7 +16,7 @@ pub fn a_recording_of_a_peer_has_one_first_refusal()
     packets_are_cut_once();
 }
 
-/// Where `endpoint` is done, the output gained exactly the words of the replies to the packets of the whole
+/// When `endpoint` is done, the output gained exactly the words of the replies to the packets of the whole
 /// input, in their order. The notes gained exactly the lines of these packets, in their order, and then those
 /// of the exclusives that are open, of the protocol in force, and of the blocks and profiles.
 pub fn a_conversation_that_is_done_is_that_of_the_input()

@@ -4,3 +4,4 @@ pub mod InForceLaws
 pub mod KeyLaws
 pub mod Printable
 pub mod PushLaws
+pub mod ReadLaws

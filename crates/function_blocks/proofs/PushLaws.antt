@@ -1,6 +1,6 @@
 -- Packets that are added to replies.
 use Rattle.std.proofs.Common.{Bool, ℕ, ◌≡◌, ◌<◌, ◌≤◌, ◌+◌, ◌∙◌, ap, sym, refl, List, [], ◌∷◌, ◌++◌, length, arith, length-append}
-use Rattle.std.proofs.Common.{zero, suc, subst, Some, take, get_or, append-nil, append_assoc, add-zero, length-take}
+use Rattle.std.proofs.Common.{zero, suc, subst, Some, None, true, false, cond, nat_lt, take, get_or, append-nil, append_assoc, add-zero, length-take}
 use Rattle.ump_grammar.specs.declared.packet.Packet.{Packet}
 use Rattle.ump_grammar.specs.Replies.{AddsPacket, AddsPackets, word_count}
 use Rattle.voice_messages.specs.declared.voice2.Form.{Form}
@@ -9,9 +9,9 @@ use Rattle.system_stream.specs.declared.message.StreamMessage.TheVariants as str
 use Rattle.system_stream.specs.declared.texts.TextKind.{TextKind}
 use Rattle.system_stream.specs.declared.texts.TextKind.TheVariants as kind
 use Rattle.system_stream.specs.Layout.{FitsPlaces, packet_of}
-use Rattle.std.proofs.lemmas.Bool.{lt-ltb}
+use Rattle.std.proofs.lemmas.Bool.{lt-ltb, ltb-false, ltb-true}
 use Rattle.std.proofs.lemmas.List.{take_more}
-use Rattle.system_stream.specs.Cut.{form_at, packet_at, part_bytes, part_count}
+use Rattle.system_stream.specs.Cut.{form_at, message_at, packet_at, part_bytes, part_count}
 use Rattle.system_stream.specs.Texts.{limit_of, part_message, part_size}
 use Rattle.function_blocks.specs.declared.setup.Block.{Block}
 use Rattle.function_blocks.specs.Replies.{asked, block_replies, first_packets, replies_from, text_packets}
@@ -82,6 +82,23 @@ packet-cut k block text n p within is =
     let packet : Packet = packet_of (part_message k (form_at (part_count k text) n) block (part_bytes (part_size k) text n)) in
     let found : Some p ≡ Some packet = is ∙ rw (lt-ltb n (part_count k text) within) refl in
     cc
+
+-- there is a packet exactly below the count
+pub cut-within : (k : TextKind) (block : ℕ) (text : List ℕ) (n : ℕ) (p : Packet) → Some p ≡ packet_at k block text n → n < part_count k text
+cut-within k block text n p is = by (nat_lt n (part_count k text)) refl is
+  where
+    by : (b : Bool) → nat_lt n (part_count k text) ≡ b → Some p ≡ cond b (Some (packet_of (message_at k block text n))) None
+        → n < part_count k text
+    by true within some = ltb-true n (part_count k text) within
+    by false past some = absurd (let e : Some p ≡ None = some in cc)
+
+pub cut-past : (k : TextKind) (block : ℕ) (text : List ℕ) (n : ℕ) → None ≡ packet_at k block text n → part_count k text ≤ n
+cut-past k block text n is = by (nat_lt n (part_count k text)) refl is
+  where
+    by : (b : Bool) → nat_lt n (part_count k text) ≡ b → None ≡ cond b (Some (packet_of (message_at k block text n))) None
+        → part_count k text ≤ n
+    by true within none = absurd (let e : None ≡ Some (packet_of (message_at k block text n)) = none in cc)
+    by false past none = ltb-false n (part_count k text) past
 
 -- one more packet of a text
 pub text-more : (k : TextKind) (block : ℕ) (text : List ℕ) (n : ℕ) (p : Packet) (old now new : List ℕ) → n < part_count k text

@@ -3,6 +3,7 @@ pub mod Endpoints
 pub mod ForProofs
 pub mod InForce
 pub mod Keys
+pub mod Laws
 pub mod Profiles
 pub mod Replies
 pub mod Rules

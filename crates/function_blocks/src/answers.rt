@@ -19,7 +19,7 @@ ghost use Rattle.function_blocks.specs.Replies.{
 use crate::endpoint::is_supported;
 use crate::setup::{Block, Config, Identity};
 use crate::whole::Setup;
-use system_stream::{StreamMessage, TextKind, cut_text, packet_count, write};
+use system_stream::{StreamMessage, TextKind, cut_text, write};
 use ump_grammar::Replies;
 use ump_grammar::fields::bits;
 
@@ -63,12 +63,10 @@ fn push_text(replies: &mut Replies, kind: TextKind, block: u8, text: &[u8])
     ensures pushes { Pushes (text_packets kind block text.now) replies.old replies.new }
     ensures few { length (text_packets kind block text.now) ≤ 7 }
 {
-    for k in 0..packet_count(kind, text) {
-        match cut_text(kind, block, text, k) {
-            Some(packet) => replies.push(&packet),
-            // there is a packet for each number below the count
-            None => unreachable!(),
-        }
+    let mut k = 0;
+    while let Some(packet) = cut_text(kind, block, text, k) {
+        replies.push(&packet);
+        k += 1;
     }
 }
 

@@ -1,14 +1,13 @@
 // The endpoint's own keys.
-ghost use Rattle.std.specs.Prelude.{◌≡◌, IfOk, length};
+ghost use Rattle.std.specs.Prelude.{◌≡◌, IfOk};
 ghost use Rattle.std.specs.List.{list_all};
 ghost use Rattle.toml.specs.View.{table_view};
 ghost use Rattle.system_stream.specs.Texts.{is_printable as is_printable_byte};
 ghost use Rattle.function_blocks.specs.Endpoints.{IsEndpoint, endpoint_of, is_supported as is_protocol_of};
 
-use crate::keys::{flag_at, limited_text_at, number_at, numbers_at, table_at};
+use crate::keys::{array, flag_at, limited_text_at, number_at, numbers_at, table_at};
 use crate::rules::{Rule, SetupFault, broken};
 use crate::setup::Endpoint;
-use small_types::ShortList;
 use toml::Table;
 
 // Whether each byte is a printable character of ASCII.
@@ -23,16 +22,6 @@ pub(crate) fn is_supported(midi1: bool, midi2: bool, protocol: u32) -> bool
     ensures { result ≡ is_protocol_of midi1 midi2 protocol }
 {
     (protocol == 1 && midi1) || (protocol == 2 && midi2)
-}
-
-// The numbers as an array.
-fn array<const N: usize>(numbers: &ShortList<u8, N>) -> [u8; N]
-    requires { length numbers.now ≡ N }
-    ensures { result ≡ numbers.now }
-{
-    let mut array = [0; N];
-    array.copy_from_slice(numbers.as_slice());
-    array
 }
 
 /// Reads the endpoint's own keys by their rules, in order.

@@ -156,6 +156,16 @@ pub(crate) fn numbers_at<const N: usize>(
     exactly(array_at(table, key)?, most)
 }
 
+/// As many numbers as an array has.
+pub(crate) fn array<const N: usize>(numbers: &ShortList<u8, N>) -> [u8; N]
+    requires { length numbers.now ≡ N }
+    ensures { result ≡ numbers.now }
+{
+    let mut array = [0; N];
+    array.copy_from_slice(numbers.as_slice());
+    array
+}
+
 // The numbers of a list of at most `N`, each from 0 to `most`.
 fn wide_numbers_in<const N: usize>(values: &[Value], most: u32) -> Option<ShortList<u32, N>>
     requires { length values.now ≤ N }

@@ -5,6 +5,7 @@ ghost use Rattle.ump_grammar.specs.Replies.{word_count};
 ghost use Rattle.ump_grammar.specs.declared.packet.Packet.{Packet};
 ghost use Rattle.system_stream.specs.declared.message.StreamMessage.{StreamMessage};
 ghost use Rattle.function_blocks.specs.InForce.{message_read, protocol_at, replies_at};
+ghost use Rattle.function_blocks.specs.Laws.{SetupsAreConsistent};
 ghost use Rattle.function_blocks.specs.Replies.{protocol_after, stream_replies};
 ghost use Rattle.function_blocks.specs.Setups.{SetupData, IsSetup};
 
@@ -33,4 +34,11 @@ pub fn protocol_follows_the_requests()
         stream_replies setup (protocol_at setup past) message ≡ replies_at setup past packet }
     ensures unread { (setup : SetupData) (past : List Packet) (packet : Packet) → message_read packet ≡ None →
         protocol_at setup (packet ∷ past) ≡ protocol_at setup past }
+{}
+
+/// The setup of a text keeps the rules that compare its blocks and its profiles: there are at most 32 blocks
+/// and 64 profiles, no two active blocks with MIDI-CI share a group, no MUID appears twice, and no two
+/// profiles have the same block, place and id.
+pub fn setups_are_consistent()
+    ensures { SetupsAreConsistent }
 {}

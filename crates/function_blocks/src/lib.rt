@@ -12,7 +12,9 @@ pub mod rules;
 mod setup;
 pub mod whole;
 
-pub use crate::laws::{protocol_follows_the_requests, replies_are_few, replies_have_four_words};
+pub use crate::laws::{
+    protocol_follows_the_requests, replies_are_few, replies_have_four_words, setups_are_consistent,
+};
 pub use crate::reading::MOST_BYTES;
 pub use crate::rules::{Rule, SetupFault};
 pub use crate::setup::{Block, Config, Identity, Place, Profile};

@@ -44,10 +44,9 @@ ghost use Rattle.function_blocks.specs.Profiles.{
 ghost use Rattle.function_blocks.specs.Rules.{needs};
 ghost use Rattle.function_blocks.specs.declared.rules.Rule.TheVariants as rule;
 
-use crate::keys::{entries_at, flag_at, number_at, numbers_at, text_at};
+use crate::keys::{array, entries_at, flag_at, number_at, numbers_at, text_at};
 use crate::rules::{Rule, SetupFault, broken};
 use crate::setup::{Block, Place, Profile};
-use small_types::ShortList;
 use std::alloc::Global;
 use toml::{Table, Value};
 use voice_messages::{U4, U7};
@@ -141,28 +140,25 @@ fn seven_bits(number: u8) -> U7
 }
 
 // The numbers of a profile's id.
-fn id_of(numbers: &ShortList<u8, 5>) -> [U7; 5]
-    requires count { length numbers.now ≡ 5 }
-    requires small { All (λ n. n ≤ 127) numbers.now }
-    ensures { result ≡ numbers.now }
+fn id_of(numbers: [u8; 5]) -> [U7; 5]
+    requires { All (λ n. n ≤ 127) numbers }
+    ensures { result ≡ numbers }
 {
-    match numbers.as_slice() {
-        [first, second, third, fourth, fifth] => [
-            seven_bits(*first),
-            seven_bits(*second),
-            seven_bits(*third),
-            seven_bits(*fourth),
-            seven_bits(*fifth),
-        ],
-        // there are five
-        _ => unreachable!(),
-    }
+    let [first, second, third, fourth, fifth] = numbers;
+    [
+        seven_bits(first),
+        seven_bits(second),
+        seven_bits(third),
+        seven_bits(fourth),
+        seven_bits(fifth),
+    ]
 }
 
 fn id_at(table: &Table) -> Option<[U7; 5]>
     ensures { result ≡ numbers_of_key 5 127 (codes "id") (table_view table.now) }
 {
-    Some(id_of(&numbers_at(table, "id", 127)?))
+    let numbers = numbers_at(table, "id", 127)?;
+    Some(id_of(array(&numbers)))
 }
 
 /// Reads a profile by the rules of its keys, in their order, and adds it at the end.

@@ -26,7 +26,7 @@ module _ (asked : List ℕ → ℕ) where
   abbrev pub IsRest : List ℕ → Type 0
   IsRest bytes = length bytes < asked bytes
 
-  -- how the items end, where these bytes follow them at an offset
+  -- how the items end, if these bytes follow them at an offset
   abbrev pub Ends : ℕ → ℕ → List ℕ → Tail → Type 0
   Ends limit at bytes End = (bytes ≡ []) × (at ≤ limit)
   Ends limit at bytes (Truncated o) = (o ≡ at) × (0 < length bytes) × IsRest bytes × (at + length bytes ≤ limit)

@@ -9,7 +9,7 @@ use Rattle.outside.specs.declared.objects.ReadStop.{ReadStop}
 use Rattle.outside.specs.declared.objects.ReadStop.TheVariants.{Read, Truncated as StopTruncated, TooLong as StopTooLong}
 
 -- A reader: how it cuts, the bytes that it took and has not given out, the offset of the next item, and its last answer
--- where there was one.
+-- if there was one.
 pub record Reading (How : Type 0) : Type 0 where
   pub how : How
   pub pending : List ℕ
@@ -41,7 +41,7 @@ passed count reader = record reader { pending = drop count reader.pending; offse
 abbrev pub needs_input : {How : Type 0} → (List ℕ → ℕ) → Reading How → Bool
 needs_input asked reader = let allowed = allowed_bytes reader in nat_lt allowed (asked (take allowed reader.pending))
 
--- A reader over its source, at some place in the stream: the reader, and what the source has left, where it tells that.
+-- A reader over its source, at some place in the stream: the reader, and what the source has left, if it tells that.
 pub record Cursor (How : Type 0) : Type 0 where
   pub reader : Reading How
   pub left : Option (List ℕ)
@@ -89,7 +89,7 @@ module _ {How : Type 0} (asked : List ℕ → ℕ) (old new : Cursor How) where
     pub ends : IfSome (ahead_of old) (λ bytes. Ends asked old.reader.limit old.reader.offset bytes tail)
     pub goes_on : new.reader ≡ record old.reader { pending = new.reader.pending; end = Some tail }
 
--- what `next` answers where the items have not ended before
+-- what `next` answers if the items have not ended before
 abbrev pub Answers : {How Item : Type 0} → (List ℕ → ℕ) → (ℕ → List ℕ → Item) → Cursor How → Cursor How →
     Result (Option Item) ReadStop → Type 0
 Answers asked item_of old new (Ok (Some item)) = Gives asked old new item_of item
@@ -98,7 +98,7 @@ Answers asked item_of old new (Err (Read failed)) = Waits asked old new
 Answers asked item_of old new (Err (StopTruncated o)) = Finishes asked old new (Truncated o)
 Answers asked item_of old new (Err StopTooLong) = Finishes asked old new TooLong
 
--- the source's count never falls, and rose where a read failed
+-- the source's count never falls, and rose if a read failed
 abbrev pub ReadCause : {Item : Type 0} → ℕ → ℕ → Result (Option Item) ReadStop → Type 0
 ReadCause before now (Ok item) = now ≡ before
 ReadCause before now (Err (Read failed)) = (before ≤ now) × Rose before now
@@ -113,7 +113,7 @@ pub record IsHeldAt {How Item : Type 0} (asked : List ℕ → ℕ) (item_of : �
   pub fits : next ≤ allowed_bytes reader
   pub gives : (left : Option (List ℕ)) → Gives asked (cursor (passed at reader) left) (cursor (passed next reader) left) item_of item
 
--- where these bytes, which are held after `at` bytes, begin with a whole item, that item is held there
+-- if these bytes, which are held after `at` bytes, begin with a whole item, that item is held there
 abbrev pub BeginsItemAt : {How Item : Type 0} → (List ℕ → ℕ) → (ℕ → List ℕ → Item) → ℕ → Reading How → List ℕ → Type 0
 BeginsItemAt asked item_of at reader bytes =
     (size : ℕ) → size ≡ asked bytes → size ≤ length bytes →
@@ -132,7 +132,7 @@ pub record IsBrought {How : Type 0} (asked : List ℕ → ℕ) (old new : Cursor
   pub held : asked (held_bytes new.reader) ≤ length (held_bytes new.reader)
   pub goes_on : new.reader ≡ record old.reader { pending = new.reader.pending }
 
--- what `more` answers where the items have not ended before
+-- what `more` answers if the items have not ended before
 abbrev pub Brings : {How : Type 0} → (List ℕ → ℕ) → Cursor How → Cursor How → Result Bool ReadStop → Type 0
 Brings asked old new (Ok true) = IsBrought asked old new
 Brings asked old new (Ok false) = Finishes asked old new End
@@ -140,7 +140,7 @@ Brings asked old new (Err (Read failed)) = Waits asked old new
 Brings asked old new (Err (StopTruncated o)) = Finishes asked old new (Truncated o)
 Brings asked old new (Err StopTooLong) = Finishes asked old new TooLong
 
--- the source's count never falls, and rose where a read failed
+-- the source's count never falls, and rose if a read failed
 abbrev pub MoreCause : ℕ → ℕ → Result Bool ReadStop → Type 0
 MoreCause before now (Ok held) = now ≡ before
 MoreCause before now (Err (Read failed)) = (before ≤ now) × Rose before now

@@ -9,7 +9,7 @@ use Rattle.item_reader.specs.Reading.{Reading, new_reading}
 use Rattle.outside.specs.Runs.{runs_are_lost}
 use Rattle.item_reader.specs.declared.cutting.Tail.{Tail}
 
--- What a reader has given of a stream: all that the source had at first, where it tells that, what it has left, and the items given.
+-- What a reader has given of a stream: all that the source had at first, if it tells that, what it has left, and the items given.
 pub record Given (Item : Type 0) : Type 0 where
   pub all : Option (List ℕ)
   pub left : Option (List ℕ)

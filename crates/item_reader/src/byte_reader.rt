@@ -81,8 +81,9 @@ impl ByteReader {
         self.items.next(src)
     }
 
-    /// The bytes that are held and may be given out, and the offset of the first of them, counted in bytes
-    /// from 0. A caller that reads many bytes reads them of these by `item_in`, and tells it by `pass`.
+    /// The bytes that the reader holds and may give out, and the offset of the first of them, counted in
+    /// bytes from 0. A caller that reads many bytes finds them here by `item_in`, and reports by `pass`
+    /// how many it has used.
     #[inline(always)]
     pub fn held(&self) -> (&[u8], u64)
         ensures bytes { result.0.now ≡ held_bytes self.now }
@@ -91,9 +92,9 @@ impl ByteReader {
         self.items.held()
     }
 
-    /// The byte after `at` of the bytes that `held` gave, which are these, with its offset, and after how
-    /// many of them the next one stands: what `next` would give there. `None` exactly where none is left
-    /// there. `offset` is that of the first of the bytes.
+    /// The byte after the first `at` of the bytes that `held` returned, with its offset and the place of
+    /// the next one: what `next` would return there. `None` exactly if no byte is left there. `offset` is
+    /// the offset of the first of the bytes.
     #[inline(always)]
     pub fn item_in(&self, held: &[u8], offset: u64, at: usize) -> Option<((u8, u64), usize)>
         requires held { held.now ≡ held_bytes self.now }
@@ -114,9 +115,9 @@ impl ByteReader {
         self.items.pass(count);
     }
 
-    /// Asks the source until a byte is held within the limit, unless the bytes have ended. `true` says that
-    /// one is held; the answers without a byte are those of `next`, where `false` stands for its `None`. The
-    /// source is asked only where no byte is held. `Truncated` is never answered.
+    /// Asks the source until a byte is held within the limit, unless the bytes have ended. `true` says
+    /// that one is held; the answers without a byte are those of `next`, with `false` for its `None`. The
+    /// reader asks the source only when it holds no byte. It never answers `Truncated`.
     #[inline(always)]
     pub fn more<S: Source>(&mut self, src: &mut S) -> Result<bool, ReadStop>
         ensures answer { self.old.end ≡ None → Brings one_byte

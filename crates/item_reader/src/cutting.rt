@@ -13,20 +13,21 @@ pub enum Tail {
     TooLong,
 }
 
-/// A way of cutting a stream into items. The first bytes of an item tell how many it has, one to sixteen.
+/// A way of cutting a stream into items. The first bytes of an item determine its length, one to sixteen
+/// bytes.
 pub trait Cut {
     /// What is read of the bytes of an item.
     type Item;
 
-    /// How many bytes the item at the front of these bytes has. Where
-    /// these are too few to tell, it is more than they are.
+    /// The length of the item at the front of these bytes. If they are too few to determine it, the
+    /// length exceeds their number.
     ghost asked: { Self → List ℕ → ℕ };
 
     /// The item of an offset and the bytes from there.
     ghost item_of: { Self → ℕ → List ℕ → Self.Item };
 
-    /// How many bytes the item at the front of these bytes has, 1 to 16.
-    /// Where these are too few to tell, it is more than they are.
+    /// The length of the item at the front of these bytes, 1 to 16. If they are too few to determine it,
+    /// the length exceeds their number.
     fn asked(&self, bytes: &[u8]) -> usize
         ensures count { result ≡ asked self.now bytes.now }
         ensures size { (0 < result) × (result ≤ 16) };
@@ -36,6 +37,6 @@ pub trait Cut {
         requires { IsItem (asked self.now) bytes.now }
         ensures { result ≡ item_of self.now offset bytes.now };
 
-    /// The first bytes of an item tell its length.
+    /// The first bytes of an item determine its length.
     ghost lengths: { (how : Self) → IsLength (asked how) };
 }

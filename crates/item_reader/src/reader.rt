@@ -58,12 +58,12 @@ impl<H: Cut> ItemReader<H> {
 
     /// The next item; `None` when the source ends with the last item.
     ///
-    /// `Truncated` is returned when the source ends within the limit and within an item, of which there are
-    /// some bytes. It carries the offset of that item. `TooLong` is returned when the source gave more bytes
-    /// than the limit, and what is left within the limit is no whole item (own rule). `Read` is returned only
-    /// when the source's count of faults rose; no byte is lost, and a later call goes on from there. Any
-    /// other answer without an item is returned again by every later call. The source is asked only where no
-    /// whole item is held.
+    /// `Truncated` is returned when the source ends within the limit and within an item, after some of
+    /// its bytes. It carries the offset of that item. `TooLong` is returned when the source gave more
+    /// bytes than the limit, and the rest within the limit is no whole item (own rule). `Read` is
+    /// returned only when the source's count of faults rose; no byte is lost, and a later call continues
+    /// from there. Every later call repeats any other answer without an item. The reader asks the source
+    /// only when it holds no whole item.
     #[inline(always)]
     pub fn next<S: Source>(&mut self, src: &mut S) -> Result<Option<H::Item>, ReadStop>
         ensures answer { self.old.end ≡ None →
@@ -92,8 +92,9 @@ impl<H: Cut> ItemReader<H> {
         self.how.asked(allowed) > allowed.len()
     }
 
-    /// The bytes that are held and may be given out, and the offset of the first of them, counted in bytes
-    /// from 0. A caller that reads many items reads them of these by `item_in`, and tells it by `pass`.
+    /// The bytes that the reader holds and may give out, and the offset of the first of them, counted in
+    /// bytes from 0. A caller that reads many items finds them here by `item_in`, and reports by `pass`
+    /// how many bytes it has used.
     #[inline(always)]
     pub fn held(&self) -> (&[u8], u64)
         ensures bytes { result.0.now ≡ held_bytes self.now }
@@ -102,9 +103,9 @@ impl<H: Cut> ItemReader<H> {
         (self.window.allowed(), self.offset)
     }
 
-    /// The item that begins after `at` of the bytes that `held` gave, which are these, and after how many of
-    /// them the next one begins: the item that `next` would give there. `None` exactly where no whole item
-    /// begins there. `offset` is that of the first of the bytes.
+    /// The item that begins after `at` of the bytes that `held` returned, and the place where the next
+    /// one begins: the item that `next` would return there. `None` exactly if no whole item begins there.
+    /// `offset` is the offset of the first of the bytes.
     #[inline(always)]
     pub fn item_in(&self, held: &[u8], offset: u64, at: usize) -> Option<(H::Item, usize)>
         requires held { held.now ≡ held_bytes self.now }
@@ -123,8 +124,8 @@ impl<H: Cut> ItemReader<H> {
         }
     }
 
-    /// The bytes after the first `at` of those that `held` gave, which are these, for a caller that sees by
-    /// itself which item they begin with: where one is whole in them, it is held there.
+    /// The bytes after the first `at` of those that `held` returned, for a caller that finds out by
+    /// itself which item they begin with: if they contain all of it, the item is held there.
     #[inline(always)]
     pub fn rest_in<'h>(&self, held: &'h [u8], at: usize) -> &'h [u8]
         requires held { held.now ≡ held_bytes self.now }
@@ -156,9 +157,9 @@ impl<H: Cut> ItemReader<H> {
         &self.how
     }
 
-    /// Asks the source until a whole item is held, unless the items have ended. `true` says that one is held;
-    /// the answers without an item are those of `next`, where `false` stands for its `None`. The source is
-    /// asked only where no whole item is held.
+    /// Asks the source until a whole item is held, unless the items have ended. `true` says that one is
+    /// held; the answers without an item are those of `next`, with `false` for its `None`. The reader
+    /// asks the source only when it holds no whole item.
     #[inline(never)]
     pub fn more<S: Source>(&mut self, src: &mut S) -> Result<bool, ReadStop>
         ensures answer { self.old.end ≡ None → Brings (H.asked self.old.how)
@@ -195,7 +196,7 @@ impl<H: Cut> ItemReader<H> {
         }
     }
 
-    // The next answer where no whole item is held, so that the source is asked, unless the items have ended.
+    // The next answer when no whole item is held: the source is asked, unless the items have ended.
     #[inline(always)]
     fn next_taken<S: Source>(&mut self, src: &mut S) -> Result<Option<H::Item>, ReadStop>
         ensures answer { self.old.end ≡ None →
@@ -259,7 +260,7 @@ fn front_of<H: Cut>(how: &H, bytes: &[u8], room: u64) -> Front
     }
 }
 
-// The tail where the source has ended and these bytes are no item.
+// The tail when the source has ended and these bytes are no item.
 fn tail_at(bytes: &[u8], offset: u64) -> Tail
     ensures { result ≡ (if length bytes.now == 0 then Tail.End else Tail.Truncated offset) }
 {
@@ -281,7 +282,7 @@ fn more_of(tail: Tail) -> Result<bool, ReadStop>
     }
 }
 
-// What is held at the front, or what comes where that is no whole item.
+// The item that is held at the front, or the answer if that is no whole item.
 #[inline(never)]
 fn look_ahead<H: Cut, S: Source>(
     how: &H,

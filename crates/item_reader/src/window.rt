@@ -14,7 +14,7 @@ const SIZE: usize = 4096;
 pub struct Window {
     bytes: [u8; 4096],
     start: usize,
-    // Up to where bytes are allowed to be given out.
+    // The number of the bytes that may be given out.
     stop: usize,
     end: usize,
 }

@@ -1,31 +1,41 @@
 -- What the calls of the translator down answer, by what the handle holds.
 use Rattle.std.specs.Prelude.{◌≡◌, ℕ, Bool, true, false, List, Option, Some, None}
 use Rattle.midi_meaning.specs.Styles.{Style, plain_style, compact_style}
-use Rattle.down_translator.specs.Held.{new_down}
+use Rattle.down_translator.specs.Held.{DownState, limit_of, new_down, paired_of, style_of}
 use Rattle.c_answers.specs.Numbers.{number_of}
 use Rattle.c_answers.specs.declared.status.Status.{Status}
 use Rattle.c_answers.specs.declared.status.Status.TheVariants as statuses
 use Rattle.c_handles.specs.declared.engine.Engine.{Engine}
 use Rattle.c_handles.specs.declared.engine.Engine.TheVariants as engine
 use Rattle.c_translators.specs.Down as down
-use Rattle.c_translators.specs.Blocks.{nothing_taken}
+use Rattle.c_answers.specs.Blocks.{nothing_taken}
 use Rattle.c_translators.specs.PacketBlocks.{AreTaken}
-use Rattle.c_translators.specs.Pieces.{empty_piece}
-use Rattle.c_translators.specs.declared.block.Block.{Block}
+use Rattle.c_translators.specs.Pieces.{no_piece}
+use Rattle.c_answers.specs.declared.block.Block.{Block}
 use Rattle.c_translators.specs.declared.piece.Piece.{Piece}
-use Rattle.larboardyuzu_c.specs.Held.{HoldsDown, is_room, opens_in_range}
+use Rattle.larboardyuzu_c.specs.Flags.{are_of_down, has_compact, has_paired}
+use Rattle.larboardyuzu_c.specs.Held.{HoldsDown, Opens, is_room}
 
-abbrev pub style_of_flag : Bool → Style
-style_of_flag true = compact_style
-style_of_flag false = plain_style
+abbrev pub style_by : Bool → Style
+style_by true = compact_style
+style_by false = plain_style
 
-abbrev pub IsOpened : Option Engine → ℕ → Bool → Bool → ℕ → Option Engine → Type 0
-IsOpened before room is_compact is_paired status after =
-    opens_in_range (is_room room) before (engine.Down (new_down is_paired (style_of_flag is_compact) room)) status after
+-- what a handle holds that is opened with these flags
+abbrev pub new_by : ℕ → ℕ → Engine
+new_by room flags = engine.Down (new_down (has_paired flags) (style_by (has_compact flags)) room)
+
+-- by whether the room is in range, and the call has the flags
+abbrev pub opens : Bool → Bool → Option Engine → Engine → ℕ → Option Engine → Type 0
+opens false are_known before fresh status after = (status ≡ number_of statuses.BadRoom) × (after ≡ before)
+opens true false before fresh status after = (status ≡ number_of statuses.BadFlags) × (after ≡ before)
+opens true true before fresh status after = Opens before fresh status after
+
+abbrev pub IsOpened : Option Engine → ℕ → ℕ → ℕ → Option Engine → Type 0
+IsOpened before room flags status after = opens (is_room room) (are_of_down flags) before (new_by room flags) status after
 
 -- nothing is taken, and nothing written
 abbrev pub IsUntaken : Status → List ℕ → ℕ → Piece → List ℕ → Type 0
-IsUntaken why old status piece new = (status ≡ number_of why) × (piece ≡ empty_piece) × (new ≡ old)
+IsUntaken why old status piece new = (status ≡ number_of why) × (piece ≡ no_piece) × (new ≡ old)
 
 abbrev pub IsAnswered : Option Engine → ℕ → List ℕ → List ℕ → ℕ → Piece → List ℕ → Option Engine → Type 0
 IsAnswered None offset words old status piece new after = IsUntaken statuses.HandleClosed old status piece new × (after ≡ None)
@@ -51,3 +61,12 @@ abbrev pub HasBegun : Option Engine → ℕ → ℕ → ℕ → ℕ → Type 0
 HasBegun None group old status new = (status ≡ number_of statuses.HandleClosed) × (new ≡ old)
 HasBegun (Some (engine.Down state)) group old status new = down.HasBegun state group old status new
 HasBegun (Some other) group old status new = (status ≡ number_of statuses.OtherKind) × (new ≡ old)
+
+-- what a handle holds that is opened with the arguments of this translator
+abbrev pub IsNew : DownState → DownState → Type 0
+IsNew state held = held ≡ new_down (paired_of state) (style_of state) (limit_of state)
+
+abbrev pub IsReset : Option Engine → ℕ → Option Engine → Type 0
+IsReset None status after = (status ≡ number_of statuses.HandleClosed) × (after ≡ None)
+IsReset (Some (engine.Down state)) status after = HoldsDown after (IsNew state) × (status ≡ number_of statuses.Done)
+IsReset (Some other) status after = (status ≡ number_of statuses.OtherKind) × (after ≡ Some other)

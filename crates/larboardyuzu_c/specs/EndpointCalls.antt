@@ -2,13 +2,15 @@
 use Rattle.std.specs.Prelude.{◌≡◌, ◌⊎◌, ℕ, Bool, true, false, List, Option, Some, None, Ok, Err, MatchOption}
 use Rattle.function_blocks.specs.Rules.{Read}
 use Rattle.function_blocks.specs.Setups.{SetupData, setup_of}
-use Rattle.ump_endpoint.specs.Held.{EndpointState, new_endpoint}
+use Rattle.ump_endpoint.specs.Held.{EndpointState, new_endpoint, reset_endpoint}
+use Rattle.c_answers.specs.Blocks.{nothing_taken}
 use Rattle.c_answers.specs.Numbers.{number_of}
+use Rattle.c_answers.specs.declared.block.Block.{Block}
 use Rattle.c_answers.specs.declared.status.Status.{Status}
 use Rattle.c_answers.specs.declared.status.Status.TheVariants as statuses
 use Rattle.c_endpoint.specs.Asked.{IsBegun, IsMuid, IsProfile}
 use Rattle.c_endpoint.specs.Opening.{rule_in, status_of_fault}
-use Rattle.c_endpoint.specs.Packets.{IsPacketAnswered, no_replies}
+use Rattle.c_endpoint.specs.Packets.{AreAnswered, IsPacketAnswered, no_replies}
 use Rattle.c_endpoint.specs.Profiles.{no_profile}
 use Rattle.c_endpoint.specs.declared.profile.EndpointProfile.{EndpointProfile}
 use Rattle.c_endpoint.specs.declared.replies.PacketReplies.{PacketReplies}
@@ -21,7 +23,7 @@ abbrev pub HoldsEndpoint : Option Engine → (EndpointState → Type 0) → Type
 HoldsEndpoint (Some (engine.Endpoint held)) IsSo = IsSo held
 HoldsEndpoint _ IsSo = ⊥
 
--- a handle that is closed holds an endpoint of the setup, or nothing where its text has a fault or where there isn't enough memory
+-- a handle that is closed holds an endpoint of the setup, or nothing if its text has a fault or if there isn't enough memory
 abbrev pub Makes : Read SetupData → ℕ → ℕ → ℕ → ℕ → Option Engine → Type 0
 Makes (Ok setup) room status old new after =
     MatchOption after (status ≡ number_of statuses.NoMemory)
@@ -45,7 +47,7 @@ IsOpened before text room status old new after = opens (is_room room) before (se
 
 -- nothing is taken
 abbrev pub IsUntaken : Status → List ℕ → ℕ → PacketReplies → List ℕ → Type 0
-IsUntaken why old status replies new = (status ≡ number_of why) × (replies ≡ no_replies 0) × (new ≡ old)
+IsUntaken why old status replies new = (status ≡ number_of why) × (replies ≡ no_replies) × (new ≡ old)
 
 abbrev pub IsTaken : Option Engine → List ℕ → ℕ → List ℕ → ℕ → PacketReplies → List ℕ → Option Engine → Type 0
 IsTaken None words offset old status replies new after = IsUntaken statuses.HandleClosed old status replies new × (after ≡ None)
@@ -53,6 +55,20 @@ IsTaken (Some (engine.Endpoint held)) words offset old status replies new after 
     HoldsEndpoint after (λ later. IsPacketAnswered held words offset old status replies new later)
 IsTaken (Some other) words offset old status replies new after =
     IsUntaken statuses.OtherKind old status replies new × (after ≡ Some other)
+
+-- no packet is taken
+abbrev pub AreUntaken : Status → List ℕ → List PacketReplies → ℕ → Block → List ℕ → List PacketReplies → Type 0
+AreUntaken why old old_replies status block new replies =
+    (status ≡ number_of why) × (block ≡ nothing_taken) × (new ≡ old) × (replies ≡ old_replies)
+
+abbrev pub AreTaken : Option Engine → List ℕ → ℕ → List ℕ → List PacketReplies → ℕ → Block → List ℕ → List PacketReplies
+    → Option Engine → Type 0
+AreTaken None words offset old old_replies status block new replies after =
+    AreUntaken statuses.HandleClosed old old_replies status block new replies × (after ≡ None)
+AreTaken (Some (engine.Endpoint held)) words offset old old_replies status block new replies after =
+    HoldsEndpoint after (λ later. AreAnswered held words offset old old_replies status block new replies later)
+AreTaken (Some other) words offset old old_replies status block new replies after =
+    AreUntaken statuses.OtherKind old old_replies status block new replies × (after ≡ Some other)
 
 -- nothing is told
 abbrev pub IsUntold : Status → ℕ → ℕ → ℕ → Type 0
@@ -77,3 +93,10 @@ abbrev pub HasProfile : Option Engine → ℕ → ℕ → EndpointProfile → Ty
 HasProfile None index status new = (status ≡ number_of statuses.HandleClosed) × (new ≡ no_profile)
 HasProfile (Some (engine.Endpoint held)) index status new = IsProfile held index status new
 HasProfile (Some other) index status new = (status ≡ number_of statuses.OtherKind) × (new ≡ no_profile)
+
+-- the endpoint begins again
+abbrev pub IsReset : Option Engine → ℕ → Option Engine → Type 0
+IsReset None status after = (status ≡ number_of statuses.HandleClosed) × (after ≡ None)
+IsReset (Some (engine.Endpoint held)) status after =
+    (status ≡ number_of statuses.Done) × (after ≡ Some (engine.Endpoint (reset_endpoint held)))
+IsReset (Some other) status after = (status ≡ number_of statuses.OtherKind) × (after ≡ Some other)

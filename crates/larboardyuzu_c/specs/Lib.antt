@@ -1,5 +1,6 @@
 pub mod DownCalls
 pub mod EndpointCalls
+pub mod Flags
 pub mod Held
 pub mod ParserCalls
 pub mod StateCalls

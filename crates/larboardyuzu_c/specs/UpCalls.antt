@@ -10,55 +10,64 @@ use Rattle.c_answers.specs.declared.status.Status.TheVariants as statuses
 use Rattle.c_handles.specs.declared.engine.Engine.{Engine}
 use Rattle.c_handles.specs.declared.engine.Engine.TheVariants as engine
 use Rattle.c_translators.specs.Up as up
-use Rattle.c_translators.specs.Up.{nothing_raised}
-use Rattle.c_translators.specs.Blocks.{nothing_taken}
+use Rattle.c_answers.specs.Blocks.{nothing_taken}
+use Rattle.c_answers.specs.Outcomes.{no_outcome}
 use Rattle.c_translators.specs.ByteBlocks.{AreTaken}
-use Rattle.c_translators.specs.declared.block.Block.{Block}
-use Rattle.c_translators.specs.declared.raised.RaisedWords.{RaisedWords}
+use Rattle.c_answers.specs.declared.block.Block.{Block}
+use Rattle.c_answers.specs.declared.outcome.ByteOutcome.{ByteOutcome}
+use Rattle.larboardyuzu_c.specs.Flags.{are_of_up, has_paired}
 use Rattle.larboardyuzu_c.specs.Held.{HoldsUp, is_room, Opens}
 
 -- a translator for a stream that has had no byte yet
 abbrev pub new_up : ℕ → ℕ → Bool → UpState
 new_up group room is_paired = record { group = group; parsing = idle room; holding = fresh is_paired }
 
-abbrev pub opens_in_group : Bool → Option Engine → Engine → ℕ → Option Engine → Type 0
-opens_in_group false before fresh status after = (status ≡ number_of statuses.BadGroup) × (after ≡ before)
-opens_in_group true before fresh status after = Opens before fresh status after
+-- by whether the room and the group are in range, and the call has the flags
+abbrev pub opens : Bool → Bool → Bool → Option Engine → Engine → ℕ → Option Engine → Type 0
+opens false is_group are_known before fresh status after = (status ≡ number_of statuses.BadRoom) × (after ≡ before)
+opens true false are_known before fresh status after = (status ≡ number_of statuses.BadGroup) × (after ≡ before)
+opens true true false before fresh status after = (status ≡ number_of statuses.BadFlags) × (after ≡ before)
+opens true true true before fresh status after = Opens before fresh status after
 
-abbrev pub opens : Bool → Bool → Option Engine → Engine → ℕ → Option Engine → Type 0
-opens false is_group before fresh status after = (status ≡ number_of statuses.BadRoom) × (after ≡ before)
-opens true is_group before fresh status after = opens_in_group is_group before fresh status after
-
-abbrev pub IsOpened : Option Engine → ℕ → ℕ → Bool → ℕ → Option Engine → Type 0
-IsOpened before group room is_paired status after =
-    opens (is_room room) (nat_lt group 16) before (engine.Up (new_up group room is_paired)) status after
+abbrev pub IsOpened : Option Engine → ℕ → ℕ → ℕ → ℕ → Option Engine → Type 0
+IsOpened before group room flags status after =
+    opens (is_room room) (nat_lt group 16) (are_of_up flags) before (engine.Up (new_up group room (has_paired flags))) status after
 
 -- nothing is taken
-abbrev pub IsUntaken : Status → List ℕ → ℕ → RaisedWords → List ℕ → Type 0
-IsUntaken why old status raised new = (status ≡ number_of why) × (raised ≡ nothing_raised) × (new ≡ old)
+abbrev pub IsUntaken : Status → List ℕ → ℕ → ByteOutcome → List ℕ → Type 0
+IsUntaken why old status outcome new = (status ≡ number_of why) × (outcome ≡ no_outcome) × (new ≡ old)
 
-abbrev pub IsAnswered : Option Engine → ℕ → ℕ → List ℕ → ℕ → RaisedWords → List ℕ → Option Engine → Type 0
-IsAnswered None byte offset old status raised new after = IsUntaken statuses.HandleClosed old status raised new × (after ≡ None)
-IsAnswered (Some (engine.Up state)) byte offset old status raised new after =
-    HoldsUp after (λ held. up.IsAnswered state byte offset old status raised new held)
-IsAnswered (Some other) byte offset old status raised new after =
-    IsUntaken statuses.OtherKind old status raised new × (after ≡ Some other)
+abbrev pub IsAnswered : Option Engine → ℕ → ℕ → List ℕ → ℕ → ByteOutcome → List ℕ → Option Engine → Type 0
+IsAnswered None byte offset old status outcome new after = IsUntaken statuses.HandleClosed old status outcome new × (after ≡ None)
+IsAnswered (Some (engine.Up state)) byte offset old status outcome new after =
+    HoldsUp after (λ held. up.IsAnswered state byte offset old status outcome new held)
+IsAnswered (Some other) byte offset old status outcome new after =
+    IsUntaken statuses.OtherKind old status outcome new × (after ≡ Some other)
 
 -- no byte is taken
-abbrev pub AreUntaken : Status → List ℕ → List ListingLine → ℕ → Block → List ℕ → List ListingLine → Type 0
-AreUntaken why old old_lines status block new lines =
-    (status ≡ number_of why) × (block ≡ nothing_taken) × (new ≡ old) × (lines ≡ old_lines)
+abbrev pub AreUntaken : Status → List ℕ → List ByteOutcome → ℕ → Block → List ℕ → List ByteOutcome → Type 0
+AreUntaken why old old_outcomes status block new outcomes =
+    (status ≡ number_of why) × (block ≡ nothing_taken) × (new ≡ old) × (outcomes ≡ old_outcomes)
 
-abbrev pub AreAnswered : Option Engine → ℕ → List ℕ → List ℕ → List ListingLine → ℕ → Block → List ℕ → List ListingLine → Option Engine
+abbrev pub AreAnswered : Option Engine → ℕ → List ℕ → List ℕ → List ByteOutcome → ℕ → Block → List ℕ → List ByteOutcome → Option Engine
     → Type 0
-AreAnswered None offset bytes old old_lines status block new lines after =
-    AreUntaken statuses.HandleClosed old old_lines status block new lines × (after ≡ None)
-AreAnswered (Some (engine.Up state)) offset bytes old old_lines status block new lines after =
-    HoldsUp after (λ held. AreTaken state offset bytes old old_lines status block new lines held)
-AreAnswered (Some other) offset bytes old old_lines status block new lines after =
-    AreUntaken statuses.OtherKind old old_lines status block new lines × (after ≡ Some other)
+AreAnswered None offset bytes old old_outcomes status block new outcomes after =
+    AreUntaken statuses.HandleClosed old old_outcomes status block new outcomes × (after ≡ None)
+AreAnswered (Some (engine.Up state)) offset bytes old old_outcomes status block new outcomes after =
+    HoldsUp after (λ held. AreTaken state offset bytes old old_outcomes status block new outcomes held)
+AreAnswered (Some other) offset bytes old old_outcomes status block new outcomes after =
+    AreUntaken statuses.OtherKind old old_outcomes status block new outcomes × (after ≡ Some other)
 
 abbrev pub HasEnd : Option Engine → ListingLine → ℕ → ListingLine → Type 0
 HasEnd None old status new = (status ≡ number_of statuses.HandleClosed) × (new ≡ old)
 HasEnd (Some (engine.Up state)) old status new = up.HasEnd state old status new
 HasEnd (Some other) old status new = (status ≡ number_of statuses.OtherKind) × (new ≡ old)
+
+-- what a handle holds that is opened with the arguments of this translator
+abbrev pub IsNew : UpState → UpState → Type 0
+IsNew state held = held ≡ new_up state.group state.parsing.room state.holding.paired
+
+abbrev pub IsReset : Option Engine → ℕ → Option Engine → Type 0
+IsReset None status after = (status ≡ number_of statuses.HandleClosed) × (after ≡ None)
+IsReset (Some (engine.Up state)) status after = HoldsUp after (IsNew state) × (status ≡ number_of statuses.Done)
+IsReset (Some other) status after = (status ≡ number_of statuses.OtherKind) × (after ≡ Some other)

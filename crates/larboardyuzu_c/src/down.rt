@@ -1,38 +1,43 @@
 // The calls of the translator down.
 ghost use Rattle.std.specs.Prelude.{◌≡◌, None};
-ghost use Rattle.larboardyuzu_c.specs.DownCalls.{AreAnswered, HasBegun, IsOpened, IsAnswered};
+ghost use Rattle.c_translators.specs.Down.{most_bytes_of};
+ghost use Rattle.larboardyuzu_c.specs.DownCalls.{AreAnswered, HasBegun, IsOpened, IsAnswered, IsReset};
 
-use c_answers::Status;
+use crate::flags::{COMPACT, PAIRED, has_compact, has_paired};
+use c_answers::{Block, Status};
 use c_handles::{Engine, Handle};
-use c_translators::{Block, Piece, SizedDown};
+use c_translators::{CDown, Piece, down_size};
 use down_translator::Style;
 use std::alloc::Global;
 
-/// Opens a handle: a translator down in plain style or in compact style, with paired controllers or without.
-/// `room` is the limit of an exclusive. All the memory that it ever needs is taken here.
+/// Opens a handle: a translator down, with the flag 1 in compact style and otherwise in plain style, with the
+/// flag 2 with paired controllers and otherwise without (own rule). `room` is the limit of an exclusive, 6 to
+/// 1,048,576. All the memory that it ever needs is taken here.
 #[unsafe(no_mangle)]
 pub extern "C" fn larboardyuzu_down_open(
     alloc: Global,
     down: &mut Handle,
     room: u32,
-    is_compact: bool,
-    is_paired: bool,
+    flags: u32,
 ) -> u32
-    ensures { IsOpened down.old.holds room is_compact is_paired result down.new.holds }
+    ensures { IsOpened down.old.holds room flags result down.new.holds }
 {
     if room < 6 || room > 1_048_576 {
         return Status::BadRoom.number();
+    }
+    if flags > COMPACT + PAIRED {
+        return Status::BadFlags.number();
     }
     if let Some(held) = down.take(alloc) {
         down.put(held);
         return Status::AlreadyOpen.number();
     }
-    let style = if is_compact {
+    let style = if has_compact(flags) {
         Style::Compact
     } else {
         Style::Plain
     };
-    match SizedDown::new(alloc, room, style, is_paired) {
+    match CDown::new(alloc, room, style, has_paired(flags)) {
         Ok(made) => down.fill(alloc, Engine::Down(made)).number(),
         Err(_) => Status::NoMemory.number(),
     }
@@ -51,13 +56,13 @@ pub extern "C" fn larboardyuzu_down_packet(
     ensures { IsAnswered down.old.holds offset words.now bytes.old result piece.new bytes.new down.new.holds }
 {
     let Some(mut held) = down.take(alloc) else {
-        *piece = Piece::empty();
+        *piece = Piece::none();
         return Status::HandleClosed.number();
     };
     let status = match &mut *held {
         Engine::Down(engine) => engine.packet(words, offset, bytes, piece),
         _ => {
-            *piece = Piece::empty();
+            *piece = Piece::none();
             Status::OtherKind
         }
     };
@@ -94,6 +99,14 @@ pub extern "C" fn larboardyuzu_down_packets(
     status.number()
 }
 
+/// The size of a buffer that takes the piece of any packet, if the limit of an exclusive is `room`.
+#[unsafe(no_mangle)]
+pub extern "C" fn larboardyuzu_down_size(room: u32) -> usize
+    ensures { result ≡ most_bytes_of room }
+{
+    down_size(room)
+}
+
 /// Where the exclusive began that a group has open.
 #[unsafe(no_mangle)]
 pub extern "C" fn larboardyuzu_down_begun(
@@ -110,6 +123,25 @@ pub extern "C" fn larboardyuzu_down_begun(
     };
     let status = match &*held {
         Engine::Down(engine) => engine.begun(group, offset),
+        _ => Status::OtherKind,
+    };
+    down.put(held);
+    status.number()
+}
+
+/// Begins again: the handle is then as it was opened, with the same arguments. Takes no memory.
+#[unsafe(no_mangle)]
+pub extern "C" fn larboardyuzu_down_reset(alloc: Global, down: &mut Handle) -> u32
+    ensures { IsReset down.old.holds result down.new.holds }
+{
+    let Some(mut held) = down.take(alloc) else {
+        return Status::HandleClosed.number();
+    };
+    let status = match &mut *held {
+        Engine::Down(engine) => {
+            engine.reset();
+            Status::Done
+        }
         _ => Status::OtherKind,
     };
     down.put(held);

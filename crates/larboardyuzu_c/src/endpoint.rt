@@ -1,12 +1,14 @@
 // The calls of the endpoint.
-ghost use Rattle.std.specs.Prelude.{◌≡◌, ◌≤◌, None};
-ghost use Rattle.function_blocks.specs.Setups.{setup_of};
+ghost use Rattle.std.specs.Prelude.{◌≡◌, ◌≤◌, None, Ok};
+ghost use Rattle.function_blocks.specs.Laws.{IsConsistent};
+ghost use Rattle.function_blocks.specs.Setups.{SetupData, setup_of};
 ghost use Rattle.c_answers.specs.Numbers.{number_of};
-ghost use Rattle.larboardyuzu_c.specs.EndpointCalls.{HasBegun, HasMuid, HasProfile, HasProtocol, IsOpened, IsTaken, Makes};
+ghost use Rattle.larboardyuzu_c.specs.EndpointCalls.{AreTaken, HasBegun, HasMuid, HasProfile, HasProtocol, IsOpened, IsReset, IsTaken, Makes};
 
-use c_answers::Status;
-use c_endpoint::{AnsweringEndpoint, EndpointProfile, PacketReplies};
+use c_answers::{Block, Status};
+use c_endpoint::{CEndpoint, EndpointProfile, PacketReplies};
 use c_handles::{Engine, Handle};
+use function_blocks::setups_are_consistent;
 use std::alloc::Global;
 
 // Puts an endpoint of the setup in a text in a handle that is closed.
@@ -23,14 +25,15 @@ fn fill_endpoint(
     requires most { room ≤ 1048576 }
     ensures { Makes (setup_of text.now) room (number_of result) rule.old rule.new endpoint.new.holds }
 {
-    match AnsweringEndpoint::opened(alloc, text, room, rule) {
+    match CEndpoint::opened(alloc, text, room, rule) {
         Ok(made) => return endpoint.fill(alloc, Engine::Endpoint(made)),
         Err(why) => return why,
     }
 }
 
 /// Opens a handle: an endpoint of the setup in a text, which is TOML. `room` is the limit of an exclusive, 6
-/// to 1,048,576. All the memory that it ever needs is taken here.
+/// to 1,048,576. All the memory that it ever needs is taken here. The setup of a text without a fault is
+/// consistent, as the laws of an endpoint ask of its setup.
 #[unsafe(no_mangle)]
 pub extern "C" fn larboardyuzu_endpoint_open(
     alloc: Global,
@@ -39,8 +42,10 @@ pub extern "C" fn larboardyuzu_endpoint_open(
     room: u32,
     rule: &mut u8,
 ) -> u32
-    ensures { IsOpened endpoint.old.holds text.now room result rule.old rule.new endpoint.new.holds }
+    ensures answer { IsOpened endpoint.old.holds text.now room result rule.old rule.new endpoint.new.holds }
+    ensures consistent { (setup : SetupData) → setup_of text.now ≡ Ok setup → IsConsistent setup }
 {
+    setups_are_consistent();
     if room < 6 || room > 1_048_576 {
         return Status::BadRoom.number();
     }
@@ -65,13 +70,42 @@ pub extern "C" fn larboardyuzu_endpoint_packet(
         result replies.new reply.new endpoint.new.holds }
 {
     let Some(mut held) = endpoint.take(alloc) else {
-        *replies = PacketReplies::none(0);
+        *replies = PacketReplies::none();
         return Status::HandleClosed.number();
     };
     let status = match &mut *held {
         Engine::Endpoint(engine) => engine.packet(words, offset, reply, replies),
         _ => {
-            *replies = PacketReplies::none(0);
+            *replies = PacketReplies::none();
+            Status::OtherKind
+        }
+    };
+    endpoint.put(held);
+    status.number()
+}
+
+/// Takes the packets of the peer whose words follow one another, and writes the words of the replies to them.
+#[unsafe(no_mangle)]
+pub extern "C" fn larboardyuzu_endpoint_packets(
+    alloc: Global,
+    endpoint: &mut Handle,
+    words: &[u32],
+    offset: u64,
+    reply: &mut [u32],
+    replies: &mut [PacketReplies],
+    block: &mut Block,
+) -> u32
+    ensures { AreTaken endpoint.old.holds words.now offset reply.old replies.old
+        result block.new reply.new replies.new endpoint.new.holds }
+{
+    let Some(mut held) = endpoint.take(alloc) else {
+        *block = Block::nothing();
+        return Status::HandleClosed.number();
+    };
+    let status = match &mut *held {
+        Engine::Endpoint(engine) => engine.packets(words, offset, reply, replies, block),
+        _ => {
+            *block = Block::nothing();
             Status::OtherKind
         }
     };
@@ -167,6 +201,25 @@ pub extern "C" fn larboardyuzu_endpoint_begun(
     };
     let status = match &*held {
         Engine::Endpoint(engine) => engine.begun(group, offset),
+        _ => Status::OtherKind,
+    };
+    endpoint.put(held);
+    status.number()
+}
+
+/// Begins again: the endpoint is as it was opened. Takes no memory.
+#[unsafe(no_mangle)]
+pub extern "C" fn larboardyuzu_endpoint_reset(alloc: Global, endpoint: &mut Handle) -> u32
+    ensures { IsReset endpoint.old.holds result endpoint.new.holds }
+{
+    let Some(mut held) = endpoint.take(alloc) else {
+        return Status::HandleClosed.number();
+    };
+    let status = match &mut *held {
+        Engine::Endpoint(engine) => {
+            engine.reset();
+            Status::Done
+        }
         _ => Status::OtherKind,
     };
     endpoint.put(held);

@@ -3,6 +3,7 @@
 
 mod down;
 mod endpoint;
+mod flags;
 mod parser;
 mod pure;
 mod state;

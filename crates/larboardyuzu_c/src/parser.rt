@@ -1,11 +1,20 @@
 // The calls of the parser of MIDI 1.0 bytes.
 ghost use Rattle.std.specs.Prelude.{◌≡◌, None};
-ghost use Rattle.larboardyuzu_c.specs.ParserCalls.{AreBytesTaken, HasEnd, IsByteTaken, IsOpened};
+ghost use Rattle.c_streams.specs.Parser.{longest_message};
+ghost use Rattle.larboardyuzu_c.specs.ParserCalls.{AreBytesTaken, HasEnd, IsByteTaken, IsOpened, IsReset};
 
-use c_answers::{ListingLine, Status};
+use c_answers::{Block, ByteOutcome, ListingLine, Status};
 use c_handles::{Engine, Handle};
-use c_streams::{ByteOutcome, MessageParser};
+use c_streams::{CParser, parser_size};
 use std::alloc::Global;
+
+/// The size of a buffer for any message, if an exclusive has at most `room` bytes.
+#[unsafe(no_mangle)]
+pub extern "C" fn larboardyuzu_parser_size(room: u32) -> usize
+    ensures { result ≡ longest_message room }
+{
+    parser_size(room)
+}
 
 /// Opens a handle: a parser with nothing open and no running status. `room` is the limit of an exclusive, 6
 /// to 1,048,576. All the memory that it ever needs is taken here.
@@ -20,7 +29,7 @@ pub extern "C" fn larboardyuzu_parser_open(alloc: Global, parser: &mut Handle, r
         parser.put(held);
         return Status::AlreadyOpen.number();
     }
-    match MessageParser::new(alloc, room) {
+    match CParser::new(alloc, room) {
         Ok(made) => parser.fill(alloc, Engine::Parser(made)).number(),
         Err(_) => Status::NoMemory.number(),
     }
@@ -40,13 +49,13 @@ pub extern "C" fn larboardyuzu_parser_byte(
         result outcome.new message.new parser.new.holds }
 {
     let Some(mut held) = parser.take(alloc) else {
-        *outcome = ByteOutcome::asking(0);
+        *outcome = ByteOutcome::none();
         return Status::HandleClosed.number();
     };
     let status = match &mut *held {
         Engine::Parser(engine) => engine.byte(byte, offset, message, outcome),
         _ => {
-            *outcome = ByteOutcome::asking(0);
+            *outcome = ByteOutcome::none();
             Status::OtherKind
         }
     };
@@ -62,19 +71,20 @@ pub extern "C" fn larboardyuzu_parser_bytes(
     bytes: &[u8],
     offset: u64,
     messages: &mut [u8],
-    outcome: &mut ByteOutcome,
+    outcomes: &mut [ByteOutcome],
+    block: &mut Block,
 ) -> u32
-    ensures { AreBytesTaken parser.old.holds bytes.now offset messages.old
-        result outcome.new messages.new parser.new.holds }
+    ensures { AreBytesTaken parser.old.holds offset bytes.now messages.old outcomes.old
+        result block.new messages.new outcomes.new parser.new.holds }
 {
     let Some(mut held) = parser.take(alloc) else {
-        *outcome = ByteOutcome::asking(0);
+        *block = Block::nothing();
         return Status::HandleClosed.number();
     };
     let status = match &mut *held {
-        Engine::Parser(engine) => engine.bytes(bytes, offset, messages, outcome),
+        Engine::Parser(engine) => engine.bytes(bytes, offset, messages, outcomes, block),
         _ => {
-            *outcome = ByteOutcome::asking(0);
+            *block = Block::nothing();
             Status::OtherKind
         }
     };
@@ -82,7 +92,7 @@ pub extern "C" fn larboardyuzu_parser_bytes(
     status.number()
 }
 
-/// The line of what is open at the end of the stream.
+/// Writes the line of what is open at the end of the stream.
 #[unsafe(no_mangle)]
 pub extern "C" fn larboardyuzu_parser_end(
     alloc: Global,
@@ -97,6 +107,25 @@ pub extern "C" fn larboardyuzu_parser_end(
     };
     let status = match &*held {
         Engine::Parser(engine) => engine.end(line),
+        _ => Status::OtherKind,
+    };
+    parser.put(held);
+    status.number()
+}
+
+/// Makes what a handle holds as if it had just been opened with the same arguments.
+#[unsafe(no_mangle)]
+pub extern "C" fn larboardyuzu_parser_reset(alloc: Global, parser: &mut Handle) -> u32
+    ensures { IsReset parser.old.holds result parser.new.holds }
+{
+    let Some(mut held) = parser.take(alloc) else {
+        return Status::HandleClosed.number();
+    };
+    let status = match &mut *held {
+        Engine::Parser(engine) => {
+            engine.reset();
+            Status::Done
+        }
         _ => Status::OtherKind,
     };
     parser.put(held);

@@ -1,12 +1,25 @@
 // The calls of the running state.
 ghost use Rattle.std.specs.Prelude.{◌≡◌, ◌≤◌, false, true, None};
 ghost use Rattle.c_answers.specs.Numbers.{number_of};
-ghost use Rattle.larboardyuzu_c.specs.StateCalls.{HasTold, IsByteTaken, IsMade, IsOpened, IsPacketTaken};
+ghost use Rattle.larboardyuzu_c.specs.StateCalls.{AreBytesTaken, ArePacketsTaken, HasTold, IsByteTaken, IsMade, IsOpened, IsPacketTaken, IsReset};
 
-use c_answers::Status;
+use c_answers::{Block, Status};
 use c_handles::{Engine, Handle};
-use c_voice_state::{ByteState, FactNumbers, PacketState};
+use c_voice_state::{CByteState, CPacketState, FactNumbers};
 use std::alloc::Global;
+
+/// The flag of a state of bytes.
+const OF_BYTES: u32 = 4;
+
+// Nothing is told of a handle.
+fn untold(why: Status, written: &mut usize, need: &mut usize) -> Status
+    ensures status { result ≡ why }
+    ensures none { (written.new ≡ 0) × (need.new ≡ 0) }
+{
+    *written = 0;
+    *need = 0;
+    why
+}
 
 // Puts a state of packets in a handle that is closed.
 fn fill_packets(alloc: Global, state: &mut Handle, room: u32, notes: u32, params: u32) -> Status
@@ -16,7 +29,7 @@ fn fill_packets(alloc: Global, state: &mut Handle, room: u32, notes: u32, params
     ensures { IsMade false (record { room = room; notes = notes; params = params })
         (number_of result) state.new.holds }
 {
-    match PacketState::new(alloc, room, notes, params) {
+    match CPacketState::new(alloc, room, notes, params) {
         Ok(made) => state.fill(alloc, Engine::PacketState(made)),
         Err(_) => Status::NoMemory,
     }
@@ -30,16 +43,16 @@ fn fill_bytes(alloc: Global, state: &mut Handle, room: u32, notes: u32, params: 
     ensures { IsMade true (record { room = room; notes = notes; params = params })
         (number_of result) state.new.holds }
 {
-    match ByteState::new(alloc, room, notes, params) {
+    match CByteState::new(alloc, room, notes, params) {
         Ok(made) => state.fill(alloc, Engine::ByteState(made)),
         Err(_) => Status::NoMemory,
     }
 }
 
-/// Opens a handle: the state before the first byte of a stream, or before the first packet. `room` is the
-/// limit of an exclusive, 6 to 1,048,576. The state keeps at most `notes` notes and mode messages of each
-/// channel, 0 to 1,048,576, and at most `params` parameters of each kind and channel, 0 to 16,384; all
-/// memory is taken here.
+/// Opens a handle: the state before the first packet, or with the flag 4 before the first byte of a stream.
+/// `room` is the limit of an exclusive, 6 to 1,048,576. The state keeps at most `notes` notes and mode
+/// messages of each channel, 0 to 1,048,576, and at most `params` parameters of each kind and channel, 0 to
+/// 16,384. All memory is taken here.
 #[unsafe(no_mangle)]
 pub extern "C" fn larboardyuzu_state_open(
     alloc: Global,
@@ -47,26 +60,29 @@ pub extern "C" fn larboardyuzu_state_open(
     room: u32,
     notes: u32,
     params: u32,
-    is_of_bytes: bool,
+    flags: u32,
 ) -> u32
     ensures { IsOpened state.old.holds (record { room = room; notes = notes; params = params })
-        is_of_bytes result state.new.holds }
+        flags result state.new.holds }
 {
     if room < 6 || room > 1_048_576 || notes > 1_048_576 || params > 16_384 {
         return Status::BadRoom.number();
+    }
+    if flags != 0 && flags != OF_BYTES {
+        return Status::BadFlags.number();
     }
     if let Some(held) = state.take(alloc) {
         state.put(held);
         return Status::AlreadyOpen.number();
     }
-    if is_of_bytes {
+    if flags == OF_BYTES {
         fill_bytes(alloc, state, room, notes, params).number()
     } else {
         fill_packets(alloc, state, room, notes, params).number()
     }
 }
 
-/// Takes one packet. Where it adds to a list that is full, nothing has changed.
+/// Takes one packet. If it adds to a list that is full, nothing has changed.
 #[unsafe(no_mangle)]
 pub extern "C" fn larboardyuzu_state_packet(alloc: Global, state: &mut Handle, words: &[u32]) -> u32
     ensures { IsPacketTaken state.old.holds words.now result state.new.holds }
@@ -82,7 +98,32 @@ pub extern "C" fn larboardyuzu_state_packet(alloc: Global, state: &mut Handle, w
     status.number()
 }
 
-/// Takes one byte. Where the message that it completes adds to a list that is full, the byte is taken, and
+/// Takes the packets whose words follow one another. One that is refused ends the call.
+#[unsafe(no_mangle)]
+pub extern "C" fn larboardyuzu_state_packets(
+    alloc: Global,
+    state: &mut Handle,
+    words: &[u32],
+    block: &mut Block,
+) -> u32
+    ensures { ArePacketsTaken state.old.holds words.now result block.new state.new.holds }
+{
+    let Some(mut held) = state.take(alloc) else {
+        *block = Block::nothing();
+        return Status::HandleClosed.number();
+    };
+    let status = match &mut *held {
+        Engine::PacketState(engine) => engine.packets(words, block),
+        _ => {
+            *block = Block::nothing();
+            Status::OtherKind
+        }
+    };
+    state.put(held);
+    status.number()
+}
+
+/// Takes one byte. If the message that it completes adds to a list that is full, the byte is taken, and
 /// the message isn't kept.
 #[unsafe(no_mangle)]
 pub extern "C" fn larboardyuzu_state_byte(alloc: Global, state: &mut Handle, byte: u8) -> u32
@@ -99,23 +140,76 @@ pub extern "C" fn larboardyuzu_state_byte(alloc: Global, state: &mut Handle, byt
     status.number()
 }
 
-/// Tells what isn't at its first value, by numbers.
+/// Takes bytes one after another. One for which the answer isn't `Done` ends the call.
+#[unsafe(no_mangle)]
+pub extern "C" fn larboardyuzu_state_bytes(
+    alloc: Global,
+    state: &mut Handle,
+    bytes: &[u8],
+    block: &mut Block,
+) -> u32
+    ensures { AreBytesTaken state.old.holds bytes.now result block.new state.new.holds }
+{
+    let Some(mut held) = state.take(alloc) else {
+        *block = Block::nothing();
+        return Status::HandleClosed.number();
+    };
+    let status = match &mut *held {
+        Engine::ByteState(engine) => engine.bytes(bytes, block),
+        _ => {
+            *block = Block::nothing();
+            Status::OtherKind
+        }
+    };
+    state.put(held);
+    status.number()
+}
+
+/// Tells the facts of one channel of a group by numbers, or with channel 255 the counts of the group's system
+/// messages.
 #[unsafe(no_mangle)]
 pub extern "C" fn larboardyuzu_state_facts(
     alloc: Global,
     state: &mut Handle,
+    group: u8,
+    channel: u8,
     facts: &mut [FactNumbers],
-    length: &mut usize,
+    written: &mut usize,
+    need: &mut usize,
 ) -> u32
     ensures same { state.new.holds ≡ state.old.holds }
-    ensures answer { HasTold state.old.holds facts.old result length.old length.new facts.new }
+    ensures answer { HasTold state.old.holds group channel facts.old
+        result written.new need.new facts.new }
+{
+    let Some(held) = state.take(alloc) else {
+        return untold(Status::HandleClosed, written, need).number();
+    };
+    let status = match &*held {
+        Engine::PacketState(engine) => engine.facts(group, channel, facts, written, need),
+        Engine::ByteState(engine) => engine.facts(group, channel, facts, written, need),
+        _ => untold(Status::OtherKind, written, need),
+    };
+    state.put(held);
+    status.number()
+}
+
+/// Empties the state: it is as it was opened. Takes no memory.
+#[unsafe(no_mangle)]
+pub extern "C" fn larboardyuzu_state_reset(alloc: Global, state: &mut Handle) -> u32
+    ensures { IsReset state.old.holds result state.new.holds }
 {
     let Some(mut held) = state.take(alloc) else {
         return Status::HandleClosed.number();
     };
     let status = match &mut *held {
-        Engine::PacketState(engine) => engine.facts(facts, length),
-        Engine::ByteState(engine) => engine.facts(facts, length),
+        Engine::PacketState(engine) => {
+            engine.reset();
+            Status::Done
+        }
+        Engine::ByteState(engine) => {
+            engine.reset();
+            Status::Done
+        }
         _ => Status::OtherKind,
     };
     state.put(held);

@@ -1,11 +1,11 @@
 // The calls of the join of 8-bit exclusives, and of their packets.
 ghost use Rattle.std.specs.Prelude.{◌≡◌, None};
 ghost use Rattle.c_pure.specs.Sysex8.{IsCut};
-ghost use Rattle.larboardyuzu_c.specs.Sysex8Calls.{HasBegun, IsOpened, IsTaken};
+ghost use Rattle.larboardyuzu_c.specs.Sysex8Calls.{AreTaken, HasBegun, IsOpened, IsReset, IsTaken};
 
-use c_answers::Status;
+use c_answers::{Block, Status};
 use c_handles::{Engine, Handle};
-use c_streams::{JoinedPart, Sysex8Joiner};
+use c_streams::{CSysex8, JoinedPart};
 use std::alloc::Global;
 
 /// Opens a handle: a join of the 8-bit exclusives of so many streams at once, 1 to 64. `room` is the limit of
@@ -29,7 +29,7 @@ pub extern "C" fn larboardyuzu_sysex8_open(
         sysex8.put(held);
         return Status::AlreadyOpen.number();
     }
-    match Sysex8Joiner::new(alloc, streams, room) {
+    match CSysex8::new(alloc, streams, room) {
         Ok(made) => sysex8.fill(alloc, Engine::Sysex8(made)).number(),
         Err(_) => Status::NoMemory.number(),
     }
@@ -48,13 +48,13 @@ pub extern "C" fn larboardyuzu_sysex8_packet(
     ensures { IsTaken sysex8.old.holds words.now offset bytes.old result part.new bytes.new sysex8.new.holds }
 {
     let Some(mut held) = sysex8.take(alloc) else {
-        *part = JoinedPart::none(0);
+        *part = JoinedPart::none();
         return Status::HandleClosed.number();
     };
     let status = match &mut *held {
         Engine::Sysex8(engine) => engine.packet(words, offset, bytes, part),
         _ => {
-            *part = JoinedPart::none(0);
+            *part = JoinedPart::none();
             Status::OtherKind
         }
     };
@@ -62,7 +62,36 @@ pub extern "C" fn larboardyuzu_sysex8_packet(
     status.number()
 }
 
-/// Where the exclusive began that a stream has open.
+/// Takes packets from the front of these words.
+#[unsafe(no_mangle)]
+pub extern "C" fn larboardyuzu_sysex8_packets(
+    alloc: Global,
+    sysex8: &mut Handle,
+    words: &[u32],
+    offset: u64,
+    bytes: &mut [u8],
+    parts: &mut [JoinedPart],
+    block: &mut Block,
+) -> u32
+    ensures { AreTaken sysex8.old.holds offset words.now bytes.old parts.old
+        result block.new bytes.new parts.new sysex8.new.holds }
+{
+    let Some(mut held) = sysex8.take(alloc) else {
+        *block = Block::nothing();
+        return Status::HandleClosed.number();
+    };
+    let status = match &mut *held {
+        Engine::Sysex8(engine) => engine.packets(words, offset, bytes, parts, block),
+        _ => {
+            *block = Block::nothing();
+            Status::OtherKind
+        }
+    };
+    sysex8.put(held);
+    status.number()
+}
+
+/// Returns where the exclusive began that a stream has open.
 #[unsafe(no_mangle)]
 pub extern "C" fn larboardyuzu_sysex8_begun(
     alloc: Global,
@@ -85,6 +114,25 @@ pub extern "C" fn larboardyuzu_sysex8_begun(
     status.number()
 }
 
+/// Makes what a handle holds as if it had just been opened with the same arguments.
+#[unsafe(no_mangle)]
+pub extern "C" fn larboardyuzu_sysex8_reset(alloc: Global, sysex8: &mut Handle) -> u32
+    ensures { IsReset sysex8.old.holds result sysex8.new.holds }
+{
+    let Some(mut held) = sysex8.take(alloc) else {
+        return Status::HandleClosed.number();
+    };
+    let status = match &mut *held {
+        Engine::Sysex8(engine) => {
+            engine.reset();
+            Status::Done
+        }
+        _ => Status::OtherKind,
+    };
+    sysex8.put(held);
+    status.number()
+}
+
 /// Closes a handle, and gives its memory back. A handle that is closed stays closed.
 #[unsafe(no_mangle)]
 pub extern "C" fn larboardyuzu_sysex8_close(alloc: Global, sysex8: &mut Handle)
@@ -93,7 +141,7 @@ pub extern "C" fn larboardyuzu_sysex8_close(alloc: Global, sysex8: &mut Handle)
     let _held = sysex8.take(alloc);
 }
 
-/// The words of a packet, counted from 0, of an 8-bit exclusive with these bytes.
+/// Writes the words of a packet, counted from 0, of an 8-bit exclusive with these bytes.
 #[unsafe(no_mangle)]
 pub extern "C" fn larboardyuzu_sysex8_cut(
     group: u8,

@@ -1,24 +1,27 @@
 // The calls of the translator up.
 ghost use Rattle.std.specs.Prelude.{◌≡◌, None};
-ghost use Rattle.larboardyuzu_c.specs.UpCalls.{AreAnswered, HasEnd, IsOpened, IsAnswered};
+ghost use Rattle.c_translators.specs.Up.{most_words_of};
+ghost use Rattle.larboardyuzu_c.specs.UpCalls.{AreAnswered, HasEnd, IsOpened, IsAnswered, IsReset};
 
-use c_answers::{ListingLine, Status};
+use crate::flags::{PAIRED, has_paired};
+use c_answers::{Block, ByteOutcome, ListingLine, Status};
 use c_handles::{Engine, Handle};
-use c_translators::{Block, RaisedWords, SizedUp};
+use c_translators::{CUp, up_size};
 use small_types::U4;
 use std::alloc::Global;
 
-/// Opens a handle: a translator up into a group, 0 to 15, with paired controllers or without. `room` is the
-/// limit of an exclusive. All the memory that it ever needs is taken here.
+/// Opens a handle: a translator up into a group, 0 to 15, with the flag 2 with paired controllers and
+/// otherwise without (own rule). `room` is the limit of an exclusive, 6 to 1,048,576. All the memory that it
+/// ever needs is taken here.
 #[unsafe(no_mangle)]
 pub extern "C" fn larboardyuzu_up_open(
     alloc: Global,
     up: &mut Handle,
     group: u8,
     room: u32,
-    is_paired: bool,
+    flags: u32,
 ) -> u32
-    ensures { IsOpened up.old.holds group room is_paired result up.new.holds }
+    ensures { IsOpened up.old.holds group room flags result up.new.holds }
 {
     if room < 6 || room > 1_048_576 {
         return Status::BadRoom.number();
@@ -26,11 +29,14 @@ pub extern "C" fn larboardyuzu_up_open(
     let Some(group) = U4::new(group) else {
         return Status::BadGroup.number();
     };
+    if flags != 0 && flags != PAIRED {
+        return Status::BadFlags.number();
+    }
     if let Some(held) = up.take(alloc) {
         up.put(held);
         return Status::AlreadyOpen.number();
     }
-    match SizedUp::new(alloc, group, room, is_paired) {
+    match CUp::new(alloc, group, room, has_paired(flags)) {
         Ok(made) => up.fill(alloc, Engine::Up(made)).number(),
         Err(_) => Status::NoMemory.number(),
     }
@@ -44,18 +50,18 @@ pub extern "C" fn larboardyuzu_up_byte(
     byte: u8,
     offset: u64,
     words: &mut [u32],
-    raised: &mut RaisedWords,
+    outcome: &mut ByteOutcome,
 ) -> u32
-    ensures { IsAnswered up.old.holds byte offset words.old result raised.new words.new up.new.holds }
+    ensures { IsAnswered up.old.holds byte offset words.old result outcome.new words.new up.new.holds }
 {
     let Some(mut held) = up.take(alloc) else {
-        *raised = RaisedWords::nothing();
+        *outcome = ByteOutcome::none();
         return Status::HandleClosed.number();
     };
     let status = match &mut *held {
-        Engine::Up(engine) => engine.byte(byte, offset, words, raised),
+        Engine::Up(engine) => engine.byte(byte, offset, words, outcome),
         _ => {
-            *raised = RaisedWords::nothing();
+            *outcome = ByteOutcome::none();
             Status::OtherKind
         }
     };
@@ -71,18 +77,18 @@ pub extern "C" fn larboardyuzu_up_bytes(
     bytes: &[u8],
     offset: u64,
     words: &mut [u32],
-    lines: &mut [ListingLine],
+    outcomes: &mut [ByteOutcome],
     block: &mut Block,
 ) -> u32
-    ensures { AreAnswered up.old.holds offset bytes.now words.old lines.old
-        result block.new words.new lines.new up.new.holds }
+    ensures { AreAnswered up.old.holds offset bytes.now words.old outcomes.old
+        result block.new words.new outcomes.new up.new.holds }
 {
     let Some(mut held) = up.take(alloc) else {
         *block = Block::nothing();
         return Status::HandleClosed.number();
     };
     let status = match &mut *held {
-        Engine::Up(engine) => engine.bytes(bytes, offset, words, lines, block),
+        Engine::Up(engine) => engine.bytes(bytes, offset, words, outcomes, block),
         _ => {
             *block = Block::nothing();
             Status::OtherKind
@@ -90,6 +96,14 @@ pub extern "C" fn larboardyuzu_up_bytes(
     };
     up.put(held);
     status.number()
+}
+
+/// The size of a buffer that takes the words of any byte, if the limit of an exclusive is `room`.
+#[unsafe(no_mangle)]
+pub extern "C" fn larboardyuzu_up_size(room: u32) -> usize
+    ensures { result ≡ most_words_of room }
+{
+    up_size(room)
 }
 
 /// The line of what is open at the end of the stream.
@@ -103,6 +117,25 @@ pub extern "C" fn larboardyuzu_up_end(alloc: Global, up: &mut Handle, line: &mut
     };
     let status = match &*held {
         Engine::Up(engine) => engine.end(line),
+        _ => Status::OtherKind,
+    };
+    up.put(held);
+    status.number()
+}
+
+/// Begins again: the handle is then as it was opened, with the same arguments. Takes no memory.
+#[unsafe(no_mangle)]
+pub extern "C" fn larboardyuzu_up_reset(alloc: Global, up: &mut Handle) -> u32
+    ensures { IsReset up.old.holds result up.new.holds }
+{
+    let Some(mut held) = up.take(alloc) else {
+        return Status::HandleClosed.number();
+    };
+    let status = match &mut *held {
+        Engine::Up(engine) => {
+            engine.reset();
+            Status::Done
+        }
         _ => Status::OtherKind,
     };
     up.put(held);

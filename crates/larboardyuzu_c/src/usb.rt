@@ -1,13 +1,21 @@
 // The calls of USB-MIDI 1.0 events.
 ghost use Rattle.std.specs.Prelude.{◌≡◌, None};
-ghost use Rattle.c_streams.specs.Usb.{IsCarried};
-ghost use Rattle.larboardyuzu_c.specs.UsbCalls.{HasEnd, IsByteTaken, IsOpened};
+ghost use Rattle.c_streams.specs.Usb.{longest_events, IsCarried};
+ghost use Rattle.larboardyuzu_c.specs.UsbCalls.{AreBytesTaken, HasEnd, IsByteTaken, IsOpened, IsReset};
 
-use c_answers::{ListingLine, Status};
+use c_answers::{Block, ByteOutcome, ListingLine, Status};
 use c_handles::{Engine, Handle};
-use c_streams::{ByteOutcome, CarriedBytes, UsbPacker, split_event};
+use c_streams::{CUsb, CarriedBytes, split_event, usb_size};
 use small_types::U4;
 use std::alloc::Global;
+
+/// The size of a buffer for the events of any message, if an exclusive has at most `room` bytes.
+#[unsafe(no_mangle)]
+pub extern "C" fn larboardyuzu_usb_size(room: u32) -> usize
+    ensures { result ≡ longest_events room }
+{
+    usb_size(room)
+}
 
 /// Opens a handle: a packer into the events of a cable, 0 to 15. `room` is the limit of an exclusive, 6 to
 /// 1,048,576. All the memory that it ever needs is taken here.
@@ -30,7 +38,7 @@ pub extern "C" fn larboardyuzu_usb_open(
         usb.put(held);
         return Status::AlreadyOpen.number();
     }
-    match UsbPacker::new(alloc, cable, room) {
+    match CUsb::new(alloc, cable, room) {
         Ok(made) => usb.fill(alloc, Engine::Usb(made)).number(),
         Err(_) => Status::NoMemory.number(),
     }
@@ -49,13 +57,13 @@ pub extern "C" fn larboardyuzu_usb_byte(
     ensures { IsByteTaken usb.old.holds byte offset events.old result outcome.new events.new usb.new.holds }
 {
     let Some(mut held) = usb.take(alloc) else {
-        *outcome = ByteOutcome::asking(0);
+        *outcome = ByteOutcome::none();
         return Status::HandleClosed.number();
     };
     let status = match &mut *held {
         Engine::Usb(engine) => engine.byte(byte, offset, events, outcome),
         _ => {
-            *outcome = ByteOutcome::asking(0);
+            *outcome = ByteOutcome::none();
             Status::OtherKind
         }
     };
@@ -63,7 +71,36 @@ pub extern "C" fn larboardyuzu_usb_byte(
     status.number()
 }
 
-/// The line of what is open at the end of the stream.
+/// Takes bytes from the front of these.
+#[unsafe(no_mangle)]
+pub extern "C" fn larboardyuzu_usb_bytes(
+    alloc: Global,
+    usb: &mut Handle,
+    bytes: &[u8],
+    offset: u64,
+    events: &mut [u8],
+    outcomes: &mut [ByteOutcome],
+    block: &mut Block,
+) -> u32
+    ensures { AreBytesTaken usb.old.holds offset bytes.now events.old outcomes.old
+        result block.new events.new outcomes.new usb.new.holds }
+{
+    let Some(mut held) = usb.take(alloc) else {
+        *block = Block::nothing();
+        return Status::HandleClosed.number();
+    };
+    let status = match &mut *held {
+        Engine::Usb(engine) => engine.bytes(bytes, offset, events, outcomes, block),
+        _ => {
+            *block = Block::nothing();
+            Status::OtherKind
+        }
+    };
+    usb.put(held);
+    status.number()
+}
+
+/// Writes the line of what is open at the end of the stream.
 #[unsafe(no_mangle)]
 pub extern "C" fn larboardyuzu_usb_end(
     alloc: Global,
@@ -84,6 +121,25 @@ pub extern "C" fn larboardyuzu_usb_end(
     status.number()
 }
 
+/// Makes what a handle holds as if it had just been opened with the same arguments.
+#[unsafe(no_mangle)]
+pub extern "C" fn larboardyuzu_usb_reset(alloc: Global, usb: &mut Handle) -> u32
+    ensures { IsReset usb.old.holds result usb.new.holds }
+{
+    let Some(mut held) = usb.take(alloc) else {
+        return Status::HandleClosed.number();
+    };
+    let status = match &mut *held {
+        Engine::Usb(engine) => {
+            engine.reset();
+            Status::Done
+        }
+        _ => Status::OtherKind,
+    };
+    usb.put(held);
+    status.number()
+}
+
 /// Closes a handle, and gives its memory back. A handle that is closed stays closed.
 #[unsafe(no_mangle)]
 pub extern "C" fn larboardyuzu_usb_close(alloc: Global, usb: &mut Handle)
@@ -92,7 +148,7 @@ pub extern "C" fn larboardyuzu_usb_close(alloc: Global, usb: &mut Handle)
     let _held = usb.take(alloc);
 }
 
-/// The cable of an event, and the bytes that it carries.
+/// Returns the cable of an event, and the bytes that it carries.
 #[unsafe(no_mangle)]
 pub extern "C" fn larboardyuzu_usb_carried(event: &[u8], carried: &mut CarriedBytes) -> u32
     ensures { IsCarried event.now result carried.old carried.new }

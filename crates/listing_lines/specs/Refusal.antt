@@ -18,7 +18,7 @@ reason_of bad.ExclusiveTooLong = reasons.ExclusiveTooLong
 abbrev pub refusal_by : Option BadStep → ℕ → Tail
 refusal_by bad offset = option_map (λ b. (reason_of b, offset)) bad
 
--- where only the room counts, a byte is refused exactly where its exclusive passes it
+-- if only the room counts, a byte is refused exactly if its exclusive passes it
 abbrev pub refusal_of : Step → ℕ → Tail
 refusal_of too_long offset = Some (reasons.ExclusiveTooLong, offset)
 refusal_of _ offset = None

@@ -10,7 +10,7 @@ use pass_loop::{Outputs, RunEnd};
 use text_lines::{Line, fill_listing_line};
 
 /// Puts a line of the listing in the notes. An `Err` is `NoteFault`, and
-/// comes only where the count of the notes' faults rose.
+/// comes only if the count of the notes' faults rose.
 #[inline(never)]
 pub fn put_line<O: Outputs>(listed: &Listed, outputs: &mut O) -> Result<(), RunEnd>
     ensures { Puts (line_puts (listed.now ∷ [])) (O.places outputs.old) (O.places outputs.new) result }
@@ -20,7 +20,7 @@ pub fn put_line<O: Outputs>(listed: &Listed, outputs: &mut O) -> Result<(), RunE
     outputs.put_notes(line.as_slice())
 }
 
-/// Puts a line of the listing in the notes, if there is one. An `Err` is `NoteFault`, and comes only where
+/// Puts a line of the listing in the notes, if there is one. An `Err` is `NoteFault`, and comes only if
 /// the count of the notes' faults rose. Mostly there is no line, so only that question stands at each call.
 #[inline(always)]
 pub fn put_listed<O: Outputs>(listed: Option<Listed>, outputs: &mut O) -> Result<(), RunEnd>
@@ -32,7 +32,7 @@ pub fn put_listed<O: Outputs>(listed: Option<Listed>, outputs: &mut O) -> Result
     }
 }
 
-/// Puts the lines of a byte in the notes, in order. An `Err` is `NoteFault`, and comes only where the count
+/// Puts the lines of a byte in the notes, in order. An `Err` is `NoteFault`, and comes only if the count
 /// of the notes' faults rose. Most bytes have no line, so that is asked first.
 #[inline(always)]
 pub fn put_lines<O: Outputs>(lines: &ByteLines, outputs: &mut O) -> Result<(), RunEnd>

@@ -45,7 +45,7 @@ fn list_group<H: OpenExclusives, O: Outputs>(
 }
 
 /// Puts the lines of the exclusives that are still open in the notes, by group (own rule). An `Err` is
-/// `NoteFault`, and comes only where the count of the notes' faults rose.
+/// `NoteFault`, and comes only if the count of the notes' faults rose.
 pub fn list_open<H: OpenExclusives, O: Outputs>(held: &H, outputs: &mut O) -> Result<(), RunEnd>
     ensures { Puts (open_puts (H.table held.now) groups)
         (O.places outputs.old) (O.places outputs.new) result }

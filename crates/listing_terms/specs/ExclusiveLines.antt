@@ -13,7 +13,7 @@ use Rattle.listing_terms.specs.declared.listed.Kind.{Kind}
 use Rattle.listing_terms.specs.declared.listed.Kind.TheVariants as kinds
 use Rattle.listing_terms.specs.declared.listed.Listed.{Listed}
 
--- an exclusive that is open is cut where another one begins; a part that continues or ends one is stray where none is open
+-- an exclusive that is open is cut when another one begins; a part that continues or ends one is stray if none is open
 abbrev pub exclusive_kind : Form → Option ℕ → Option Kind
 exclusive_kind form.Complete (Some start) = Some kinds.CutExclusive
 exclusive_kind form.Start (Some start) = Some kinds.CutExclusive
@@ -33,7 +33,7 @@ begun_before room parts _ = None
 
 -- ---- at the end of input
 
--- the line of a group at the end of input, where an exclusive is still open
+-- the line of a group at the end of input, if an exclusive is still open
 abbrev pub end_line : Room → List Part → ℕ → Option Listed
 end_line room parts group =
     option_map (λ start. record { offset = start; group = Some group; kind = kinds.OpenExclusive })
@@ -45,7 +45,7 @@ groups = 0 ∷ 1 ∷ 2 ∷ 3 ∷ 4 ∷ 5 ∷ 6 ∷ 7 ∷ 8 ∷ 9 ∷ 10 ∷ 11 �
 abbrev pub end_lines : Room → List Part → List Listed
 end_lines room parts = flat_map (λ group. option_to_list (end_line room parts group)) groups
 
--- the line of a part, where the exclusive that its group has open started there, if it has one open
+-- the line of a part; the exclusive that its group has open, if it has one, started there
 abbrev pub exclusive_listed : Option ℕ → Part → Option Listed
 exclusive_listed begun part =
     option_map (λ kind. record { offset = line_offset kind begun part.offset; group = Some part.group; kind = kind })

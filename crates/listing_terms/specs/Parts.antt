@@ -34,7 +34,7 @@ abbrev pub parts_of : List Placed → List Part
 parts_of [] = []
 parts_of (placed ∷ past) = option_to_list (part_of placed.offset placed.packet) ++ parts_of past
 
--- the same where no offset is asked for
+-- the same if no offset is asked for
 abbrev pub packet_parts : List Packet → List Part
 packet_parts [] = []
 packet_parts (packet ∷ past) = option_to_list (part_of 0 packet) ++ packet_parts past

@@ -5,10 +5,11 @@ use small_types::{LentU4, U4};
 /// A line of the listing that a byte has (own rule). Its group is that of the byte.
 #[derive(Clone, Copy, Debug)]
 pub struct ByteLine {
-    /// The number of input bytes before what it tells of: of a message or exclusive that is cut or open its
-    /// start, of an ignored data entry the byte that completes it, of a stray or undefined byte that byte.
+    /// The offset of the line, a number of input bytes: for a cut or open message or exclusive the offset
+    /// of its start, for an ignored data entry that of the byte that completes it, for a stray or
+    /// undefined byte its own.
     pub offset: u64,
-    /// What it tells.
+    /// The kind of the line.
     pub kind: Kind,
 }
 
@@ -38,7 +39,7 @@ impl ByteLines {
       IsInOrder,
     };
 
-    /// These lines in this group, 0 to 15. There is a second only where there is a first.
+    /// These lines in this group, 0 to 15. There is a second line only if there is a first.
     pub fn new(group: U4, first: Option<ByteLine>, second: Option<ByteLine>) -> ByteLines
         requires { AreInOrder first second }
         ensures group { group_of result ≡ group }

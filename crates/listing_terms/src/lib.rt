@@ -1,4 +1,5 @@
-//! Lines of the listing: what they tell of, the two that a byte may have, and what of exclusives is listed and refused.
+//! Lines of the listing: their kinds, the two that a byte may have, and what is listed and refused of
+//! exclusives.
 #![tactic(auto)]
 
 pub mod byte_lines;

@@ -2,7 +2,7 @@
 use small_types::U4;
 use thiserror::Error;
 
-/// What a line of the listing tells of.
+/// The kind of a line of the listing.
 #[derive(Clone, Copy, Debug, PartialEq, Eq)]
 pub enum Kind {
     /// A utility packet.
@@ -29,9 +29,9 @@ pub enum Kind {
     RelativeParameter,
     /// A MIDI 2.0 control change of a bank, data entry or parameter number.
     MisplacedController,
-    /// A MIDI 2.0 control change of the LSB of a controller, where controllers are paired (own rule).
+    /// A MIDI 2.0 control change of the LSB of a controller, if controllers are paired (own rule).
     FineController,
-    /// A packet that continues or ends an exclusive where none is open.
+    /// A packet that continues or ends an exclusive when none is open.
     StrayExclusive,
     /// An exclusive that another one, or a status byte, cut off.
     CutExclusive,
@@ -52,10 +52,10 @@ pub enum Kind {
 /// A line of the listing.
 #[derive(Clone, Copy, Debug, PartialEq, Eq)]
 pub struct Listed {
-    /// The number of input bytes before what it tells of: of a message or exclusive that is cut off or open
-    /// its start, of a data entry the byte that completes it.
+    /// The offset of the line, a number of input bytes: for a cut or open message or exclusive the offset
+    /// of its start, for a data entry that of the byte that completes it.
     pub offset: u64,
-    /// Its group, where it has one.
+    /// Its group, if it has one.
     pub group: Option<U4>,
     /// What it is.
     pub kind: Kind,

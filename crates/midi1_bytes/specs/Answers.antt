@@ -36,7 +36,7 @@ abbrev pub LendsData : Step → Type 0
 LendsData (step.Exclusive bytes) = AreData (payload_of bytes.now)
 LendsData _ = Unit {0}
 
--- what a status byte does: where something is open it cuts that off and does `besides`, and else it does `alone`
+-- what a status byte does: if something is open it cuts that off and does `besides`, and else it does `alone`
 abbrev pub cut_off_by : Option (ℕ × CutKind) → AfterCut → steps.Step → steps.Step
 cut_off_by None besides alone = alone
 cut_off_by (Some open_one) besides alone = steps.cut open_one.0 open_one.1 besides

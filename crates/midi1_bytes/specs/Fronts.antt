@@ -1,4 +1,4 @@
--- What some bytes, listed oldest first, begin with, where a parser takes it at once.
+-- What some bytes, listed oldest first, begin with, if a parser takes it at once.
 use Rattle.std.specs.Prelude.{◌≡◌, ℕ, ◌-◌, ◌<◌, ◌≤◌, nat_lt, if◌then◌else◌, List, [], ◌∷◌, length, suc, take, Option, Some, None}
 use Rattle.midi1_bytes.specs.declared.spoken.VoiceBytes.{VoiceBytes}
 use Rattle.midi1_bytes.specs.Messages.{voice}

@@ -1,5 +1,5 @@
 -- What a parser holds between two bytes, and what a byte does to it (MIDI 1.0 Detailed Specification): the rows of the
--- definition, by what is held in place of all the bytes before.
+-- definition, by what is held instead of all the bytes before.
 use Rattle.std.specs.Prelude.{◌≡◌, ℕ, ◌+◌, if◌then◌else◌, List, [], ◌∷◌, ◌++◌, reverse, length, suc, Option, Some, None}
 use Rattle.std.specs.Option.{option_map, option_and_then}
 use Rattle.voice_messages.specs.declared.voice1.System.TheVariants as system
@@ -13,7 +13,7 @@ use Rattle.midi1_bytes.specs.Messages.{Message, voice, common, exclusive, real_t
 use Rattle.midi1_bytes.specs.Stream.{Open, fits, without_real_time, last_status, last_data, open_in, start_in, running}
 use Rattle.midi1_bytes.specs.Steps.{Step, held, completes, stray, undefined, cut, too_long}
 
--- What is open: a message by its start, its status byte, and its first data byte where one came; an exclusive by its start and
+-- What is open: a message by its start, its status byte, and its first data byte if one came; an exclusive by its start and
 -- the bytes after its F0, in order.
 pub data Begun : Type 0 where
   begun_message : ℕ → ℕ → Option ℕ → Begun

@@ -10,7 +10,7 @@ abbrev pub is_running : Option ℕ → ℕ → Bool
 is_running None byte = false
 is_running (Some status) byte = status == byte
 
--- the bytes of a message, less its status byte where that equals the running status
+-- the bytes of a message, less its status byte if that equals the running status
 abbrev pub without_status : Option ℕ → List ℕ → List ℕ
 without_status in_force [] = []
 without_status in_force (status ∷ bytes) = if is_running in_force status then bytes else status ∷ bytes

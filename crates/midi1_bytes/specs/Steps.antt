@@ -67,7 +67,7 @@ step_under room undefined_real_time past byte = undefined
 abbrev pub step_of : Room → List ℕ → ℕ → Step
 step_of room past byte = step_under room (sort_of byte) past byte
 
--- the message that a step completes; a tune request is one also where it cuts something off
+-- the message that a step completes; a tune request is one also if it cuts something off
 abbrev pub completed_by : Step → Option Message
 completed_by (completes message) = Some message
 completed_by (cut start what after.Tune) = Some (common system.Tune)

@@ -23,7 +23,7 @@ abbrev pub last_data : List ℕ → List ℕ
 last_data [] = []
 last_data (byte ∷ past) = if is_data (sort_of byte) then byte ∷ last_data past else []
 
--- how many bytes an exclusive may have between F0 and F7, or none where there is no limit
+-- how many bytes an exclusive may have between F0 and F7, or none if there is no limit
 abbrev pub Room : Type 0
 Room = Option ℕ
 

@@ -1,4 +1,4 @@
-// Voice messages whose bytes stand together, where nothing is open.
+// Voice messages whose bytes stand together, if nothing is open.
 ghost use Rattle.std.specs.Prelude.{ℕ, ◌≡◌, ◌<◌, ◌≤◌, [], ◌∷◌, Option, Some, IfSome, length, take};
 ghost use Rattle.midi1_bytes.specs.Messages.{AreData};
 ghost use Rattle.midi1_bytes.specs.Fronts.{IsFront, leading_data};
@@ -7,7 +7,7 @@ ghost use Rattle.midi1_bytes.specs.Sorts.{one, two, sort_of, voice_status};
 
 use crate::spoken::VoiceBytes;
 
-// The message with its status byte, and how many of the bytes it has; a byte that follows is given even where
+// The message with its status byte, and how many of the bytes it has; a byte that follows is given even if
 // it isn't one of the message's.
 #[tactic(auto, unfolding(crate::specs::Sorts::sort_of))]
 #[inline(always)]
@@ -90,7 +90,7 @@ pub(crate) fn leading_data(bytes: &[u8]) -> usize
     count
 }
 
-// How many data bytes these bytes begin with, where at most so many count.
+// How many data bytes these bytes begin with, if at most so many count.
 #[tactic(auto, using(crate::proofs::FrontLaws::leading_of_all))]
 #[inline(always)]
 pub(crate) fn leading_data_within(bytes: &[u8], most: usize) -> usize

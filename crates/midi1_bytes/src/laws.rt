@@ -19,7 +19,7 @@ pub fn written_messages_are_read_again()
 
 /// Messages written without each status byte that equals the running status are read back as those messages,
 /// and leave nothing open. The running status may be that of some last bytes of the stream alone, as long as
-/// it is that of all its bytes where it is set, and then this stays so. A system message or an exclusive is
+/// it is that of all its bytes if it is set, and then this stays so. A system message or an exclusive is
 /// written whole, something is written of each message, and a status byte that is written doesn't equal the
 /// running status.
 pub fn statuses_that_run_can_be_left_out()

@@ -58,7 +58,7 @@ fn append_all(bytes: &mut Vec<u8>, more: &[u8])
     }
 }
 
-// What a status byte does: where something is open it cuts that off
+// What a status byte does: if something is open it cuts that off
 // and does `besides`, and else it does `alone`.
 #[inline(always)]
 fn cut_off<'a>(begun: Option<(u64, CutKind)>, besides: AfterCut, alone: Step<'a>) -> Step<'a>
@@ -79,7 +79,7 @@ fn cut_off<'a>(begun: Option<(u64, CutKind)>, besides: AfterCut, alone: Step<'a>
 }
 
 /// A parser of the bytes of a MIDI 1.0 stream (MIDI 1.0 Detailed Specification: running status, system
-/// exclusive messages). A contract sees the running status, 80 to EF where there is one, what is open with
+/// exclusive messages). A contract sees the running status, 80 to EF if there is one, what is open with
 /// its start and its bytes, and the limit, `room`: how many bytes an exclusive may have between F0 and F7, 6
 /// to 1,048,576 (own rule).
 #[derive(Drop)]
@@ -149,6 +149,14 @@ impl Parser {
         })
     }
 
+    /// Drops what is open, and the running status: the parser is as a new one of the same limit (own rule).
+    /// Takes no memory.
+    pub fn reset(&mut self)
+        ensures { self.new ≡ idle self.old.room }
+    {
+        self.leave();
+    }
+
     /// What is open, a message or an exclusive, and the offset at which it starts, as it was given to `byte`:
     /// that of its status byte, or under running status that of its first data byte. `None` exactly when
     /// nothing is open (own rule).
@@ -210,7 +218,7 @@ impl Parser {
     }
 
     /// Takes the data bytes of the open exclusive with which these bytes begin, as far as its limit goes (own
-    /// rule), and returns how many they are; 0 where no exclusive is open. `byte` would hold each of them,
+    /// rule), and returns how many they are; 0 if no exclusive is open. `byte` would hold each of them,
     /// and the parser is then as after the last of them by `byte`. Takes no memory.
     #[inline(always)]
     pub fn take_data(&mut self, bytes: &[u8]) -> usize
@@ -344,7 +352,7 @@ impl Parser {
         }
     }
 
-    // A data byte where nothing is open: the first of a message under running status, or stray.
+    // A data byte if nothing is open: the first of a message under running status, or stray.
     #[tactic(auto, using(crate::proofs::CountLaws::counted_data))]
     #[inline(always)]
     fn data_under_running<'a>(&mut self, byte: u8, offset: u64) -> Step<'a>

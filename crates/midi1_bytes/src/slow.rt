@@ -199,7 +199,7 @@ fn end_step(past: &[u8], room: usize) -> SlowStep
 }
 
 /// What a byte does after the bytes before it, which are given newest
-/// first, where exclusives have at most `room` bytes.
+/// first, if exclusives have at most `room` bytes.
 #[tactic(auto, unfolding(crate::specs::Sorts::sort_of))]
 pub fn slow_step(past: &[u8], byte: u8, room: usize) -> SlowStep
     ensures { result ≡ told (step_of (Some room) past.now byte) }

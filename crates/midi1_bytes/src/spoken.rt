@@ -136,7 +136,7 @@ impl CommonBytes {
         }
     }
 
-    /// The message, with its value, where it has one, 0 to 127, or for a song position 0 to 16,383 with the
+    /// The message, with its value, if it has one, 0 to 127, or for a song position 0 to 16,383 with the
     /// low seven bits first (MIDI 1.0 Detailed Specification, system common messages).
     #[tactic(auto, unfolding(crate::specs::Sorts::sort_of))]
     #[inline(always)]

@@ -39,9 +39,9 @@ pub enum Step<'a> {
     /// It is F7 and ends this exclusive, of at least two bytes: F0, the data bytes, and F7.
     Exclusive(&'a [u8]),
     /// It belongs to nothing: a data byte with no status to belong
-    /// to, or F7 where nothing is open (own rule).
+    /// to, or F7 if nothing is open (own rule).
     Stray,
-    /// It is a status that no message has: F4 or F5 where nothing is open, F9 or FD anywhere.
+    /// It is a status that no message has: F4 or F5 if nothing is open, F9 or FD anywhere.
     Undefined,
     /// It cuts off what started at this offset, which is dropped (own rule).
     Cut {

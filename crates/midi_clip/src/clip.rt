@@ -35,10 +35,10 @@ impl Clip {
         }
     }
 
-    /// Takes one more packet, where at most 2^63 ticks have passed: what
+    /// Takes one more packet, if at most 2^63 ticks have passed: what
     /// it is to the clip (own rule). It takes no memory.
     ///
-    /// `NoResolution` comes for a Start of Clip where the clip has not started and no packet gave the ticks
+    /// `NoResolution` comes for a Start of Clip if the clip has not started and no packet gave the ticks
     /// for a quarter note, or the last one gave 0. `AfterEnd` comes for each packet after the end of the
     /// clip. A fault leaves the clip as it was.
     pub fn packet(&mut self, packet: &Packet) -> Result<ClipStep, ClipFault>
@@ -56,7 +56,7 @@ impl Clip {
         }
     }
 
-    /// The ticks at which the clip ended, since its start; `NoEnd` where it has not ended.
+    /// The ticks at which the clip ended, since its start; `NoEnd` if it has not ended.
     pub fn end(&self) -> Result<u64, ClipFault>
         ensures { result ≡ end_of self.now }
     {

@@ -33,7 +33,7 @@ pub enum ClipFault {
 /// How far a clip is.
 #[derive(Clone, Copy, Debug, PartialEq, Eq)]
 pub enum Stage {
-    /// It has not started. The last packet that gave the ticks for a quarter note gave so many; none where
+    /// It has not started. The last packet that gave the ticks for a quarter note gave so many; none if
     /// there was none, or it gave 0.
     NotStarted { resolution: Option<u16> },
     /// It started, so many ticks ago.

@@ -11,7 +11,7 @@ use Rattle.midi_commands.specs.LastLine.{last_line_text}
 use Rattle.midi_commands.specs.declared.status.Status.{Status}
 use Rattle.midi_commands.specs.declared.status.Status.TheVariants.{Done, LaneFault, OutputFault, NoteFault}
 
--- the last line of a status is accepted behind what was, or at `Err` a front of it; where it has none, nothing fails and what was
+-- the last line of a status is accepted behind what was, or at `Err` a front of it; if it has none, nothing fails and what was
 -- accepted stays
 abbrev pub AcceptsLast : Status → Option (List ℕ) → Option (List ℕ) → Result (Unit {0}) Failed → Type 0
 AcceptsLast status old new answer =

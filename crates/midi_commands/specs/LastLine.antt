@@ -25,7 +25,7 @@ reason_text NoResolution = codes "NoResolution"
 reason_text AfterEnd = codes "AfterEnd"
 reason_text NoEnd = codes "NoEnd"
 
--- the text for a status, without its line feed, or none where there is no last line
+-- the text for a status, without its line feed, or none if there is no last line
 abbrev pub last_text : Status → Option (List ℕ)
 last_text Done = None
 last_text (Refused reason offset) =

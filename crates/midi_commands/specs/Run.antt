@@ -91,7 +91,7 @@ RunsInto folder pass old new status =
 abbrev pub asked_for : List ℕ → ShelfSeen → ShelfSeen
 asked_for name old = record old { asked = Some (kept_bytes name) }
 
--- this is the text of the name, where the shelf tells its texts
+-- this is the text of the name, if the shelf tells its texts
 abbrev pub IsNamed : ShelfSeen → List ℕ → List ℕ → Type 0
 IsNamed old name text = IfSome old.texts (λ texts. texts name ≡ Some text)
 
@@ -139,7 +139,7 @@ PutsLine text old new status =
     ((answer : Result (Unit {0}) RunEnd) × (status ≡ status_put answer) × Puts (in_output text ∷ []) old new answer)
     ⊎ ((status ≡ NoMemory) × (new ≡ old))
 
--- the same, and the input and the shelf stay as they are
+-- the same, and the input and the shelf are unchanged
 abbrev pub PutsLineAlone : List ℕ → Objects → Objects → Status → Type 0
 PutsLineAlone text old new status =
     PutsLine text old.seen.places new.seen.places status × (new.seen.left ≡ old.seen.left)
@@ -156,7 +156,7 @@ Does (with_setup name pass) old new status = RunsWith name pass old new status
 Does over_clip old new status = ShowsClip old.seen new.seen status × (new.shelf ≡ old.shelf)
 Does (by_line text) old new status = PutsLineAlone text old new status
 
--- Where the words are no command nothing changes.
+-- If the words are no command nothing changes.
 abbrev pub RunSays : Option Asked → Objects → Objects → Status → Type 0
 RunSays (Some asked) old new status = Does (plan_of asked) old new status
 RunSays None old new status = ((status ≡ Usage) ⊎ (status ≡ NoMemory)) × (new ≡ old)
@@ -167,7 +167,7 @@ HasLastLine old new status =
     (answer : Result (Unit {0}) RunEnd) × (new.seen.left ≡ old.seen.left) × (new.seen.reads ≡ old.seen.reads)
     × (new.shelf ≡ old.shelf) × Puts (last_puts status) old.seen.places new.seen.places answer
 
--- where nothing is refused and nothing fails, a pass is done, or there was no memory
+-- if nothing is refused and nothing fails, a pass is done, or there was no memory
 abbrev pub IsDonePass : Pass → Seen → Seen → Status → Type 0
 IsDonePass pass old new status =
     IfSome old.left (λ bytes. HasNoRefusal pass.IsCut pass.work bytes → NothingFails old new → (status ≡ Done)
@@ -180,7 +180,7 @@ IsDoneWith name pass old new status =
     (λ texts. (text : List ℕ) (setup : SetupData) → texts name ≡ Some text → setup_of text ≡ Ok setup
     → (Rose old.shelf.faults new.shelf.faults → ⊥) → IsDonePass (pass setup) old.seen new.seen status)
 
--- where the output doesn't fail a line is put, or there was no memory
+-- if the output doesn't fail a line is put, or there was no memory
 abbrev pub IsDoneLine : Places → Places → Status → Type 0
 IsDoneLine old new status =
     (Rose old.faults.output new.faults.output → ⊥) → (status ≡ Done) ⊎ (status ≡ NoMemory)

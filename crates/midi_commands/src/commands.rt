@@ -104,8 +104,8 @@ use usb_passes::{PackRun, run_pack, run_split};
 /// at the first packet, byte or event that is refused, with its reason and its offset, the number of input
 /// bytes before it; a clip file without its header is refused at 0, and a clip that doesn't end at the end of
 /// the input. `ReadFault`, `LaneFault`, `OutputFault`, `NoteFault` and `ShelfFault` come only for an object
-/// that the command names and whose count of faults rose in this call. `Usage` comes where the words are no
-/// command, `SetupSyntax` where the text of the setup isn't UTF-8 or no TOML, `SetupField` with the number of
+/// that the command names and whose count of faults rose in this call. `Usage` comes if the words are no
+/// command, `SetupSyntax` if the text of the setup isn't UTF-8 or no TOML, `SetupField` with the number of
 /// the first rule that it breaks (`function_blocks::Rule`). `NoMemory` is free in its cause, and comes before
 /// the first read, but for `--state`. What stands in the lanes, the output and the notes after each of these
 /// is told by the clauses; docs/passes.md has it as a table. Whatever the status but `Done` and `NoteFault`,
@@ -127,9 +127,9 @@ pub fn run<S: Source, L: Lanes, W: Sink, N: Sink, K: Shelf>(
     // items mean. `Refused`: the first refusal, and exactly the puts of the items before it. A read failed:
     // exactly the puts of the items that lie wholly in what the source gave. A place failed: the puts before
     // the one that failed, and of that one a front that isn't all of it. There is no memory: nothing is read
-    // or put; where a state is kept (`grows`), exactly the puts of the items before the one that wanted it.
+    // or put; if a state is kept (`grows`), exactly the puts of the items before the one that wanted it.
     // The setup can't be had, or is none: nothing is read or put. An object that the command doesn't name
-    // stays as it is. `plan_of` tells how each command cuts its input, and what it refuses, puts and means.
+    // is unchanged. `plan_of` tells how each command cuts its input, and what it refuses, puts and means.
     ensures says { (before_last_line : Objects)
         × RunSays (command_of (map string_bytes words.now))
         (objects S.Source L.Lanes W.Sink N.Sink K.Shelf input.old lanes.old output.old notes.old shelf.old)
@@ -138,14 +138,14 @@ pub fn run<S: Source, L: Lanes, W: Sink, N: Sink, K: Shelf>(
         (objects S.Source L.Lanes W.Sink N.Sink K.Shelf input.new lanes.new output.new notes.new shelf.new)
         result }
 
-    // `Done` comes only where the words are a command. Where the input tells its bytes, what was put is then
+    // `Done` comes only if the words are a command. If the input tells its bytes, what was put is then
     // exactly what the definitions tell of all of them, each command by its own: `LeavesAll` has a line for
     // each. That all else stays is said by `says`.
     ensures whole { result ≡ Status.Done → LeavesTheWhole (command_of (map string_bytes words.now))
         (objects S.Source L.Lanes W.Sink N.Sink K.Shelf input.old lanes.old output.old notes.old shelf.old)
         (objects S.Source L.Lanes W.Sink N.Sink K.Shelf input.new lanes.new output.new notes.new shelf.new) }
 
-    // Where nothing is refused and nothing fails it is done, unless there is no memory.
+    // If nothing is refused and nothing fails it is done, unless there is no memory.
     ensures complete { IsDoneOrNoMemory (command_of (map string_bytes words.now))
         (objects S.Source L.Lanes W.Sink N.Sink K.Shelf input.old lanes.old output.old notes.old shelf.old)
         (objects S.Source L.Lanes W.Sink N.Sink K.Shelf input.new lanes.new output.new notes.new shelf.new)
@@ -258,7 +258,7 @@ fn status_of(end: RunEnd) -> Status
     }
 }
 
-// The status where the lanes could not be opened.
+// The status if the lanes could not be opened.
 fn status_of_opening(fault: OpenFault) -> Status
     ensures failed { fault ≡ OpenFault.Failed → result ≡ Status.LaneFault }
     ensures memory { fault ≡ OpenFault.NoMemory → result ≡ Status.NoMemory }
@@ -360,7 +360,7 @@ fn bring_back<S: Source, L: Lanes, W: Sink, N: Sink>(
     }
 }
 
-// Shows the packets of a recording, and where it is asked for, the state that they leave.
+// Shows the packets of a recording, and if it is asked for, the state that they leave.
 fn put_packet_lines<S: Source, L: Lanes, W: Sink, N: Sink>(
     alloc: Global,
     options: PacketLineOptions,
@@ -387,7 +387,7 @@ fn put_packet_lines<S: Source, L: Lanes, W: Sink, N: Sink>(
     }
 }
 
-// Shows the messages of a stream, and where it is asked for, the state that they leave.
+// Shows the messages of a stream, and if it is asked for, the state that they leave.
 fn put_byte_lines<S: Source, L: Lanes, W: Sink, N: Sink>(
     alloc: Global,
     options: ByteLineOptions,

@@ -12,7 +12,7 @@ use outside::{Lanes, Sink};
 use std::io::{ErrorKind, Write};
 use std::rt::Files;
 
-/// Where the words of the command line can't be had, tells why: one that is no UTF-8 is `Usage`, want of
+/// If the words of the command line can't be had, tells why: one that is no UTF-8 is `Usage`, want of
 /// memory `NoMemory` (own rule). The last line stands in the notes.
 pub fn unread_words<N: Write>(kind: ErrorKind, notes: &mut WriteSink<N>) -> Status
     ensures memory { kind ≡ ErrorKind.OutOfMemory → result ≡ Status.NoMemory }
@@ -98,7 +98,7 @@ fn tell_fault<N: Write>(status: Status, written: Status, notes: &mut WriteSink<N
     }
 }
 
-// Puts the last line of a status, if it has one. Where that fails, a front of the line may stand, and the
+// Puts the last line of a status, if it has one. If that fails, a front of the line may stand, and the
 // count of faults tells it.
 fn tell_last<N: Write>(status: Status, notes: &mut WriteSink<N>)
     ensures { PutsLast status (accepted N.contents notes.old) (accepted N.contents notes.new)

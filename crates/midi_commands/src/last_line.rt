@@ -107,7 +107,7 @@ fn put_line<L: Lanes, W: Sink, N: Sink>(
     }
 }
 
-/// Puts the last line for a status in the notes, if it has one. Where that fails, a front of the line may
+/// Puts the last line for a status in the notes, if it has one. If that fails, a front of the line may
 /// stand, and the count of faults tells it.
 pub fn put_last<L: Lanes, W: Sink, N: Sink>(
     status: Status,

@@ -16,7 +16,7 @@ use usb_passes::laws::{
     a_packing_that_is_done_is_that_of_the_input, a_split_that_is_done_is_that_of_the_input,
 };
 
-/// Where a command is done and its input tells its bytes, what it put is exactly what its definitions tell of
+/// When a command is done and its input shows its bytes, what it put is exactly what its definitions tell of
 /// all of them: the translation of all packets or bytes and the lines of their listing, the lines that are
 /// shown, the replies to a peer, what is split, packed or joined, a rehearsal, or a clip; and of a self test
 /// its line. That all else stays as it was is said by `says` of `run`.

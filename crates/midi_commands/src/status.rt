@@ -9,7 +9,7 @@ use pass_loop::Reason;
 pub enum Status {
     /// The input was read to its end; a self test, which reads none, has put its line.
     Done,
-    /// What stands at this offset is refused: a packet, a byte, an event, the input where it ends within one
+    /// What stands at this offset is refused: a packet, a byte, an event, or the input if it ends within one
     /// or passes its limit, or a clip that doesn't begin or end as it should. The offset is the number of
     /// input bytes before it.
     Refused { reason: Reason, offset: u64 },
@@ -57,7 +57,7 @@ impl Status {
         }
     }
 
-    /// The status once an object has written out what it gathered: `Done` becomes this fault where that
+    /// The status once an object has written out what it gathered: `Done` becomes this fault if that
     /// failed. Every other status has its cause already, and stays.
     pub fn after_writing(self, answer: Result<(), Failed>, fault: Status) -> Status
         ensures written { OnOk answer (result ≡ self) }

@@ -44,7 +44,7 @@ const ROOM: usize = 65_536;
 
 const ENTRIES: usize = 16_384;
 
-// The words, the input, the text of the shelf named `a.toml`, and where the objects cut or fail.
+// The words, the input, the text of the shelf named `a.toml`, and whether the objects cut or fail.
 #[derive(Drop)]
 struct Given<'a> {
     words: Option<&'a str>,

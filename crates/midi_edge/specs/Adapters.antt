@@ -10,11 +10,11 @@ use Rattle.midi_edge.specs.declared.adapters.folder_lanes.FolderLanes.{FolderLan
 use Rattle.midi_edge.specs.declared.adapters.buffered_source.BufferedSource.{BufferedSource}
 use Rattle.midi_edge.specs.declared.adapters.read_source.ReadSource.{ReadSource}
 
--- the bytes that the reader of a source will give, where it tells them
+-- the bytes that the reader of a source will give, if it tells them
 abbrev pub to_come : {R : Type 0} → (R → Option (List ℕ)) → ReadSource R → Option (List ℕ)
 to_come remaining s = remaining s.reader
 
--- the bytes that are held and then those that the reader will give, where it tells them
+-- the bytes that are held and then those that the reader will give, if it tells them
 abbrev pub to_be_given : {R : Type 0} → (R → Option (List ℕ)) → BufferedSource R → Option (List ℕ)
 to_be_given remaining s = reader_remaining remaining s.reader
 
@@ -30,7 +30,7 @@ is_waiting s = not (never_waits s) && length (reader_buffer s.reader) == 0
 abbrev pub unwritten : {W : Type 0} → WriteSink W → List ℕ
 unwritten s = s.gathered
 
--- the bytes that the writer of a sink holds, where it tells them, and then those not yet written out
+-- the bytes that the writer of a sink holds, if it tells them, and then those not yet written out
 abbrev pub accepted : {W : Type 0} → (W → Option (List ℕ)) → WriteSink W → Option (List ℕ)
 accepted contents s = append_known (contents s.writer) (unwritten s)
 
@@ -59,7 +59,7 @@ TriesLanes old new = TriesEach old.lanes.items new.lanes.items
 abbrev pub IsWrittenOut : {R F A : Type 0} → FolderLanes R F A → Type 0
 IsWrittenOut l = All (λ s. unwritten s ≡ []) l.lanes.items
 
--- one lane accepts the piece, or at `Err` a front of it that isn't all of it, and the others stay as they are
+-- one lane accepts the piece, or at `Err` a front of it that isn't all of it, and the others are unchanged
 abbrev pub AcceptsInLane : {R F A T E : Type 0} → (F → Option (List ℕ)) → FolderLanes R F A → FolderLanes R F A → ℕ × List ℕ → Result T E
     → Type 0
 AcceptsInLane {F = F} contents old new (lane, piece) result =

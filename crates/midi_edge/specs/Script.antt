@@ -11,6 +11,6 @@ one_more n = min (n + 1) (2 ^ 64 - 1)
 abbrev pub is_listed : List ℕ → ℕ → Bool
 is_listed fails call = list_any (λ fail. fail == call) fails
 
--- how many bytes this call keeps, where it is to fail
+-- how many bytes this call keeps, if it is to fail
 abbrev pub kept_at : List (ℕ × ℕ) → ℕ → Option ℕ
 kept_at fails call = option_map (λ fail. fail.1) (find (λ fail. fail.0 == call) fails)

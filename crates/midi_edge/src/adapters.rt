@@ -1,4 +1,4 @@
-// The objects of the outside over real readers, writers, folders and files. They tell no content.
+// The objects of the outside over real readers, writers, folders and files. They show no content.
 ghost use Rattle.std.specs.Prelude.{◌≡◌, ◌≢◌, ◌≤◌, Ok, IsErr, MatchResult};
 ghost use Rattle.std.specs.IoError.{error_kind};
 ghost use Rattle.outside.specs.Outside.{HasCause, HasOpenCause, Rose};
@@ -42,7 +42,7 @@ fn counted<T, E: Drop>(answer: Result<T, E>, faults: &mut u64) -> Result<T, Fail
     }
 }
 
-// The answer of an opening, which is counted as a fault where it failed, and not for want of memory.
+// The answer of an opening, which is counted as a fault if it failed, and not for want of memory.
 fn counted_opening<T>(answer: Result<T, OpenFault>, faults: &mut u64) -> Result<T, OpenFault>
     ensures answer { result ≡ answer }
     ensures cause { HasOpenCause faults.old faults.new result }

@@ -37,7 +37,7 @@ impl KeptText {
         }
     }
 
-    /// Keeps the first bytes of the text, in place of what was kept.
+    /// Keeps the first bytes of the text, instead of what was kept.
     pub fn keep(&mut self, text: &str)
         ensures { self.new ≡ Some (kept_bytes text.now) }
     {

@@ -59,9 +59,9 @@ impl Model for MemLanes {
 
 impl MemLanes {
     /// Lanes that hold nothing, with room for `room` bytes in at most `entries` pieces. `begin` never fails.
-    /// Put number k, counted from 0, fails exactly where k stands in `fails`, and keeps so many bytes of the
-    /// piece, at most its length less one and at most what fits, or where a room would be passed, and keeps
-    /// none. The numbers stop at the last `u64`. `NoMemory` where the room cannot be had.
+    /// Put number k, counted from 0, fails exactly if `fails` contains k, and keeps so many bytes of the
+    /// piece, at most its length less one and at most what fits, or if a room would be passed, and keeps
+    /// none. The numbers stop at the last `u64`. `NoMemory` if the room can't be had.
     pub fn new(
         alloc: Global,
         room: usize,
@@ -110,7 +110,7 @@ impl MemLanes {
     }
 }
 
-// Adds a piece, where there is room for it.
+// Adds a piece, if there is room for it.
 fn add(bytes: &mut Vec<u8>, entries: &mut Vec<Entry>, lane: U4, piece: &[u8])
     requires parts { AreWithin (vec_len bytes.old) entries.old.items }
     requires room { vec_len bytes.old + length piece.now ≤ vec_capacity bytes.old }

@@ -56,7 +56,7 @@ impl Model for MemShelf {
 
 impl MemShelf {
     /// A shelf of these texts, of which the first of a name counts. Call number k, counted from 0, fails
-    /// exactly where k stands in `fails` or where no text has the name; the numbers stop at the last `u64`.
+    /// exactly if `fails` contains k or if no text has the name; the numbers stop at the last `u64`.
     pub fn new(texts: Vec<(String, Vec<u8>)>, fails: Vec<u64>) -> MemShelf
         ensures { result ≡ record {
           asked = None;

@@ -39,9 +39,9 @@ impl Model for MemSink {
 
 impl MemSink {
     /// A sink that holds nothing and has room for `room` bytes. Call number k, counted from 0, fails exactly
-    /// where k stands in `fails`, and keeps so many bytes of the piece, at most its length less one and at
-    /// most what fits, or where the bytes would pass the room, and keeps none. The numbers stop at the last
-    /// `u64`. `NoMemory` where the room cannot be had.
+    /// if `fails` contains k, and keeps so many bytes of the piece, at most its length less one and at
+    /// most what fits, or if the bytes would pass the room, and keeps none. The numbers stop at the last
+    /// `u64`. `NoMemory` if the room can't be had.
     pub fn new(alloc: Global, room: usize, fails: Vec<(u64, usize)>) -> Result<MemSink, NoMemory>
         ensures { IfOk result
             (λ sink. sink ≡ record { held = []; room = room; fails = fails.items; calls = 0; faults = 0 }) }

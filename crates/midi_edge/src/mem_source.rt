@@ -54,7 +54,7 @@ impl Model for MemSource {
 
 impl MemSource {
     /// A source of these bytes. The successful call number j, counted from 0, gives at most `cuts[j]` bytes,
-    /// where 0 counts as 1, and past the list without limit. Call number k fails exactly where k stands in
+    /// with 0 for 1, and past the list any number. Call number k fails exactly if k is in
     /// `fails`; the numbers stop at the last `u64`.
     pub fn new(bytes: Vec<u8>, cuts: Vec<usize>, fails: Vec<u64>) -> MemSource
         ensures { result ≡ record {

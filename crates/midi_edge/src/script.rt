@@ -2,7 +2,7 @@
 ghost use Rattle.std.specs.Prelude.{◌≡◌};
 ghost use Rattle.midi_edge.specs.Script.{kept_at as kept_at_call};
 
-/// How many bytes the call keeps, where it is listed to fail.
+/// How many bytes the call keeps, if it is listed to fail.
 pub(crate) fn kept_at(fails: &[(u64, usize)], call: u64) -> Option<usize>
     ensures { result ≡ kept_at_call fails.now call }
 {

@@ -1,8 +1,11 @@
 -- The lines of what is told of a state (own rule): the group, the channel, what it is, and its numbers.
 use Rattle.std.specs.Prelude.{ℕ, Bool, true, false, List, [], ◌++◌, codes, decimal, Option, Some, None}
+use Rattle.std.specs.Option.{option_map_or}
 use Rattle.voice_messages.specs.declared.voice2.Bank.{Bank}
 use Rattle.voice_state.specs.declared.fact.Fact.{Fact}
 use Rattle.voice_state.specs.declared.fact.Fact.TheVariants as fact
+use Rattle.voice_state.specs.declared.fact.FactAddress.{FactAddress}
+use Rattle.voice_state.specs.Addresses.{address_of}
 
 -- a number with a space before it
 unfoldable pub spaced : ℕ → List ℕ
@@ -21,7 +24,7 @@ unfoldable pub bank_words : Option Bank → List ℕ
 bank_words None = codes " bank none"
 bank_words (Some bank) = codes " bank" ++ spaced bank.msb ++ codes "/" ++ decimal bank.lsb
 
--- the value of a parameter, or ` none` where it was never set
+-- the value of a parameter, or ` none` if it was never set
 unfoldable pub value_word : Option ℕ → List ℕ
 value_word None = codes " none"
 value_word (Some value) = spaced value
@@ -32,19 +35,12 @@ loose_word false = []
 
 -- ---- what a fact is about: a channel, or a whole group
 
+-- a whole group has no channel
+abbrev pub address_text : FactAddress → List ℕ
+address_text address = option_map_or (of_channel address.group) address.channel (of_group address.group)
+
 abbrev pub address_words : Fact → List ℕ
-address_words (fact.On group channel note velocity) = of_channel group channel
-address_words (fact.Off group channel note velocity) = of_channel group channel
-address_words (fact.Mode group channel index value) = of_channel group channel
-address_words (fact.Poly group channel note value) = of_channel group channel
-address_words (fact.Control group channel index value) = of_channel group channel
-address_words (fact.Pressure group channel value) = of_channel group channel
-address_words (fact.Bend group channel value) = of_channel group channel
-address_words (fact.Program group channel program bank) = of_channel group channel
-address_words (fact.Registered group channel bank index value is_loose) = of_channel group channel
-address_words (fact.Assignable group channel bank index value is_loose) = of_channel group channel
-address_words (fact.System group count) = of_group group
-address_words (fact.RealTime group count) = of_group group
+address_words told = address_text (address_of told)
 
 -- ---- what it tells: its name, and its numbers
 

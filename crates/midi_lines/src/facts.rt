@@ -1,15 +1,15 @@
-// The lines of what is told of a state.
+// The lines of facts.
 ghost use Rattle.std.specs.Prelude.{◌≡◌, ◌<◌, ◌≤◌, ◌+◌, ◌*◌, ◌++◌, length, codes};
-ghost use Rattle.midi_lines.specs.FactLines.{address_words, bank_words, fact_text, fact_words, loose_word, of_channel, of_group, param_words, spaced, two_numbers, value_word};
+ghost use Rattle.midi_lines.specs.FactLines.{address_text, bank_words, fact_text, fact_words, loose_word, of_channel, of_group, param_words, spaced, two_numbers, value_word};
 ghost use Rattle.text_lines.specs.Voice2Lines.{kind_word};
 ghost use Rattle.text_lines.specs.Room.{AddsAtMost, HasRoom, HasRoomForEnd, before_kind, behind_channel, longest_field, longest_value, longest_word};
 
 use text_lines::{Line, kind_name, put_decimal, put_number, put_text};
 use voice_messages::{Bank, Param, ParamKind, U4, U7};
-use voice_state::Fact;
+use voice_state::{Fact, FactAddress};
 
-/// The line of what is told of a state: `state`, the group, the channel, what it is, and its numbers in
-/// decimal digits (own rule).
+/// The line of a fact: `state`, the group, the channel, the name of the fact, and its numbers in decimal
+/// digits (own rule).
 pub fn fact_line(fact: &Fact) -> Line
     ensures text { result ≡ fact_text fact.now }
     ensures some { 0 < length result }
@@ -19,8 +19,7 @@ pub fn fact_line(fact: &Fact) -> Line
     line
 }
 
-/// Makes the line that of what is told of a state, as `fact_line`
-/// does, in the place of another one (own rule).
+/// Replaces a line by the line of a fact, which is that of `fact_line` (own rule).
 pub fn fill_fact_line(line: &mut Line, fact: &Fact)
     ensures text { line.new ≡ fact_text fact.now }
     ensures some { 0 < length line.new }
@@ -36,7 +35,7 @@ fn put_fact(line: &mut Line, fact: &Fact)
     ensures text { line.new ≡ line.old ++ fact_words fact.now }
     ensures room { HasRoomForEnd line.new }
 {
-    put_address(line, fact);
+    put_address(line, fact.address());
     match *fact {
         Fact::On { note, velocity, .. } => put_two_numbers(line, " on", note, velocity as u32),
         Fact::Off { note, velocity, .. } => put_two_numbers(line, " off", note, velocity as u32),
@@ -72,23 +71,14 @@ fn put_fact(line: &mut Line, fact: &Fact)
 }
 
 // The group, and the channel of a fact that is about one channel.
-fn put_address(line: &mut Line, fact: &Fact)
+fn put_address(line: &mut Line, address: FactAddress)
     requires { length line.old ≤ before_kind }
-    ensures text { line.new ≡ line.old ++ address_words fact.now }
+    ensures text { line.new ≡ line.old ++ address_text address }
     ensures room { length line.new ≤ behind_channel }
 {
-    match *fact {
-        Fact::On { group, channel, .. }
-        | Fact::Off { group, channel, .. }
-        | Fact::Mode { group, channel, .. }
-        | Fact::Poly { group, channel, .. }
-        | Fact::Control { group, channel, .. }
-        | Fact::Pressure { group, channel, .. }
-        | Fact::Bend { group, channel, .. }
-        | Fact::Program { group, channel, .. }
-        | Fact::Registered { group, channel, .. }
-        | Fact::Assignable { group, channel, .. } => put_channel(line, group, channel),
-        Fact::System { group, .. } | Fact::RealTime { group, .. } => put_group(line, group),
+    match address.channel {
+        None => put_group(line, address.group),
+        Some(channel) => put_channel(line, address.group, channel),
     }
 }
 

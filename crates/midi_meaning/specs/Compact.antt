@@ -18,7 +18,7 @@ use Rattle.midi_meaning.specs.Plain.{set_messages, program_messages, voice_messa
 
 -- ---- what a receiver has
 
--- The bytes after the last System Reset among these, or all of them where there is none. Bytes are newest first. No other message
+-- The bytes after the last System Reset among these, or all of them if there is none. Bytes are newest first. No other message
 -- has this byte in it.
 abbrev pub since_reset : List ℕ → List ℕ
 since_reset [] = []

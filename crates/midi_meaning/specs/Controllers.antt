@@ -38,7 +38,7 @@ role_of index =
     else if nat_le index 63 then fine
     else plain
 
--- Own rule: MSBs and LSBs of controllers are told from other controllers only where controllers are paired.
+-- Own rule: MSBs and LSBs of controllers are told from other controllers only if controllers are paired.
 abbrev pub pairing : Bool → Role → Role
 pairing paired coarse = if paired then coarse else plain
 pairing paired fine = if paired then fine else plain
@@ -51,7 +51,7 @@ is_direct channel_mode = true
 is_direct plain = true
 is_direct _ = false
 
--- the same by the index, where controllers are paired or aren't; of None no control change is
+-- the same by the index, whether controllers are paired or not; of None no control change is
 abbrev pub is_direct_in : Option Bool → ℕ → Bool
 is_direct_in None index = false
 is_direct_in (Some paired) index = is_direct (pairing paired (role_of index))

@@ -42,7 +42,7 @@ HasIndex coarse index = IsCoarse index
 HasIndex fine index = IsFine index
 HasIndex plain index = IsOther index
 
--- The same where controllers are paired or aren't: without pairs an MSB or LSB is a controller like all others (own rule).
+-- The same whether controllers are paired or not: without pairs an MSB or LSB is a controller like all others (own rule).
 abbrev pub IsUnpaired : Bool → ℕ → Type 0
 IsUnpaired paired index = IsOther index ⊎ ((paired ≡ false) × (IsCoarse index ⊎ IsFine index))
 

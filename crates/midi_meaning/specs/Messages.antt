@@ -18,8 +18,8 @@ use Rattle.midi_meaning.specs.State.{with_bend, with_program, at_registers, with
 pub use Rattle.listing_terms.specs.Channels.{channel_of}
 
 -- How values are kept, from those of MIDI 1.0: velocities; controllers by their index; pressures and mode values; values of
--- fourteen bits, and these back again. Own rule: where controllers are paired, the MSB and the LSB of a controller are one value
--- of fourteen bits; where they aren't, each controller is kept by itself.
+-- fourteen bits, and these back again. Own rule: if controllers are paired, the MSB and the LSB of a controller are one value
+-- of fourteen bits; if they aren't, each controller is kept by itself.
 pub record Scale : Type 0 where
   pub paired : Bool
   pub velocity : ℕ → ℕ
@@ -88,7 +88,7 @@ abbrev pub enter_msb : Scale → Option Param → ℕ → Channel → Channel
 enter_msb scale None value channel = channel
 enter_msb scale (Some param) value channel = with_param param (scale.wide (value * 128)) channel
 
--- the MSB of an old value, 0 where there is none, and a new LSB
+-- the MSB of an old value, 0 if there is none, and a new LSB
 abbrev pub with_new_lsb : Scale → Option ℕ → ℕ → ℕ
 with_new_lsb scale old value = scale.wide (scale.narrow (unwrap_or old 0) / 128 * 128 + value)
 
@@ -96,7 +96,7 @@ abbrev pub enter_lsb : Scale → Option Param → ℕ → Channel → Channel
 enter_lsb scale None value channel = channel
 enter_lsb scale (Some param) value channel = with_value param (with_new_lsb scale (channel.params param) value) channel
 
--- Own rule, where controllers are paired: an MSB clears the LSB of its controller, and an LSB, whose index is higher by 32, keeps
+-- Own rule, if controllers are paired: an MSB clears the LSB of its controller, and an LSB, whose index is higher by 32, keeps
 -- the MSB.
 abbrev pub with_coarse : Scale → ℕ → ℕ → Channel → Channel
 with_coarse scale index value channel = with_controller index (scale.wide (value * 128)) channel

@@ -17,7 +17,7 @@ use Rattle.listing_terms.specs.Parts.{group_of, is_group, whole_of}
 pub use Rattle.listing_terms.specs.Channels.{channel2}
 
 -- A control change of MIDI 2.0: the indexes of banks, data entry and parameter numbers have packets of their own. Own rule: so
--- has the LSB of a controller, where controllers are paired, in the packet of its MSB.
+-- has the LSB of a controller, if controllers are paired, in the packet of its MSB.
 abbrev pub control2 : Role → ℕ → ℕ → Channel → Channel
 control2 channel_mode index value channel = with_act (mode index value) channel
 control2 reset_all index value channel = reset raised (with_act (mode index value) channel)

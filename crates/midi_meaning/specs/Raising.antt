@@ -22,12 +22,12 @@ use Rattle.midi_meaning.specs.Messages.{as_they_come, with_new_lsb, channel_of, 
 
 -- ---- voice messages
 
--- the value of the selected parameter, where one is selected and has one
+-- the value of the selected parameter, if one is selected and has one
 abbrev pub selected_value : Channel → Option ℕ
 selected_value state = option_and_then state.params (selected state.registers)
 
 -- The selected parameter with its new value of fourteen bits. Own rules: each data entry is a packet of its own, and is none
--- where no parameter is selected.
+-- if no parameter is selected.
 abbrev pub raised_entry : ℕ → Option Param → ℕ → List Voice2
 raised_entry channel None value = []
 raised_entry channel (Some param) value = voice2.Set channel param (up value 14 32) ∷ []

@@ -41,7 +41,7 @@ with_bank_lsb value registers = record registers { bank = with_lsb value registe
 abbrev pub with_bank : Bank → Registers → Registers
 with_bank bank registers = record registers { bank = record { msb = Some bank.msb; lsb = Some bank.lsb } }
 
--- the bank that a program change takes: an unset half is 0, and none is taken where neither is set
+-- the bank that a program change takes: an unset half is 0, and none is taken if neither is set
 abbrev pub bank_by : Option ℕ → Option ℕ → Option Bank
 bank_by None None = None
 bank_by (Some msb) None = Some (record { msb = msb; lsb = 0 })
@@ -57,7 +57,7 @@ abbrev pub number_of : ParamKind → Registers → Pair
 number_of Registered registers = registers.registered
 number_of Assignable registers = registers.assignable
 
--- a number is touched where a half of it is set
+-- a number is touched if a half of it is set
 abbrev pub with_number : ParamKind → Pair → Registers → Registers
 with_number Registered pair registers = record registers { registered = pair; touched = Some Registered }
 with_number Assignable pair registers = record registers { assignable = pair; touched = Some Assignable }
@@ -86,7 +86,7 @@ abbrev pub selected_of : Option ParamKind → Registers → Option Param
 selected_of None registers = None
 selected_of (Some kind) registers = let pair = number_of kind registers in selected_by kind pair.msb pair.lsb
 
--- the parameter of the number that was touched last, where it is whole and isn't the null number 127/127
+-- the parameter of the number that was touched last, if it is whole and isn't the null number 127/127
 abbrev pub selected : Registers → Option Param
 selected registers = selected_of registers.touched registers
 

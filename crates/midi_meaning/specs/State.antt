@@ -19,7 +19,7 @@ pub record ProgramChange : Type 0 where
   pub program : ℕ
   pub bank : Option Bank
 
--- A parameter is loose where a relative change that can't be carried came since it was set.
+-- A parameter is loose if a relative change that can't be carried came since it was set.
 pub record Channel : Type 0 where
   pub acts : List Act
   pub poly : ℕ → Option ℕ

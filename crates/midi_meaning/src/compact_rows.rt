@@ -28,8 +28,8 @@ pub fn statuses_and_selections_are_left_out()
         ∷ [] }
 {}
 
-/// The bank of a program change is left out where both halves of it
-/// are selected, and else it is written whole.
+/// A program change is written without its bank if both halves of that bank are selected, and otherwise
+/// with both halves.
 pub fn banks_are_left_out()
     ensures same { styled_pairs false compact_style program_twice ≡
         (0, 0xb0 ∷ 0 ∷ 1 ∷ 0x20 ∷ 2 ∷ 0xc0 ∷ 5 ∷ [])

@@ -6,8 +6,9 @@ use crate::role::ControlRole;
 use std::marker::Model;
 use voice_messages::U7;
 
-/// Which control changes are direct, by their index: a table, so that nothing need be guessed where one
-/// comes. A contract sees whether controllers are paired, or that none is marked.
+/// Which control changes are direct, by their index. It is a table, so that the caller needs no branch:
+/// the index of the next control change can't be predicted. A contract sees whether controllers are
+/// paired, or that no index is marked.
 #[derive(Drop)]
 pub struct DirectControls {
     paired: Option<bool>,
@@ -46,7 +47,7 @@ fn marks(paired: bool) -> [bool; 128]
 }
 
 impl DirectControls {
-    /// Marks those that are direct where controllers are paired, or where they aren't (own rule).
+    /// Marks those that are direct, for paired controllers or for unpaired ones (own rule).
     pub fn new(paired: bool) -> DirectControls
         ensures { result ≡ Some paired }
     {

@@ -76,7 +76,7 @@ pub fn joined_bytes_know_no_offsets()
     ensures { JoinedBytesKnowNoOffsets }
 {}
 
-/// Where no part exceeds the limit, exclusives are those without a limit.
+/// If no part exceeds the limit, exclusives are those without a limit.
 pub fn rooms_that_are_not_passed_do_not_matter()
     ensures { RoomsThatAreNotPassedDoNotMatter }
 {}

@@ -38,8 +38,8 @@ ghost use Rattle.midi_meaning.specs.Worked.Rows.{registered};
 ghost use Rattle.midi_meaning.specs.State.{mode, off, on};
 
 /// Control change 121 in a stream of bytes (RP-015): expression is at its greatest, modulation and the pedals
-/// 64 to 67 are at 0, the controllers beside them stay as they are; the bend is at its centre, no pressure is
-/// left, and no parameter is selected. The bank and the values of parameters stay as they are.
+/// 64 to 67 are at 0, the controllers beside them are unchanged; the bend is at its centre, no pressure is
+/// left, and no parameter is selected. The bank and the values of parameters are unchanged.
 pub fn bytes_reset_all_controllers()
     ensures expression { (over_bytes bytes_with_reset).controllers 11 ≡ Some 127 }
     ensures modulation { (over_bytes bytes_with_reset).controllers 1 ≡ Some 0 }
@@ -142,8 +142,8 @@ pub fn parameters_are_set_and_changed()
         ≡ false }
 {}
 
-/// A program change takes the bank as it stands: both halves, an unset one as 0, and none where neither is
-/// set. In packets a program with its bank also sets both halves.
+/// A program change takes the selected bank with both halves, an unset one as 0, and no bank if neither
+/// is set. In packets a program with its bank also sets both halves.
 pub fn programs_take_the_bank()
     ensures none { (over_bytes (0xc0 ∷ 5 ∷ [])).program ≡ Some (record { program = 5; bank = None }) }
     ensures both { (over_bytes (0xb0 ∷ 0 ∷ 1 ∷ 32 ∷ 2 ∷ 0xc0 ∷ 5 ∷ [])).program

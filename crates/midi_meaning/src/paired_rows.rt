@@ -24,8 +24,7 @@ ghost use Rattle.midi_meaning.specs.Raising.{packets_of_bytes};
 ghost use Rattle.midi_meaning.specs.Worked.Rows.{registered};
 ghost use Rattle.midi_meaning.specs.Styles.{compact_style, styled_pairs};
 
-/// A MIDI 2.0 control change of a pair is written as MSB and LSB, also
-/// in compact style, where both halves are always written.
+/// A MIDI 2.0 control change of a pair is written as MSB and LSB. Compact style also writes both halves.
 pub fn a_pair_is_written_as_both_halves()
     ensures plain { plain_pairs true volume ≡ (0, 0xb0 ∷ 7 ∷ 0x64 ∷ 0xb0 ∷ 0x27 ∷ 0x49 ∷ []) ∷ [] }
     ensures compact { styled_pairs true compact_style volume_twice ≡

@@ -172,21 +172,22 @@ impl Registers {
         }
     }
 
-    /// The MSB of the bank, where it was set.
+    /// The MSB of the bank, if it was set.
     pub fn bank_msb(&self) -> Option<U7>
         ensures { result ≡ self.now.bank.msb }
     {
         self.bank.msb
     }
 
-    /// The LSB of the bank, where it was set.
+    /// The LSB of the bank, if it was set.
     pub fn bank_lsb(&self) -> Option<U7>
         ensures { result ≡ self.now.bank.lsb }
     {
         self.bank.lsb
     }
 
-    /// The bank that a program change takes: an unset half is 0, and none where neither is set.
+    /// The bank that a program change takes: an unset half is 0, and there is none if neither half is
+    /// set.
     pub fn bank(&self) -> Option<Bank>
         ensures { result ≡ bank_of self.now }
     {
@@ -199,8 +200,8 @@ impl Registers {
         }
     }
 
-    /// The parameter that a data entry sets: that of the number touched last; none where a half of it is
-    /// unset, or where it is the null parameter.
+    /// The parameter that a data entry sets: that of the number touched last. There is none if a half of
+    /// it is unset, or if it is the null parameter.
     pub fn selected(&self) -> Option<Param>
         ensures param { result ≡ selected self.now }
         ensures in_range { IfSome result IsParam }

@@ -6,8 +6,8 @@ ghost use Rattle.midi_meaning.specs.Roles.{role_in};
 
 use voice_messages::{ParamKind, U7};
 
-/// What a control change is by its index (MIDI 1.0 Detailed Specification, the table of controller numbers).
-/// This is the only place where the indexes are told apart.
+/// The role of a control change, by its index (MIDI 1.0 Detailed Specification, the table of controller
+/// numbers). Only this crate distinguishes indexes.
 #[derive(Clone, Copy, Debug, PartialEq, Eq)]
 pub enum ControlRole {
     /// 0: bank select, MSB.
@@ -65,8 +65,8 @@ impl ControlRole {
         }
     }
 
-    /// The role where controllers are paired or aren't: without pairs an
-    /// MSB or LSB is a controller like all others (own rule).
+    /// The role with controllers paired or not: without pairs an MSB or LSB is a controller like all
+    /// others (own rule).
     #[inline(always)]
     pub fn pairing(self, paired: bool) -> ControlRole
         ensures role { role_in result ≡ pairing paired (role_in self) }

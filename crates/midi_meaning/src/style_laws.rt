@@ -53,9 +53,9 @@ pub fn compact_leaves_out_what_is_held()
     ensures { (paired : Bool) → CompactLeavesOutWhatIsHeld paired }
 {}
 
-/// The bytes of a lane, in either style, leave the registers that the packets of its group leave, and nothing
-/// is open in them. In compact style the running status and each half of a register that the bytes after the
-/// last System Reset leave is what all the lane's bytes leave, where it is set.
+/// The bytes of a lane, in either style, leave the registers that the packets of its group leave, and
+/// nothing is open after them. In compact style, if the bytes after the last System Reset set the running
+/// status or a half of a register, all the lane's bytes leave the same value.
 pub fn styled_lanes_leave_the_registers()
     ensures { (paired : Bool) → StyledLanesLeaveTheRegisters paired }
 {
@@ -63,8 +63,9 @@ pub fn styled_lanes_leave_the_registers()
     written_messages_are_read_again();
 }
 
-/// What is kept of a lane for the compact style tells the compact piece of a packet, which looks back over
-/// the lane's bytes, and after the packet it is what the bytes after the last System Reset leave.
+/// The state that is kept of a lane for the compact style determines the compact piece of a packet, which
+/// by its definition looks back over the lane's bytes. After the packet it is what the bytes after the
+/// last System Reset leave.
 pub fn kept_lanes_are_those_of_the_bytes()
     ensures { (paired : Bool) → KeptLanesAreThoseOfTheBytes paired }
 {
@@ -72,8 +73,8 @@ pub fn kept_lanes_are_those_of_the_bytes()
     statuses_that_run_can_be_left_out();
 }
 
-/// For each packet of a recording, what is kept of its lane tells its compact piece: it is the running status
-/// and the registers of the lane's bytes after the last System Reset.
+/// For each packet of a recording, the state that is kept of its lane determines its compact piece: the
+/// running status and the registers of the lane's bytes after the last System Reset.
 pub fn kept_lanes_are_those_of_the_recording()
     ensures { (paired : Bool) → KeptLanesAreThoseOfTheRecording paired }
 {

@@ -62,9 +62,8 @@ pub fn raised_packets_are_in_range()
     completed_messages_are_in_range();
 }
 
-/// Where no exclusive in the bytes exceeds the limit, each of their steps, what is open after them, their
-/// packets, what comes back of them, and their lines are those without a limit. Bytes that are accepted are
-/// of this kind.
+/// If no exclusive in the bytes exceeds the limit, their steps, what is open after them, their packets,
+/// the bytes that come back and their lines are those without a limit. Accepted bytes are of this kind.
 pub fn rooms_that_are_not_reached_do_not_matter_in_bytes()
     ensures { (paired : Bool) → RoomsThatAreNotReachedDoNotMatterInBytes paired }
 {}

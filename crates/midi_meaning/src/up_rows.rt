@@ -26,8 +26,8 @@ ghost use Rattle.midi_meaning.specs.Worked.Rows.{
 ghost use Rattle.midi_meaning.specs.StepListing.{listing_of_bytes};
 ghost use Rattle.midi_meaning.specs.UpRefusal.{refusal_up};
 
-/// Two notes under running status with a clock between their data bytes; a note on of velocity 0, which is a
-/// note off, also where it comes back; a controller and a bend.
+/// Two notes under running status with a clock between their data bytes; a Note On of velocity 0, which
+/// is a Note Off and comes back as one; a controller and a bend.
 pub fn voice_messages_are_raised()
     ensures notes { packets_of_bytes false None 0 notes_and_a_clock ≡
         packet.Voice2 0 (voice2.NoteOn 0 0x3c 0xc924 0 0)

@@ -15,7 +15,7 @@ fn words(rt: &HostRuntime) -> io::Result<Vec<String>> {
     Ok(env::args(rt)?.skip(1).collect(rt.alloc())?)
 }
 
-// The root of the files, where it can be opened.
+// The root of the files, if it can be opened.
 fn open_root(rt: &HostRuntime) -> Option<File> {
     File::open(rt, "/").ok()
 }
@@ -29,7 +29,7 @@ fn open_input(rt: &HostRuntime) -> Result<BufferedSource<Stdin>, NoMemory> {
 }
 
 fn main(rt: HostRuntime) -> io::Result<ExitCode> {
-    // A folder that is open can be neither read nor written. Where standard streams are closed, these take
+    // A folder that is open can be neither read nor written. If standard streams are closed, these take
     // their numbers, so that such a stream fails, and no file of a lane stands in its place.
     let _in_place_of_closed = [open_root(&rt), open_root(&rt), open_root(&rt)];
     let alloc = rt.alloc();

@@ -1,4 +1,4 @@
--- What the calls of the outside do to what an object holds or has left, where it tells it, and to its count of faults.
+-- What the calls of the outside do to what an object holds or has left, if it tells it, and to its count of faults.
 use Rattle.std.specs.Prelude.{◌≡◌, ◌⊎◌, ℕ, ◌+◌, ◌-◌, ◌^◌, ◌<◌, ◌≤◌, min, List, [], ◌∷◌, ◌++◌, length}
 use Rattle.std.specs.Prelude.{take, Result, Option, None, Some, OnOk, OnErr, IfErr, MatchResult}
 use Rattle.outside.specs.declared.objects.OpenFault.{OpenFault}
@@ -76,7 +76,7 @@ abbrev pub Fetches : Option (List ℕ → Option (List ℕ)) → List ℕ → �
 Fetches None name limit old new = Unit {0}
 Fetches (Some texts) name limit old new = (text : List ℕ) × (texts name ≡ Some text) × (new ≡ old ++ take limit text)
 
--- these bytes, and then what is left, where it is told
+-- these bytes, and then what is left, if it is told
 abbrev pub ahead : List ℕ → Option (List ℕ) → Option (List ℕ)
 ahead bytes None = None
 ahead bytes (Some left) = Some (bytes ++ left)

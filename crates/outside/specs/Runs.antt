@@ -4,13 +4,13 @@ use Rattle.std.proofs.Common.{ap, sym, ◌∙◌}
 use Rattle.std.proofs.lemmas.List.{append_assoc, append-nil}
 use Rattle.outside.specs.Outside.{Gains, Loses, ahead}
 
--- where nothing is taken nothing is lost, and two runs that are lost one after the other are lost as one
+-- if nothing is taken nothing is lost, and two runs that are lost one after the other are lost as one
 pub record RunsAreLostAsOne : Type 0 where
   pub none : (left : Option (List ℕ)) → Loses left (ahead [] left) []
   pub both : (first second third : Option (List ℕ)) (xs ys : List ℕ) →
       Loses first second xs → Loses second third ys → Loses first third (xs ++ ys)
 
--- where nothing is put nothing is gained, and two runs that are gained one after the other are gained as one
+-- if nothing is put nothing is gained, and two runs that are gained one after the other are gained as one
 pub record RunsAreGainedAsOne (A : Type 0) : Type 0 where
   pub none : (held : Option (List A)) → Gains held held []
   pub both : (first second third : Option (List A)) (xs ys : List A) →

@@ -1,4 +1,4 @@
-// What holds of all that an object of the outside tells.
+// What is true of everything that an object outside the program shows.
 ghost use Rattle.std.specs.Prelude.{ℕ, List};
 ghost use Rattle.outside.specs.Runs.{RunsAreGainedAsOne, RunsAreLostAsOne};
 

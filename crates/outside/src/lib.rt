@@ -1,4 +1,4 @@
-//! The objects of the outside: what a program reads from and writes to, and what it is told of them.
+//! The objects outside the program: what it reads from and writes to, and what they report.
 #![tactic(auto)]
 
 pub mod laws;

@@ -35,53 +35,53 @@ pub enum ReadStop {
     TooLong,
 }
 
-/// Where bytes come from.
+/// A source of bytes.
 pub trait Source {
-    /// The bytes that are not yet given, where the object tells them.
+    /// The bytes that it hasn't given yet, if the object shows them.
     ghost left: { Self → Option (List ℕ) };
 
     /// How often the object has failed.
     ghost faults: { Self → ℕ };
 
-    /// Fills a front of the buffer, which isn't empty, and says how many bytes. An answer of 0 is the end of
-    /// input. After an `Err`, which comes only where the count of faults rose, nothing was taken.
+    /// Fills a front of the buffer, which isn't empty, and returns the number of bytes. An answer of 0 is
+    /// the end of input. After an `Err`, which comes only if the count of faults rose, nothing was taken.
     fn take(&mut self, buf: &mut [u8]) -> Result<usize, Failed>
         requires { 0 < length buf.old }
         ensures bound { IfOk result (λ n. n ≤ length buf.new) }
         ensures bytes { Takes (left self.old) (left self.new) result buf.new }
         ensures cause { HasCause (faults self.old) (faults self.new) result };
 
-    /// Whether a `take` may wait for bytes that come later, as from a pipe, and not from a file. No clause
-    /// says it: where it is true though nothing waits, what is put is only written out more often.
+    /// Whether a `take` may wait for bytes that come later, as from a pipe, and not from a file. No
+    /// clause is about it: if it is true although nothing waits, output is only written out more often.
     fn may_wait(&self) -> bool {
         true
     }
 }
 
-/// Where bytes go.
+/// A sink for bytes.
 pub trait Sink {
-    /// The bytes that it holds, where the object tells them.
+    /// The bytes that it contains, if the object shows them.
     ghost held: { Self → Option (List ℕ) };
 
     /// How often the object has failed.
     ghost faults: { Self → ℕ };
 
-    /// Adds the piece, which isn't empty, at the end. At an `Err`, which comes only where the count of faults
-    /// rose, it adds at most a front that isn't all of it.
+    /// Adds the piece, which isn't empty, at the end. At an `Err`, which comes only if the count of
+    /// faults rose, it adds at most a front that isn't all of it.
     fn put(&mut self, piece: &[u8]) -> Result<(), Failed>
         requires { 0 < length piece.now }
         ensures bytes { PutsPiece (held self.old) (held self.new) result piece.now }
         ensures cause { HasCause (faults self.old) (faults self.new) result };
 
-    /// Tries to write out what an object has gathered, before the input is waited for. It tells no fault:
-    /// what it leaves stays gathered, and the next call that has to write tries again.
+    /// Tries to write out what an object has gathered, before the input is waited for. It reports no
+    /// fault: what it can't write stays gathered, and the next call that has to write tries again.
     fn write_out(&mut self)
         ensures bytes { held self.new ≡ held self.old }
         ensures faults { faults self.new ≡ faults self.old }
     {}
 }
 
-/// Where the bytes of sixteen lanes go, one lane for each group.
+/// A sink for the bytes of sixteen lanes, one lane for each group.
 pub trait Lanes {
     /// Pieces may be put.
     ghost begun: { Self → Bool };
@@ -89,7 +89,7 @@ pub trait Lanes {
     /// The first 4,096 bytes of the folder that `begin` was called with, or none in a new object.
     ghost folder: { Self → Option (List ℕ) };
 
-    /// The pieces with their lanes, where the object tells them.
+    /// The pieces with their lanes, if the object shows them.
     ghost pieces: { Self → Option (List (ℕ × List ℕ)) };
 
     /// How often the object has failed.
@@ -104,8 +104,8 @@ pub trait Lanes {
         ensures err { OnErr result (begun self.new ≡ begun self.old) }
         ensures cause { HasOpenCause (faults self.old) (faults self.new) result };
 
-    /// Adds a piece, which isn't empty, to a lane, once `begin` has succeeded. At an `Err`, which comes only
-    /// where the count of faults rose, it adds nothing or a nonempty front that isn't all of the piece.
+    /// Adds a piece, which isn't empty, to a lane, once `begin` has succeeded. At an `Err`, which comes
+    /// only if the count of faults rose, it adds nothing or a nonempty front that isn't all of the piece.
     fn put(&mut self, lane: U4, piece: &[u8]) -> Result<(), Failed>
         requires begun { begun self.old ≡ true }
         requires piece { 0 < length piece.now }
@@ -115,8 +115,8 @@ pub trait Lanes {
         ensures cause { HasCause (faults self.old) (faults self.new) result };
 
     /// Tries to write out what an object has gathered, of every lane, before the input is waited for. It
-    /// tells no fault: what it leaves stays gathered, and the next call that has to write to the lane tries
-    /// again.
+    /// reports no fault: what it can't write stays gathered, and the next call that has to write to the
+    /// lane tries again.
     fn write_out(&mut self)
         ensures begun { begun self.new ≡ begun self.old }
         ensures folder { folder self.new ≡ folder self.old }
@@ -125,19 +125,19 @@ pub trait Lanes {
     {}
 }
 
-/// Where named texts come from.
+/// A source of named texts.
 pub trait Shelf {
     /// The first 4,096 bytes of the name that `fetch` was called with, or none in a new object.
     ghost asked: { Self → Option (List ℕ) };
 
-    /// The text of each name, where the object tells them.
+    /// The text of each name, if the object shows them.
     ghost texts: { Self → Option (List ℕ → Option (List ℕ)) };
 
     /// How often the object has failed.
     ghost faults: { Self → ℕ };
 
-    /// Adds the first `limit` bytes of the named text, or all of it where it is shorter. It is called once. A
-    /// name that isn't there is `Failed`. `NoMemory` is free in its cause.
+    /// Adds the first `limit` bytes of the named text, or all of it if it is shorter. It is called once.
+    /// A name that isn't there is `Failed`. The cause of `NoMemory` is free.
     fn fetch(&mut self, name: &str, limit: usize, into: &mut Vec<u8>) -> Result<(), OpenFault>
         requires { asked self.old ≡ None }
         ensures asked { asked self.new ≡ Some (kept_bytes name.now) }

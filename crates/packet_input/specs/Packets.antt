@@ -35,7 +35,7 @@ use Rattle.pass_loop.specs.declared.ends.Reason.TheVariants.{Truncated, InputToo
 abbrev pub room_behind : ℕ → ℕ
 room_behind before = limit - before
 
--- the words of a packet, with the offset that it has where so many bytes stand before the first one
+-- the words of a packet, with the offset that it has if so many bytes stand before the first one
 abbrev pub framed_behind : ℕ → Order → ℕ → List ℕ → Framed
 framed_behind before order at chunk = record { offset = at + before; words = words_of order chunk }
 
@@ -55,7 +55,7 @@ abbrev pub IsCutBehind : Order → ℕ → List ℕ → List Framed → tails.Ta
 IsCutBehind order before bytes framed tail =
     IsCutInto (bytes_asked order) (framed_behind before order) (room_behind before) bytes framed tail
 
--- the refusal where the packets end otherwise than with the last byte
+-- the refusal if the packets end otherwise than with the last byte
 abbrev pub refusal_behind : ℕ → tails.Tail → Tail
 refusal_behind before tail.End = None
 refusal_behind before (tail.Truncated at) = Some (Truncated, at + before)
@@ -129,7 +129,7 @@ abbrev pub ReadsAt : Reading → ℕ → Found Framed Packet → Type 0
 ReadsAt reader place result =
     (framed : Framed) × (next : ℕ) × IsHeldAt place next reader framed × IsReadInto framed next result
 
--- a packet stands where the reader stood, which is behind it then, within the limit; where the input ends, all of it is read
+-- a packet stands where the reader stood, which is after it then, within the limit; when the input ends, all of it is read
 abbrev pub MovesOn : ℕ → Reading → Reading → Option (List ℕ) → Next Framed Packet → Type 0
 MovesOn before old new all (next.Item at packet) =
     (at.offset ≡ old.offset + before) × (0 < length at.words) × (new.offset ≡ old.offset + 4 * length at.words)
@@ -149,7 +149,7 @@ abbrev pub RefusesBytes : Next Framed Packet → Type 0
 RefusesBytes (next.Refused reason offset) = IsOfBytes reason
 RefusesBytes _ = Unit {0}
 
--- What is given out next of an input in which so many bytes stand before the first word: by what was given before, where a
+-- What is given out next of an input in which so many bytes stand before the first word: by what was given before, if a
 -- packet stands, for what bytes are refused, how the end comes nearer, and when the source failed. The second reader and the second
 -- source are those after it.
 pub record GivesNextPacket {S : Type 0} (source : source.Ghosts S) (before : ℕ) (words words' : Reading)
@@ -164,13 +164,13 @@ pub record GivesNextPacket {S : Type 0} (source : source.Ghosts S) (before : ℕ
   pub nearer : ComesNearer (words.limit - words.offset) (words'.limit - words'.offset) result
   pub cause : NextCause (source.faults input) (source.faults input') result
 
--- the refusal where the words of an input stop, with the offset of a part in the whole input, as a sum of 64 bits; none if a read failed
+-- the refusal if the words of an input stop, with the offset of a part in the whole input, as a sum of 64 bits; none if a read failed
 abbrev pub refusal_of_stop : ℕ → ReadStop → Option (Reason × ℕ)
 refusal_of_stop before (stop.Read failed) = None
 refusal_of_stop before (stop.Truncated at) = Some (Truncated, (at + before) % 2 ^ 64)
 refusal_of_stop before stop.TooLong = Some (InputTooLong, limit)
 
--- what is given out where the words of an input stop
+-- what is given out if the words of an input stop
 abbrev pub next_of_stop : {P : Type 0} → ℕ → ReadStop → Next Framed P
 next_of_stop before (stop.Read failed) = next.Failed
 next_of_stop before (stop.Truncated at) = next.Refused Truncated ((at + before) % 2 ^ 64)

@@ -17,7 +17,7 @@ ghost use Rattle.pass_loop.specs.ForProofs.Starting.{none_passed};
 
 use crate::endings::reason_of;
 use crate::more::more_words;
-use direct_packets::EncodedPacket;
+use encoded_packets::EncodedPacket;
 use item_reader::items_are_read_in_order;
 use outside::Source;
 use pass_loop::{Found, Items, LIMIT, More};

@@ -9,7 +9,7 @@ use packet_words::{Order, pair_bytes, write_words};
 use pass_loop::{Outputs, RunEnd};
 
 /// Puts the words of one packet in the output, in this order of their bytes. An `Err` is
-/// `OutputFault`, and comes only where the count of the output's faults rose.
+/// `OutputFault`, and comes only if the count of the output's faults rose.
 #[inline(always)]
 pub fn put_encoded<O: Outputs>(words: &[u32], order: Order, outputs: &mut O) -> Result<(), RunEnd>
     requires some { 0 < length words.now }

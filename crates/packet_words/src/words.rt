@@ -115,7 +115,7 @@ impl fmt::Debug for Words {
 pub struct Framed {
     /// The number of bytes before it.
     pub offset: u64,
-    /// Its words, as many as the message type of the first one asks for.
+    /// Its words, in the number that the message type of the first one requires.
     pub words: Words,
 }
 

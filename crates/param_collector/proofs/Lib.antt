@@ -1,1 +1,1 @@
-mod Meaning
+pub mod Meaning

@@ -1,9 +1,11 @@
 -- What a control change leaves is kept after the step of the meaning, and its answer is the meaning's.
-use Rattle.std.proofs.Common.{ℕ, ◌+◌, ◌-◌, ◌*◌, ◌/◌, ⊎_elim, ◌≡◌, ◌<◌, ◌∙◌, ap, sym, subst, refl, Bool, true}
-use Rattle.std.proofs.Common.{false, cond, arith, Option, Some, None, List, length, get_or, set, replicate}
+use Rattle.std.proofs.Common.{ℕ, ◌+◌, ◌-◌, ◌*◌, ◌/◌, ⊎_elim, ◌≡◌, ◌<◌, ◌≤◌, ◌∙◌, ap, sym, subst, refl, Bool, true}
+use Rattle.std.proofs.Common.{false, cond, arith, Option, Some, None, List, Vec, vec_len, length, get_or, set, replicate}
 use Rattle.std.proofs.lemmas.Bool.{cases_lt, eqb-true, eqb-false, eq-eqb}
 use Rattle.std.proofs.lemmas.Bool.Decides.{nat_tests}
-use Rattle.std.proofs.lemmas.List.{get_or-set_same, get_or-set_other, get_or_past, length-set, get_or-replicate, length-replicate}
+use Rattle.std.proofs.lemmas.List.{ext_get_or, get_or-set_same, get_or-set_other, get_or_past, length-set, get_or-replicate, length-replicate}
+use Rattle.std.proofs.lemmas.List.{with_items_is}
+use Rattle.std.specs.Vec.{with_items}
 use Rattle.std.specs.Prelude.{nat_le, ◌&&◌, IfSome}
 use Rattle.std.specs.Option.{unwrap_or}
 use lib.Dec.{eqb}
@@ -22,7 +24,7 @@ use Rattle.midi_meaning.proofs.Pairs.{only_paired, pair_coarse, pair_index, unpa
 use Rattle.midi_meaning.proofs.SameParam.{same_param-true, same_param-refl}
 use Rattle.param_collector.specs.declared.collected.Collected.{Collected}
 use Rattle.param_collector.specs.declared.collected.Collected.TheVariants as collected
-use Rattle.param_collector.specs.Holding.{Holding, IsHolding, pair_count, registers_at, msb_at, pair_at}
+use Rattle.param_collector.specs.Holding.{Holding, IsHolding, fresh, pair_count, registers_at, msb_at, pair_at}
 use Rattle.param_collector.specs.Msbs.{kind_number, place_of, pair_place, zeros}
 use Rattle.param_collector.specs.Control.{AreInRange, EntryInRange, answer_by, answer_of, entered, value_after, holding_after, with_entry}
 use Rattle.param_collector.specs.Keeps.{Keeps, IsMeant, control_step, controller_of, value_of}
@@ -680,3 +682,55 @@ start_kept registers msbs paired pairs unset zero none = record {
       λ channel index within is. ap (λ list. get_or list (pair_place channel index) 0) none
       ∙ zeros_anywhere (pair_count paired) (pair_place channel index);
 }
+
+-- a table that is filled with 0
+pub filled : (count size filler : ℕ) (items : List ℕ) → filler ≡ 0 → size ≡ count → items ≡ replicate size filler → items ≡ zeros count
+unfolding zeros
+filled count size filler items is_zero sized all = all ∙ ap (replicate size) is_zero ∙ ap (λ n. replicate n 0) sized
+
+-- registers of which none is set
+pub unset_each : (size done : ℕ) (channels : List Registers) → length channels ≡ size → size ≤ done
+    → ((k : ℕ) → k < done → get_or channels k unset_registers ≡ unset_registers) → channels ≡ replicate size unset_registers
+unset_each size done channels sized whole unset =
+    ext_get_or unset_registers channels (replicate size unset_registers) (sized ∙ sym (length-replicate size unset_registers))
+    (λ k below.
+    let within : k < size = omega (arith, below, sized) in
+    unset k (omega (arith, within, whole)) ∙ sym (get_or-replicate size k unset_registers unset_registers within))
+
+-- the pairs of a collector, by whether controllers are paired
+pub pairs_counted : (paired : Bool) (pairs : List ℕ) → (paired ≡ true → length pairs ≡ 512) → (paired ≡ false → length pairs ≡ 0)
+    → length pairs ≡ pair_count paired
+pairs_counted true pairs paired_size unpaired_size = paired_size refl
+pairs_counted false pairs paired_size unpaired_size = unpaired_size refl
+
+-- ---- a collector that forgets
+
+pub unset_again : {Z : Type 0} (old : Vec Registers Z) (lent new : List Registers) → lent ≡ old.items → length lent ≡ vec_len old
+    → length old.items ≡ 16 → new ≡ replicate (length lent) unset_registers → (with_items old new).items ≡ replicate 16 unset_registers
+unset_again old lent new same counted sixteen unset =
+    let size : length new ≡ vec_len old = ap length unset ∙ length-replicate (length lent) unset_registers ∙ counted in
+    with_items_is old new size ∙ unset ∙ ap (λ n. replicate n unset_registers) (ap length same ∙ sixteen)
+
+pub pairs_again : (paired : Bool) (old new : List ℕ) → (paired ≡ true → length old ≡ 512) → (paired ≡ false → length old ≡ 0)
+    → new ≡ zeros (length old) → new ≡ zeros (pair_count paired)
+pairs_again paired old new paired_size unpaired_size cleared = cleared ∙ ap zeros (pairs_counted paired old paired_size unpaired_size)
+
+pub fresh_again : (paired now : Bool) (registers : List Registers) (msbs pairs : List ℕ) → registers ≡ replicate 16 unset_registers
+    → msbs ≡ zeros 524288 → pairs ≡ zeros (pair_count paired) → paired ≡ now →
+    record { registers = registers; msbs = msbs; paired = paired; pairs = pairs } ≡ fresh now
+fresh_again paired now registers msbs pairs unset none none_paired same = λ i. record {
+  registers = unset i;
+  msbs = none i;
+  paired = same i;
+  pairs = (none_paired ∙ ap (λ q. zeros (pair_count q)) same) i;
+}
+
+pub sizes_again : (paired : Bool) (registers : List Registers) (msbs pairs : List ℕ) → registers ≡ replicate 16 unset_registers
+    → msbs ≡ zeros 524288 → pairs ≡ zeros (pair_count paired) →
+    (length registers ≡ 16) × (length msbs ≡ 524288) × (paired ≡ true → length pairs ≡ 512) × (paired ≡ false → length pairs ≡ 0)
+sizes_again paired registers msbs pairs unset none none_paired = (
+  ap length unset ∙ length-replicate 16 unset_registers,
+  ap length none ∙ length_zeros 524288,
+  λ is. ap length none_paired ∙ length_zeros (pair_count paired) ∙ ap pair_count is,
+  λ is. ap length none_paired ∙ length_zeros (pair_count paired) ∙ ap pair_count is,
+)

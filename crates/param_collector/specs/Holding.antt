@@ -11,7 +11,7 @@ pub record Holding : Type 0 where
   pub paired : Bool
   pub pairs : List ℕ
 
--- Sixteen registers, and an MSB for each channel, kind and number. Where controllers are paired there are 32 MSBs for each channel.
+-- Sixteen registers, and an MSB for each channel, kind and number. If controllers are paired there are 32 MSBs for each channel.
 abbrev pub IsHolding : Holding → Type 0
 IsHolding holding =
     (length holding.registers ≡ 16) × (length holding.msbs ≡ 524288) × (holding.paired ≡ true → length holding.pairs ≡ 512)

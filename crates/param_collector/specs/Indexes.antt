@@ -1,4 +1,4 @@
--- The indexes of each answer, where controllers are paired or aren't.
+-- The indexes of each answer, with controllers paired or not.
 use Rattle.std.specs.Prelude.{◌≡◌, ℕ, ◌+◌, ◌⊎◌, Bool, true}
 use Rattle.midi_meaning.specs.Indexes.{IsHalf, IsDataEntry, IsCoarse, IsFine, IsUnpaired}
 use Rattle.param_collector.specs.declared.collected.Collected.{Collected}

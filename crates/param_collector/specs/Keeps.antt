@@ -13,15 +13,15 @@ use Rattle.param_collector.specs.declared.collected.Collected.{Collected}
 use Rattle.param_collector.specs.Holding.{Holding, registers_at, msb_at, pair_at}
 use Rattle.param_collector.specs.Control.{answer_by}
 
--- the value of a parameter, 0 where it has none
+-- the value of a parameter, 0 if it has none
 abbrev pub value_of : Channel → Param → ℕ
 value_of channel param = unwrap_or (channel.params param) 0
 
--- the value of a controller, 0 where it has none
+-- the value of a controller, 0 if it has none
 abbrev pub controller_of : Channel → ℕ → ℕ
 controller_of channel index = unwrap_or (channel.controllers index) 0
 
--- The registers of each channel, and the MSB of each parameter's value of fourteen bits. Where controllers are paired, also the MSB
+-- The registers of each channel, and the MSB of each parameter's value of fourteen bits. If controllers are paired, also the MSB
 -- of each pair's value of fourteen bits.
 pub record Keeps (holding : Holding) (group : GroupState) : Type 0 where
   pub registers : (channel : ℕ) → channel < 16 → registers_at holding channel ≡ (group.channels channel).registers

@@ -12,9 +12,9 @@ pub enum Collected {
     Held,
     /// A data entry, 6 or 38: the selected parameter and its new value of 14 bits.
     Set(Param, U14),
-    /// A data entry, 6 or 38, where no parameter is selected.
+    /// A data entry, 6 or 38, if no parameter is selected.
     Ignored,
-    /// An MSB or LSB of a controller, 1 to 31 or 33 to 63, except for 6 and 38, where controllers are paired
+    /// An MSB or LSB of a controller, 1 to 31 or 33 to 63, except for 6 and 38, if controllers are paired
     /// (own rule): the index of its MSB, and the controller's new value of 14 bits.
     Pair(U7, U14),
     /// Any other control change.

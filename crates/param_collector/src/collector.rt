@@ -1,10 +1,10 @@
 // The registers and parameters that the control changes of a stream have set.
-ghost use Rattle.std.specs.Prelude.{◌≡◌, ℕ, Bool, ◌<◌, ◌+◌, ◌*◌, IfOk, IfSome};
+ghost use Rattle.std.specs.Prelude.{◌≡◌, ℕ, Bool, ◌<◌, ◌+◌, ◌*◌, IfOk, IfSome, length, replicate};
 ghost use Rattle.voice_messages.specs.Ranges.{IsParam};
 ghost use Rattle.midi_meaning.specs.Controllers.{coarse, fine, pairing, role_of};
 ghost use Rattle.midi_meaning.specs.Indexes.{HasIndex};
 ghost use Rattle.midi_meaning.specs.Messages.{as_they_come, start};
-ghost use Rattle.midi_meaning.specs.Registers.{bank_of, selected};
+ghost use Rattle.midi_meaning.specs.Registers.{bank_of, selected, unset_registers};
 ghost use Rattle.midi_meaning.specs.Roles.{registers_after, role_in};
 ghost use Rattle.midi_meaning.specs.State.{GroupState};
 ghost use Rattle.param_collector.specs.Control.{
@@ -32,7 +32,7 @@ use std::marker::Model;
 use voice_messages::{Bank, Param, U7, U14};
 
 /// What the control changes of a MIDI 1.0 stream have set: for each of sixteen channels the halves of the
-/// bank and of the two parameter numbers, and for each parameter the MSB of its value; where controllers are
+/// bank and of the two parameter numbers, and for each parameter the MSB of its value; if controllers are
 /// paired (own rule), also the MSB of each pair. A contract sees these registers and MSBs, and whether
 /// controllers are paired.
 #[derive(Drop)]
@@ -44,7 +44,7 @@ pub struct Collector {
 }
 
 impl Model for Collector {
-    ghost use Rattle.std.specs.Prelude.{◌≡◌, true, length};
+    ghost use Rattle.std.specs.Prelude.{◌≡◌, true, false, length};
     ghost use Rattle.param_collector.specs.Holding.{Holding};
 
     ghost Value = { Holding };
@@ -57,7 +57,7 @@ impl Model for Collector {
     } };
 
     ghost invariant = { λ c. (length c.registers.items ≡ 16) × (length c.msbs ≡ 524288) ×
-        (c.paired ≡ true → length c.pairs ≡ 512) };
+        (c.paired ≡ true → length c.pairs ≡ 512) × (c.paired ≡ false → length c.pairs ≡ 0) };
 }
 
 // A value of fourteen bits by its halves.
@@ -70,9 +70,18 @@ fn of_halves(msb: U7, lsb: U7) -> U14
     U14::low_bits(msb as u32 * 128 + lsb as u32)
 }
 
+// Sets no half of any of these registers.
+fn unset_all(channels: &mut [Registers])
+    ensures { channels.new ≡ replicate (length channels.old) unset_registers }
+{
+    for registers in channels.iter_mut() {
+        *registers = Registers::unset();
+    }
+}
+
 impl Collector {
     /// A collector for a stream that has had no byte yet: no half of a register is set, and no parameter or
-    /// controller has a value. Controllers are paired or aren't (own rule): where they are, the MSB and the
+    /// controller has a value. Controllers are paired or aren't (own rule): if they are, the MSB and the
     /// LSB of a controller are one value of 14 bits. All memory that it ever needs is taken here; `NoMemory`
     /// when there is none.
     pub fn new(alloc: Global, paired: bool) -> Result<Collector, NoMemory>
@@ -98,6 +107,18 @@ impl Collector {
         })
     }
 
+    /// Forgets what control changes have set: the collector is as a new one, with paired controllers or
+    /// without as before (own rule). Takes no memory.
+    pub fn reset(&mut self)
+        ensures fresh { self.new ≡ fresh self.old.paired }
+        ensures holding { IsHolding self.new }
+        ensures start { Keeps self.new (start as_they_come) }
+    {
+        unset_all(&mut self.registers);
+        self.msbs.clear();
+        self.pairs.clear();
+    }
+
     /// Takes one control change (MIDI 1.0 Detailed Specification, control change, bank select, registered and
     /// non-registered parameter numbers; RP-015).
     #[inline(always)]
@@ -116,7 +137,7 @@ impl Collector {
     }
 
     // Takes a control change by its role, of which those of pairs count only
-    // where controllers are paired: that is asked for last.
+    // if controllers are paired: that is asked for last.
     #[inline(always)]
     fn act(&mut self, channel: U4, role: ControlRole, index: U7, value: U7) -> Collected
         ensures answer { result ≡
@@ -137,7 +158,7 @@ impl Collector {
             ControlRole::DataIncrement => Collected::DataIncrement,
             ControlRole::DataDecrement => Collected::DataDecrement,
             ControlRole::ResetAll => {
-                self.reset(channel);
+                self.reset_all_controllers(channel);
                 Collected::Plain
             }
             ControlRole::Coarse if self.paired => self.enter_coarse(channel, index, value),
@@ -157,7 +178,7 @@ impl Collector {
     }
 
     // Reset all controllers (RP-015).
-    fn reset(&mut self, channel: U4)
+    fn reset_all_controllers(&mut self, channel: U4)
         ensures behind { self.new ≡ with_reset channel self.old }
         ensures channel_below { channel < 16 }
     {

@@ -33,7 +33,7 @@ pub(crate) fn zeros(alloc: Global, count: usize) -> Result<Vec<U7>, NoMemory>
     }
 }
 
-/// The MSBs of the parameters of all channels, 0 where none was set. A contract sees it as the table of them.
+/// The MSBs of the parameters of all channels, 0 if none was set. A contract sees it as the table of them.
 #[derive(Drop)]
 pub(crate) struct Msbs {
     table: Vec<U7>,
@@ -60,6 +60,13 @@ impl Msbs {
     {
         let table = zeros(alloc, SIZE)?;
         Ok(Msbs { table })
+    }
+
+    /// No parameter has an MSB any more.
+    pub(crate) fn clear(&mut self)
+        ensures { self.new ≡ zeros 524288 }
+    {
+        self.table.fill(U7::low_bits(0));
     }
 
     /// The MSB of a parameter.

@@ -1,5 +1,5 @@
 // The MSBs of paired controllers, in one table.
-ghost use Rattle.std.specs.Prelude.{◌≡◌, ◌<◌, true, IfOk, length};
+ghost use Rattle.std.specs.Prelude.{◌≡◌, ◌<◌, true, false, IfOk, length};
 ghost use Rattle.param_collector.specs.Holding.{pair_count};
 ghost use Rattle.param_collector.specs.Msbs.{pair_place, zeros};
 
@@ -19,7 +19,7 @@ fn pair_place(channel: U4, index: U7) -> usize
     channel.get() as usize * 32 + index.get() as usize
 }
 
-/// The MSBs of the paired controllers of all channels, 0 where none was set; none where controllers aren't
+/// The MSBs of the paired controllers of all channels, 0 if none was set; none if controllers aren't
 /// paired. A contract sees it as the table of them.
 #[derive(Drop)]
 pub(crate) struct PairMsbs {
@@ -42,10 +42,18 @@ impl PairMsbs {
     pub(crate) fn new(alloc: Global, paired: bool) -> Result<PairMsbs, NoMemory>
         ensures table { IfOk result (λ msbs. msbs ≡ zeros (pair_count paired)) }
         ensures size { IfOk result (λ msbs. paired ≡ true → length msbs ≡ 512) }
+        ensures none { IfOk result (λ msbs. paired ≡ false → length msbs ≡ 0) }
     {
         let count = if paired { SIZE } else { 0 };
         let table = zeros(alloc, count)?;
         Ok(PairMsbs { table })
+    }
+
+    /// No controller has an MSB any more.
+    pub(crate) fn clear(&mut self)
+        ensures { self.new ≡ zeros (length self.old) }
+    {
+        self.table.fill(U7::low_bits(0));
     }
 
     /// The MSB of a pair, by its index.
@@ -58,7 +66,7 @@ impl PairMsbs {
         }
     }
 
-    /// Sets the MSB of a pair, where controllers are paired.
+    /// Sets the MSB of a pair, if controllers are paired.
     pub(crate) fn set(&mut self, channel: U4, index: U7, msb: U7)
         ensures { self.new ≡ slice_set self.old (pair_place channel index) msb }
     {

@@ -15,7 +15,7 @@ placed_at at chunk = (at, slice_index chunk 0)
 abbrev pub bytes_read : List (ℕ × ℕ) → List ℕ
 bytes_read items = map (λ item. item.1) items
 
--- A stream is cut into its bytes: into all of them where they are within the limit, and else into those within it, and then it is
+-- A stream is cut into its bytes: into all of them if they are within the limit, and else into those within it, and then it is
 -- too long.
 abbrev pub byte_cutting : Cutting (ℕ × ℕ)
 byte_cutting = item_cutting one_byte placed_at

@@ -8,7 +8,7 @@ use Rattle.pass_loop.specs.Items.{item_cutting, limit, refusal_at}
 use Rattle.pass_loop.specs.Pass.{HasGivenUp, IsFront}
 
 -- Of a reader that has given these items of all that there was and goes on: one more item stands after the others at the front of the
--- input; when more was read, it has given the same; where it ends, the items are those of the input, which ends so; where a read failed,
+-- input; when more was read, it has given the same; when it ends, the items are those of the input, which ends so; if a read failed,
 -- it has given the same and goes on, and the items are those that lie wholly in what was given.
 pub record ItemsAreTakenInOrder {How Item : Type 0} (asked : How → List ℕ → ℕ) (item_of : How → ℕ → List ℕ → Item) : Type 0 where
   pub given_more : (how : How) (reader : Reading How) (all left : Option (List ℕ)) (items : List Item) →

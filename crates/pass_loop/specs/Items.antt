@@ -10,13 +10,13 @@ use Rattle.pass_loop.specs.declared.ends.Reason.TheVariants.{Truncated, InputToo
 abbrev pub limit : ℕ
 limit = 4294967296
 
--- the refusal where the items of an input end otherwise than with its last byte
+-- the refusal if the items of an input end otherwise than with its last byte
 abbrev pub refusal_at : tails.Tail → Tail
 refusal_at tail.End = None
 refusal_at (tail.Truncated offset) = Some (Truncated, offset)
 refusal_at tail.TooLong = Some (InputTooLong, limit)
 
--- an item after its offset, where it is read with its offset behind it
+-- an item after its offset, if it is read with its offset behind it
 abbrev pub after_offset : {Item : Type 0} → (ℕ → List ℕ → Item × ℕ) → ℕ → List ℕ → ℕ × Item
 after_offset item_of at chunk = ((item_of at chunk).1, (item_of at chunk).0)
 

@@ -35,7 +35,7 @@ SparesOutput end old new = (new.output ≡ old.output) × (new.faults.output ≡
 abbrev pub SparesNotes : RunEnd → Places → Places → Type 0
 SparesNotes end old new = (new.notes ≡ old.notes) × (new.faults.notes ≡ old.faults.notes) × (end ≢ NoteFault)
 
--- what isn't named stays as it is
+-- what isn't named is unchanged
 abbrev pub SparesOthers : Named → RunEnd → Places → Places → Type 0
 SparesOthers named end old new =
     (named.lanes ≡ false → SparesLanes end old new) × (named.output ≡ false → SparesOutput end old new)

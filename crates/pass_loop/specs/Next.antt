@@ -24,7 +24,7 @@ GivesNext IsCut Promises HasGiven so_far (Refused reason offset) =
 GivesNext IsCut Promises HasGiven so_far Failed =
     HasGiven so_far × IfSome so_far.all (λ bytes. HasGivenUp IsCut bytes so_far.left so_far.items)
 
--- the source's count rose where a read failed, and else stayed
+-- the source's count rose if a read failed, and else stayed
 abbrev pub NextCause : {A I : Type 0} → ℕ → ℕ → Next A I → Type 0
 NextCause before now Failed = Rose before now
 NextCause before now _ = now ≡ before
@@ -36,7 +36,7 @@ ComesNearer before now _ = Unit {0}
 
 -- ---- from what is held
 
--- what begins at a place, by what was given before it: as above, where an item is given if the reader has passed it
+-- what begins at a place, by what was given before it: as above, in which an item is given once the reader has passed it
 abbrev pub GivesFound : {A I : Type 0} → Cutting (A × I) → (List (A × I) → A × I → Type 0) →
     (ℕ → Given (A × I) → Type 0) → Given (A × I) → Found A I → Type 0
 GivesFound IsCut Promises HasGivenAt so_far (found.Item at item next) =

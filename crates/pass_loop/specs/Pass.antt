@@ -67,7 +67,7 @@ module _ {Item : Type 0} (work : Work Item) where
 
 -- ---- one item, and the end
 
--- these are put, or one of them failed; where memory is taken, there may be none, and nothing is put
+-- these are put, or one of them failed; if memory is taken, there may be none, and nothing is put
 abbrev pub PutsIn : Bool → List Put → Places → Places → Result (Unit {0}) RunEnd → Type 0
 PutsIn false puts old new result = Puts puts old new result
 PutsIn true puts old new result = Puts puts old new result ⊎ ((result ≡ Err NoMemory) × (new ≡ old))
@@ -101,12 +101,12 @@ abbrev pub Takes : Tail → List Put → Places → Places → Result (Unit {0})
 Takes (Some refusal) puts old new result = (result ≡ Err (Refused refusal.0 refusal.1)) × (new ≡ old)
 Takes None puts old new result = Puts puts old new result
 
--- the same where memory is taken: there may be none, and then nothing is put
+-- the same if memory is taken: there may be none, and then nothing is put
 abbrev pub TakesIn : Bool → Tail → List Put → Places → Places → Result (Unit {0}) RunEnd → Type 0
 TakesIn false refusal puts old new result = Takes refusal puts old new result
 TakesIn true refusal puts old new result = Takes refusal puts old new result ⊎ ((result ≡ Err NoMemory) × (new ≡ old))
 
--- the end where what is put at the end of the input is put, or failed
+-- the end if what is put at the end of the input is put, or failed
 abbrev pub end_of : Result (Unit {0}) RunEnd → RunEnd
 end_of (Ok done) = Done
 end_of (Err end) = end
@@ -203,7 +203,7 @@ module _ {Item : Type 0} (IsCut : Cutting Item) (work : Work Item) where
   Stands old new NoMemory = WantsMemory old new
   Stands old new end = PutFails end old new
 
-  -- what each end says: what stands, and that what isn't named stays as it is
+  -- what each end says: what stands, and that what isn't named is unchanged
   abbrev pub Ends : Seen → Seen → RunEnd → Type 0
   Ends old new end = Stands old new end × SparesOthers work.names end old.places new.places
 
@@ -231,12 +231,12 @@ abbrev pub IsDoneIn : Bool → RunEnd → Type 0
 IsDoneIn false end = end ≡ Done
 IsDoneIn true end = (end ≡ Done) ⊎ (end ≡ NoMemory)
 
--- where nothing is refused and nothing fails, the pass is done
+-- if nothing is refused and nothing fails, the pass is done
 abbrev pub IsDoneUnless : {Item : Type 0} → Cutting Item → Work Item → Seen → Seen → RunEnd → Type 0
 IsDoneUnless IsCut work old new end =
     IfSome old.left (λ bytes. HasNoRefusal IsCut work bytes → NothingFails old new → IsDoneIn work.grows end)
 
--- What holds of a way of cutting: bytes are cut in one way only, and a front of them begins as they do, also where they are refused
+-- What holds of a way of cutting: bytes are cut in one way only, and a front of them begins as they do, also if they are refused
 -- later.
 pub record CutsOnce {Item : Type 0} (IsCut : Cutting Item) : Type 0 where
   pub one : (bytes : List ℕ) (items others : List Item) (tail other : Tail) → IsCut bytes items tail →

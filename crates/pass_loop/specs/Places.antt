@@ -13,7 +13,7 @@ pub record Counts : Type 0 where
   pub output : ℕ
   pub notes : ℕ
 
--- what they tell, where they tell it, and their counts; and the names of the borrows, where they are borrowed, which show that they stay
+-- what they tell, if they tell it, and their counts; and the names of the borrows, if they are borrowed, which show that they stay
 -- the same objects
 pub record Places : Type 0 where
   pub begun : Bool

@@ -44,7 +44,7 @@ IsPartOf (in_lane lane piece) part =
 IsPartOf (in_output text) part = (n : ℕ) × (n < length text) × (part ≡ in_output (take n text) ∷ [])
 IsPartOf (in_notes text) part = (n : ℕ) × (n < length text) × (part ≡ in_notes (take n text) ∷ [])
 
--- the end that follows where it failed
+-- the end that follows if it failed
 abbrev pub fault_of : Put → RunEnd
 fault_of (in_lane lane piece) = LaneFault
 fault_of (in_output text) = OutputFault

@@ -1,4 +1,4 @@
--- The end that there must be where an input is refused.
+-- The end that there must be if an input is refused.
 use Rattle.std.specs.Prelude.{◌≡◌, ◌⊎◌, ℕ, Bool, true, false, List, reverse, IfSome}
 use Rattle.pass_loop.specs.Pass.{AreAccepted, Cutting, IsFirstRefusal, NothingFails, Seen, Work}
 use Rattle.pass_loop.specs.declared.ends.Reason.{Reason}
@@ -15,7 +15,7 @@ abbrev pub IsRefusedIn : Bool → Reason → ℕ → RunEnd → Type 0
 IsRefusedIn false reason offset end = end ≡ Refused reason offset
 IsRefusedIn true reason offset end = (end ≡ Refused reason offset) ⊎ (end ≡ NoMemory)
 
--- where the input has a first refusal and nothing fails, the pass ends with exactly that refusal
+-- if the input has a first refusal and nothing fails, the pass ends with exactly that refusal
 abbrev pub IsRefusedWhere : {Item : Type 0} → Cutting Item → Work Item → Seen → Seen → RunEnd → Type 0
 IsRefusedWhere IsCut work old new end =
     IfSome old.left (λ bytes. (reason : Reason) (offset : ℕ) → HasFirstRefusal IsCut work bytes reason offset →

@@ -69,9 +69,8 @@ impl Items<u64, u8> for ByteReader {
                 reason: Reason::InputTooLong,
                 offset: LIMIT,
             },
-            Err(ReadStop::Read(_)) => More::Failed,
-            // A byte is whole, so the end of the input cuts none off.
-            Err(ReadStop::Truncated(_)) => unreachable!(),
+            // A byte is whole, so the end of the input cuts none off: a read that stops here failed.
+            Err(ReadStop::Read(_) | ReadStop::Truncated(_)) => More::Failed,
         }
     }
 

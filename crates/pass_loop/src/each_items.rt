@@ -60,7 +60,8 @@ impl<I, H: Cut<Item = (I, u64)>> Items<u64, I> for EachItems<H> {
 
     ghost passed = { λ count reader. passed count reader };
 
-    ghost IsHeld = { λ place reader. H.asked reader.how (drop place (held_bytes reader)) ≤ length (drop place (held_bytes reader)) };
+    ghost IsHeld = { λ place reader.
+        H.asked reader.how (drop place (held_bytes reader)) ≤ length (drop place (held_bytes reader)) };
 
     #[inline(always)]
     fn held(&self) -> (&[u8], u64) {

@@ -21,7 +21,7 @@ pub enum Reason {
     ExclusiveTooLong,
     /// An event of a rehearsal asks for what isn't there, or is of no kind (own rule).
     BadEvent,
-    /// An event of a rehearsal finds 1,024 messages already where the
+    /// An event of a rehearsal finds 1,024 messages already if the
     /// one that it may make would be kept (own rule).
     TooManyMessages,
     /// A clip file doesn't begin with its header (own rule).
@@ -39,7 +39,7 @@ pub enum Reason {
 pub enum RunEnd {
     /// The input was read to its end.
     Done,
-    /// What stands at this offset is refused: a packet, a byte, an event, the input where it ends within one
+    /// What stands at this offset is refused: a packet, a byte, an event, or the input if it ends within one
     /// or passes its limit, or a clip that doesn't begin or end as it should. The offset is the number of
     /// input bytes before it.
     Refused { reason: Reason, offset: u64 },

@@ -7,27 +7,27 @@ use crate::ends::RunEnd;
 use outside::{Lanes, Sink};
 use small_types::U4;
 
-/// Where a pass puts what it puts: lanes, an output and notes.
+/// The places of a pass: lanes, an output and notes.
 pub trait Outputs {
     /// What they tell and count.
     ghost places: { Self → Places };
 
     /// Puts a piece, which isn't empty, in a lane, once the lanes are begun. At an `Err`, which comes only
-    /// where the count of the lanes' faults rose and is `LaneFault`, the lane gained nothing, or a front of
+    /// if the count of the lanes' faults rose and is `LaneFault`, the lane gained nothing, or a front of
     /// the piece that is neither empty nor all of it.
     fn put_lane(&mut self, lane: U4, piece: &[u8]) -> Result<(), RunEnd>
         requires begun { (places self.old).begun ≡ true }
         requires piece { 0 < length piece.now }
         ensures { Puts (in_lane lane piece.now ∷ []) (places self.old) (places self.new) result };
 
-    /// Puts text, which isn't empty, in the output. At an `Err`, which comes only where the count of the
+    /// Puts text, which isn't empty, in the output. At an `Err`, which comes only if the count of the
     /// output's faults rose and is `OutputFault`, the output gained at most a front of the text that isn't
     /// all of it.
     fn put_output(&mut self, text: &[u8]) -> Result<(), RunEnd>
         requires { 0 < length text.now }
         ensures { Puts (in_output text.now ∷ []) (places self.old) (places self.new) result };
 
-    /// Puts text, which isn't empty, in the notes. At an `Err`, which comes only where the count of the
+    /// Puts text, which isn't empty, in the notes. At an `Err`, which comes only if the count of the
     /// notes' faults rose and is `NoteFault`, the notes gained at most a front of the text that isn't all of
     /// it.
     fn put_notes(&mut self, text: &[u8]) -> Result<(), RunEnd>

@@ -47,8 +47,9 @@ pub enum More {
     Failed,
 }
 
-/// Cuts an input into items. It holds bytes that it has read. A loop goes over them with a place of its own, from item to item
-/// (`item_in`), tells the reader how many it has passed (`pass`), and has it read more (`more`).
+/// Cuts an input into items. It holds bytes that it has read. A loop goes over them with a place of its own,
+/// from item to item (`item_in`), tells the reader how many it has passed (`pass`), and has it read more
+/// (`more`).
 pub trait Items<A, I> {
     /// How an input is cut, by a new reader.
     ghost IsCut: { Self → Cutting (A × I) };
@@ -89,8 +90,8 @@ pub trait Items<A, I> {
         requires place { place ≤ length held.now }
         ensures answer { (first : Self) (all left : Option (List ℕ)) (items : List (A × I)) →
             HasGiven first (passed place self.now) (given all left items) →
-            IfSome result (λ found. GivesFound (IsCut first) Promises (λ next. HasGiven first (passed next self.now))
-            (given all left items) found) }
+            IfSome result (λ found. GivesFound (IsCut first) Promises
+            (λ next. HasGiven first (passed next self.now)) (given all left items) found) }
         ensures further { IfSome result (λ found. IsFurther (λ at. to_go (passed at self.now))
             (length held.now) place found) }
         ensures none { result ≡ None → IsHeld place self.now → ⊥ };
@@ -100,7 +101,8 @@ pub trait Items<A, I> {
         requires { count ≤ length (held_bytes self.old) }
         ensures { self.new ≡ passed count self.old };
 
-    /// Reads until a whole item is held, if none is. After `More::Failed` nothing is lost, and a later call goes on from there.
+    /// Reads until a whole item is held, if none is. After `More::Failed` nothing is lost, and a later call
+    /// goes on from there.
     fn more<S: Source>(&mut self, input: &mut S) -> More
         ensures answer { (first : Self) (all : Option (List ℕ)) (items : List (A × I)) →
             HasGiven first self.old (given all (S.left input.old) items) →
@@ -170,7 +172,7 @@ pub trait Engine<A, I> {
         AreAccepted (work first) past → ArePut (work first) past puts → (work first).Means past puts };
 }
 
-// The end where what is put at the end of the input is put, or failed.
+// The end if what is put at the end of the input is put, or failed.
 pub(crate) fn end_of(closed: Result<(), RunEnd>) -> RunEnd
     ensures { result ≡ end_after closed }
 {
@@ -180,7 +182,7 @@ pub(crate) fn end_of(closed: Result<(), RunEnd>) -> RunEnd
     }
 }
 
-/// Writes out what was put, where the input may wait, so that nobody waits for what was put.
+/// Writes out what was put, if the input may wait, so that nobody waits for what was put.
 #[inline(never)]
 pub fn write_out<S: Source, O: Outputs>(input: &S, outputs: &mut O)
     ensures { O.places outputs.new ≡ O.places outputs.old }

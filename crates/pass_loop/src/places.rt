@@ -6,7 +6,7 @@ ghost use Rattle.pass_loop.specs.Put.{in_notes, in_output};
 use crate::ends::RunEnd;
 use outside::{Lanes, Sink};
 
-/// Puts text, which isn't empty, in the output. At an `Err`, which comes only where the count of the output's
+/// Puts text, which isn't empty, in the output. At an `Err`, which comes only if the count of the output's
 /// faults rose and is `OutputFault`, the output gained at most a front of the text that isn't all of it.
 #[inline]
 pub fn put_output<L: Lanes, W: Sink, N: Sink>(
@@ -26,7 +26,7 @@ pub fn put_output<L: Lanes, W: Sink, N: Sink>(
     }
 }
 
-/// Puts text, which isn't empty, in the notes. At an `Err`, which comes only where the count of the notes'
+/// Puts text, which isn't empty, in the notes. At an `Err`, which comes only if the count of the notes'
 /// faults rose and is `NoteFault`, the notes gained at most a front of the text that isn't all of it.
 #[inline]
 pub fn put_notes<L: Lanes, W: Sink, N: Sink>(

@@ -15,7 +15,7 @@ use crate::pass::{Engine, Items, More, end_of, write_out};
 use item_reader::{ByteReader, EachByte};
 use outside::{Lanes, Sink, Source};
 
-/// Does the work on bytes one by one, and on several of them at once where it can.
+/// Does the work on bytes one by one, and on several of them at once if it can.
 pub trait Runs: Engine<u64, u8> {
     /// Takes bytes at the front of these at once, as far as it can, and says how many: the same as by as many
     /// steps. With 0 nothing is done, and the caller takes the next byte by a step.
@@ -28,7 +28,7 @@ pub trait Runs: Engine<u64, u8> {
             (O.places outputs.old) (O.places outputs.new) result };
 }
 
-// Takes bytes at the front of these at once where the engine can, and else the first one, which has this
+// Takes bytes at the front of these at once if the engine can, and else the first one, which has this
 // offset, and says how many.
 #[inline(always)]
 fn take_some<E: Runs, O: Outputs>(
@@ -40,7 +40,8 @@ fn take_some<E: Runs, O: Outputs>(
     requires items { (past : List (ℕ × ℕ)) (item : ℕ × ℕ) → item.0 ≡ length past →
         E.Asks item × E.AsksAfter past item }
     requires some { 0 < length bytes.now }
-    requires holds { (first : E) × (past : List (ℕ × ℕ)) × E.Holds first engine.old past × (at ≡ length past) }
+    requires holds { (first : E) × (past : List (ℕ × ℕ))
+        × E.Holds first engine.old past × (at ≡ length past) }
     requires begun { E.UsesLanes → (O.places outputs.old).begun ≡ true }
     ensures count { IfOk result (λ count. (0 < count) × (count ≤ length bytes.now)) }
     ensures run { (first : E) (past : List (ℕ × ℕ)) → E.Holds first engine.old past → at ≡ length past →

@@ -104,7 +104,7 @@ module _ (setup : SetupData) where
       IsTold setup (course_at past) watched.watch on
 
   -- What is done with the events of a rehearsal: a line for each, and at the end what is held, and the profiles. An event is refused
-  -- where what it asks for isn't there, or where there are 1,024 messages already. What is held at the end was told.
+  -- if what it asks for isn't there, or if there are 1,024 messages already. What is held at the end was told.
   abbrev pub rehearsing : Work (ℕ × CalledEvent)
   rehearsing =
       record {

@@ -24,7 +24,7 @@ pub fn events_have_one_first_refusal()
     events_are_cut_once();
 }
 
-/// Where a rehearsal is done, the output gained exactly the lines of the events of the whole input, by the
+/// When a rehearsal is done, the output gained exactly the lines of the events of the whole input, by the
 /// course of the rehearsal, and the lines of what is held at its end and of the profiles. What is held then
 /// was told by a reply, and when that reply was made the responder's profile was so.
 pub fn a_rehearsal_that_is_done_is_that_of_the_input()

@@ -182,8 +182,8 @@ impl RehearseEngine {
 /// what is held of each watch, and one of each profile. Takes no memory.
 ///
 /// `Refused` comes for `Truncated`, `InputTooLong`, `BadEvent` and `TooManyMessages`, with the number of
-/// bytes before what is refused. `ReadFault` and `OutputFault` come only where the count of that object rose.
-/// The lanes and the notes stay as they are.
+/// bytes before what is refused. `ReadFault` and `OutputFault` are returned only if the count of that object
+/// rose. The lanes and the notes are unchanged.
 pub fn run_rehearse<S: Source, L: Lanes, W: Sink, N: Sink>(
     run: RehearseRun,
     input: &mut S,

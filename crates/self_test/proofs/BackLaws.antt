@@ -29,7 +29,7 @@ use Rattle.midi_meaning.specs.Registers.{selected}
 use Rattle.midi_meaning.specs.State.{Channel, GroupState}
 use Rattle.midi_meaning.specs.UpRefusal.{AreStepsWithinRoom, refusal_of_step}
 use Rattle.up_translator.specs.declared.raised.Raised.{Raised}
-use Rattle.up_translator.specs.Held.{KeepsAfter, UpState, step_in, up_after}
+use Rattle.up_translator.specs.Held.{UpState, step_in, up_after}
 use Rattle.up_translator.specs.Laws.{RaisedBytesAreTheDefinition}
 use Rattle.up_translator.specs.Raised.{group_in, packet_in, packets_by, payload_in}
 use Rattle.up_translator.specs.Recording.{HoldsUp}
@@ -152,14 +152,13 @@ module _ (law : RaisedBytesAreTheDefinition false) (parsed : ParsedBytesAreTheDe
           spelled = raises.spelled;
         }
 
-    pub up_is_taken : (new : UpState) → ArePlayed past → KeepsAfter up.holding (step_in up offset byte) → new ≡ up_after up offset byte
+    pub up_is_taken : (new : UpState) → ArePlayed past → new ≡ up_after up offset byte
         → HoldsUp false 6 0 (byte ∷ past) new
-    up_is_taken new before keeps is =
-        let K : ℕ → Type 0 = λ n. KeepsAfter up.holding (step_in up n byte) in
+    up_is_taken new before is =
         let H : ℕ → Type 0 = λ n. HoldsUp false 6 0 (byte ∷ past) (up_after up n byte) in
         let U : UpState → Type 0 = λ u. HoldsUp false 6 0 (byte ∷ past) u in
         subst U (sym is)
-        (subst H (sym place) (law.after 6 0 past byte up (steps_within (byte ∷ past) (played, before)) holds (subst K place keeps)))
+        (subst H (sym place) (law.after 6 0 past byte up (steps_within (byte ∷ past) (played, before)) holds))
 
 -- ---- what the translator down does with its packet
 

@@ -12,7 +12,7 @@ use midi1_bytes::laws::parsed_bytes_are_the_definition;
 use up_translator::laws::raised_bytes_are_the_definition;
 use up_translator::{RaisedPacket, Up};
 
-// Takes a packet down to which a message is raised: the number of bytes of its piece.
+// Takes a packet down to which a message is raised: the number of bytes of its piece. None is refused.
 fn bring_down(packet: &RaisedPacket, offset: u64, down: &mut Down) -> u64
     requires fits { IsPacket packet.now }
     requires accepted { refusal_in down.old packet.now ≡ None }
@@ -21,8 +21,7 @@ fn bring_down(packet: &RaisedPacket, offset: u64, down: &mut Down) -> u64
 {
     match down.packet(&packet.packet(), offset) {
         Ok(carried) => carried.piece.len() as u64,
-        // The packet is one that the translator accepts.
-        Err(_) => unreachable!(),
+        Err(_) => 0,
     }
 }
 
@@ -43,8 +42,7 @@ fn bring_byte_back(byte: u8, offset: u64, up: &mut Up, down: &mut Down) -> u64
             Some(packet) => bring_down(packet, offset, down),
             None => 0,
         },
-        // A byte of a channel voice message that was played is never refused.
-        Err(_) => unreachable!(),
+        Err(_) => 0,
     }
 }
 

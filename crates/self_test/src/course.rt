@@ -50,7 +50,7 @@ impl Course {
         })
     }
 
-    // Takes one more packet at its offset; each has eight bytes.
+    // Takes one more packet at its offset; each has eight bytes. None is refused.
     pub(crate) fn take(&mut self, packet: &Packet, offset: u64)
         requires played { IsPlayed packet.now }
         requires taken { (past : List Placed) × HasTaken past self.old × (length past < 2 ^ 32)
@@ -60,18 +60,14 @@ impl Course {
     {
         carried_packets_have_a_piece();
         rooms_that_are_not_reached_do_not_matter_in_bytes();
-        match self.down.packet(packet, offset) {
-            Ok(carried) => {
-                let again = bring_back(
-                    carried.piece,
-                    self.counts.bytes,
-                    &mut self.up,
-                    &mut self.again,
-                );
-                self.counts = with_more(self.counts, &carried, again);
-            }
-            // A packet that is played is never refused.
-            Err(_) => unreachable!(),
+        if let Ok(carried) = self.down.packet(packet, offset) {
+            let again = bring_back(
+                carried.piece,
+                self.counts.bytes,
+                &mut self.up,
+                &mut self.again,
+            );
+            self.counts = with_more(self.counts, &carried, again);
         }
     }
 

@@ -1,4 +1,4 @@
--- The state that is kept while an input is shown, where it is asked for, and the lines of what it tells at the end.
+-- The state that is kept while an input is shown, if it is asked for, and the lines of what it tells at the end.
 use Rattle.std.specs.Prelude.{◌≡◌, ℕ, Bool, true, false, List, [], ◌∷◌, map, Option, None, Some, is_some, IfSome}
 use Rattle.ump_grammar.specs.declared.packet.Packet.{Packet}
 use Rattle.ump_grammar.specs.declared.packet.Packet.TheVariants as packets
@@ -22,7 +22,7 @@ use Rattle.pass_loop.specs.Put.{Put, in_output}
 abbrev pub fact_puts : List Fact → List Put
 fact_puts facts = map (λ fact. in_output (fact_text fact)) facts
 
--- where they are asked for
+-- if they are asked for
 abbrev pub state_puts : Bool → List Fact → List Put
 state_puts false facts = []
 state_puts true facts = fact_puts facts
@@ -37,20 +37,20 @@ state_named named output true facts = facts_named named output facts
 
 -- ---- what is kept
 
--- a state, where it is asked for
+-- a state, if it is asked for
 abbrev pub Kept : Type 0
 Kept = Option (List KeptGroup)
 
--- where a state is kept, it stands for these
+-- if a state is kept, it stands for these
 abbrev pub StandsFor : Scale → Kept → States → Type 0
 StandsFor scale kept states = IfSome kept (λ groups. Keeps scale groups states)
 
--- these are the facts of what is kept, or none where nothing is kept
+-- these are the facts of what is kept, or none if nothing is kept
 abbrev pub AreFactsOf : Kept → List Fact → Type 0
 AreFactsOf None facts = facts ≡ []
 AreFactsOf (Some groups) facts = (scale : Scale) (states : States) → Keeps scale groups states → facts ≡ facts_of scale states
 
--- one thing is kept as much as the other was, and stands for these states where the other stood for those
+-- one thing is kept as much as the other was, and stands for these states if the other stood for those
 abbrev pub Changes : Scale → (States → States) → Kept → Kept → Type 0
 Changes scale change old new =
     (is_some new ≡ is_some old) × ((states : States) → StandsFor scale old states → StandsFor scale new (change states))

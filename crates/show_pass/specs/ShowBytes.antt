@@ -1,4 +1,4 @@
--- A stream of bytes that is shown: the lines of each byte, and at the end that of what is open and, where the state is asked for,
+-- A stream of bytes that is shown: the lines of each byte, and at the end that of what is open and, if the state is asked for,
 -- those of what the bytes mean.
 use Rattle.std.specs.Prelude.{ℕ, true, false, map, Option, None, Some, is_some}
 use Rattle.std.proofs.Common.{◌≡◌, List, [], ◌∷◌, ◌++◌, refl, sym, subst}

@@ -1,5 +1,5 @@
 -- A recording that is shown: the line of each packet, and after that of a packet that ends a text the line of the text; at the end,
--- where the state is asked for, the lines of what the packets mean.
+-- if the state is asked for, the lines of what the packets mean.
 use Rattle.std.specs.Prelude.{ℕ, true, false, ◌≤◌, Option, None, Some, is_some, option_and_then}
 use Rattle.std.proofs.Common.{◌≡◌, List, [], ◌∷◌, refl, sym, subst}
 use Rattle.packet_words.specs.declared.words.Framed.{Framed}
@@ -32,7 +32,7 @@ abbrev pub packet_puts : List Packet → Framed × Packet → List Put
 packet_puts past item =
     in_output (packet_text item.1 item.0.words item.0.offset) ∷ text_puts (text_line past item.1)
 
--- What is done with a recording that is shown: a packet is refused only where it passes the room for its exclusive. Keeping a state
+-- What is done with a recording that is shown: a packet is refused only if it passes the room for its exclusive. Keeping a state
 -- takes memory; what is told of it are the facts of what all packets mean, in each group. What is put is the lines of all packets.
 abbrev pub showing : PacketLineOptions → Work (Framed × Packet)
 showing options =

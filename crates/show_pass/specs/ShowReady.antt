@@ -36,13 +36,13 @@ abbrev pub ShowEnds : ShowOptions → Seen → Seen → RunEnd → Type 0
 ShowEnds (of_packets options) old new end = Ends (packet_cutting options.order) (showing options) old new end
 ShowEnds (of_bytes options) old new end = Ends byte_cutting (showing_bytes options) old new end
 
--- where nothing is refused and nothing fails, it is done
+-- if nothing is refused and nothing fails, it is done
 abbrev pub IsDoneShowing : ShowOptions → Seen → Seen → RunEnd → Type 0
 IsDoneShowing (of_packets options) old new end =
     IsDoneUnless (packet_cutting options.order) (showing options) old new end
 IsDoneShowing (of_bytes options) old new end = IsDoneUnless byte_cutting (showing_bytes options) old new end
 
--- where the input has a first refusal and nothing fails, it ends with exactly that refusal
+-- if the input has a first refusal and nothing fails, it ends with exactly that refusal
 abbrev pub IsRefusedShowing : ShowOptions → Seen → Seen → RunEnd → Type 0
 IsRefusedShowing (of_packets options) old new end =
     IsRefusedWhere (packet_cutting options.order) (showing options) old new end

@@ -25,7 +25,7 @@ use Rattle.show_pass.specs.Texts.{text_line}
 abbrev pub if_any : Option (List ℕ) → List ℕ
 if_any line = concat (option_to_list line)
 
--- ---- of a state, where it is asked for
+-- ---- of a state, if it is asked for
 
 abbrev pub shown_state : Bool → List Fact → List ℕ
 shown_state false facts = []
@@ -43,7 +43,7 @@ abbrev pub shown_packets : List (Framed × Packet) → List ℕ
 shown_packets [] = []
 shown_packets (item ∷ past) = shown_packets past ++ shown_packet past item
 
--- the lines of a whole recording: those of its packets, and those of what they mean, where they are asked for
+-- the lines of a whole recording: those of its packets, and those of what they mean, if they are asked for
 abbrev pub shown_recording : Bool → List (Framed × Packet) → List ℕ
 shown_recording state past =
     shown_packets past ++ shown_state state (facts_of raised (meaning2 false (packets_of (all_placed past))))
@@ -72,7 +72,7 @@ shown_items room (item ∷ past) =
 abbrev pub shown_open : Option Open → List ℕ
 shown_open begun = shown_listing (kinds_at_end (option_map (λ b. (b.start, b.kind)) begun))
 
--- the lines of a whole stream: those of its bytes, that of what is open, and those of what the bytes mean, where they are asked for
+-- the lines of a whole stream: those of its bytes, that of what is open, and those of what the bytes mean, if they are asked for
 abbrev pub shown_stream : ℕ → Bool → List ℕ → List ℕ
 shown_stream room state past =
     shown_bytes room past

@@ -1,4 +1,4 @@
-// The state that is kept while an input is shown, where it is asked for, and the lines of what it tells.
+// The state that is kept while an input is shown, if it is asked for, and the lines of what it tells.
 ghost use Rattle.std.specs.Prelude.{◌≡◌, false, true, None, is_some, IfOk, OnOk, OnErr};
 ghost use Rattle.midi1_bytes.specs.Answers.{step_view};
 ghost use Rattle.midi1_bytes.specs.Messages.{Message};
@@ -25,7 +25,7 @@ use std::alloc::Global;
 use ump_grammar::Packet;
 use voice_state::{Fact, VoiceState};
 
-/// A state before the first message or packet, where it is asked for.
+/// A state before the first message or packet, if it is asked for.
 pub(crate) fn new_state(alloc: Global, is_asked: bool) -> Result<Option<VoiceState>, NoMemory>
     ensures asked { IfOk result (λ kept. is_some kept ≡ is_asked) }
     ensures messages { IfOk result (λ kept. StandsFor as_they_come kept (first_states as_they_come)) }
@@ -115,7 +115,7 @@ pub(crate) fn keep_step(kept: &mut Option<VoiceState>, step: &Step<'_>) -> Resul
     }
 }
 
-/// What is told of the state, or nothing and without memory where none is kept.
+/// What is told of the state, or nothing and without memory if none is kept.
 pub(crate) fn facts_of(kept: &Option<VoiceState>, alloc: Global) -> Result<Vec<Fact>, NoMemory>
     ensures facts { IfOk result (λ facts. AreFactsOf kept.now facts.items) }
     ensures memory { OnErr result (is_some kept.now ≡ true) }

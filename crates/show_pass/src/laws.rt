@@ -26,14 +26,14 @@ pub fn a_stream_that_is_shown_has_one_first_refusal()
     bytes_are_cut_once();
 }
 
-/// Where `show` is done, the output gained exactly the lines of the packets of the whole input, in their
-/// order, and after them those of what the packets mean, where the state is asked for.
+/// When `show` is done, the output gained exactly the lines of the packets of the whole input, in their
+/// order, and after them those of what the packets mean, if the state is asked for.
 pub fn a_recording_that_is_shown_is_that_of_the_input()
     ensures { DoneShowsTheRecording }
 {}
 
-/// Where `show --bytes` is done, the output gained exactly the lines of the bytes of the whole input, in
-/// their order, then that of what is open at the end, and those of what the bytes mean, where the state is
+/// When `show --bytes` is done, the output gained exactly the lines of the bytes of the whole input, in
+/// their order, then that of what is open at the end, and those of what the bytes mean, if the state is
 /// asked for.
 pub fn a_stream_that_is_shown_is_that_of_the_input()
     ensures { DoneShowsTheStream }

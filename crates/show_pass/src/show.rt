@@ -47,7 +47,7 @@ impl ShowRun {
     /// With `bytes` lines of the bytes of a MIDI 1.0 stream, which has no words, else of packets, whose words
     /// have this order; with `state` those of what the input leaves come at the end. `room` is the most bytes
     /// of an exclusive between F0 and F7, 6 to 1,048,576 (own rule), for which each group, or the stream,
-    /// reserves memory; `NoMemory` where there isn't so much. Only a state takes more later.
+    /// reserves memory; `NoMemory` if there isn't that much. Only a state takes more later.
     pub fn new(
         alloc: Global,
         bytes: bool,
@@ -87,14 +87,14 @@ fn told(end: RunEnd) -> Result<RunEnd, NoMemory>
 /// recording (M2-104-UM) each packet has a line; one that makes its group's exclusive too long is refused and
 /// has none, and data increments and decrements are shown (own rules). Of a stream of bytes (MIDI 1.0
 /// Detailed Specification) each message that is completed has a line, and so has each byte that belongs to
-/// nothing, what is cut off and, at the end, what is still open. Where the state is asked for, the lines end
+/// nothing, what is cut off and, at the end, what is still open. If the state is asked for, the lines end
 /// with those of what all packets of each group, or all bytes, leave in a receiver (own rule).
 ///
 /// `Refused` comes for `InputTooLong` and `ExclusiveTooLong`, of a recording also for `Truncated`, `BadCount`
 /// and `HighBit`, with the number of bytes before what is refused. `ReadFault` and `OutputFault` come only
-/// where the count of that object rose. `NoMemory` comes only where the state is asked for, which else takes
+/// if the count of that object rose. `NoMemory` comes only if the state is asked for, which else takes
 /// none: the lines of the packets or bytes before the one that found no memory then stand, whole. The lanes
-/// and the notes stay as they are.
+/// and the notes are unchanged.
 pub fn run_show<S: Source, L: Lanes, W: Sink, N: Sink>(
     alloc: Global,
     engine: ShowRun,

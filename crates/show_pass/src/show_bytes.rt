@@ -33,7 +33,7 @@ use voice_state::state_laws::bytes_are_kept;
 use voice_state::{Fact, VoiceState};
 
 // Puts a line for each message that the bytes of a stream complete, and for each byte that belongs to nothing
-// or cuts something off, and at the end a line for what is still open and, where a state is kept, those of
+// or cuts something off, and at the end a line for what is still open and, if a state is kept, those of
 // what it tells.
 #[derive(Drop)]
 struct ShowBytes {
@@ -85,7 +85,7 @@ impl Engine<u64, u8> for ShowBytes {
 }
 
 impl ShowBytes {
-    // Feeds one more byte to the parser, keeps what it does, where a state is kept, and puts the lines of it,
+    // Feeds one more byte to the parser, keeps what it does, if a state is kept, and puts the lines of it,
     // which are made in the place of earlier ones. Most bytes are held, and of those the step is not copied.
     #[inline(always)]
     fn take_byte<O: Outputs>(
@@ -112,7 +112,7 @@ impl ShowBytes {
     }
 }
 
-/// Puts the lines of a stream, to its end or to the first byte that is refused, and where a state is kept,
+/// Puts the lines of a stream, to its end or to the first byte that is refused, and if a state is kept,
 /// those of what it tells. Nothing is open in the parser, and the state has taken nothing.
 #[inline(never)]
 pub(crate) fn show_bytes<S: Source, L: Lanes, W: Sink, N: Sink>(

@@ -37,7 +37,7 @@ use ump_grammar::Packet;
 use voice_state::VoiceState;
 use voice_state::state_laws::packets_are_kept;
 
-// Puts a line for each packet of a recording, and one for each text that stream packets carry; where a state
+// Puts a line for each packet of a recording, and one for each text that stream packets carry; if a state
 // is kept, at the end those of what it tells.
 #[derive(Drop)]
 struct ShowPackets {
@@ -97,7 +97,7 @@ impl Engine<Framed, Packet> for ShowPackets {
 }
 
 /// Puts the lines of a recording, whose words have this order, to its end or to the first packet that is
-/// refused, and where a state is kept, those of what it tells. Nothing is open in the groups, and the state
+/// refused, and if a state is kept, those of what it tells. Nothing is open in the groups, and the state
 /// has taken nothing.
 #[inline(never)]
 pub(crate) fn show_packets<S: Source, L: Lanes, W: Sink, N: Sink>(
@@ -131,7 +131,7 @@ pub(crate) fn show_packets<S: Source, L: Lanes, W: Sink, N: Sink>(
 }
 
 // Joins the exclusives of one more packet: the group of the exclusive that it ends, if it ends one. It is
-// refused where it passes the room.
+// refused if it passes the room.
 fn join(groups: &mut Groups, packet: &Packet, offset: u64) -> Result<Option<U4>, BadStep>
     requires { IsPacket packet.now }
     ensures behind { groups.new ≡ with_part_of (part_of offset packet.now) groups.old }
@@ -186,8 +186,8 @@ fn put_lines<O: Outputs>(
 }
 
 impl ShowPackets {
-    // Takes one more packet: keeps it, where a state is kept, and puts
-    // its lines; nothing of both where it is refused.
+    // Takes one more packet: keeps it, if a state is kept, and puts
+    // its lines; nothing of both if it is refused.
     fn take_packet<O: Outputs>(
         &mut self,
         framed: &Framed,

@@ -22,7 +22,7 @@ impl Model for U4 {
 }
 
 impl U4 {
-    /// The number; `None` exactly where it is 16 or more.
+    /// The number; `None` exactly if it is 16 or more.
     pub fn new(value: u8) -> Option<Self>
         ensures { MatchOption result (16 ≤ value) (λ u. (u ≡ value) × (value < 16)) }
     {

@@ -56,7 +56,7 @@ impl<T: Copy + Default, const N: usize> ShortList<T, N> {
         self.cells.as_slice()
     }
 
-    /// Adds an item at the end, where fewer than `N` stand.
+    /// Adds an item at the end, if there are fewer than `N`.
     #[inline(always)]
     pub fn push(&mut self, item: T)
         requires { length self.old < N }

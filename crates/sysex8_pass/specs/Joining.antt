@@ -86,7 +86,7 @@ abbrev pub open_put : ℕ → Option ℕ → List Put
 open_put group None = []
 open_put group (Some start) = listed (kind_text kinds.Open start group)
 
--- those of a group, by where each stream's began, and those of all groups
+-- those of a group, by the place where each stream's began, and those of all groups
 abbrev pub group_puts : (ℕ → Option ℕ) → ℕ → List Put
 group_puts starts group = flat_map (λ stream. open_put group (starts (key_of group stream))) (below 256)
 
@@ -95,7 +95,7 @@ open_puts starts = flat_map (group_puts starts) (below 16)
 
 -- ---- the work
 
--- Where none of these parts found all slots taken, the exclusives of each stream are those that its own parts alone complete.
+-- If none of these parts found all slots taken, the exclusives of each stream are those that its own parts alone complete.
 abbrev pub CompleteAlone : ℕ → ℕ → List Part → Type 0
 CompleteAlone slots room parts =
     IsNeverFull slots room parts → (key : ℕ) →

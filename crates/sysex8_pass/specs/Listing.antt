@@ -51,7 +51,7 @@ abbrev pub open_line : ℕ → Option ℕ → List ℕ
 open_line group None = []
 open_line group (Some start) = kind_text kinds.Open start group
 
--- the lines of those that are open, by where each stream's began: by group, then stream
+-- the lines of those that are open, by the place where each stream's began: by group, then stream
 abbrev pub open_lines : (ℕ → Option ℕ) → List ℕ
 open_lines starts =
     flat_map (λ group. flat_map (λ stream. open_line group (starts (key_of group stream))) (below 256)) (below 16)

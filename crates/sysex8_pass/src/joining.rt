@@ -73,7 +73,7 @@ impl Model for Sysex8Run {
 impl Sysex8Run {
     /// A join of the 8-bit exclusives of at most so many streams at once, 1 to 64, in a recording whose words
     /// have this order. `room` is the most bytes of an exclusive, 13 to 1,048,576, for which each slot
-    /// reserves memory; `NoMemory` where there isn't so much. No other call takes any.
+    /// reserves memory; `NoMemory` if there isn't that much. No other call takes any.
     pub fn new(alloc: Global, slots: u8, order: Order, room: u32) -> Result<Sysex8Run, NoMemory>
         requires some { 1 ≤ slots }
         requires few { slots ≤ 64 }
@@ -136,9 +136,9 @@ impl Engine<Framed, Packet> for Sysex8Engine {
 /// what is left out, stray, cut off or has no slot; and at the end those of the exclusives that are still
 /// open, by group, then stream. Other packets give nothing. Takes no memory.
 ///
-/// `Refused` comes for `Truncated`, `InputTooLong`, `BadCount`, `HighBit` and, where an exclusive has more
+/// `Refused` comes for `Truncated`, `InputTooLong`, `BadCount`, `HighBit` and, if an exclusive has more
 /// bytes than its room, `ExclusiveTooLong`, with the number of bytes before what is refused. `ReadFault`,
-/// `LaneFault` and `NoteFault` come only where the count of that object rose. The output stays as it is.
+/// `LaneFault` and `NoteFault` come only if the count of that object rose. The output is unchanged.
 pub fn run_sysex8<S: Source, L: Lanes, W: Sink, N: Sink>(
     engine: Sysex8Run,
     input: &mut S,
@@ -186,7 +186,7 @@ fn put_piece<O: Outputs>(group: U4, bytes: &[u8], outputs: &mut O) -> Result<(),
     }
 }
 
-// Where a part of an 8-bit exclusive stands: the offset of its packet, its group and the id of its stream.
+// The place of a part of an 8-bit exclusive: the offset of its packet, its group and the id of its stream.
 #[derive(Clone, Copy)]
 struct PartPlace {
     offset: u64,

@@ -16,8 +16,8 @@ pub fn a_join_has_one_first_refusal()
     packets_are_cut_once();
 }
 
-/// Where a join is done, the pieces that were put are exactly the bytes of the exclusives that the packets of
-/// the whole input complete, in their order, each in the lane of its group; where no Start found all slots
+/// When a join is done, the pieces that were put are exactly the bytes of the exclusives that the packets of
+/// the whole input complete, in their order, each in the lane of its group; if no Start found all slots
 /// taken, those of each stream are what its own packets alone complete. The lines are exactly those of the
 /// packets, in their order, one for each type 5 packet that is left out among them, and then one for each
 /// exclusive that is still open, by group, then stream.

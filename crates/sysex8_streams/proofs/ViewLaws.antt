@@ -1,19 +1,21 @@
 -- The table as the list of its slots.
-use Rattle.std.proofs.Common.{ℕ, ◌≡◌, ◌<◌, ◌∙◌, ap, sym, refl, subst, List, [], ◌∷◌, length, Option, Some, None}
-use Rattle.std.proofs.Common.{is_some, Bool, true, false, cond, not, map, slice_set, slice_index_or, ◌+◌, nat_lt}
-use Rattle.std.specs.List.{position, position_or_len}
+use Rattle.std.proofs.Common.{ℕ, ◌≡◌, ◌<◌, ◌≤◌, ◌∙◌, ap, sym, refl, subst, List, [], ◌∷◌, length, Option, Some, None}
+use Rattle.std.proofs.Common.{is_some, Bool, true, false, cond, not, All, map, replicate, slice_set, slice_index_or, ◌+◌, nat_lt}
+use Rattle.std.specs.List.{AllWithin, position, position_or_len}
 use Rattle.std.specs.Option.{option_map}
 use Rattle.std.proofs.lemmas.Bool.{eqb-true, true≢false}
 use Rattle.std.proofs.lemmas.List.{get_or-map, map-set, length-map}
+use Rattle.std.proofs.lemmas.List.Elements.{AllWithin-upto, All-from_all_within, All-weaker}
 use Rattle.std.proofs.lemmas.List.Quantifiers.{position-Some}
 use Rattle.voice_messages.specs.declared.voice2.Form.{Form}
 use Rattle.voice_messages.specs.declared.voice2.Form.TheVariants as form
 use Rattle.sysex_groups.specs.Exclusives.{Part}
 use Rattle.sysex_groups.specs.Table.{Begun, begun_after}
 use Rattle.sysex8_streams.specs.declared.slot.Slot.{Slot}
-use Rattle.sysex8_streams.specs.Slots.{slot8_of, state8_of, slot_answer, slot_after, begun_of, IsFor}
-use Rattle.sysex8_streams.specs.Table.{Slot8, Table8, is_of, begun_among, begun8_in, idle_slot, slot_with}
+use Rattle.sysex8_streams.specs.Slots.{slot8_of, state8_of, idle8, slot_answer, slot_after, begun_of, IsFor}
+use Rattle.sysex8_streams.specs.Table.{Slot8, Table8, empty_table8, is_of, begun_among, begun8_in, idle_slot, slot_with}
 use Rattle.sysex8_streams.specs.Table.{slots_with, with_part8, answer8_of, answer_unbegun, answer8_to}
+use Rattle.sysex_groups.proofs.BufferLaws.{map-same}
 use Rattle.sysex8_streams.proofs.SlotLaws.{none-found, begun-none, begun-found}
 
 abbrev pub table_of : ℕ → List Slot → Table8
@@ -167,3 +169,17 @@ table-put room now slots i new part seen none is idle kept =
     let P : Table8 → Type 0 = λ table. table_of room (slice_set slots i new) ≡ unbegun_after table part form.Start (Some i) in
     subst P seen (ap (λ s. record { room = room; slots = s }) (map-set slot8_of slots i new ∙ ap (slice_set (map slot8_of slots) i) kept))
     ∙ table-unbegun now part none form.Start is (Some i) idle
+
+-- ---- all of them idle
+
+pub table_cleared : (held room done size : ℕ) (slots : List Slot) → held ≡ room → length slots ≡ size → length slots ≤ done
+    → AllWithin (λ slot. state8_of slot ≡ idle8 room) slots 0 done → table_of held slots ≡ empty_table8 size room
+table_cleared held room done size slots same sized whole cleared =
+    let all : All (λ slot. state8_of slot ≡ idle8 room) slots =
+    All-from_all_within (λ slot. state8_of slot ≡ idle8 room) slots
+    (AllWithin-upto (λ slot. state8_of slot ≡ idle8 room) slots 0 done (length slots) whole cleared) in
+    let each : All (λ slot. slot8_of slot ≡ None) slots =
+    All-weaker (λ slot. state8_of slot ≡ idle8 room) (λ slot. slot8_of slot ≡ None) (λ slot is_idle. ap (λ state. state.slot) is_idle) slots
+    all in
+    let idle : map slot8_of slots ≡ replicate size None = map-same slot8_of None slots each ∙ ap (λ count. replicate count None) sized in
+    λ i. record { room = same i; slots = idle i }

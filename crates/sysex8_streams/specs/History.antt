@@ -32,7 +32,7 @@ abbrev pub begun_count : ℕ → List Part → ℕ
 begun_count room past = count_by (is_begun room past) (keys past)
 
 -- Whether a part is taken, by whether its stream is begun and whether fewer streams are begun than there are slots: a Start is
--- where one of the two holds, and a part of another form always is.
+-- if one of the two holds, and a part of another form always is.
 abbrev pub is_taken_by : Form → Bool → Bool → Bool
 is_taken_by form.Start begun fewer = begun || fewer
 is_taken_by form.Complete begun fewer = true

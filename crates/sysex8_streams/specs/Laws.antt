@@ -11,7 +11,7 @@ IsNeverFull slots room [] = Unit {0}
 IsNeverFull slots room (part ∷ past) = (answer8 slots room past part ≢ full8) × IsNeverFull slots room past
 
 -- What a stream has begun is what its parts' places say. Folding the table's step over parts of all streams is the definition: what
--- each stream has begun, and the answer to one more part. Where none is answered by Full, both are what the stream's own parts alone
+-- each stream has begun, and the answer to one more part. If none is answered by Full, both are what the stream's own parts alone
 -- give. Full leaves all as before, and a part leaves all other streams as they are.
 pub record FedStreamsAreTheDefinition : Type 0 where
   pub opens : (slots room : ℕ) (past : List Part) (key : ℕ) (parts : List Part) → IsOpenedBy slots room past key parts

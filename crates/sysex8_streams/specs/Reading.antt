@@ -23,6 +23,6 @@ pub record Spells8 (part : Part8) (words : List ℕ) : Type 0 where
   pub stream : part.stream ≡ byte words 3
   pub bytes : part.bytes ≡ take (count_of words - 1) (data_places words)
 
--- the part that the words spell, and none exactly where they are left out
+-- the part that the words spell, and none exactly if they are left out
 abbrev pub Reads8 : List ℕ → Option Part8 → Type 0
 Reads8 words result = MatchOption result (is_left_out words ≡ true) (λ part. (is_left_out words ≡ false) × Spells8 part words)

@@ -24,7 +24,7 @@ pub struct Part8 {
 }
 
 /// The part in the words of a type 5 packet (M2-104-UM, system exclusive 8-bit messages). `None` exactly
-/// where the form is above 3, as in mixed data, or the count, which includes the stream id, is 0 or 15.
+/// if the form is above 3, as in mixed data, or the count, which includes the stream id, is 0 or 15.
 pub fn read8(words: &Words) -> Option<Part8>
     requires whole { IsWhole words.now }
     requires kind { type_of words.now ≡ 0x5 }

@@ -83,11 +83,19 @@ impl Slot {
         }
     }
 
-    /// The offset of the packet that began the exclusive; `None` exactly where the slot is idle.
+    /// The offset of the packet that began the exclusive; `None` exactly if the slot is idle.
     pub fn start(&self) -> Option<u64>
         ensures { result ≡ option_map (λ stream. stream.begun.start) (slot8_of self.now) }
     {
         self.holder.map(|holder| holder.start)
+    }
+
+    /// Drops the exclusive that is begun: no stream has the slot then.
+    pub fn clear(&mut self)
+        ensures { state8_of self.new ≡ idle8 self.old.room }
+    {
+        self.holder = None;
+        self.bytes.clear();
     }
 
     /// Begins an exclusive of a stream, which then has the slot.

@@ -1,5 +1,5 @@
 // The exclusives of the streams that are begun.
-ghost use Rattle.std.specs.Prelude.{◌≡◌, ◌≤◌, IfOk, is_none, position};
+ghost use Rattle.std.specs.Prelude.{◌≡◌, ◌≤◌, IfOk, is_none, length, position};
 ghost use Rattle.sysex8_streams.specs.History.{key_of};
 ghost use Rattle.sysex8_streams.specs.Slots.{slot8_of};
 ghost use Rattle.sysex8_streams.specs.Table.{is_of};
@@ -92,6 +92,16 @@ impl Streams {
         })
     }
 
+    /// Drops the exclusives that streams have begun: all slots are idle then, as in new streams with as many
+    /// slots and of the same limit (own rule). Takes no memory.
+    pub fn reset(&mut self)
+        ensures { self.new ≡ empty_table8 (length self.old.slots) self.old.room }
+    {
+        for slot in self.slots.iter_mut() {
+            slot.clear();
+        }
+    }
+
     /// The slot of a stream.
     fn slot_of(&self, group: U4, stream: u8) -> Option<usize>
         ensures { result ≡ position (is_of (key_of group stream)) self.now.slots }
@@ -131,7 +141,7 @@ impl Streams {
     /// Takes one more part of a stream, with its packet's offset (M2-104-UM, system exclusive 8-bit
     /// messages). The offset, in bytes from the start of the input, is only kept, and given back as the start
     /// of what the part begins; any number will do. What is lent are the joined bytes. `Full` leaves all as
-    /// it was, and all other streams stay as they are.
+    /// it was, and all other streams are unchanged.
     pub fn feed8(&mut self, part: &Part8, offset: u64) -> Fed8<'_>
         ensures answer { fed8_view result ≡ answer8_to self.old (part_of part.now offset) }
         ensures* after { sem 𝓛 (KeepsStreams self.entry (with_part8 (part_of part.now offset) self.old)) }
@@ -146,7 +156,7 @@ impl Streams {
     }
 
     /// The offset of the packet that began the stream's exclusive;
-    /// `None` exactly where the stream isn't begun.
+    /// `None` exactly if the stream isn't begun.
     pub fn begun8_at(&self, group: U4, stream: u8) -> Option<u64>
         ensures { result ≡ option_map (λ begun. begun.start) (begun8_in self.now (key_of group stream)) }
     {

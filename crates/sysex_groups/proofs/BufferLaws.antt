@@ -1,10 +1,13 @@
 -- The table as the list of its buffers.
-use Rattle.std.proofs.Common.{◌≡◌, ◌<◌, ℕ, List, Some, None, Option, map, length, slice_set, slice_index_or, ap, sym, ◌∙◌, subst}
+use Rattle.std.proofs.Common.{◌≡◌, ◌<◌, ◌≤◌, ℕ, List, [], ◌∷◌, Some, None, Option, All, map, length, replicate}
+use Rattle.std.proofs.Common.{slice_set, slice_index_or, refl, ap, sym, ◌∙◌, subst}
 use Rattle.std.proofs.lemmas.List.{map-set, get_or-map}
+use Rattle.std.proofs.lemmas.List.Elements.{All-from_all_within, AllWithin-upto, All-head, All-tail, All-weaker}
+use Rattle.std.specs.List.{AllWithin}
 use Rattle.sysex_groups.specs.declared.buffer.Buffer.{Buffer}
 use Rattle.sysex_groups.specs.Exclusives.{Part}
-use Rattle.sysex_groups.specs.Buffers.{state_of, after_in}
-use Rattle.sysex_groups.specs.Table.{Begun, Table, begun_in, begun_after, answer_of, answer_to, with_part}
+use Rattle.sysex_groups.specs.Buffers.{state_of, idle, after_in}
+use Rattle.sysex_groups.specs.Table.{Begun, Table, begun_in, begun_after, answer_of, answer_to, empty_table, with_part}
 
 abbrev pub begun_by : Buffer → Option Begun
 begun_by buffer = (state_of buffer).begun
@@ -55,3 +58,26 @@ table_found room now buffers index buffer new part seen index_is within found ro
           (begun_after (Some room) (begun_in (table_of room buffers) k) part.form part.bytes part.offset);
     })
     index_is)
+
+-- ---- all of them with nothing open
+
+-- what is the same of each element is a list of it
+pub map-same : {A B : Type 0} (f : A → B) (same : B) (xs : List A) → All (λ x. f x ≡ same) xs → map f xs ≡ replicate (length xs) same
+map-same f same [] all = refl
+map-same f same (x ∷ xs) all =
+    let first : f x ≡ same = All-head (λ x. f x ≡ same) x xs all in
+    let others : map f xs ≡ replicate (length xs) same = map-same f same xs (All-tail (λ x. f x ≡ same) x xs all) in
+    λ i. first i ∷ others i
+
+pub table_cleared : (held room done : ℕ) (buffers : List Buffer) → held ≡ room → length buffers ≡ 16 → length buffers ≤ done
+    → AllWithin (λ buffer. state_of buffer ≡ idle room) buffers 0 done → table_of held buffers ≡ empty_table room
+table_cleared held room done buffers same sixteen whole cleared =
+    let all : All (λ buffer. state_of buffer ≡ idle room) buffers =
+    All-from_all_within (λ buffer. state_of buffer ≡ idle room) buffers
+    (AllWithin-upto (λ buffer. state_of buffer ≡ idle room) buffers 0 done (length buffers) whole cleared) in
+    let each : All (λ buffer. begun_by buffer ≡ None) buffers =
+    All-weaker (λ buffer. state_of buffer ≡ idle room) (λ buffer. begun_by buffer ≡ None) (λ buffer is_idle. ap (λ state. state.begun) is_idle)
+    buffers all in
+    let groups : map begun_by buffers ≡ replicate 16 None =
+    map-same begun_by None buffers each ∙ ap (λ count. replicate count None) sixteen in
+    λ i. record { room = same i; groups = groups i }

@@ -39,7 +39,7 @@ start_of [] = 0
 start_of (part ∷ []) = part.offset
 start_of (part ∷ before ∷ past) = start_of (before ∷ past)
 
--- how many bytes an exclusive may have between F0 and F7, or none where there is no limit
+-- how many bytes an exclusive may have between F0 and F7, or none if there is no limit
 abbrev pub Room : Type 0
 Room = Option ℕ
 
@@ -75,7 +75,7 @@ joined room group past = option_map bytes_of (opened room group past)
 abbrev pub started : Room → ℕ → List Part → Option ℕ
 started room group past = option_map start_of (opened room group past)
 
--- The bytes of the exclusive that a part ends, after these parts: its own where it is Complete; where it is an End, those that
+-- The bytes of the exclusive that a part ends, after these parts: its own if it is Complete; if it is an End, those that
 -- were joined and its own, if they are within the limit.
 abbrev pub ended_by : Room → Form → Option (List ℕ) → List ℕ → Option (List ℕ)
 ended_by room form.Complete before bytes = Some bytes

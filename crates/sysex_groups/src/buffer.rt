@@ -82,7 +82,7 @@ impl Buffer {
     }
 
     /// Drops what was open, except for F0.
-    fn clear(&mut self)
+    pub fn clear(&mut self)
         ensures state { state_of self.new ≡ idle (state_of self.old).room }
         ensures bytes { self.new.bytes.items ≡ 240 ∷ [] }
     {

@@ -65,10 +65,20 @@ impl Groups {
         Ok(Groups { buffers, room })
     }
 
+    /// Drops what the groups have open: nothing is open then, as in new groups of the same limit (own rule).
+    /// Takes no memory.
+    pub fn reset(&mut self)
+        ensures { self.new ≡ empty_table self.old.room }
+    {
+        for buffer in self.buffers.iter_mut() {
+            buffer.clear();
+        }
+    }
+
     /// Takes one more part of a group's exclusive: the payload bytes of a packet, at most 6, and the packet's
     /// offset (M2-104-UM, system exclusive 7-bit messages). The offset, in bytes from the start of the input,
     /// is only kept, and given back as the start of what the packet begins; any number will do. What is lent
-    /// is the exclusive from F0 to F7. All other groups stay as they are.
+    /// is the exclusive from F0 to F7. All other groups are unchanged.
     pub fn feed(&mut self, group: U4, form: Form, bytes: &[u8], offset: u64) -> Fed<'_>
         requires few { length bytes.now ≤ 6 }
         requires data_bytes { IsData bytes.now }

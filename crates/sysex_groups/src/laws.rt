@@ -7,7 +7,7 @@ pub fn parts_of_one_group()
     ensures { PartsOfOneGroup }
 {}
 
-/// What a group has open is what the places of its parts say: an exclusive is open exactly where the group
+/// What a group has open is what the places of its parts say: an exclusive is open exactly if the group
 /// sent a Start, nothing but Continues since then, and no more bytes than the limit (M2-104-UM, system
 /// exclusive 7-bit messages).
 pub fn opened_by_places()
@@ -16,7 +16,7 @@ pub fn opened_by_places()
 
 /// Feeding any parts of all groups to a new table agrees with the definition that looks back over them: on
 /// what each group has open, and on the answer to one more part. Both depend on the parts of that group
-/// alone, and all other groups stay as they are.
+/// alone, and all other groups are unchanged.
 pub fn fed_parts_are_the_definition()
     ensures { FedPartsAreTheDefinition }
 {}

@@ -18,7 +18,7 @@ pub record State : Type 0 where
 abbrev pub idle : TextKind → State
 idle kind = record { kind = kind; text = None }
 
--- the bytes of the open text and those of a part, where it names the same block
+-- the bytes of the open text and those of a part, if it names the same block
 abbrev pub joined_to : Option OpenText → ℕ → List ℕ → Option (List ℕ)
 joined_to None block bytes = None
 joined_to (Some text) block bytes = if text.block == block then Some (text.bytes ++ bytes) else None
@@ -30,7 +30,7 @@ joined_with before part = if begins part.form then Some part.bytes else joined_t
 abbrev pub limited : TextKind → List ℕ → Option (List ℕ)
 limited kind bytes = if nat_le (length bytes) (limit_of kind) then Some bytes else None
 
--- the same, where they are within the limit
+-- the same, if they are within the limit
 abbrev pub text_with : State → Part → Option (List ℕ)
 text_with state part = option_and_then (limited state.kind) (joined_with state.text part)
 

@@ -125,16 +125,7 @@ packet_of stream.Other = packet.Reserved []
 abbrev pub AreBytes : ℕ → List ℕ → Type 0
 AreBytes count bytes = (length bytes ≡ count) × All (λ byte. byte < 2 ^ 8) bytes
 
--- the rows with the most fields
-abbrev pub IsInfo : StreamMessage → Type 0
-IsInfo (stream.Info major minor fixed blocks midi2 midi1 receives_jr sends_jr) = Unit {0}
-IsInfo _ = ⊥
-
-abbrev pub IsBlockInfo : StreamMessage → Type 0
-IsBlockInfo (stream.BlockInfo active block hint midi1 direction first count ci sysex8) = Unit {0}
-IsBlockInfo _ = ⊥
-
--- The messages of the rows, where each field fits its place. First what the types of the fields leave open.
+-- The messages of the rows, if each field fits its place. First what the types of the fields leave open.
 abbrev pub FitsPlaces : StreamMessage → Type 0
 FitsPlaces (stream.Info major minor fixed blocks midi2 midi1 receives_jr sends_jr) = blocks < 2 ^ 7
 FitsPlaces (stream.BlockInfo active block hint midi1 direction first count ci sysex8) =

@@ -27,7 +27,7 @@ ends form.Start = false
 ends form.Continue = false
 ends form.End = true
 
--- a part continues the text of these parts where it names the same block
+-- a part continues the text of these parts if it names the same block
 abbrev pub goes_on : Part → List Part → Option (List Part)
 goes_on part [] = None
 goes_on part (latest ∷ parts) = if latest.block == part.block then Some (part ∷ latest ∷ parts) else None
@@ -64,7 +64,7 @@ pub data Answer : Type 0 where
 abbrev pub finished : TextKind → List ℕ → Answer
 finished kind bytes = if is_text kind (without_trailing_zeros bytes) then whole (without_trailing_zeros bytes) else bad
 
--- The answer by the parts of the text that a part belongs to, where these are within the limit.
+-- The answer by the parts of the text that a part belongs to, if these are within the limit.
 abbrev pub answer_from : TextKind → Form → Option (List Part) → Answer
 answer_from kind form None = bad
 answer_from kind form (Some parts) = if ends form then finished kind (text_bytes parts) else held

@@ -55,7 +55,7 @@ pub enum StreamMessage {
         protocol: u8,
         jr: u8,
     },
-    /// Function Block Discovery of one block, or of all where `block` is 255. In the filter bit 0 asks for
+    /// Function Block Discovery of one block, or of all if `block` is 255. In the filter bit 0 asks for
     /// `BlockInfo`, bit 1 for the name.
     BlockDiscovery {
         block: u8,

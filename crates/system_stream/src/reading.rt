@@ -1,9 +1,7 @@
 // From stream packets to messages.
 ghost use Rattle.std.specs.Prelude.{◌≡◌, ◌<◌, ◌∷◌, ◌++◌, []};
 ghost use Rattle.ump_grammar.specs.WordFields.{field};
-ghost use Rattle.ump_grammar.specs.Ranges.{IsPacket};
 ghost use Rattle.system_stream.specs.Layout.{
-  IsStream,
   Reads,
   word_bytes,
   flag as is_flag,
@@ -19,12 +17,10 @@ use ump_grammar::decoding::form_of;
 use ump_grammar::fields::{bits, byte};
 use voice_messages::Form;
 
-/// The message of a stream packet (M2-104-UM, UMP stream messages). `Err(BadFormat)` is returned exactly when
-/// the status is that of a message of one packet and the format isn't 0. A status without a row is read as
-/// `Other`.
+/// Reads the message of a stream packet (M2-104-UM, UMP stream messages). Returns `Err(BadFormat)` exactly
+/// when the status is that of a message of one packet and the format isn't 0. A status without a row is read
+/// as `Other`, and so is a packet that isn't a stream packet.
 pub fn read(packet: &Packet) -> Result<StreamMessage, BadFormat>
-    requires stream { IsStream packet.now }
-    requires packet { IsPacket packet.now }
     ensures { Reads packet.now result }
 {
     let Packet::Stream {
@@ -36,8 +32,7 @@ pub fn read(packet: &Packet) -> Result<StreamMessage, BadFormat>
         fourth,
     } = packet
     else {
-        // The contract asks for a stream packet.
-        unreachable!()
+        return Ok(StreamMessage::Other);
     };
     if *format != 0 && has_one_packet(*status) {
         return Err(BadFormat);
@@ -57,7 +52,6 @@ fn has_one_packet(status: u16) -> bool
 }
 
 fn message(format: u8, status: u16, low: u32, second: u32, third: u32, fourth: u32) -> StreamMessage
-    requires { format < 4 }
     ensures { result ≡ stream_message format status low second third fourth }
 {
     match status {
@@ -100,15 +94,11 @@ fn message(format: u8, status: u16, low: u32, second: u32, third: u32, fourth: u
     }
 }
 
+// The form of a format, which has two bits: 0 to 3.
 fn form(format: u8) -> Form
-    requires { format < 4 }
     ensures { result ≡ form_at format }
 {
-    match form_of(u32::from(format)) {
-        Some(form) => form,
-        // Each of the numbers 0 to 3 is that of a form.
-        None => unreachable!(),
-    }
+    form_of(u32::from(format)).unwrap_or(Form::End)
 }
 
 // The field of one bit.

@@ -1,12 +1,10 @@
 // From messages to stream packets.
-ghost use Rattle.std.specs.Prelude.{◌≡◌, ◌<◌, ◌≤◌, ◌+◌, ◌*◌, ◌^◌, length};
+ghost use Rattle.std.specs.Prelude.{◌≡◌, ◌<◌, ◌≤◌, ◌+◌, ◌*◌, ◌^◌, length, slice_index};
 ghost use Rattle.ump_grammar.specs.Ranges.{IsPacket};
 ghost use Rattle.ump_grammar.specs.Spelling.{form_number};
 ghost use Rattle.ump_grammar.specs.declared.packet.Packet.TheVariants as packet;
 ghost use Rattle.system_stream.specs.Layout.{
   FitsPlaces,
-  IsBlockInfo,
-  IsInfo,
   bit as bit_number,
   half_of,
   packet_of,
@@ -33,67 +31,73 @@ pub fn write(message: &StreamMessage) -> Packet
             minor,
             filter,
         } => single(0x000, half(*major, *minor), u32::from(*filter), 0, 0),
-        StreamMessage::Info { .. } => info(message),
+        StreamMessage::Info {
+            major,
+            minor,
+            fixed,
+            blocks,
+            midi2,
+            midi1,
+            receives_jr,
+            sends_jr,
+        } => {
+            let second = info_word(*fixed, *blocks, *midi2, *midi1, *receives_jr, *sends_jr);
+            single(0x001, half(*major, *minor), second, 0, 0)
+        }
         StreamMessage::Identity {
             manufacturer,
             family,
             model,
             revision,
         } => identity(manufacturer, family, model, revision),
-        StreamMessage::Name { form, text } => {
-            text_packet(*form, 0x003, half(text[0], text[1]), text, 2)
+        StreamMessage::Name { form, text } => name(*form, 0x003, text),
+        StreamMessage::ProductId { form, text } => name(*form, 0x004, text),
+        StreamMessage::ConfigRequest { protocol, jr } => short(0x005, *protocol, *jr),
+        StreamMessage::ConfigNotice { protocol, jr } => short(0x006, *protocol, *jr),
+        StreamMessage::BlockDiscovery { block, filter } => short(0x010, *block, *filter),
+        StreamMessage::BlockInfo {
+            active,
+            block,
+            hint,
+            midi1,
+            direction,
+            first,
+            count,
+            ci,
+            sysex8,
+        } => {
+            let low = block_half(*active, *block, *hint, *midi1, *direction);
+            single(0x011, low, word(*first, *count, *ci, *sysex8), 0, 0)
         }
-        StreamMessage::ProductId { form, text } => {
-            text_packet(*form, 0x004, half(text[0], text[1]), text, 2)
-        }
-        StreamMessage::ConfigRequest { protocol, jr } => {
-            single(0x005, half(*protocol, *jr), 0, 0, 0)
-        }
-        StreamMessage::ConfigNotice { protocol, jr } => {
-            single(0x006, half(*protocol, *jr), 0, 0, 0)
-        }
-        StreamMessage::BlockDiscovery { block, filter } => {
-            single(0x010, half(*block, *filter), 0, 0, 0)
-        }
-        StreamMessage::BlockInfo { .. } => block_info(message),
         StreamMessage::BlockName { form, block, text } => {
             text_packet(*form, 0x012, half(*block, text[0]), text, 1)
         }
-        StreamMessage::StartClip => single(0x020, 0, 0, 0, 0),
-        StreamMessage::EndClip => single(0x021, 0, 0, 0, 0),
-        // `Other` has no row, so the contract asks for another message.
+        StreamMessage::StartClip => short(0x020, 0, 0),
+        StreamMessage::EndClip => short(0x021, 0, 0),
+        // `Other` has no row and so no packet: the contract asks for another message.
         StreamMessage::Other => unreachable!(),
     }
 }
 
-// Endpoint Info.
-fn info(message: &StreamMessage) -> Packet
-    requires row { IsInfo message.now }
-    requires fits { FitsPlaces message.now }
-    ensures packet { result ≡ packet_of message.now }
-    ensures fits { IsPacket result }
+// Word 2 of Endpoint Info.
+fn info_word(
+    fixed: bool,
+    blocks: u8,
+    midi2: bool,
+    midi1: bool,
+    receives_jr: bool,
+    sends_jr: bool,
+) -> u32
+    requires { blocks < 2 ^ 7 }
+    ensures { result ≡ bit_number fixed * 2 ^ 31 + blocks * 2 ^ 24 + bit_number midi2 * 2 ^ 9
+        + bit_number midi1 * 2 ^ 8 + bit_number receives_jr * 2 + bit_number sends_jr }
 {
-    let StreamMessage::Info {
-        major,
-        minor,
-        fixed,
-        blocks,
-        midi2,
-        midi1,
-        receives_jr,
-        sends_jr,
-    } = message
-    else {
-        // Only Endpoint Info is written here.
-        unreachable!()
-    };
-    let second = (bit(*fixed) << 31)
-        + (u32::from(*blocks) << 24)
-        + (bit(*midi2) << 9)
-        + (bit(*midi1) << 8)
-        + (bit(*receives_jr) << 1)
-        + bit(*sends_jr);
-    single(0x001, half(*major, *minor), second, 0, 0)
+    (bit(fixed) << 31)
+        + (u32::from(blocks) << 24)
+        + (bit(midi2) << 9)
+        + (bit(midi1) << 8)
+        + (bit(receives_jr) << 1)
+        + bit(sends_jr)
 }
 
 // Device Identity.
@@ -104,32 +108,6 @@ fn identity(manufacturer: &[u8; 3], family: &[u8; 2], model: &[u8; 2], revision:
     let second = word(0, manufacturer[0], manufacturer[1], manufacturer[2]);
     let third = word(family[0], family[1], model[0], model[1]);
     single(0x002, 0, second, third, text_word(revision, 0))
-}
-
-// Function Block Info.
-fn block_info(message: &StreamMessage) -> Packet
-    requires row { IsBlockInfo message.now }
-    requires fits { FitsPlaces message.now }
-    ensures packet { result ≡ packet_of message.now }
-    ensures fits { IsPacket result }
-{
-    let StreamMessage::BlockInfo {
-        active,
-        block,
-        hint,
-        midi1,
-        direction,
-        first,
-        count,
-        ci,
-        sysex8,
-    } = message
-    else {
-        // Only Function Block Info is written here.
-        unreachable!()
-    };
-    let low = block_half(*active, *block, *hint, *midi1, *direction);
-    single(0x011, low, word(*first, *count, *ci, *sysex8), 0, 0)
 }
 
 // A packet of format 0.
@@ -146,6 +124,26 @@ fn single(status: u16, low: u16, second: u32, third: u32, fourth: u32) -> Packet
         third,
         fourth,
     }
+}
+
+// A packet of format 0 that has nothing after bytes 3 and 4.
+fn short(status: u16, third: u8, fourth: u8) -> Packet
+    requires { status < 2 ^ 10 }
+    ensures packet { result ≡ packet.Stream 0 status (half_of third fourth) 0 0 0 }
+    ensures fits { IsPacket result }
+{
+    single(status, half(third, fourth), 0, 0, 0)
+}
+
+// A packet of a name or a product instance id, with fourteen bytes of its text.
+fn name(form: Form, status: u16, text: &[u8; 14]) -> Packet
+    requires { status < 2 ^ 10 }
+    ensures packet { result ≡ packet.Stream (form_number form) status
+        (half_of (slice_index text.now 0) (slice_index text.now 1))
+        (word_at text.now 2) (word_at text.now 6) (word_at text.now 10) }
+    ensures fits { IsPacket result }
+{
+    text_packet(form, status, half(text[0], text[1]), text, 2)
 }
 
 // A packet of a text, with twelve of its bytes, from index `start` on, in words 2 to 4.

@@ -1,6 +1,5 @@
 // The lines of messages of the MIDI 1.0 protocol, from their kind on.
 ghost use Rattle.std.specs.Prelude.{◌≡◌, ◌≤◌, ◌+◌, ◌++◌, length, codes};
-ghost use Rattle.listing_terms.specs.Channels.{channel_of};
 ghost use Rattle.text_lines.specs.Fields.{field};
 ghost use Rattle.text_lines.specs.Voice1Lines.{voice1_fields, system_fields, system_status, m1_note, m1_program};
 ghost use Rattle.text_lines.specs.VoiceLines.{channel_value, controller_value, note_value};
@@ -20,7 +19,8 @@ pub fn put_voice1(line: &mut Line, group: Option<U4>, message: &Voice1)
     ensures text { line.new ≡ line.old ++ voice1_fields group message.now }
     ensures room { HasRoomForEnd line.new }
 {
-    let address = address_of(group, message);
+    let channel = message.channel();
+    let address = VoiceAddress { group, channel };
     match *message {
         Voice1::NoteOff { note, velocity, .. } => {
             put_note(line, "m1-note-off", address, note, velocity);
@@ -40,24 +40,6 @@ pub fn put_voice1(line: &mut Line, group: Option<U4>, message: &Voice1)
         }
         Voice1::Bend { value, .. } => put_value(line, "m1-bend", address, value.get() as u32),
     }
-}
-
-// The channel that a message is for, in this group.
-#[inline(always)]
-fn address_of(group: Option<U4>, message: &Voice1) -> VoiceAddress
-    ensures group { result.group ≡ group }
-    ensures channel { result.channel ≡ channel_of message.now }
-{
-    let channel = match *message {
-        Voice1::NoteOff { channel, .. }
-        | Voice1::NoteOn { channel, .. }
-        | Voice1::PolyPressure { channel, .. }
-        | Voice1::Control { channel, .. }
-        | Voice1::Program { channel, .. }
-        | Voice1::Pressure { channel, .. }
-        | Voice1::Bend { channel, .. } => channel,
-    };
-    VoiceAddress { group, channel }
 }
 
 #[inline(always)]

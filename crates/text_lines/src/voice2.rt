@@ -1,9 +1,7 @@
 // The lines of messages of the MIDI 2.0 protocol, from their kind on.
 ghost use Rattle.std.specs.Prelude.{◌≡◌, ◌≤◌, ◌+◌, ◌*◌, ◌++◌, length, codes};
-ghost use Rattle.voice_messages.specs.ForProofs.Kinds.{IsNote, IsOfOneNote, IsOfChannel};
-ghost use Rattle.listing_terms.specs.Channels.{channel2};
 ghost use Rattle.text_lines.specs.Fields.{field};
-ghost use Rattle.text_lines.specs.Voice2Lines.{voice2_fields, kind_word, bank_field, param_fields, param_value, controller_fields, program, note_management};
+ghost use Rattle.text_lines.specs.Voice2Lines.{voice2_fields, kind_word, bank_field, param_fields, param_value, controller_fields, note_controller, program, note_management};
 ghost use Rattle.text_lines.specs.Room.{AddsAtMost, HasRoom, HasRoomForEnd, before_fields, before_kind, behind_channel, longest_field, longest_word};
 
 use crate::decimal::put_number;
@@ -18,48 +16,8 @@ pub fn put_voice2(line: &mut Line, group: Option<U4>, message: &Voice2)
     ensures text { line.new ≡ line.old ++ voice2_fields group message.now }
     ensures room { HasRoomForEnd line.new }
 {
-    match message {
-        Voice2::NoteOff { .. } | Voice2::NoteOn { .. } => put_note_message(line, group, message),
-        Voice2::PolyPressure { .. }
-        | Voice2::NoteController { .. }
-        | Voice2::NoteBend { .. }
-        | Voice2::NoteManagement { .. } => put_per_note_message(line, group, message),
-        _ => put_channel_message(line, group, message),
-    }
-}
-
-// The channel that a message is for, in this group.
-#[inline(always)]
-fn address_of(group: Option<U4>, message: &Voice2) -> VoiceAddress
-    ensures group { result.group ≡ group }
-    ensures channel { result.channel ≡ channel2 message.now }
-{
-    let channel = match *message {
-        Voice2::NoteOff { channel, .. }
-        | Voice2::NoteOn { channel, .. }
-        | Voice2::PolyPressure { channel, .. }
-        | Voice2::Control { channel, .. }
-        | Voice2::Set { channel, .. }
-        | Voice2::Shift { channel, .. }
-        | Voice2::Program { channel, .. }
-        | Voice2::Pressure { channel, .. }
-        | Voice2::Bend { channel, .. }
-        | Voice2::NoteController { channel, .. }
-        | Voice2::NoteBend { channel, .. }
-        | Voice2::NoteManagement { channel, .. } => channel,
-    };
-    VoiceAddress { group, channel }
-}
-
-// A note off or a note on.
-#[inline(always)]
-fn put_note_message(line: &mut Line, group: Option<U4>, message: &Voice2)
-    requires room { length line.old ≤ before_kind }
-    requires kind { IsNote message.now }
-    ensures text { line.new ≡ line.old ++ voice2_fields group message.now }
-    ensures room { HasRoomForEnd line.new }
-{
-    let address = address_of(group, message);
+    let channel = message.channel();
+    let address = VoiceAddress { group, channel };
     match *message {
         Voice2::NoteOff {
             note,
@@ -81,21 +39,6 @@ fn put_note_message(line: &mut Line, group: Option<U4>, message: &Voice2)
             put_voice(line, "note-on", address);
             put_note(line, note, velocity, attribute_type, attribute);
         }
-        // Only a note off or a note on is told here.
-        _ => unreachable!(),
-    }
-}
-
-// Any other message of one note.
-#[inline(always)]
-fn put_per_note_message(line: &mut Line, group: Option<U4>, message: &Voice2)
-    requires room { length line.old ≤ before_kind }
-    requires kind { IsOfOneNote message.now }
-    ensures text { line.new ≡ line.old ++ voice2_fields group message.now }
-    ensures room { HasRoomForEnd line.new }
-{
-    let address = address_of(group, message);
-    match *message {
         Voice2::PolyPressure { note, value, .. } => {
             put_note_value(line, "poly", address, note, value);
         }
@@ -105,46 +48,25 @@ fn put_per_note_message(line: &mut Line, group: Option<U4>, message: &Voice2)
             index,
             value,
             ..
-        } => {
-            put_voice(line, "note-controller", address);
-            put_controller_fields(line, kind, note, index);
-            put_field(line, " value=", value);
-        }
+        } => put_note_controller(line, address, kind, note, index, value),
         Voice2::NoteBend { note, value, .. } => {
             put_note_value(line, "note-bend", address, note, value);
         }
         Voice2::NoteManagement { note, flags, .. } => {
             put_note_management(line, address, note, flags);
         }
-        // Only a message of one note that is neither a note off nor a note on is told here.
-        _ => unreachable!(),
-    }
-}
-
-// A message of the whole channel.
-#[inline(always)]
-fn put_channel_message(line: &mut Line, group: Option<U4>, message: &Voice2)
-    requires room { length line.old ≤ before_kind }
-    requires kind { IsOfChannel message.now }
-    ensures text { line.new ≡ line.old ++ voice2_fields group message.now }
-    ensures room { HasRoomForEnd line.new }
-{
-    let address = address_of(group, message);
-    match message {
         Voice2::Control { index, value, .. } => {
-            put_control(line, "control", address, *index, *value);
+            put_control(line, "control", address, index, value);
         }
-        Voice2::Set { param, value, .. } => put_param(line, "parameter", address, *param, *value),
-        Voice2::Shift { param, value, .. } => put_param(line, "relative", address, *param, *value),
-        Voice2::Program { program, bank, .. } => put_program(line, address, *program, bank),
-        Voice2::Pressure { value, .. } => put_value(line, "pressure", address, *value),
-        Voice2::Bend { value, .. } => put_value(line, "bend", address, *value),
-        // Only a message of the whole channel is told here.
-        _ => unreachable!(),
+        Voice2::Set { param, value, .. } => put_param(line, "parameter", address, param, value),
+        Voice2::Shift { param, value, .. } => put_param(line, "relative", address, param, value),
+        Voice2::Program { program, bank, .. } => put_program(line, address, program, bank),
+        Voice2::Pressure { value, .. } => put_value(line, "pressure", address, value),
+        Voice2::Bend { value, .. } => put_value(line, "bend", address, value),
     }
 }
 
-// The fields of a note off or note on behind its channel.
+// The fields of a note off or note on after its channel.
 #[inline(always)]
 fn put_note(line: &mut Line, note: U7, velocity: u16, attribute_type: u8, attribute: u16)
     requires { length line.old ≤ behind_channel }
@@ -194,9 +116,9 @@ fn put_param(line: &mut Line, kind: &str, address: VoiceAddress, param: Param, v
     put_field(line, " value=", value);
 }
 
-fn put_program(line: &mut Line, address: VoiceAddress, number: U7, bank: &Option<Bank>)
+fn put_program(line: &mut Line, address: VoiceAddress, number: U7, bank: Option<Bank>)
     requires { length line.old ≤ before_kind }
-    ensures text { line.new ≡ line.old ++ program address.group address.channel number bank.now }
+    ensures text { line.new ≡ line.old ++ program address.group address.channel number bank }
     ensures room { HasRoomForEnd line.new }
 {
     put_voice(line, "program", address);
@@ -206,9 +128,9 @@ fn put_program(line: &mut Line, address: VoiceAddress, number: U7, bank: &Option
 
 // The bank of a program.
 #[tactic(auto, unfolding(crate::specs::Voice2Lines::bank_field))]
-fn put_bank(line: &mut Line, bank: &Option<Bank>)
+fn put_bank(line: &mut Line, bank: Option<Bank>)
     requires { HasRoom (2 * longest_field) line.old }
-    ensures text { line.new ≡ line.old ++ bank_field bank.now }
+    ensures text { line.new ≡ line.old ++ bank_field bank }
     ensures room { AddsAtMost (2 * longest_field) line.old line.new }
 {
     match bank {
@@ -220,6 +142,26 @@ fn put_bank(line: &mut Line, bank: &Option<Bank>)
             put_number(line, bank.lsb.get() as u32);
         }
     }
+}
+
+// A value of a controller of one note.
+#[inline(always)]
+fn put_note_controller(
+    line: &mut Line,
+    address: VoiceAddress,
+    kind: ParamKind,
+    note: U7,
+    index: u8,
+    value: u32,
+)
+    requires { length line.old ≤ before_kind }
+    ensures text { line.new
+        ≡ line.old ++ note_controller address.group address.channel kind note index value }
+    ensures room { HasRoomForEnd line.new }
+{
+    put_voice(line, "note-controller", address);
+    put_controller_fields(line, kind, note, index);
+    put_field(line, " value=", value);
 }
 
 // The kind, the note and the index of a note controller.

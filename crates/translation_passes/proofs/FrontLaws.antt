@@ -3,7 +3,7 @@ use Rattle.std.proofs.Common.{◌≡◌, ◌+◌, ◌≤◌, ℕ, List, [], ◌�
 use Rattle.std.specs.Prelude.{IfOk, Result, Ok, Err}
 use Rattle.std.proofs.lemmas.List.{take-append-drop}
 use Rattle.ump_grammar.specs.declared.packet.Packet.{Packet}
-use Rattle.direct_packets.specs.declared.direct_message.DirectMessage.{DirectMessage}
+use Rattle.encoded_packets.specs.declared.direct_message.DirectMessage.{DirectMessage}
 use Rattle.up_translator.specs.DirectWords.{packet_of}
 use Rattle.up_translator.specs.Fronts.{IsDirectFront, RaiseNothing, RaiseOne, RaisesAlone}
 use Rattle.up_translator.specs.Held.{UpState, up_after}

@@ -10,7 +10,7 @@ use Rattle.midi_meaning.specs.UpRefusal.{AreAcceptedUp, refusal_of_step}
 use Rattle.up_translator.specs.declared.raised.Raised.{Raised}
 use Rattle.up_translator.specs.Answers.{IsRaisedAt}
 use Rattle.up_translator.specs.Fronts.{RaisesAlone}
-use Rattle.up_translator.specs.Held.{KeepsAfter, UpState, step_in, up_after}
+use Rattle.up_translator.specs.Held.{UpState, step_in, up_after}
 use Rattle.up_translator.specs.Laws.{RaisedBytesAreTheDefinition}
 use Rattle.up_translator.specs.Recording.{HoldsUp}
 use Rattle.up_translator.specs.Step.{Raises}
@@ -58,14 +58,13 @@ module _ (paired : Bool) (law : RaisedBytesAreTheDefinition paired) (room group 
 
   -- it then holds what all bytes leave
   pub holds_more : RoomsThatAreNotReachedDoNotMatterInBytes paired → (new : UpState) → AreAcceptedUp (Some room) (byte ∷ bytes_read past)
-      → KeepsAfter up.holding (step_in up offset byte) → new ≡ up_after up offset byte
+      → new ≡ up_after up offset byte
       → HoldsUp paired room group (byte ∷ bytes_read past) new
-  holds_more rooms new accepted keeps is =
-      let K : ℕ → Type 0 = λ n. KeepsAfter up.holding (step_in up n byte) in
+  holds_more rooms new accepted is =
       let H : ℕ → Type 0 = λ n. HoldsUp paired room group (byte ∷ bytes_read past) (up_after up n byte) in
       let U : UpState → Type 0 = λ u. HoldsUp paired room group (byte ∷ bytes_read past) u in
       subst U (sym is) (subst H (sym at)
-      (law.after room group (bytes_read past) byte up (rooms.accepted room (byte ∷ bytes_read past) accepted) holds (subst K at keeps)))
+      (law.after room group (bytes_read past) byte up (rooms.accepted room (byte ∷ bytes_read past) accepted) holds))
 
 -- ---- one more byte of several that are taken at once
 

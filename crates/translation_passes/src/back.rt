@@ -15,6 +15,7 @@ use crate::raised::{PacketWork, put_byte, put_front, put_open};
 use down_translator::laws::what_is_held_is_the_definition;
 use down_translator::{Down, LoweredMessage, Style};
 use item_reader::ByteReader;
+use listing_lines::refused;
 use midi_meaning::up_laws::{
     bytes_that_come_back_mean_the_same, raised_packets_are_in_range,
     raised_packets_come_back_in_silence, rooms_that_are_not_reached_do_not_matter_in_bytes,
@@ -56,7 +57,7 @@ impl Model for BackRun {
 impl BackRun {
     /// A translation into this group and down again in plain style, with paired controllers or without (own
     /// rule). `room` is the most bytes of an exclusive between F0 and F7, 6 to 1,048,576, for which both ways
-    /// reserve memory; `NoMemory` where there isn't so much. No other call takes any.
+    /// reserve memory; `NoMemory` if there isn't that much. No other call takes any.
     pub fn new(alloc: Global, group: U4, room: u32, paired: bool) -> Result<BackRun, NoMemory>
         requires least { 6 ≤ room }
         requires most { room ≤ 1048576 }
@@ -98,7 +99,7 @@ fn put_message<O: Outputs>(message: &LoweredMessage, outputs: &mut O) -> Result<
     }
 }
 
-// The message that alone carries a packet, where one does.
+// The message that alone carries a packet, if one does.
 #[inline(always)]
 fn lowered_in(down: &Down, packet: &RaisedPacket) -> Option<LoweredMessage>
     ensures { MatchOption result (goes_direct down.now packet.now ≡ false)
@@ -126,8 +127,7 @@ impl PacketWork for Down {
             Some(message) => put_message(&message, outputs),
             None => match self.packet(&packet.packet(), offset) {
                 Ok(carried) => put_piece(carried.piece, outputs),
-                // The packet comes down (`Accepts`), and what comes down isn't refused.
-                Err(_) => unreachable!(),
+                Err(bad) => Err(refused(bad, offset)),
             },
         }
     }
@@ -199,8 +199,8 @@ impl Runs for BackEngine {
 /// still open. Takes no memory.
 ///
 /// `Refused` comes for `InputTooLong`, `DataIncrement`, `DataDecrement` and `ExclusiveTooLong`, with the
-/// number of bytes before what is refused. `ReadFault`, `OutputFault` and `NoteFault` come only where the
-/// count of that object rose. The lanes stay as they are.
+/// number of bytes before what is refused. `ReadFault`, `OutputFault` and `NoteFault` come only if the
+/// count of that object rose. The lanes are unchanged.
 // Never inlined, so that the loops of the other passes keep their registers.
 #[inline(never)]
 pub fn run_back<S: Source, L: Lanes, W: Sink, N: Sink>(

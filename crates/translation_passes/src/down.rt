@@ -19,12 +19,12 @@ ghost use Rattle.listing_lines.specs.Open.{open_line, open_puts};
 ghost use Rattle.translation_passes.specs.ForProofs.DownMeans.{carries_named, carries_nothing, carries_means, ends_named};
 ghost use Rattle.packet_input.specs.Packets.{packet_cutting};
 
-use direct_packets::EncodedPacket;
 use down_translator::laws::{
     one_more_accepted_packet_adds_its_pair_and_line, spelled_packets_are_in_range,
     what_is_held_is_the_definition,
 };
 use down_translator::{Carried, Down, Kind, Listed, LoweredMessage, ShortenedMessage, Style};
+use encoded_packets::EncodedPacket;
 use listing_lines::{OpenExclusives, list_open, put_line, put_listed, refused};
 use midi_meaning::style_laws::styled_pairs_are_a_translation;
 use outside::{Lanes, Sink, Source};
@@ -64,7 +64,7 @@ impl Model for DownRun {
 impl DownRun {
     /// A translation in this style of a recording whose words have this order, with paired controllers or
     /// without (own rule). `room` is the most bytes of an exclusive between F0 and F7, 6 to 1,048,576, for
-    /// which each group reserves memory; `NoMemory` where there isn't so much. No other call takes any.
+    /// which each group reserves memory; `NoMemory` if there isn't that much. No other call takes any.
     pub fn new(
         alloc: Global,
         style: Style,
@@ -145,7 +145,7 @@ impl Engine<Framed, EncodedPacket> for DownEngine {
 ///
 /// `Refused` comes for `Truncated`, `InputTooLong`, `BadCount`, `HighBit`, `DataIncrement`, `DataDecrement`
 /// and `ExclusiveTooLong`, with the number of bytes before what is refused. `ReadFault`, `LaneFault` and
-/// `NoteFault` come only where the count of that object rose. The output stays as it is.
+/// `NoteFault` come only if the count of that object rose. The output is unchanged.
 // Never inlined, so that the loops of the other passes keep their registers.
 #[inline(never)]
 pub fn run_down<S: Source, L: Lanes, W: Sink, N: Sink>(

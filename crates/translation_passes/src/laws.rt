@@ -32,7 +32,7 @@ pub fn a_stream_has_one_first_refusal()
     bytes_are_cut_once();
 }
 
-/// Where `translate down` is done, the pairs that were put are exactly those of the packets of the whole
+/// When `translate down` is done, the pairs that were put are exactly those of the packets of the whole
 /// input in the style, which are a translation of them: after each packet the bytes so far of each lane mean
 /// what the packets so far of its group mean. The notes gained exactly the lines of the listing of the whole
 /// recording.
@@ -40,14 +40,14 @@ pub fn a_recording_that_is_carried_is_that_of_the_input()
     ensures { DoneCarriesTheInput }
 {}
 
-/// Where `translate up` is done, the output gained exactly the words of the packets to which the bytes of the
+/// When `translate up` is done, the output gained exactly the words of the packets to which the bytes of the
 /// whole input are raised: after each byte the packets so far mean what the bytes so far mean. The notes
 /// gained exactly the lines of the listing of the whole stream.
 pub fn a_stream_that_is_raised_is_that_of_the_input()
     ensures { DoneRaisesTheInput }
 {}
 
-/// Where `translate back` is done, the output gained exactly the plain pieces of the packets to which the
+/// When `translate back` is done, the output gained exactly the plain pieces of the packets to which the
 /// bytes of the whole input are raised: after each byte the pieces so far mean what the bytes so far mean.
 /// The notes gained exactly the lines of the listing of the whole stream.
 pub fn a_stream_that_comes_back_is_that_of_the_input()

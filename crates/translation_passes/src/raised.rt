@@ -3,7 +3,7 @@ ghost use Rattle.std.specs.Prelude.{◌≡◌, ◌++◌, ℕ, List, Ok};
 ghost use Rattle.ump_grammar.specs.declared.packet.Packet.{Packet};
 ghost use Rattle.midi_meaning.specs.Raising.{exclusive_packets};
 ghost use Rattle.up_translator.specs.declared.raised.Raised.{Raised};
-ghost use Rattle.direct_packets.specs.declared.direct_message.DirectMessage.{DirectMessage};
+ghost use Rattle.encoded_packets.specs.declared.direct_message.DirectMessage.{DirectMessage};
 ghost use Rattle.up_translator.specs.DirectWords.{packet_of};
 ghost use Rattle.up_translator.specs.Fronts.{IsDirectFront};
 ghost use Rattle.up_translator.specs.Held.{KeepsAfter, UpState, step_in, up_after};
@@ -129,7 +129,7 @@ pub(crate) fn put_byte<P: PacketWork, O: Outputs>(
     }
 }
 
-/// Takes bytes at the front of these up at once, where nothing or one direct packet is raised of them, does
+/// Takes bytes at the front of these up at once, if nothing or one direct packet is raised of them, does
 /// the work on that, and says how many they are. The work rests on no offset, so that it is told 0.
 #[inline(always)]
 pub(crate) fn put_front<P: PacketWork, O: Outputs>(

@@ -60,7 +60,7 @@ impl Model for UpRun {
 impl UpRun {
     /// A translation into this group, whose words have this order, with paired controllers or without (own
     /// rule). `room` is the most bytes of an exclusive between F0 and F7, 6 to 1,048,576, for which memory is
-    /// reserved; `NoMemory` where there isn't so much. No other call takes any.
+    /// reserved; `NoMemory` if there isn't that much. No other call takes any.
     pub fn new(
         alloc: Global,
         group: U4,
@@ -172,8 +172,8 @@ impl Runs for UpEngine {
 /// after those of a byte its lines in the notes, at the end the line of what is still open. Takes no memory.
 ///
 /// `Refused` comes for `InputTooLong`, `DataIncrement`, `DataDecrement` and `ExclusiveTooLong`, with the
-/// number of bytes before what is refused. `ReadFault`, `OutputFault` and `NoteFault` come only where the
-/// count of that object rose. The lanes stay as they are.
+/// number of bytes before what is refused. `ReadFault`, `OutputFault` and `NoteFault` come only if the
+/// count of that object rose. The lanes are unchanged.
 // Never inlined, so that the loops of the other passes keep their registers.
 #[inline(never)]
 pub fn run_up<S: Source, L: Lanes, W: Sink, N: Sink>(

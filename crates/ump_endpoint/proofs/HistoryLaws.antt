@@ -1,6 +1,6 @@
 -- What an endpoint answers by what it holds is what it answers by all packets before.
 use Rattle.std.proofs.Common.{◌≡◌, ◌≤◌, ℕ, Bool, true, false, List, [], ◌∷◌, ◌++◌, length, Option, None, Some, refl, ap, sym, ◌∙◌}
-use Rattle.std.specs.Prelude.{Ok, Err, if◌then◌else◌, map}
+use Rattle.std.specs.Prelude.{Ok, Err, if◌then◌else◌}
 use Rattle.std.specs.Option.{option_map, option_map_or}
 use Rattle.voice_messages.specs.declared.voice2.Form.{Form}
 use Rattle.voice_messages.specs.declared.voice2.Form.TheVariants as form
@@ -26,8 +26,9 @@ use Rattle.listing_terms.specs.declared.listed.BadStep.TheVariants as bad
 use Rattle.ump_endpoint.specs.Answers.{SaidOrFault, in_force, message_replies, outcome_by, packet_listed}
 use Rattle.ump_endpoint.specs.Answers.{packet_outcome, packet_replies, protocol_after_packet, said_by, said_in}
 use Rattle.ump_endpoint.specs.Answers.{said_outcome, stream_packet_replies, received_by, received_in_packets}
-use Rattle.ump_endpoint.specs.Held.{EndpointState, after_packet, after_part, held_over, listed_in, listed_of, outcome_in, part_replies}
-use Rattle.ump_endpoint.specs.Held.{placed_part, refusal_in, refusal_of, replies_in, said_of, said_of_packet, said_outcome_in, with_part_of}
+use Rattle.ump_endpoint.specs.Held.{EndpointState, after_packet, after_part, held_over, listed_in, listed_of, new_endpoint, outcome_in}
+use Rattle.ump_endpoint.specs.Held.{part_replies, placed_part, refusal_in, refusal_of, replies_in, reset_endpoint, said_of, said_of_packet}
+use Rattle.ump_endpoint.specs.Held.{said_outcome_in, with_part_of}
 use Rattle.ump_endpoint.specs.Laws.{ArePackets}
 use Rattle.ump_endpoint.specs.declared.taken.Outcome.TheVariants as outcomes
 
@@ -125,6 +126,9 @@ parts_in_range (placed ∷ past) are = more_parts placed.offset placed.packet pa
 table_room : (room : ℕ) (parts : List Part) → (table_over room parts).room ≡ room
 table_room room [] = refl
 table_room room (part ∷ parts) = table_room room parts
+
+pub begins_again : (setup : SetupData) (room : ℕ) (past : List Placed) → reset_endpoint (held_over setup room past) ≡ new_endpoint setup room
+begins_again setup room past = ap (new_endpoint setup) (table_room room (parts_of past))
 
 begun-bytes : (o : Option (List Part)) → bytes_begun (option_map begun_of o) ≡ option_map bytes_of o
 begun-bytes None = refl

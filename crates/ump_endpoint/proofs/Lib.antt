@@ -1,2 +1,3 @@
 pub mod HeardLaws
 pub mod HistoryLaws
+pub mod StayLaws

@@ -20,7 +20,7 @@ use Rattle.ump_endpoint.specs.declared.taken.Outcome.TheVariants as outcomes
 
 -- ---- a stream packet, with the protocol that is in force before it
 
--- the replies to the message of a stream packet, where its format is one that its status has
+-- the replies to the message of a stream packet, if its format is one that its status has
 abbrev pub stream_packet_replies : SetupData → ℕ → Packet → List Packet
 stream_packet_replies setup protocol packet =
     option_map_or (stream_replies setup protocol) (message_read packet) []

@@ -1,5 +1,5 @@
 -- What an endpoint holds, and what that answers to one more packet.
-use Rattle.std.specs.Prelude.{ℕ, List, [], ◌∷◌, ◌++◌, Option, None, Some, Result, Ok, Err}
+use Rattle.std.specs.Prelude.{ℕ, List, [], ◌++◌, Option, None, Some, Result, Ok, Err}
 use Rattle.std.specs.Option.{option_map, option_and_then}
 use Rattle.voice_messages.specs.declared.voice2.Form.{Form}
 use Rattle.ump_grammar.specs.declared.packet.Packet.{Packet}
@@ -41,6 +41,10 @@ new_endpoint setup room =
       exclusives = empty_table room;
       responder = responder_at setup room [];
     }
+
+-- an endpoint that begins again: of the same setup, with the same limit
+abbrev pub reset_endpoint : EndpointState → EndpointState
+reset_endpoint held = new_endpoint held.setup held.exclusives.room
 
 -- ---- one message
 

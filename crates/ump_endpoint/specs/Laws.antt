@@ -15,7 +15,7 @@ use Rattle.ci_responder.specs.declared.keys.Key.{Key}
 use Rattle.listing_terms.specs.Parts.{Placed, part_of, parts_of}
 use Rattle.listing_terms.specs.ExclusiveLines.{bad_part}
 use Rattle.ump_endpoint.specs.Answers.{packet_listed, packet_outcome, packet_replies, received_in_packets}
-use Rattle.ump_endpoint.specs.Held.{after_packet, held_over, listed_in, new_endpoint, outcome_in, refusal_in, replies_in}
+use Rattle.ump_endpoint.specs.Held.{after_packet, held_over, listed_in, new_endpoint, outcome_in, refusal_in, replies_in, reset_endpoint}
 
 -- each of these is a packet that some words decode to
 abbrev pub ArePackets : List Placed → Type 0
@@ -25,6 +25,8 @@ ArePackets past = AllByRecursion (λ placed. IsPacket placed.packet) past
 -- exclusive packet may have that many bytes.
 pub record AnswersAreThoseOfTheHistory : Type 0 where
   pub begins : (setup : SetupData) (room : ℕ) → new_endpoint setup room ≡ held_over setup room []
+  pub reset : (setup : SetupData) (room : ℕ) (past : List Placed) →
+      reset_endpoint (held_over setup room past) ≡ new_endpoint setup room
   pub refusal : (setup : SetupData) (room : ℕ) (past : List Placed) → 6 ≤ room → ArePackets past → (packet : Packet) →
       refusal_in (held_over setup room past) packet ≡ bad_part (Some room) (parts_of past) (part_of 0 packet)
   pub replies : (setup : SetupData) (room : ℕ) (past : List Placed) → 6 ≤ room → ArePackets past → (placed : Placed) →

@@ -8,12 +8,12 @@ ghost use Rattle.system_stream.specs.Layout.{IsStream};
 ghost use Rattle.ump_grammar.specs.Ranges.{IsPacket};
 ghost use Rattle.ump_grammar.specs.Replies.{AddsPackets};
 ghost use Rattle.ump_endpoint.specs.Answers.{protocol_after_packet, stream_outcome, stream_packet_replies};
-ghost use Rattle.ump_endpoint.specs.Held.{after_packet, new_endpoint, replies_in, taken_in};
+ghost use Rattle.ump_endpoint.specs.Held.{after_packet, new_endpoint, replies_in, reset_endpoint, taken_in};
 
 use crate::hearing::{PlacedPart, take_part};
 use crate::replies::ReplyPackets;
 use crate::taken::{Outcome, Taken};
-use ci_responder::{Key, Responder};
+use ci_responder::{Key, Responder, responders_stay_of_their_setup};
 use function_blocks::{Config, Setup};
 use listing_terms::BadStep;
 use small_types::{NoMemory, U4};
@@ -24,22 +24,25 @@ use system_stream::read;
 use ump_grammar::{Packet, Replies};
 
 /// The most words that the replies to one packet have: for each of 32 function blocks, one info and seven
-/// packets of a name, four words each. The reply to a message of MIDI-CI has at most 114.
+/// packets of a name, four words each. The reply to a MIDI-CI message has at most 114.
 pub const MOST_REPLY_WORDS: usize = 1024;
 
 /// A UMP Endpoint: it answers the stream messages and the MIDI-CI messages of a peer (M2-104-UM, UMP stream
-/// messages; M2-101-UM). A contract sees what it holds, which is its setup, the protocol in force, the
-/// exclusives that the groups have open and its responder; and the words of the replies to the last packet.
+/// messages; M2-101-UM). A contract sees its state, which is the setup, the protocol in force, the open
+/// exclusives of the groups and the responder, and the words of the replies to the last packet.
 #[derive(Drop)]
 pub struct Endpoint {
     setup: Setup,
     config: Config,
     groups: Groups,
     responder: Responder,
-    replies: Replies,
+    // On the heap, so that an endpoint is small: it has room for the most words.
+    replies: Box<Replies>,
 }
 
 impl Model for Endpoint {
+    ghost use Rattle.std.specs.Prelude.{◌≡◌};
+    ghost use Rattle.ci_responder.specs.Reset.{IsOf};
     ghost use Rattle.ump_endpoint.specs.Held.{EndpointValue};
 
     ghost Value = { EndpointValue };
@@ -51,11 +54,24 @@ impl Model for Endpoint {
         exclusives = e.groups;
         responder = e.responder;
       };
-      replies = e.replies;
+      replies = e.replies.value;
     } };
+
+    ghost invariant = { λ e. IsOf e.setup e.responder × (e.responder.room ≡ e.groups.room) };
 }
 
-// Answers a stream packet: adds its replies to the replies, which are
+// No replies, with memory for the most that there can be. It needs as much of the stack, so it isn't inlined.
+#[inline(never)]
+fn no_replies(alloc: Global) -> Result<Box<Replies>, NoMemory>
+    ensures { IfOk result (λ replies. replies.value ≡ []) }
+{
+    match Box::new(alloc, Replies::new()) {
+        Ok(replies) => Ok(replies),
+        Err(_) => Err(NoMemory),
+    }
+}
+
+// Answers a stream packet: adds its replies to `replies`, which is
 // empty, and puts in force the protocol that it asks for.
 fn answer(setup: &Setup, config: &mut Config, replies: &mut Replies, packet: &Packet) -> Outcome
     requires stream { IsStream packet.now }
@@ -79,9 +95,9 @@ fn answer(setup: &Setup, config: &mut Config, replies: &mut Replies, packet: &Pa
 }
 
 impl Endpoint {
-    /// An endpoint of this setup, to which nothing has come. `room` is the most bytes of an exclusive between
-    /// F0 and F7, 6 to 1,048,576, for which each group reserves memory; `NoMemory` when there isn't that
-    /// much. No other call takes any.
+    /// An endpoint of this setup that has received nothing. `room` is the most bytes of an exclusive between
+    /// F0 and F7, 6 to 1,048,576, for which each group reserves memory. Returns `NoMemory` if there isn't
+    /// enough memory. No other call takes any.
     pub fn new(alloc: Global, setup: Setup, room: u32) -> Result<Endpoint, NoMemory>
         requires least { 6 ≤ room }
         requires most { room ≤ 1048576 }
@@ -90,31 +106,54 @@ impl Endpoint {
     {
         let groups = Groups::new(alloc, room)?;
         let responder = Responder::new(alloc, &setup, room)?;
+        let replies = no_replies(alloc)?;
         let config = setup.config();
+        responders_stay_of_their_setup();
         Ok(Endpoint {
             setup,
             config,
             groups,
             responder,
-            replies: Replies::new(),
+            replies,
         })
     }
 
-    /// Takes one more packet of the peer, one that some words decode to, and makes the replies to it: those
+    /// Returns the endpoint to the state in which `new` makes it with the same setup and room (own rule): no
+    /// exclusive is open, no MUID is used up, the protocol and the profiles are those of the setup, and there
+    /// are no replies. Takes no memory.
+    pub fn reset(&mut self)
+        ensures { self.new ≡ record { held = reset_endpoint self.old.held; replies = [] } }
+    {
+        responders_stay_of_their_setup();
+        let Endpoint {
+            setup,
+            config,
+            groups,
+            responder,
+            replies,
+        } = self;
+        groups.reset();
+        responder.reset(setup);
+        *config = setup.config();
+        replies.clear();
+    }
+
+    /// Takes the next packet of the peer, one that some words decode to, and makes the replies to it: those
     /// to a stream packet, or to the MIDI-CI message that a packet of an exclusive ends. Packets of other
-    /// kinds change nothing and have no reply (own rule). What it did with the packet names the message that
-    /// the packet ended and the exclusive that it lost.
+    /// kinds change nothing and have no reply (own rule). The result says what became of the message that
+    /// the packet ended, and which exclusive the packet cut off.
     ///
-    /// The offset, in bytes from the start of the input, is only kept, and given back as the place of an
-    /// exclusive that is lost; any number will do. `Err` is always `ExclusiveTooLong`, and comes exactly
-    /// where the exclusive has more bytes than the room: it is dropped, nothing else is changed, and the
-    /// endpoint may go on.
+    /// The offset, in bytes from the start of the input, is only stored, and returned as the place of an
+    /// exclusive that is lost; any number is allowed. `Err` is always `ExclusiveTooLong`, and is returned
+    /// exactly when the exclusive has more bytes than the room: it is dropped, nothing else changes, and the
+    /// endpoint may continue.
     pub fn packet(&mut self, packet: &Packet, offset: u64) -> Result<Taken, BadStep>
         requires { IsPacket packet.now }
         ensures held { self.new.held ≡ after_packet offset packet.now self.old.held }
         ensures replies { AddsPackets (replies_in self.old.held packet.now) [] self.new.replies }
         ensures taken { result ≡ taken_in self.old.held offset packet.now }
     {
+        responders_stay_of_their_setup();
         self.replies.clear();
         match packet {
             Packet::Exclusive { group, form, bytes } => take_part(
@@ -138,7 +177,7 @@ impl Endpoint {
         }
     }
 
-    /// The replies to the last packet, packet by packet: those that `packet` made, until it is called again.
+    /// The replies to the last packet, one packet at a time, until `packet` or `reset` is called.
     pub fn replies(&self) -> ReplyPackets<'_>
         ensures packets { result ≡ self.now.replies }
         ensures few { length self.now.replies ≤ MOST_REPLY_WORDS }
@@ -146,7 +185,7 @@ impl Endpoint {
         ReplyPackets::new(self.replies.words())
     }
 
-    /// The setup that it was made of.
+    /// The setup of which the endpoint was made.
     pub fn setup(&self) -> &Setup
         ensures { result.now ≡ self.now.held.setup }
     {
@@ -160,15 +199,15 @@ impl Endpoint {
         self.config.protocol
     }
 
-    /// The MUID in force of a function block, counted from 0; `None` exactly where the block has no MIDI-CI
-    /// or has used up its MUIDs, or where there is no such block (M2-101-UM).
+    /// The MUID in force of a function block, counted from 0. `None` exactly when the block has no MIDI-CI or
+    /// has used up its MUIDs, or when there is no such block (M2-101-UM).
     pub fn muid(&self, block: u8) -> Option<u32>
         ensures { result ≡ muid_in self.now.held.responder.blocks block }
     {
         self.responder.muid(block)
     }
 
-    /// Whether a profile is on; `None` exactly where the setup doesn't name it (M2-101-UM).
+    /// Whether a profile is on; `None` exactly when the setup doesn't name it (M2-101-UM).
     pub fn profile_is_on(&self, key: &Key) -> Option<bool>
         ensures { result ≡ state_in self.now.held.responder.states key.now }
     {

@@ -5,8 +5,8 @@ ghost use Rattle.packet_words.specs.Words.{words_asked};
 use packet_words::words::words_in_packet;
 use std::marker::Model;
 
-/// The packets of replies that are yet to be given, lent from the endpoint that made them. A contract sees it
-/// as the list of their words.
+/// The packets of the replies that are still to be read, borrowed from the endpoint that made them. A
+/// contract sees it as the list of their words.
 #[derive(Debug, Drop)]
 pub struct ReplyPackets<'a> {
     words: &'a [u32],
@@ -43,7 +43,7 @@ impl<'a> ReplyPackets<'a> {
     }
 
     /// The words of the next packet, as many as its first word asks for, 1 to 4 (M2-104-UM, message types);
-    /// `None` exactly where none is left.
+    /// `None` exactly when none is left.
     pub fn next(&mut self) -> Option<&'a [u32]>
         ensures none { is_none result ≡ (length self.old == 0) }
         ensures words { IfSome result (λ words.

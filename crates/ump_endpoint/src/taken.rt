@@ -22,7 +22,7 @@ pub enum Outcome {
 /// What an endpoint did with a packet that it accepted.
 #[derive(Clone, Copy, Debug, PartialEq, Eq)]
 pub struct Taken {
-    /// What became of the message that the packet ended; `None` where it ended none.
+    /// What became of the message that the packet ended; `None` if it ended none.
     pub outcome: Option<Outcome>,
     /// The packet of an exclusive that is stray, or the exclusive that the packet cut off.
     pub listed: Option<Listed>,

@@ -12,11 +12,11 @@ use Rattle.ump_grammar.specs.Spelling.{Spells, SpellsSystem, SpellsVoice1, Spell
 use Rattle.ump_grammar.specs.Zeros.{HasZeros}
 use Rattle.ump_grammar.specs.Reason.{reason, has_high, marked_in_system, marked_in_voice1, marked_in_voice2}
 
--- the packet that the words spell where there is no reason to refuse them, and otherwise the reason
+-- the packet that the words spell if there is no reason to refuse them, and otherwise the reason
 abbrev pub Decodes : List ℕ → Result Packet Bad → Type 0
 Decodes words result = MatchResult result (λ p. (reason words ≡ None) × Spells p words) (λ bad. reason words ≡ Some bad)
 
--- the message that is spelled where no marked byte is high, and otherwise none
+-- the message that is spelled if no marked byte is high, and otherwise none
 abbrev pub ReadsMarked : {A : Type 0} → List ℕ → (A → Type 0) → Option A → Type 0
 ReadsMarked bytes IsSpelled result =
     MatchOption result (has_high bytes ≡ true) (λ message. (has_high bytes ≡ false) × IsSpelled message)
@@ -30,7 +30,7 @@ ReadsVoice1 words result = ReadsMarked (marked_in_voice1 words) (λ message. Spe
 abbrev pub ReadsVoice2 : List ℕ → Option Voice2 → Type 0
 ReadsVoice2 words result = ReadsMarked (marked_in_voice2 words) (λ message. SpellsVoice2 message words) result
 
--- The words spell the packet, there is no reason to refuse them, and they hold zeros where its row names nothing.
+-- The words spell the packet, there is no reason to refuse them, and they hold zeros in the places that its row doesn't name.
 pub record Encodes (p : Packet) (words : List ℕ) : Type 0 where
   pub spelled : Spells p words
   pub accepted : reason words ≡ None

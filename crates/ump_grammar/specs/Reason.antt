@@ -25,7 +25,7 @@ marked_in_voice1 words =
 abbrev pub marked_in_exclusive : List ℕ → List ℕ
 marked_in_exclusive words = if nat_le (opcode_of words) 3 then take (count_of words) (exclusive_places words) else []
 
--- the bank of a program, where it is there
+-- the bank of a program, if it is there
 abbrev pub marked_in_bank : List ℕ → List ℕ
 marked_in_bank words = if field (word words 1) 0 1 == 1 then byte words 7 ∷ byte words 8 ∷ [] else []
 

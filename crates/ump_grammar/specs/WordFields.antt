@@ -18,7 +18,7 @@ byte words n = field (slice_index words ((n - 1) / 4)) (24 - 8 * ((n - 1) % 4)) 
 abbrev pub type_of : List ℕ → ℕ
 type_of words = field (word words 1) 28 4
 
--- the group, where the message type has one: the low half of byte 1
+-- the group, if the message type has one: the low half of byte 1
 abbrev pub group_of : List ℕ → ℕ
 group_of words = field (word words 1) 24 4
 

@@ -13,12 +13,11 @@ ghost use Rattle.ump_grammar.specs.WordFields.{
 };
 ghost use Rattle.ump_grammar.specs.Ranges.{IsPacket};
 ghost use Rattle.ump_grammar.specs.Reading.{Encodes};
-ghost use Rattle.voice_messages.specs.ForProofs.Kinds.{IsNote, IsOfOneNote, IsOfParam};
 ghost use Rattle.ump_grammar.specs.Spelling.{Spells, form_number, kind_number, exclusive_places};
 
 use crate::packet::Packet;
 use packet_words::Words;
-use voice_messages::{Bank, Form, ParamKind, System, U4, U7, U14, Voice1, Voice2};
+use voice_messages::{Bank, Form, Param, ParamKind, System, U4, U7, U14, Voice1, Voice2};
 
 /// The words that spell the packet (M2-104-UM), with zeros in the places that its row doesn't name. The
 /// packet is one that some words decode to.
@@ -222,161 +221,94 @@ fn voice2_words(
     Words::from_slice(&[first, second_word])
 }
 
+// A row for each kind of message.
 fn voice2(group: U4, message: &Voice2) -> Words
     requires { IsPacket (Packet.Voice2 group message.now) }
     ensures { Encodes (Packet.Voice2 group message.now) result }
 {
-    match message {
-        Voice2::NoteOff { .. } | Voice2::NoteOn { .. } => note(group, message),
-        Voice2::PolyPressure { .. }
-        | Voice2::NoteController { .. }
-        | Voice2::NoteBend { .. }
-        | Voice2::NoteManagement { .. } => of_one_note(group, message),
-        Voice2::Set { .. } | Voice2::Shift { .. } => parameter(group, message),
-        Voice2::Program {
-            channel,
-            program,
-            bank,
-        } => program_change(group, *channel, *program, bank),
-        Voice2::Control {
-            channel,
-            index,
-            value,
-        } => voice2_words(group, 0xB, *channel, index.get(), 0, *value),
-        Voice2::Pressure { channel, value } => voice2_words(group, 0xD, *channel, 0, 0, *value),
-        Voice2::Bend { channel, value } => voice2_words(group, 0xE, *channel, 0, 0, *value),
-    }
-}
-
-// The rows of notes.
-#[inline(always)]
-fn note(group: U4, message: &Voice2) -> Words
-    requires row { IsNote message.now }
-    requires fits { IsPacket (Packet.Voice2 group message.now) }
-    ensures { Encodes (Packet.Voice2 group message.now) result }
-{
-    match message {
+    let channel = message.channel();
+    match *message {
         Voice2::NoteOff {
-            channel,
             note,
             velocity,
             attribute_type,
             attribute,
-        } => voice2_words(
-            group,
-            0x8,
-            *channel,
-            note.get(),
-            *attribute_type,
-            halves(*velocity, *attribute),
-        ),
+            ..
+        } => {
+            let values = halves(velocity, attribute);
+            voice2_words(group, 0x8, channel, note.get(), attribute_type, values)
+        }
         Voice2::NoteOn {
-            channel,
             note,
             velocity,
             attribute_type,
             attribute,
-        } => voice2_words(
-            group,
-            0x9,
-            *channel,
-            note.get(),
-            *attribute_type,
-            halves(*velocity, *attribute),
-        ),
-        // Only a note off or a note on is written here.
-        _ => unreachable!(),
-    }
-}
-
-// The rows of the pressure, the controllers, the bend and the management of one note.
-#[inline(always)]
-fn of_one_note(group: U4, message: &Voice2) -> Words
-    requires row { IsOfOneNote message.now }
-    requires fits { IsPacket (Packet.Voice2 group message.now) }
-    ensures { Encodes (Packet.Voice2 group message.now) result }
-{
-    match message {
-        Voice2::PolyPressure {
-            channel,
-            note,
-            value,
-        } => voice2_words(group, 0xA, *channel, note.get(), 0, *value),
+            ..
+        } => {
+            let values = halves(velocity, attribute);
+            voice2_words(group, 0x9, channel, note.get(), attribute_type, values)
+        }
+        Voice2::PolyPressure { note, value, .. } => {
+            voice2_words(group, 0xA, channel, note.get(), 0, value)
+        }
         Voice2::NoteController {
-            channel,
             kind,
             note,
             index,
             value,
-        } => voice2_words(group, kind_bit(*kind), *channel, note.get(), *index, *value),
-        Voice2::NoteBend {
-            channel,
-            note,
-            value,
-        } => voice2_words(group, 0x6, *channel, note.get(), 0, *value),
-        Voice2::NoteManagement {
-            channel,
-            note,
-            flags,
-        } => voice2_words(group, 0xF, *channel, note.get(), *flags, 0),
-        // Only a message of one note that is neither a note off nor a note on is written here.
-        _ => unreachable!(),
+            ..
+        } => voice2_words(group, kind_bit(kind), channel, note.get(), index, value),
+        Voice2::NoteBend { note, value, .. } => {
+            voice2_words(group, 0x6, channel, note.get(), 0, value)
+        }
+        Voice2::NoteManagement { note, flags, .. } => {
+            voice2_words(group, 0xF, channel, note.get(), flags, 0)
+        }
+        Voice2::Set { param, value, .. } => param_words(group, 0x2, channel, param, value),
+        Voice2::Shift { param, value, .. } => param_words(group, 0x4, channel, param, value),
+        Voice2::Program { program, bank, .. } => program_words(group, channel, program, bank),
+        Voice2::Control { index, value, .. } => {
+            voice2_words(group, 0xB, channel, index.get(), 0, value)
+        }
+        Voice2::Pressure { value, .. } => voice2_words(group, 0xD, channel, 0, 0, value),
+        Voice2::Bend { value, .. } => voice2_words(group, 0xE, channel, 0, 0, value),
     }
 }
 
-// The rows of parameters.
-#[inline(always)]
-fn parameter(group: U4, message: &Voice2) -> Words
-    requires row { IsOfParam message.now }
-    requires fits { IsPacket (Packet.Voice2 group message.now) }
-    ensures { Encodes (Packet.Voice2 group message.now) result }
+// The row of a parameter: this opcode of a registered one, the next of an assignable one.
+fn param_words(group: U4, opcode: u8, channel: U4, param: Param, value: u32) -> Words
+    requires { opcode < 15 }
+    ensures whole { IsWhole result }
+    ensures kind { type_of result ≡ 0x4 }
+    ensures group { group_of result ≡ group }
+    ensures opcode { opcode_of result ≡ opcode + kind_number param.kind }
+    ensures channel { channel_of result ≡ channel }
+    ensures bank { byte result 3 ≡ param.bank }
+    ensures index { byte result 4 ≡ param.index }
+    ensures value { word result 2 ≡ value }
 {
-    match message {
-        Voice2::Set {
-            channel,
-            param,
-            value,
-        } => voice2_words(
-            group,
-            0x2 + kind_bit(param.kind),
-            *channel,
-            param.bank.get(),
-            param.index.get(),
-            *value,
-        ),
-        Voice2::Shift {
-            channel,
-            param,
-            value,
-        } => voice2_words(
-            group,
-            0x4 + kind_bit(param.kind),
-            *channel,
-            param.bank.get(),
-            param.index.get(),
-            *value,
-        ),
-        // Only a parameter that is set or shifted is written here.
-        _ => unreachable!(),
-    }
+    let opcode = opcode + kind_bit(param.kind);
+    voice2_words(
+        group,
+        opcode,
+        channel,
+        param.bank.get(),
+        param.index.get(),
+        value,
+    )
 }
 
 // The row of programs.
-#[inline(always)]
-fn program_change(group: U4, channel: U4, program: U7, bank: &Option<Bank>) -> Words
-    requires { IsPacket (Packet.Voice2 group (Voice2.Program channel program bank.now)) }
-    ensures { Encodes (Packet.Voice2 group (Voice2.Program channel program bank.now)) result }
+fn program_words(group: U4, channel: U4, program: U7, bank: Option<Bank>) -> Words
+    requires { IsPacket (Packet.Voice2 group (Voice2.Program channel program bank)) }
+    ensures { Encodes (Packet.Voice2 group (Voice2.Program channel program bank)) result }
 {
     match bank {
         None => voice2_words(group, 0xC, channel, 0, 0, word_of(program.get(), 0, 0, 0)),
-        Some(bank) => voice2_words(
-            group,
-            0xC,
-            channel,
-            0,
-            1,
-            word_of(program.get(), 0, bank.msb.get(), bank.lsb.get()),
-        ),
+        Some(bank) => {
+            let second = word_of(program.get(), 0, bank.msb.get(), bank.lsb.get());
+            voice2_words(group, 0xC, channel, 0, 1, second)
+        }
     }
 }
 

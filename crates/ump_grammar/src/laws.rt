@@ -12,7 +12,7 @@ pub fn words_spell_one_packet()
     ensures { (p q : Packet) (words : List ℕ) → Spells p words → Spells q words → p ≡ q }
 {}
 
-/// Where there is no reason to refuse some words, the fields of the packet that they spell fit their places.
+/// If there is no reason to refuse some words, the fields of the packet that they spell fit their places.
 pub fn spelled_packets_fit()
     ensures { (p : Packet) (words : List ℕ) → Spells p words → reason words ≡ None → IsPacket p }
 {}

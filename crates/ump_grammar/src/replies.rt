@@ -33,7 +33,7 @@ impl Replies {
         }
     }
 
-    /// Appends the words of the packet, as `encode` gives them (M2-104-UM), where no more than 1,024 words
+    /// Appends the words of the packet, as `encode` gives them (M2-104-UM), if no more than 1,024 words
     /// stand afterwards. The packet is one that some words decode to.
     pub fn push(&mut self, packet: &Packet)
         requires packet { IsPacket packet.now }

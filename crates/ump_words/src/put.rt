@@ -6,9 +6,9 @@ ghost use Rattle.packet_words.specs.Words.{word_bytes};
 use outside::{Failed, Sink};
 use packet_words::{Order, pair_bytes, write_words};
 
-/// Puts the bytes of these words, one to four, one word after the other, in a single put. At an `Err`, which
-/// comes only where the count of the output's faults rose, a front of them that isn't all of them may have
-/// been put.
+/// Puts the bytes of these words, one to four, one word after the other, in a single put. At an `Err`,
+/// which comes only if the count of the output's faults rose, a front of them that isn't all of them may
+/// have been put.
 #[inline(always)]
 pub fn put_words<W: Sink>(words: &[u32], order: Order, output: &mut W) -> Result<(), Failed>
     requires { (0 < length words.now) × (length words.now ≤ 4) }

@@ -86,15 +86,15 @@ impl WordReader {
         }
     }
 
-    /// The next packet (M2-104-UM, message types) and its offset, the number of bytes before it; `None` when
-    /// the source ends with the last packet.
+    /// The next packet (M2-104-UM, message types) and its offset, the number of bytes before it; `None`
+    /// when the source ends with the last packet.
     ///
-    /// `Truncated` is returned when the source ends within the limit and within a packet: after some of the
-    /// bytes that the message type asks for, or of the first word. It carries the offset of that packet.
-    /// `TooLong` is returned when the source gave more bytes than the limit, and what is left within the
-    /// limit is no whole packet (own rule). `Read` is returned only when the source's count of faults rose;
-    /// no byte is lost, and a later call goes on from there. Any other answer without a packet is returned
-    /// again by every later call. The source is asked only where no whole packet is held.
+    /// `Truncated` is returned when the source ends within the limit and within a packet: after some of
+    /// the bytes that the message type requires, or of the first word. It carries the offset of that
+    /// packet. `TooLong` is returned when the source gave more bytes than the limit, and the rest within
+    /// the limit is no whole packet (own rule). `Read` is returned only when the source's count of faults
+    /// rose; no byte is lost, and a later call continues from there. Every later call repeats any other
+    /// answer without a packet. The reader asks the source only when it holds no whole packet.
     #[inline(always)]
     pub fn next<S: Source>(&mut self, src: &mut S) -> Result<Option<Framed>, ReadStop>
         ensures answer { self.old.end ≡ None →
@@ -118,8 +118,9 @@ impl WordReader {
         self.packets.needs_input()
     }
 
-    /// The bytes that are held and may be given out, and the offset of the first of them, counted in bytes
-    /// from 0. A caller that reads many packets reads them of these by `item_in`, and tells it by `pass`.
+    /// The bytes that the reader holds and may give out, and the offset of the first of them, counted in
+    /// bytes from 0. A caller that reads many packets finds them here by `item_in`, and reports by `pass`
+    /// how many bytes it has used.
     #[inline(always)]
     pub fn held(&self) -> (&[u8], u64)
         ensures bytes { result.0.now ≡ held_bytes self.now }
@@ -128,9 +129,9 @@ impl WordReader {
         self.packets.held()
     }
 
-    /// The packet (M2-104-UM, message types) that begins after `at` of the bytes that `held` gave, which are
-    /// these, with its offset, and after how many of them the next one begins: what `next` would give there.
-    /// `None` exactly where no whole packet begins there. `offset` is that of the first of the bytes.
+    /// The packet (M2-104-UM, message types) that begins after `at` of the bytes that `held` returned,
+    /// with its offset and the place where the next one begins: what `next` would return there. `None`
+    /// exactly if no whole packet begins there. `offset` is the offset of the first of the bytes.
     #[inline(always)]
     pub fn item_in(&self, held: &[u8], offset: u64, at: usize) -> Option<(Framed, usize)>
         requires held { held.now ≡ held_bytes self.now }
@@ -143,9 +144,9 @@ impl WordReader {
         self.packets.item_in(held, offset, at)
     }
 
-    /// The two words that begin after `at` of the bytes that `held` gave, which are these; `None` exactly
-    /// where fewer than 8 bytes are there. Where they are as many as the message type of the first one asks
-    /// for (M2-104-UM, message types), they are the packet that is held there.
+    /// The two words that begin after `at` of the bytes that `held` returned; `None` exactly if there are
+    /// fewer than 8 bytes. If the message type of the first word requires two (M2-104-UM, message types),
+    /// they are the packet that is held there.
     #[inline(always)]
     pub fn two_in(&self, held: &[u8], at: usize) -> Option<(u32, u32)>
         requires held { held.now ≡ held_bytes self.now }
@@ -176,8 +177,8 @@ impl WordReader {
     }
 
     /// Asks the source until a whole packet (M2-104-UM, message types) is held, unless the packets have
-    /// ended. `true` says that one is held; the answers without a packet are those of `next`, where `false`
-    /// stands for its `None`. The source is asked only where no whole packet is held.
+    /// ended. `true` says that one is held; the answers without a packet are those of `next`, with
+    /// `false` for its `None`. The reader asks the source only when it holds no whole packet.
     #[inline(always)]
     pub fn more<S: Source>(&mut self, src: &mut S) -> Result<bool, ReadStop>
         ensures answer { self.old.end ≡ None →

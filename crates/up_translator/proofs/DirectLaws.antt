@@ -1,4 +1,4 @@
--- Messages that are raised on the direct road.
+-- Messages that are raised alone, whatever came before.
 use Rattle.std.proofs.Common.{⊎_elim, cond, ◌≡◌, ◌≢◌, ◌≤◌, ◌<◌, ◌+◌, ◌-◌, ◌*◌, ◌/◌, ◌%◌, ◌^◌, ◌∙◌, ℕ, Bool, true}
 use Rattle.std.proofs.Common.{false, ◌&&◌, not, eqb, [], ◌∷◌, Option, Some, None, refl, sym, ap, subst, arith}
 use Rattle.std.specs.Prelude.{◌==◌, if◌then◌else◌, is_some, nat_lt}
@@ -15,8 +15,8 @@ use Rattle.bit_scaling.proofs.ScalingLaws.{high_7_16, high_7_32, low_7_16, low_7
 use Rattle.midi1_bytes.specs.Sorts.{one, two, Sort, voice_status, sort_of}
 use Rattle.midi1_bytes.specs.Messages.{Message, fourteen_bits, voice, voice_of_one, voice_of_two}
 use Rattle.midi1_bytes.specs.Spoken.{voice_by}
-use Rattle.direct_packets.specs.declared.direct_message.DirectMessage.{DirectMessage}
-use Rattle.direct_packets.specs.DirectMessages.{is_direct_opcode, message_by, direct_voice, one_of_six}
+use Rattle.encoded_packets.specs.declared.direct_message.DirectMessage.{DirectMessage}
+use Rattle.encoded_packets.specs.DirectMessages.{is_direct_opcode, message_by, direct_voice, one_of_six}
 use Rattle.midi_meaning.specs.Controllers.{Role, channel_mode, coarse, fine, plain, is_direct, is_direct_in, pairing, role_of}
 use Rattle.midi_meaning.specs.State.{Channel, GroupState}
 use Rattle.midi_meaning.specs.Messages.{control, of_bytes, step1}
@@ -82,7 +82,7 @@ unfolding role_of
 direct-64 None = refl
 direct-64 (Some paired) = refl
 
--- ---- a message that goes the direct road
+-- ---- a message that is raised alone
 
 direct_role : (paired : Bool) (index : ℕ) → is_direct_in (Some paired) index ≡ true → is_direct (pairing paired (role_of index)) ≡ true
 direct_role paired index direct = direct
@@ -224,7 +224,7 @@ module _ (status first second : ℕ) (least : 128 ≤ status) (most : status < 2
         ap (λ (sort : Sort). voice_by sort status first second) (one-sort status (omega (arith, e, from)) (omega (arith, e, to)))
         ∙ ap (λ n. voice_of_one n (status % 16) first) e
 
-    -- whether it goes the direct road
+    -- whether it is raised alone
     abbrev asked : Option Bool → ℕ → Bool
     asked direct opcode = not (opcode == 0xC) && is_direct_in direct (if opcode == 0xB then first else 64)
 

@@ -2,8 +2,8 @@
 use Rattle.std.proofs.Common.{ℕ, ◌+◌, ◌∙◌, ap, sym, subst, refl, List, [], ◌∷◌, map}
 use Rattle.ump_grammar.specs.declared.packet.Packet.TheVariants as packet
 use Rattle.voice_messages.specs.declared.voice1.Voice1.{Voice1}
-use Rattle.direct_packets.specs.declared.direct_message.DirectMessage.{DirectMessage}
-use Rattle.direct_packets.specs.DirectMessages.{direct_voice}
+use Rattle.encoded_packets.specs.declared.direct_message.DirectMessage.{DirectMessage}
+use Rattle.encoded_packets.specs.DirectMessages.{direct_voice}
 use Rattle.midi1_bytes.specs.Messages.{voice}
 use Rattle.midi1_bytes.specs.Parsing.{Parsing, AreHeld, AreMessage, parse}
 use Rattle.midi1_bytes.specs.Steps.{Step, completes, held}

@@ -1,15 +1,17 @@
 -- What the translator holds is the definition that looks back over the bytes.
-use Rattle.std.proofs.Common.{ℕ, Bool, ◌≡◌, ◌∙◌, ap, sym, subst, refl, List, ◌∷◌, length, map, Option, Some, None}
+use Rattle.std.proofs.Common.{ℕ, Bool, false, ◌≡◌, ◌∙◌, ap, sym, subst, refl, List, [], ◌∷◌, length, map, replicate, Option, Some, None}
 use Rattle.std.proofs.lemmas.Grind.{fold-append}
 use Rattle.std.specs.Prelude.{Result, Ok, Err, IfSome}
 use Rattle.std.specs.List.{fold}
 use Rattle.std.specs.Option.{option_map, option_to_list}
 use Rattle.midi1_bytes.specs.Messages.{Message, voice, common, exclusive, real_time, IsMessage, AreData}
 use Rattle.midi1_bytes.specs.Steps.{Step, completed, completed_by, step_of}
-use Rattle.midi1_bytes.specs.Parsing.{Parsing, parse, open_of}
+use Rattle.midi1_bytes.specs.Parsing.{Parsing, held_over, idle, parse, open_of}
 use Rattle.midi1_bytes.specs.Laws.{CompletedMessagesAreInRange, ParsedBytesAreTheDefinition}
 use Rattle.voice_messages.specs.declared.voice1.Voice1.TheVariants as voice1
+use Rattle.voice_messages.specs.Ranges.{IsParam}
 use Rattle.midi_meaning.specs.Controllers.{Role, pairing, role_of}
+use Rattle.midi_meaning.specs.Registers.{selected}
 use Rattle.ump_grammar.specs.declared.packet.Packet.{Packet}
 use Rattle.listing_terms.specs.declared.listed.BadStep.{BadStep}
 use Rattle.midi_meaning.specs.Messages.{as_they_come, start, step1, meaning1}
@@ -18,19 +20,63 @@ use Rattle.midi_meaning.specs.State.{GroupState}
 use Rattle.midi_meaning.specs.StepListing.{kinds_at_end, line_up, open_pair}
 use Rattle.midi_meaning.specs.UpLaws.{RoomsThatAreNotReachedDoNotMatterInBytes}
 use Rattle.midi_meaning.specs.UpRefusal.{AreAcceptedUp, AreStepsWithinRoom}
-use Rattle.param_collector.specs.Control.{holding_after}
-use Rattle.param_collector.specs.Holding.{Holding}
-use Rattle.param_collector.specs.Keeps.{Keeps}
+use Rattle.param_collector.specs.Control.{AreInRange, answer_of, holding_after}
+use Rattle.param_collector.specs.Holding.{Holding, IsHolding, fresh, pair_count, registers_at}
+use Rattle.param_collector.specs.Keeps.{IsMeant, Keeps, is_control_change}
+use Rattle.param_collector.specs.Msbs.{zeros}
+use Rattle.param_collector.proofs.Meaning.{sizes_again, start_kept}
 use Rattle.up_translator.specs.declared.raised.Raised.{Raised}
 use Rattle.up_translator.specs.Answers.{IsAnswerAt, IsRaisedAloneAt}
 use Rattle.up_translator.specs.Fronts.{RaisesAlone, RaisesStepAlone}
-use Rattle.up_translator.specs.Held.{UpState, KeepsAfter, holding_after_message, holding_after_step, state_after, step_in, up_after}
-use Rattle.up_translator.specs.Recording.{HoldsUp}
+use Rattle.up_translator.specs.Held.{UpState, KeepsAfter, holding_after_message, holding_after_step, new_up, state_after, step_in, up_after}
+use Rattle.up_translator.specs.Recording.{HoldsUp, up_over}
 use Rattle.up_translator.specs.Step.{Accepts, IsRaised, RaisesStep, Raises, payload_by}
 
 abbrev pub PairsStay : Type 0
 PairsStay =
     (holding : Holding) (role : Role) (channel index value : ℕ) → (holding_after role holding channel index value).paired ≡ holding.paired
+
+abbrev pub SizesStay : Type 0
+SizesStay =
+    (holding : Holding) (role : Role) (channel index value : ℕ) → IsHolding holding →
+    IsHolding (holding_after role holding channel index value)
+
+abbrev pub ChangesAreMeant : Type 0
+ChangesAreMeant =
+    (holding : Holding) (channel index value : ℕ) → IsHolding holding →
+    AreInRange channel (selected (registers_at holding channel)) value →
+    IsMeant holding (holding_after (pairing holding.paired (role_of index)) holding channel index value) channel index value
+    (answer_of (pairing holding.paired (role_of index)) holding channel index value)
+
+abbrev pub OthersAreKept : Type 0
+OthersAreKept =
+    (holding : Holding) (group : GroupState) (message : Message) → is_control_change message ≡ false → Keeps holding group →
+    Keeps holding (step1 holding.paired group message)
+
+abbrev pub SelectedInRange : Bool → Type 0
+SelectedInRange paired = (past : List ℕ) (channel : ℕ) → IfSome (selected ((meaning1 paired past).channels channel).registers) IsParam
+
+-- what is known of control changes
+pub record Kept (paired : Bool) : Type 0 where
+  pub meant : ChangesAreMeant
+  pub others : OthersAreKept
+  pub sizes : SizesStay
+  pub pairs : PairsStay
+  pub in_range : SelectedInRange paired
+
+-- ---- a new translator
+
+pub held-new : (paired : Bool) → ParsedBytesAreTheDefinition → (room group : ℕ) → HoldsUp paired room group [] (new_up paired room group)
+held-new paired parsed room group =
+    let sizes =
+    sizes_again paired (fresh paired).registers (zeros 524288) (zeros (pair_count paired)) refl refl refl in
+    record {
+      group_is = refl;
+      parsing_is = sym (parsed.new room);
+      paired_is = refl;
+      sizes = (sizes.0, sizes.1, sizes.2);
+      keeps = start_kept (fresh paired).registers (zeros 524288) paired (zeros (pair_count paired)) refl refl refl;
+    }
 
 -- ---- one more byte
 
@@ -105,21 +151,82 @@ holding-paired stays holding step = of_message (completed_by step)
     of_message (Some (real_time m)) = refl
     of_message None = refl
 
-pub held-after : (paired : Bool) → PairsStay → ParsedBytesAreTheDefinition → RoomsThatAreNotReachedDoNotMatterInBytes paired
-    → (room group : ℕ) (past : List ℕ) (byte : ℕ) (up : UpState) → AreStepsWithinRoom room (byte ∷ past) → HoldsUp paired room group past up
-    → KeepsAfter up.holding (step_in up (length past) byte) → HoldsUp paired room group (byte ∷ past) (up_after up (length past) byte)
-held-after paired stays parsed rooms room group past byte up within holds keeps = record {
-  paired_is = holding-paired stays up.holding (step_in up (length past) byte) ∙ holds.paired_is;
+-- each state that is kept is kept after a message, if what is kept is what bytes leave
+message-kept : (paired : Bool) → Kept paired → (past : List ℕ) (holding : Holding) → IsHolding holding → Keeps holding (meaning1 paired past)
+    → (message : Option Message) → IfSome message IsMessage → (state : GroupState) → Keeps holding state →
+    Keeps (holding_after_message holding message) (state_after holding.paired state message)
+message-kept paired kept past holding sizes keeps (Some (voice (voice1.Control channel index value))) range state held =
+    let number : IfSome (selected (registers_at holding channel)) IsParam =
+    subst (λ registers. IfSome (selected registers) IsParam) (sym (keeps.registers channel range.0)) (kept.in_range past channel) in
+    (kept.meant holding channel index value sizes (range.0, range.2, number) state held).0
+message-kept paired kept past holding sizes keeps None range state held = held
+message-kept paired kept past holding sizes keeps (Some (voice (voice1.NoteOff channel note velocity))) range state held =
+    kept.others holding state (voice (voice1.NoteOff channel note velocity)) refl held
+message-kept paired kept past holding sizes keeps (Some (voice (voice1.NoteOn channel note velocity))) range state held =
+    kept.others holding state (voice (voice1.NoteOn channel note velocity)) refl held
+message-kept paired kept past holding sizes keeps (Some (voice (voice1.PolyPressure channel note value))) range state held =
+    kept.others holding state (voice (voice1.PolyPressure channel note value)) refl held
+message-kept paired kept past holding sizes keeps (Some (voice (voice1.Program channel program))) range state held =
+    kept.others holding state (voice (voice1.Program channel program)) refl held
+message-kept paired kept past holding sizes keeps (Some (voice (voice1.Pressure channel value))) range state held =
+    kept.others holding state (voice (voice1.Pressure channel value)) refl held
+message-kept paired kept past holding sizes keeps (Some (voice (voice1.Bend channel value))) range state held =
+    kept.others holding state (voice (voice1.Bend channel value)) refl held
+message-kept paired kept past holding sizes keeps (Some (common m)) range state held = kept.others holding state (common m) refl held
+message-kept paired kept past holding sizes keeps (Some (exclusive bytes)) range state held =
+    kept.others holding state (exclusive bytes) refl held
+message-kept paired kept past holding sizes keeps (Some (real_time m)) range state held = kept.others holding state (real_time m) refl held
+
+holding-sizes : SizesStay → (holding : Holding) (message : Option Message) → IsHolding holding
+    → IsHolding (holding_after_message holding message)
+holding-sizes stay holding (Some (voice (voice1.Control channel index value))) sizes =
+    stay holding (pairing holding.paired (role_of index)) channel index value sizes
+holding-sizes stay holding (Some (voice (voice1.NoteOff channel note velocity))) sizes = sizes
+holding-sizes stay holding (Some (voice (voice1.NoteOn channel note velocity))) sizes = sizes
+holding-sizes stay holding (Some (voice (voice1.PolyPressure channel note value))) sizes = sizes
+holding-sizes stay holding (Some (voice (voice1.Program channel program))) sizes = sizes
+holding-sizes stay holding (Some (voice (voice1.Pressure channel value))) sizes = sizes
+holding-sizes stay holding (Some (voice (voice1.Bend channel value))) sizes = sizes
+holding-sizes stay holding (Some (common m)) sizes = sizes
+holding-sizes stay holding (Some (exclusive bytes)) sizes = sizes
+holding-sizes stay holding (Some (real_time m)) sizes = sizes
+holding-sizes stay holding None sizes = sizes
+
+-- so it is after each byte
+keeps-after : (paired : Bool) → Kept paired → ParsedBytesAreTheDefinition → CompletedMessagesAreInRange
+    → (room group : ℕ) (past : List ℕ) (byte : ℕ) (up : UpState) → HoldsUp paired room group past up
+    → KeepsAfter up.holding (step_in up (length past) byte)
+keeps-after paired kept parsed in_range room group past byte up holds state held =
+    let range : IfSome (completed_by (step_in up (length past) byte)) IsMessage =
+    subst (λ step. IfSome (completed_by step) IsMessage) (sym (step-held paired parsed room group past byte up holds))
+    (in_range (Some room) past byte) in
+    message-kept paired kept past up.holding holds.sizes holds.keeps (completed_by (step_in up (length past) byte)) range state held
+
+pub held-after : (paired : Bool) → Kept paired → ParsedBytesAreTheDefinition → CompletedMessagesAreInRange
+    → RoomsThatAreNotReachedDoNotMatterInBytes paired → (room group : ℕ) (past : List ℕ) (byte : ℕ) (up : UpState)
+    → AreStepsWithinRoom room (byte ∷ past) → HoldsUp paired room group past up
+    → HoldsUp paired room group (byte ∷ past) (up_after up (length past) byte)
+held-after paired kept parsed in_range rooms room group past byte up within holds = record {
+  paired_is = holding-paired kept.pairs up.holding (step_in up (length past) byte) ∙ holds.paired_is;
   group_is = holds.group_is;
   parsing_is = ap (λ (p : Parsing). (parse p (length past) byte).after) holds.parsing_is ∙ parsed.after room past byte;
+  sizes = holding-sizes kept.sizes up.holding (completed_by (step_in up (length past) byte)) holds.sizes;
   keeps =
       subst (Keeps (holding_after_step up.holding (step_in up (length past) byte)))
       (ap (λ q. state_after q (meaning1 paired past) (completed_by (step_in up (length past) byte))) holds.paired_is
       ∙ ap (λ (step : Step). state_after paired (meaning1 paired past) (completed_by step))
       (step-held paired parsed room group past byte up holds ∙ rooms.step room past byte within)
       ∙ meaning-behind paired past byte)
-      (keeps (meaning1 paired past) holds.keeps);
+      (keeps-after paired kept parsed in_range room group past byte up holds (meaning1 paired past) holds.keeps);
 }
+
+pub held-over : (paired : Bool) → Kept paired → ParsedBytesAreTheDefinition → CompletedMessagesAreInRange
+    → RoomsThatAreNotReachedDoNotMatterInBytes paired → (room group : ℕ) (past : List ℕ) → AreStepsWithinRoom room past
+    → HoldsUp paired room group past (up_over paired room group past)
+held-over paired kept parsed in_range rooms room group [] within = held-new paired parsed room group
+held-over paired kept parsed in_range rooms room group (byte ∷ past) within =
+    held-after paired kept parsed in_range rooms room group past byte (up_over paired room group past) within
+    (held-over paired kept parsed in_range rooms room group past within.1)
 
 -- ---- of several bytes that are taken at once
 
@@ -127,14 +234,14 @@ abbrev AloneAt : Bool → ℕ → ℕ → List ℕ → ℕ → UpState → List 
 AloneAt paired room group past byte up packets =
     IsRaisedAloneAt paired room group past byte packets × HoldsUp paired room group (byte ∷ past) (up_after up (length past) byte)
 
-pub held-alone : (paired : Bool) → PairsStay → ParsedBytesAreTheDefinition → RoomsThatAreNotReachedDoNotMatterInBytes paired
-    → (room group : ℕ) (past : List ℕ) (byte : ℕ) (up : UpState) (packets : List Packet) → AreAcceptedUp (Some room) past
+pub held-alone : (paired : Bool) → Kept paired → ParsedBytesAreTheDefinition → CompletedMessagesAreInRange
+    → RoomsThatAreNotReachedDoNotMatterInBytes paired → (room group : ℕ) (past : List ℕ) (byte : ℕ) (up : UpState) (packets : List Packet) → AreAcceptedUp (Some room) past
     → HoldsUp paired room group past up → RaisesAlone up (length past) byte packets → AloneAt paired room group past byte up packets
-held-alone paired stays parsed rooms room group past byte up packets accepted holds raises =
+held-alone paired kept parsed in_range rooms room group past byte up packets accepted holds raises =
     let alone : IsRaisedAloneAt paired room group past byte packets = at_definition in (
       alone,
-      held-after paired stays parsed rooms room group past byte up (rooms.accepted room (byte ∷ past) (alone.accepted, accepted))
-          holds raises.kept,
+      held-after paired kept parsed in_range rooms room group past byte up (rooms.accepted room (byte ∷ past) (alone.accepted, accepted))
+          holds,
     )
   where
     same : step_in up (length past) byte ≡ step_of (Some room) past byte

@@ -1,11 +1,11 @@
--- Messages that are raised on the direct road (M2-104-UM, translation from MIDI 1.0).
+-- Messages that are raised alone, whatever came before (M2-104-UM, translation from MIDI 1.0).
 use Rattle.std.specs.Prelude.{◌≡◌, ◌&&◌, ◌==◌, ◌-◌, ◌*◌, ◌^◌, nat_lt, ℕ, Bool, true, false, if◌then◌else◌, [], ◌∷◌, Option, Some, is_some}
 use Rattle.voice_messages.specs.declared.voice1.Voice1.{Voice1}
 use Rattle.voice_messages.specs.declared.voice1.Voice1.TheVariants as voice1
 use Rattle.voice_messages.specs.declared.voice2.Voice2.{Voice2}
 use Rattle.bit_scaling.specs.Scaling.{up}
 use Rattle.midi1_bytes.specs.Messages.{fourteen_bits}
-use Rattle.direct_packets.specs.declared.direct_message.DirectMessage.{DirectMessage}
+use Rattle.encoded_packets.specs.declared.direct_message.DirectMessage.{DirectMessage}
 use Rattle.midi_meaning.specs.Controllers.{is_direct_in}
 use Rattle.midi_meaning.specs.State.{Channel}
 use Rattle.midi_meaning.specs.Raising.{raised_voice}

@@ -3,8 +3,8 @@ use Rattle.std.specs.Prelude.{◌≡◌, ◌≤◌, ◌/◌, ℕ}
 use Rattle.ump_grammar.specs.WordFields.{field}
 use Rattle.ump_grammar.specs.declared.packet.Packet.{Packet}
 use Rattle.ump_grammar.specs.declared.packet.Packet.TheVariants as packet
-use Rattle.direct_packets.specs.declared.direct_message.DirectMessage.{DirectMessage}
-use Rattle.direct_packets.specs.DirectMessages.{IsDirectMessage, direct_voice}
+use Rattle.encoded_packets.specs.declared.direct_message.DirectMessage.{DirectMessage}
+use Rattle.encoded_packets.specs.DirectMessages.{IsDirectMessage, direct_voice}
 
 -- the message with the fields of these words
 abbrev pub message_in : ℕ → ℕ → DirectMessage

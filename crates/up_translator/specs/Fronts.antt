@@ -1,7 +1,7 @@
 -- What comes of several bytes that are taken at once, by what the translator holds. Bytes are listed oldest first.
 use Rattle.std.specs.Prelude.{◌≡◌, ◌<◌, ◌≤◌, ℕ, ◌+◌, List, [], ◌∷◌, length, take, None}
 use Rattle.ump_grammar.specs.declared.packet.Packet.{Packet}
-use Rattle.direct_packets.specs.declared.direct_message.DirectMessage.{DirectMessage}
+use Rattle.encoded_packets.specs.declared.direct_message.DirectMessage.{DirectMessage}
 use Rattle.midi1_bytes.specs.Steps.{Step}
 use Rattle.midi_meaning.specs.State.{GroupState}
 use Rattle.midi_meaning.specs.Raising.{raised_step}

@@ -1,11 +1,11 @@
 -- What the translator holds between two bytes, and what a byte leaves.
 use Rattle.std.specs.Prelude.{ℕ, Bool, Option, Some, None}
 use Rattle.midi1_bytes.specs.Messages.{Message, voice}
-use Rattle.midi1_bytes.specs.Parsing.{Parsing, parse}
+use Rattle.midi1_bytes.specs.Parsing.{Parsing, idle, parse}
 use Rattle.midi1_bytes.specs.Steps.{Step, completed_by}
 use Rattle.midi_meaning.specs.State.{GroupState}
 use Rattle.midi_meaning.specs.Messages.{step1}
-use Rattle.param_collector.specs.Holding.{Holding}
+use Rattle.param_collector.specs.Holding.{Holding, fresh}
 use Rattle.param_collector.specs.Keeps.{Keeps}
 use Rattle.up_translator.specs.Outcome.{holding_with}
 
@@ -19,6 +19,11 @@ pub record UpState : Type 0 where
   pub group : ℕ
   pub parsing : Parsing
   pub holding : Holding
+
+-- a new translator into a group, with this limit for the bytes of an exclusive, with paired controllers or without: nothing is
+-- open, and control changes have set nothing
+abbrev pub new_up : Bool → ℕ → ℕ → UpState
+new_up paired room group = record { group = group; parsing = idle room; holding = fresh paired }
 
 -- ---- after a byte
 

@@ -1,5 +1,5 @@
 -- What holds of all streams of bytes, which are listed newest first, with paired controllers or without.
-use Rattle.std.specs.Prelude.{◌≡◌, ℕ, Bool, List, ◌∷◌, length, map, Some, Result}
+use Rattle.std.specs.Prelude.{◌≡◌, ℕ, Bool, List, [], ◌∷◌, length, map, Some, Result}
 use Rattle.std.specs.Option.{option_map}
 use Rattle.midi1_bytes.specs.Parsing.{open_of}
 use Rattle.ump_grammar.specs.declared.packet.Packet.{Packet}
@@ -9,17 +9,19 @@ use Rattle.midi_meaning.specs.UpRefusal.{AreAcceptedUp, AreStepsWithinRoom}
 use Rattle.up_translator.specs.declared.raised.Raised.{Raised}
 use Rattle.up_translator.specs.Answers.{IsAnswerAt, IsRaisedAloneAt}
 use Rattle.up_translator.specs.Fronts.{RaisesAlone}
-use Rattle.up_translator.specs.Held.{UpState, KeepsAfter, step_in, up_after}
-use Rattle.up_translator.specs.Recording.{HoldsUp}
+use Rattle.up_translator.specs.Held.{UpState, new_up, up_after}
+use Rattle.up_translator.specs.Recording.{HoldsUp, up_over}
 use Rattle.up_translator.specs.Step.{Raises}
 
 pub record RaisedBytesAreTheDefinition (paired : Bool) : Type 0 where
+  pub new : (room group : ℕ) → HoldsUp paired room group [] (new_up paired room group)
   pub answer : (room group : ℕ) (past : List ℕ) (byte : ℕ) (up : UpState) (result : Result Raised BadStep) →
       HoldsUp paired room group past up → Raises up (length past) byte result → IsAnswerAt paired room group past byte result
   pub after : (room group : ℕ) (past : List ℕ) (byte : ℕ) (up : UpState) →
       AreStepsWithinRoom room (byte ∷ past) → HoldsUp paired room group past up →
-      KeepsAfter up.holding (step_in up (length past) byte) →
       HoldsUp paired room group (byte ∷ past) (up_after up (length past) byte)
+  pub held : (room group : ℕ) (past : List ℕ) → AreStepsWithinRoom room past →
+      HoldsUp paired room group past (up_over paired room group past)
   pub alone : (room group : ℕ) (past : List ℕ) (byte : ℕ) (up : UpState) (packets : List Packet) →
       AreAcceptedUp (Some room) past → HoldsUp paired room group past up → RaisesAlone up (length past) byte packets →
       IsRaisedAloneAt paired room group past byte packets ×

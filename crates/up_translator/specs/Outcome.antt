@@ -5,7 +5,7 @@ use Rattle.voice_messages.specs.declared.voice1.Voice1.TheVariants as voice1
 use Rattle.voice_messages.specs.declared.voice2.Voice2.{Voice2}
 use Rattle.voice_messages.specs.declared.voice2.Voice2.TheVariants as voice2
 use Rattle.voice_messages.specs.Ranges.{IsVoice2}
-use Rattle.direct_packets.specs.DirectMessages.{is_direct_voice}
+use Rattle.encoded_packets.specs.DirectMessages.{is_direct_voice}
 use Rattle.bit_scaling.specs.Scaling.{up}
 use Rattle.listing_terms.specs.declared.listed.BadStep.{BadStep}
 use Rattle.listing_terms.specs.declared.listed.BadStep.TheVariants as bad
@@ -20,6 +20,13 @@ use Rattle.param_collector.specs.Control.{holding_after}
 use Rattle.param_collector.specs.Holding.{Holding}
 use Rattle.up_translator.specs.declared.outcome.Outcome.{Outcome}
 use Rattle.up_translator.specs.declared.outcome.Outcome.TheVariants as outcome
+use Rattle.up_translator.specs.declared.outcome.SelectingMessage.{SelectingMessage}
+use Rattle.up_translator.specs.declared.outcome.SelectingMessage.TheVariants as selecting
+
+-- the message of MIDI 1.0 that isn't raised alone
+abbrev pub selecting_in : SelectingMessage → Voice1
+selecting_in (selecting.Control channel index value) = voice1.Control channel index value
+selecting_in (selecting.Program channel program) = voice1.Program channel program
 
 abbrev pub messages_in : Outcome → List Voice2
 messages_in outcome.Nothing = []

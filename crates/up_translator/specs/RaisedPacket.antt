@@ -2,7 +2,7 @@
 use Rattle.std.specs.Prelude.{◌≡◌, false}
 use Rattle.ump_grammar.specs.declared.packet.Packet.{Packet}
 use Rattle.ump_grammar.specs.declared.packet.Packet.TheVariants as packet
-use Rattle.direct_packets.specs.DirectMessages.{is_direct_voice}
+use Rattle.encoded_packets.specs.DirectMessages.{is_direct_voice}
 use Rattle.up_translator.specs.DirectWords.{packet_of}
 use Rattle.up_translator.specs.declared.raised_packet.PacketForm.{PacketForm}
 use Rattle.up_translator.specs.declared.raised_packet.PacketForm.TheVariants as form

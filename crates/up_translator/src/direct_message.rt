@@ -1,13 +1,13 @@
-// Messages that are raised on the direct road (M2-104-UM, translation from MIDI 1.0; M2-115-U).
+// Messages that are raised alone, whatever came before (M2-104-UM, translation from MIDI 1.0; M2-115-U).
 ghost use Rattle.std.specs.Prelude.{◌≡◌, ◌≢◌, ◌/◌, ◌==◌, if◌then◌else◌};
 ghost use Rattle.midi1_bytes.specs.Spoken.{voice_in};
 ghost use Rattle.voice_messages.specs.declared.voice2.Voice2.TheVariants as voice2;
-ghost use Rattle.direct_packets.specs.DirectMessages.{direct_voice};
+ghost use Rattle.encoded_packets.specs.DirectMessages.{direct_voice};
 ghost use Rattle.up_translator.specs.Direct.{RaisesTo, raised_by, goes_direct, value_by};
 ghost use Rattle.up_translator.specs.DirectWords.{IsRaisedDirect};
 
 use bit_scaling::{up7, up14};
-use direct_packets::DirectMessage;
+use encoded_packets::DirectMessage;
 use midi_meaning::DirectControls;
 use midi1_bytes::VoiceBytes;
 use voice_messages::{U4, U7, U14};
@@ -29,8 +29,8 @@ fn index_of(opcode: u8, first: U7) -> U7
 }
 
 /// Whether a message neither takes nor changes what control changes set: a note off or on, a pressure, a
-/// bend, or a direct control change. One without an index counts as a control change that is direct, so that
-/// nothing need be guessed.
+/// bend, or a direct control change. Branchless, since the kind of the next message can't be predicted: one
+/// without an index counts as a control change that is direct.
 #[inline(always)]
 pub fn goes_direct(direct: &DirectControls, bytes: &VoiceBytes) -> bool
     ensures { result ≡ goes_direct direct.now (voice_in bytes.now) }
@@ -58,8 +58,8 @@ fn value_of(opcode: u8, first: U7, second: U7) -> u32
     if opcode == 0xE { bend } else { value }
 }
 
-// The fields of the message. Those of a silent note are chosen as values, so that no branch has to guess
-// which velocity comes next.
+// The fields of the message. Those of a silent note are chosen branchless, since the next velocity can't be
+// predicted.
 #[inline(always)]
 fn fields(group: U4, bytes: &VoiceBytes) -> DirectMessage
     ensures { result ≡ raised_by (bytes.now.status / 16) group bytes.now.status
@@ -83,7 +83,7 @@ fn fields(group: U4, bytes: &VoiceBytes) -> DirectMessage
     }
 }
 
-/// The message to which one that goes the direct road is raised, in a group.
+/// The message to which one is raised that is raised alone, in a group.
 #[inline(always)]
 pub fn raise_direct(group: U4, bytes: &VoiceBytes) -> DirectMessage
     requires { bytes.now.status / 16 ≢ 0xC }

@@ -2,10 +2,10 @@
 ghost use Rattle.std.specs.Prelude.{◌≡◌};
 ghost use Rattle.ump_grammar.specs.WordFields.{field};
 ghost use Rattle.ump_grammar.specs.Reading.{Encodes};
-ghost use Rattle.direct_packets.specs.DirectMessages.{IsDirectMessage, direct_voice};
+ghost use Rattle.encoded_packets.specs.DirectMessages.{IsDirectMessage, direct_voice};
 ghost use Rattle.up_translator.specs.DirectWords.{IsRaisedDirect, message_in, packet_of};
 
-use direct_packets::DirectMessage;
+use encoded_packets::DirectMessage;
 use packet_words::Words;
 use std::marker::Model;
 use ump_grammar::fields::{byte, nibble};
@@ -23,7 +23,7 @@ pub struct DirectWords {
 impl Model for DirectWords {
     ghost use Rattle.std.specs.Prelude.{◌≡◌, ◌<◌, ◌^◌};
     ghost use Rattle.ump_grammar.specs.WordFields.{field};
-    ghost use Rattle.direct_packets.specs.declared.direct_message.DirectMessage.{DirectMessage};
+    ghost use Rattle.encoded_packets.specs.declared.direct_message.DirectMessage.{DirectMessage};
     ghost use Rattle.up_translator.specs.DirectWords.{IsRaisedDirect, message_in};
 
     ghost Value = { DirectMessage };

@@ -8,10 +8,10 @@ ghost use Rattle.midi_meaning.specs.Refusal.{bad_control, bad_voice1};
 ghost use Rattle.midi_meaning.specs.State.{GroupState};
 ghost use Rattle.param_collector.specs.Control.{holding_after};
 ghost use Rattle.param_collector.specs.Keeps.{Keeps};
-ghost use Rattle.up_translator.specs.Direct.{goes_direct};
 ghost use Rattle.up_translator.specs.Outcome.{
   messages_in,
   refusal_in,
+  selecting_in,
   outcome_by,
   holding_with,
   FitsVoice2,
@@ -21,9 +21,50 @@ ghost use Rattle.up_translator.specs.Outcome.{
 use crate::voice::{raise_data_entry, raise_program};
 use bit_scaling::{up7, up14};
 use midi_meaning::BadStep;
+use midi1_bytes::VoiceBytes;
 use param_collector::laws::other_messages_change_nothing_kept;
 use param_collector::{Collected, Collector};
-use voice_messages::{U4, U7, Voice1, Voice2};
+use voice_messages::{U4, U7, Voice2};
+
+/// A voice message that isn't raised alone: what comes of it depends on the banks and parameters that are
+/// selected, or it selects one (MIDI 1.0 Detailed Specification, bank select, registered and non-registered
+/// parameter numbers).
+#[derive(Clone, Copy)]
+pub enum SelectingMessage {
+    /// A control change that isn't direct.
+    Control { channel: U4, index: U7, value: U7 },
+    /// A program change.
+    Program { channel: U4, program: U7 },
+}
+
+impl SelectingMessage {
+    ghost use Rattle.std.specs.Prelude.{Bool};
+    ghost use Rattle.midi1_bytes.specs.Spoken.{voice_in};
+    ghost use Rattle.up_translator.specs.Direct.{goes_direct};
+    ghost use Rattle.up_translator.specs.Outcome.{selecting_in};
+
+    /// The message with these bytes. By its status byte, since each kind but these two is raised alone.
+    #[inline(always)]
+    pub fn of(bytes: &VoiceBytes) -> SelectingMessage
+        requires { (paired : Bool) × (goes_direct (Some paired) (voice_in bytes.now) ≡ false) }
+        ensures { selecting_in result ≡ voice_in bytes.now }
+    {
+        let channel = U4::low_bits(u32::from(bytes.status));
+        let first = U7::low_bits(u32::from(bytes.first));
+        if bytes.status >= 0xC0 {
+            SelectingMessage::Program {
+                channel,
+                program: first,
+            }
+        } else {
+            SelectingMessage::Control {
+                channel,
+                index: first,
+                value: U7::low_bits(u32::from(bytes.second)),
+            }
+        }
+    }
+}
 
 /// What comes of a voice message.
 #[derive(Debug, Drop)]
@@ -84,31 +125,28 @@ fn raise_control_change(collector: &mut Collector, channel: U4, index: U7, value
     outcome_of(collected, channel, index, value)
 }
 
-/// What comes of a message that doesn't go the direct road (M2-104-UM, translation from MIDI 1.0). A control
-/// change is collected; a program change takes the bank that is selected.
+/// What comes of a message that isn't raised alone (M2-104-UM, translation from MIDI 1.0). A control change
+/// is collected; a program change takes the bank that is selected.
 #[inline(always)]
-pub fn raise(collector: &mut Collector, message: &Voice1) -> Outcome
-    requires { goes_direct (Some collector.old.paired) message.now ≡ false }
-    ensures refused { refusal_in result ≡ bad_voice1 message.now }
+pub fn raise_selecting(collector: &mut Collector, message: SelectingMessage) -> Outcome
+    ensures refused { refusal_in result ≡ bad_voice1 (selecting_in message) }
     ensures raised { (state : GroupState) → Keeps collector.old state →
-        IsRaisedVoice collector.old.paired state message.now result }
+        IsRaisedVoice collector.old.paired state (selecting_in message) result }
     ensures fits { FitsVoice2 result }
-    ensures behind { collector.new ≡ holding_with collector.old message.now }
+    ensures behind { collector.new ≡ holding_with collector.old (selecting_in message) }
     ensures kept { (state : GroupState) → Keeps collector.old state →
-        Keeps collector.new (step1 collector.old.paired state (voice message.now)) }
+        Keeps collector.new (step1 collector.old.paired state (voice (selecting_in message))) }
 {
     other_messages_change_nothing_kept();
-    match *message {
-        Voice1::Control {
+    match message {
+        SelectingMessage::Control {
             channel,
             index,
             value,
         } => raise_control_change(collector, channel, index, value),
-        Voice1::Program { channel, program } => {
+        SelectingMessage::Program { channel, program } => {
             let bank = collector.program(channel);
             Outcome::Message(raise_program(channel, program, bank))
         }
-        // Every other message stands alone, so it isn't raised here.
-        _ => unreachable!(),
     }
 }

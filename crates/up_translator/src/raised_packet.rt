@@ -1,6 +1,6 @@
 // The packet of a message, as it is written.
 ghost use Rattle.std.specs.Prelude.{◌≡◌, MatchOption, false, true};
-ghost use Rattle.direct_packets.specs.DirectMessages.{has_direct_kind, is_direct_voice};
+ghost use Rattle.encoded_packets.specs.DirectMessages.{has_direct_kind, is_direct_voice};
 ghost use Rattle.ump_grammar.specs.Ranges.{IsPacket};
 ghost use Rattle.ump_grammar.specs.Reading.{Encodes};
 ghost use Rattle.ump_grammar.specs.declared.packet.Packet.TheVariants as packet;
@@ -8,7 +8,7 @@ ghost use Rattle.up_translator.specs.RaisedPacket.{packet_by};
 ghost use Rattle.up_translator.specs.DirectWords.{IsRaisedDirect, packet_of};
 
 use crate::direct_words::DirectWords;
-use direct_packets::DirectMessage;
+use encoded_packets::DirectMessage;
 use packet_words::Words;
 use small_types::ShortList;
 use std::marker::Model;

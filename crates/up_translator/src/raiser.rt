@@ -10,10 +10,10 @@ ghost use Rattle.ump_grammar.specs.declared.packet.Packet.TheVariants as packet;
 ghost use Rattle.voice_messages.specs.declared.voice2.Voice2.TheVariants as voice2;
 
 use crate::direct_message::{control_change, goes_direct, raise_direct};
-use crate::outcome::{Outcome, raise};
+use crate::outcome::{Outcome, SelectingMessage, raise_selecting};
 use crate::raised::Raised;
 use crate::raised_packet::RaisedPacket;
-use direct_packets::DirectMessage;
+use encoded_packets::DirectMessage;
 use listing_terms::byte_lines::ByteLine;
 use midi_meaning::lines::ignored;
 use midi_meaning::{BadStep, DirectControls};
@@ -21,7 +21,7 @@ use midi1_bytes::VoiceBytes;
 use param_collector::Collector;
 use param_collector::laws::{control_changes_are_kept, other_messages_change_nothing_kept};
 use std::marker::Model;
-use voice_messages::{System, U4, U7, Voice1};
+use voice_messages::{System, U4, U7};
 
 // The fields of a system message and of its group fit their places.
 fn system_fits(group: U4, message: &System)
@@ -70,11 +70,14 @@ impl Model for Raiser {
 
 impl Raiser {
     ghost use Rattle.std.specs.Borrow.{sem};
+    ghost use Rattle.midi_meaning.specs.Messages.{as_they_come, start};
     ghost use Rattle.midi_meaning.specs.StepListing.{line_up};
+    ghost use Rattle.param_collector.specs.Holding.{IsHolding, fresh};
+    ghost use Rattle.param_collector.specs.Keeps.{Keeps};
     ghost use Rattle.up_translator.specs.Held.{KeepsAfter};
     ghost use Rattle.up_translator.specs.ForProofs.LendRaiser.{KeepsRaiser};
     ghost use Rattle.up_translator.specs.ForProofs.DirectOf.{IsDirectOf};
-    ghost use Rattle.up_translator.specs.Outcome.{holding_with};
+    ghost use Rattle.up_translator.specs.Outcome.{holding_with, selecting_in};
     ghost use Rattle.listing_terms.specs.ByteLines.{lines_in, told_of, IsInOrder};
     ghost use Rattle.up_translator.specs.Raised.{packet_in, payload_in, packets_in, group_in, IsApart};
     ghost use Rattle.up_translator.specs.Step.{RaisesStep};
@@ -90,6 +93,18 @@ impl Raiser {
             direct: DirectControls::new(paired),
             packet: RaisedPacket::of_system(group, System::Tune),
         }
+    }
+
+    /// Forgets what control changes have set.
+    pub(crate) fn reset(&mut self)
+        ensures fresh { self.new ≡ record {
+          group = self.old.group;
+          holding = fresh self.old.holding.paired;
+        } }
+        ensures holding { IsHolding self.new.holding }
+        ensures start { Keeps self.new.holding (start as_they_come) }
+    {
+        self.collector.reset();
     }
 
     pub(crate) fn group(&self) -> U4
@@ -133,18 +148,17 @@ impl Raiser {
         self.give(RaisedPacket::of_system(group, message), line)
     }
 
-    // A voice message that doesn't go the direct road.
+    // A voice message that isn't raised alone.
     #[inline(always)]
-    fn other(&mut self, message: &Voice1, offset: u64) -> Result<Raised<'_>, BadStep>
-        requires { goes_direct (Some self.old.holding.paired) message.now ≡ false }
+    fn selecting(&mut self, message: SelectingMessage, offset: u64) -> Result<Raised<'_>, BadStep>
         ensures answer { RaisesStep self.old.holding self.old.group offset
-            (completes (voice message.now)) result }
-        ensures kept { KeepsAfter self.old.holding (completes (voice message.now)) }
+            (completes (voice (selecting_in message))) result }
+        ensures kept { KeepsAfter self.old.holding (completes (voice (selecting_in message))) }
         ensures* after { sem 𝓛 (KeepsRaiser self.entry
-            (record self.old { holding = holding_with self.old.holding message.now })) }
+            (record self.old { holding = holding_with self.old.holding (selecting_in message) })) }
     {
         control_changes_are_kept();
-        match raise(&mut self.collector, message) {
+        match raise_selecting(&mut self.collector, message) {
             Outcome::Nothing => Ok(Raised::only_listed(self.group, None, None)),
             Outcome::Control {
                 channel,
@@ -165,8 +179,7 @@ impl Raiser {
         }
     }
 
-    /// The message to which a voice message is raised that goes the direct road; `None` exactly where it goes
-    /// another.
+    /// The message to which a voice message is raised that is raised alone; `None` exactly when it isn't.
     #[inline(always)]
     pub(crate) fn direct_message(&self, bytes: &VoiceBytes) -> Option<DirectMessage>
         ensures { MatchOption result
@@ -194,7 +207,7 @@ impl Raiser {
             let message = raise_direct(self.group, bytes);
             Ok(self.give(RaisedPacket::of_value(&message), None))
         } else {
-            self.other(&bytes.message(), offset)
+            self.selecting(SelectingMessage::of(bytes), offset)
         }
     }
 }

@@ -10,7 +10,7 @@ ghost use Rattle.up_translator.specs.Step.{Accepts};
 
 use crate::raised::Raised;
 use crate::raiser::Raiser;
-use direct_packets::DirectMessage;
+use encoded_packets::DirectMessage;
 use midi_meaning::lines::{cut_off, kind_of_open, stray, undefined};
 use midi_meaning::{BadStep, Listed};
 use midi1_bytes::{AfterCut, Parser, Step, System};
@@ -35,14 +35,8 @@ fn raised_end<'a>(group: U4, step: Step<'a>, offset: u64) -> Raised<'a>
         Step::Cut { start, what, .. } => {
             Raised::only_listed(group, Some(cut_off(start, what)), Some(stray(offset)))
         }
-        Step::Stray => Raised::only_listed(group, Some(stray(offset)), None),
-        // F7 ends an exclusive, cuts off what is open, or is stray: no other step comes of it.
-        Step::Held
-        | Step::Voice(_)
-        | Step::Common(_)
-        | Step::RealTime(_)
-        | Step::Undefined
-        | Step::TooLong => unreachable!(),
+        // It neither ends an exclusive nor cuts anything off, so it is stray.
+        _ => Raised::only_listed(group, Some(stray(offset)), None),
     }
 }
 
@@ -92,6 +86,20 @@ impl Up {
             parser,
             raiser: Raiser::new(group, collector, paired),
         })
+    }
+
+    /// Drops what is open, and what control changes have set: the translator is as a new one for the same
+    /// group, of the same limit, with paired controllers or without as before (own rule). Takes no memory.
+    pub fn reset(&mut self)
+        ensures fresh { self.new ≡ record {
+          group = self.old.group;
+          parsing = idle self.old.parsing.room;
+          holding = fresh self.old.holding.paired;
+        } }
+        ensures holds { HoldsUp self.old.holding.paired self.old.parsing.room self.old.group [] self.new }
+    {
+        self.parser.reset();
+        self.raiser.reset();
     }
 
     // Takes F7. It ends an exclusive, cuts a message off, or is stray.

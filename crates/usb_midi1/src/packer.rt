@@ -64,6 +64,14 @@ impl Packer {
         Ok(Packer { parser, cable })
     }
 
+    /// Drops what is open, and the running status: the packer is as a new one for the same cable and of the
+    /// same limit (own rule). Takes no memory.
+    pub fn reset(&mut self)
+        ensures { self.new ≡ record { cable = self.old.cable; parsing = idle self.old.parsing.room } }
+    {
+        self.parser.reset();
+    }
+
     /// The events of one more byte (USB Device Class Definition for MIDI Devices 1.0, code index numbers),
     /// each with its status byte, and its lines of the listing (own rules). The offset is the number of bytes
     /// before it. The call takes no memory.

@@ -34,12 +34,9 @@ fn event(cable: U4, code: u8, bytes: &[u8]) -> [u8; 4]
 pub(crate) fn voice_event(cable: U4, message: &Voice1) -> [u8; 4]
     ensures { result ∷ [] ≡ message_events cable (voice message.now) }
 {
-    let bytes = write_voice(message);
-    match *bytes.as_slice() {
-        [status, ..] => event(cable, status / 16, bytes.as_slice()),
-        // A message has its status byte at least.
-        [] => unreachable!(),
-    }
+    let written = write_voice(message);
+    let bytes = written.as_slice();
+    event(cable, bytes[0] / 16, bytes)
 }
 
 // The code of a system message: 2 and 3 for a common one of two and

@@ -13,7 +13,7 @@ use Rattle.usb_passes.specs.Events.{events_of}
 abbrev pub reserved_text : ℕ → ℕ → List ℕ
 reserved_text offset cable = decimal offset ++ codes " " ++ decimal cable ++ codes " reserved-event\n"
 
--- what is put for an event at an offset: what it carries, in the lane of its cable; or its line, where its code is reserved
+-- what is put for an event at an offset: what it carries, in the lane of its cable; or its line, if its code is reserved
 abbrev pub event_puts : ℕ × Event → List Put
 event_puts item =
     if is_reserved item.1.code then in_notes (reserved_text item.0 item.1.cable) ∷ []

@@ -29,7 +29,7 @@ pub fn events_and_bytes_have_one_first_refusal()
     bytes_are_cut_once();
 }
 
-/// Where a split is done, the pairs that were put are exactly what the events of the whole input carry, and
+/// When a split is done, the pairs that were put are exactly what the events of the whole input carry, and
 /// the lines are exactly those of its events whose code is reserved, each with its offset.
 pub fn a_split_that_is_done_is_that_of_the_input()
     ensures { DoneSplitsTheInput }
@@ -37,7 +37,7 @@ pub fn a_split_that_is_done_is_that_of_the_input()
     events_are_those_of_the_bytes();
 }
 
-/// Where a packing is done, the output gained exactly the events of the bytes of the whole input, one byte
+/// When a packing is done, the output gained exactly the events of the bytes of the whole input, one byte
 /// after the other, and the notes exactly their lines and that of what is open at the end. What the events
 /// carry is all on the cable, and completes the messages that the input completes, in the same order.
 pub fn a_packing_that_is_done_is_that_of_the_input()

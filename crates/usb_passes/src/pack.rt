@@ -51,7 +51,7 @@ impl Model for PackRun {
 
 impl PackRun {
     /// A packing into the events of this cable. `room` is the most bytes of an exclusive between F0 and F7, 6
-    /// to 1,048,576, for which memory is reserved (own rule); `NoMemory` where there isn't so much. No other
+    /// to 1,048,576, for which memory is reserved (own rule); `NoMemory` if there isn't that much. No other
     /// call takes any.
     pub fn new(alloc: Global, cable: U4, room: u32) -> Result<PackRun, NoMemory>
         requires least { 6 ≤ room }
@@ -113,8 +113,8 @@ impl Engine<u64, u8> for PackEngine {
 /// of a byte its lines in the notes, at the end the line of what is still open. Takes no memory.
 ///
 /// `Refused` comes for `InputTooLong` and `ExclusiveTooLong`, with the number of bytes before what is
-/// refused. `ReadFault`, `OutputFault` and `NoteFault` come only where the count of that object rose. The
-/// lanes stay as they are.
+/// refused. `ReadFault`, `OutputFault` and `NoteFault` come only if the count of that object rose. The
+/// lanes are unchanged.
 #[inline(never)]
 pub fn run_pack<S: Source, L: Lanes, W: Sink, N: Sink>(
     engine: PackRun,

@@ -56,7 +56,7 @@ impl Engine<u64, Event> for SplitEngine {
 /// whose code is reserved, which carries nothing (own rule). Takes no memory.
 ///
 /// `Refused` comes for `Truncated` and `InputTooLong`, with the number of bytes before what is refused.
-/// `ReadFault`, `LaneFault` and `NoteFault` come only where the count of that object rose. The output stays
+/// `ReadFault`, `LaneFault` and `NoteFault` come only if the count of that object rose. The output stays
 /// as it is.
 pub fn run_split<S: Source, L: Lanes, W: Sink, N: Sink>(
     input: &mut S,
@@ -81,7 +81,7 @@ pub fn run_split<S: Source, L: Lanes, W: Sink, N: Sink>(
 }
 
 // Puts what an event carries into the lane of its cable, or its line
-// in the notes, where its code is reserved.
+// in the notes, if its code is reserved.
 #[inline(always)]
 fn put_event<O: Outputs>(event: &Event, offset: u64, outputs: &mut O) -> Result<(), RunEnd>
     requires begun { (O.places outputs.old).begun ≡ true }

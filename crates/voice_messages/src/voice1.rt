@@ -1,4 +1,7 @@
 // Messages of the MIDI 1.0 protocol.
+ghost use Rattle.std.specs.Prelude.{◌≡◌};
+ghost use Rattle.voice_messages.specs.Channels.{channel_of};
+
 use crate::small::{U7, U14};
 use small_types::U4;
 
@@ -20,6 +23,25 @@ pub enum Voice1 {
     Pressure { channel: U4, value: U7 },
     /// Status En: pitch bend, with its centre at 8,192.
     Bend { channel: U4, value: U14 },
+}
+
+impl Voice1 {
+    /// The channel that the message is for, 0 to 15: the low half of its status byte (MIDI 1.0 Detailed
+    /// Specification, channel voice messages).
+    #[inline(always)]
+    pub fn channel(&self) -> U4
+        ensures { result ≡ channel_of self.now }
+    {
+        match *self {
+            Voice1::NoteOff { channel, .. }
+            | Voice1::NoteOn { channel, .. }
+            | Voice1::PolyPressure { channel, .. }
+            | Voice1::Control { channel, .. }
+            | Voice1::Program { channel, .. }
+            | Voice1::Pressure { channel, .. }
+            | Voice1::Bend { channel, .. } => channel,
+        }
+    }
 }
 
 /// A system common or system real time message (MIDI 1.0 Detailed Specification, system messages).

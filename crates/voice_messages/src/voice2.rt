@@ -1,5 +1,6 @@
 // Messages of the MIDI 2.0 protocol.
 ghost use Rattle.std.specs.Prelude.{◌≡◌, ◌<◌};
+ghost use Rattle.voice_messages.specs.Channels.{channel2};
 ghost use Rattle.voice_messages.specs.Forms.{form_at};
 
 use crate::small::U7;
@@ -111,6 +112,29 @@ pub enum Voice2 {
         note: U7,
         flags: u8,
     },
+}
+
+impl Voice2 {
+    /// The channel that the message is for, 0 to 15 (M2-104-UM, MIDI 2.0 channel voice messages).
+    #[inline(always)]
+    pub fn channel(&self) -> U4
+        ensures { result ≡ channel2 self.now }
+    {
+        match *self {
+            Voice2::NoteOff { channel, .. }
+            | Voice2::NoteOn { channel, .. }
+            | Voice2::PolyPressure { channel, .. }
+            | Voice2::Control { channel, .. }
+            | Voice2::Set { channel, .. }
+            | Voice2::Shift { channel, .. }
+            | Voice2::Program { channel, .. }
+            | Voice2::Pressure { channel, .. }
+            | Voice2::Bend { channel, .. }
+            | Voice2::NoteController { channel, .. }
+            | Voice2::NoteBend { channel, .. }
+            | Voice2::NoteManagement { channel, .. } => channel,
+        }
+    }
 }
 
 /// Which part of a message a packet carries (M2-104-UM, system exclusive and stream messages).

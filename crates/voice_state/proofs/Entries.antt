@@ -15,14 +15,10 @@ use Rattle.midi_meaning.specs.State.{Channel}
 use Rattle.voice_state.specs.declared.fact.Fact.{Fact}
 use Rattle.voice_state.specs.declared.param_map.ParamState.{ParamState}
 use Rattle.voice_state.specs.Facts.{first, is_told, param_fact, param_facts, params_in_order}
-use Rattle.voice_state.specs.Params.{number_of, param_of, param_state, state_at, IsInOrder, IsOf}
+use Rattle.voice_state.specs.Params.{entry_fact, number_of, param_of, param_state, state_at, IsInOrder, IsOf}
 use Rattle.voice_state.proofs.KeptParams.{param_again}
 use Rattle.voice_state.proofs.Places.{strictly_sorted}
 use Rattle.voice_state.proofs.ToldFacts.{by_rows, each_below}
-
--- what is told of an entry
-abbrev pub entry_fact : ℕ → ℕ → ParamKind → ℕ × ParamState → Fact
-entry_fact group channel kind entry = param_fact group channel (param_of kind entry.0) entry.1.value entry.1.loose
 
 -- ---- what an entry has at a number
 

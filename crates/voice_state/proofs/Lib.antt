@@ -7,3 +7,5 @@ pub mod Entries
 pub mod KeptChannel
 pub mod KeptGroups
 pub mod StateLaws
+pub mod FactsLeft
+pub mod OneChanged

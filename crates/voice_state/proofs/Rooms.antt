@@ -1,5 +1,5 @@
 -- What an edit of one place of a list leaves of all places, and which list is full.
-use Rattle.std.proofs.Common.{◌≡◌, ◌∙◌, ℕ, ◌<◌, List, length, get_or, set, sym, subst, ⊎_elim, Result, Ok, Err}
+use Rattle.std.proofs.Common.{◌≡◌, ◌∙◌, ℕ, ◌<◌, ◌+◌, arith, List, length, get_or, set, sym, subst, ⊎_elim, Result, Ok, Err}
 use Rattle.std.proofs.lemmas.Bool.{cases_eq}
 use Rattle.std.proofs.lemmas.List.{get_or_default, get_or-set_other, get_or-set_same}
 use Rattle.voice_state.specs.declared.not_kept.NotKept.{NotKept}
@@ -31,3 +31,14 @@ full_at F xs i at found result within same is full =
     (λ here other. subst F (is ∙ get_or_default xs i found other within) here)
     (λ all. subst F (sym is) (all found))
     full)
+
+-- an edit of the next place, after those before it
+pub each_set : {A : Type 0} (P : A → Type 0) (xs : List A) (i : ℕ) (new : A) → i < length xs
+    → ((j : ℕ) (other : A) → j < i → P (get_or xs j other)) → P new
+    → (j : ℕ) (other : A) → j < i + 1 → P (get_or (set xs i new) j other)
+each_set P xs i new within before now j other below =
+    ⊎_elim
+    (λ here. subst (λ k. P (get_or (set xs i new) k other)) here (subst P (sym (get_or-set_same xs i new other within)) now))
+    (λ there.
+    subst P (sym (get_or-set_other xs i j new other (λ same. there (sym same)))) (before j other (omega (arith, below, there))))
+    (cases_eq i j)

@@ -86,15 +86,18 @@ count_of list = min (length list) (2 ^ 64 - 1)
 abbrev pub count_facts : (ℕ → Fact) → ℕ → List Fact
 count_facts fact_of count = if count == 0 then [] else fact_of count ∷ []
 
+-- of a group's counts
+abbrev pub group_counts : ℕ → GroupState → List Fact
+group_counts group state =
+    count_facts (fact.System group) (count_of state.commons) ++ count_facts (fact.RealTime group) (count_of state.real_times)
+
 -- of so many channels
 abbrev pub facts_of_channels : ℕ → Scale → ℕ → GroupState → List Fact
 facts_of_channels count scale group state = flat_map (λ channel. channel_facts scale group channel (state.channels channel)) (first count)
 
 abbrev pub group_facts : Scale → ℕ → GroupState → List Fact
 group_facts scale group state =
-    facts_of_channels 16 scale group state
-    ++ count_facts (fact.System group) (count_of state.commons)
-    ++ count_facts (fact.RealTime group) (count_of state.real_times)
+    facts_of_channels 16 scale group state ++ group_counts group state
 
 -- of so many groups, at a scale
 abbrev pub facts_of_groups : ℕ → Scale → (ℕ → GroupState) → List Fact

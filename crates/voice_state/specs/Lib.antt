@@ -1,4 +1,5 @@
 pub mod Acts
+pub mod Addresses
 pub mod Facts
 pub mod ForProofs
 pub mod Kept

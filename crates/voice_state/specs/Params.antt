@@ -5,7 +5,8 @@ use Rattle.voice_messages.specs.declared.voice2.ParamKind.{ParamKind}
 use Rattle.voice_messages.specs.declared.voice2.Param.{Param}
 use Rattle.midi_meaning.specs.State.{Channel}
 use Rattle.voice_state.specs.declared.param_map.ParamState.{ParamState}
-use Rattle.voice_state.specs.Facts.{is_told}
+use Rattle.voice_state.specs.declared.fact.Fact.{Fact}
+use Rattle.voice_state.specs.Facts.{is_told, param_fact}
 
 abbrev pub number_of : ℕ → ℕ → ℕ
 number_of bank index = bank * 128 + index
@@ -48,3 +49,7 @@ param_state value is_loose = if is_told value is_loose then Some (record { value
 abbrev pub IsOf : ParamKind → List (ℕ × ParamState) → Channel → Type 0
 IsOf kind entries channel =
     (number : ℕ) → state_at entries number ≡ param_state (channel.params (param_of kind number)) (channel.loose (param_of kind number))
+
+-- what is told of an entry, of a kind
+abbrev pub entry_fact : ℕ → ℕ → ParamKind → ℕ × ParamState → Fact
+entry_fact group channel kind entry = param_fact group channel (param_of kind entry.0) entry.1.value entry.1.loose

@@ -1,13 +1,11 @@
 // The notes and channel mode messages that came.
 ghost use Rattle.std.specs.Prelude.{◌≡◌, ◌≤◌, [], ◌∷◌, ◌++◌, length, IfOk, OnOk, OnErr, map};
 ghost use Rattle.voice_state.specs.Acts.{act_of};
-ghost use Rattle.voice_state.specs.Facts.{act_fact};
 ghost use Rattle.voice_state.specs.Rooms.{IsFullWhere};
 
-use crate::fact::{Fact, put};
 use crate::not_kept::NotKept;
 use crate::note_act::NoteAct;
-use small_types::{NoMemory, U4};
+use small_types::NoMemory;
 use std::alloc::Global;
 use std::marker::Model;
 
@@ -28,7 +26,7 @@ impl Model for Acts {
 }
 
 impl Acts {
-    /// None yet. The memory for `taken` of them is taken here.
+    /// An empty list. The memory for `taken` of them is taken here. `NoMemory` if there isn't enough.
     pub(crate) fn new(alloc: Global, taken: usize) -> Result<Acts, NoMemory>
         ensures { IfOk result (λ acts. acts ≡ []) }
     {
@@ -38,7 +36,7 @@ impl Acts {
         }
     }
 
-    /// Adds one at the end, where there are fewer than `room`. Else nothing changes.
+    /// Adds one at the end if there are fewer than `room`; otherwise nothing changes.
     pub(crate) fn add(&mut self, act: NoteAct, room: usize) -> Result<(), NotKept>
         ensures added { OnOk result (self.new ≡ self.old ++ act_of act ∷ []) }
         ensures unchanged { OnErr result (self.new ≡ self.old) }
@@ -53,18 +51,17 @@ impl Acts {
         }
     }
 
-    /// Adds the facts of them, as they came.
-    pub(crate) fn put_facts(
-        &self,
-        facts: &mut Vec<Fact>,
-        group: U4,
-        channel: U4,
-    ) -> Result<(), NoMemory>
-        ensures { OnOk result (facts.new.items ≡ facts.old.items ++ map (act_fact group channel) self.now) }
+    /// Empties the list, which keeps its memory.
+    pub(crate) fn clear(&mut self)
+        ensures { self.new ≡ [] }
     {
-        for act in &self.acts {
-            put(facts, Some(act.fact(group, channel)))?;
-        }
-        Ok(())
+        self.acts.clear();
+    }
+
+    /// All of them, as they came.
+    pub(crate) fn as_slice(&self) -> &[NoteAct]
+        ensures { map act_of result.now ≡ self.now }
+    {
+        self.acts.as_slice()
     }
 }

@@ -4,17 +4,18 @@ ghost use Rattle.std.specs.Option.{option_map, option_to_list};
 ghost use Rattle.midi_meaning.specs.Messages.{Scale, as_they_come, raised, start_channel};
 ghost use Rattle.midi_meaning.specs.State as definition;
 ghost use Rattle.voice_state.specs.Acts.{act_of};
-ghost use Rattle.voice_state.specs.Facts.{bend_facts, channel_facts, pressure_facts, program_fact, value_facts};
+ghost use Rattle.voice_state.specs.Facts.{bend_facts, channel_facts, pressure_facts, program_fact};
 ghost use Rattle.voice_state.specs.Kept.{KeepsChannel};
 ghost use Rattle.voice_state.specs.Rooms.{AreActsFull, IsFullWhere};
 ghost use Rattle.voice_state.specs.ForProofs.Widths.{scale_of};
 
 use crate::acts::Acts;
+use crate::channel_facts::ChannelFacts;
 use crate::fact::{Fact, put};
 use crate::not_kept::{NotKept, Room};
 use crate::note_act::NoteAct;
 use crate::params::Params;
-use crate::table::{Content, Table};
+use crate::table::Table;
 use crate::width::Width;
 use midi_meaning::Registers;
 use small_types::{NoMemory, U4};
@@ -28,7 +29,7 @@ pub(crate) struct ProgramChange {
     pub bank: Option<Bank>,
 }
 
-/// What messages have left in a channel. The bend is none where it is at its centre.
+/// What messages have left in a channel. The bend is `None` at its centre.
 #[derive(Drop)]
 pub(crate) struct Channel {
     pub acts: Acts,
@@ -67,7 +68,23 @@ impl Channel {
         })
     }
 
-    /// Takes a note or a channel mode message. Where it isn't kept, nothing has changed.
+    /// Empties the channel: it is as before its first message, with the same room. Its lists keep their memory.
+    pub(crate) fn clear(&mut self)
+        ensures midi1 { KeepsChannel as_they_come self.new (start_channel as_they_come) }
+        ensures packets { KeepsChannel raised self.new (start_channel raised) }
+        ensures room { self.new.room ≡ self.old.room }
+    {
+        self.acts.clear();
+        self.poly.clear();
+        self.controllers.clear();
+        self.pressure = 0;
+        self.bend = None;
+        self.program = None;
+        self.params.clear();
+        self.registers = Registers::unset();
+    }
+
+    /// Takes a note or a channel mode message. If it isn't kept, nothing changes.
     pub(crate) fn act(&mut self, act: NoteAct) -> Result<(), NotKept>
         ensures step { OnOk result
             ((scale : Scale) (state : definition.Channel) → KeepsChannel scale self.old state
@@ -79,7 +96,7 @@ impl Channel {
         self.acts.add(act, self.room.notes)
     }
 
-    /// Takes a bend, which isn't kept where it is at its centre.
+    /// Takes a bend, which isn't kept at its centre.
     pub(crate) fn set_bend(&mut self, width: Width, value: u32)
         ensures step { (state : definition.Channel) → KeepsChannel (scale_of width) self.old state
             → KeepsChannel (scale_of width) self.new (definition.with_bend value state) }
@@ -92,7 +109,7 @@ impl Channel {
         };
     }
 
-    /// Takes a program change, with the bank as it stands.
+    /// Takes a program change, with the bank that is selected.
     pub(crate) fn set_program(&mut self, program: U7)
         ensures step { (scale : Scale) (state : definition.Channel) → KeepsChannel scale self.old state
             → KeepsChannel scale self.new (definition.with_program program state) }
@@ -102,7 +119,7 @@ impl Channel {
         self.program = Some(ProgramChange { program, bank });
     }
 
-    /// Adds the facts of the channel.
+    /// Adds the facts of the channel to a list.
     pub(crate) fn put_facts(
         &self,
         facts: &mut Vec<Fact>,
@@ -113,27 +130,13 @@ impl Channel {
             → KeepsChannel scale self.now state
             → facts.new.items ≡ facts.old.items ++ channel_facts scale group channel state) }
     {
-        self.acts.put_facts(facts, group, channel)?;
-        self.poly
-            .put_facts(Content::KeyPressures, facts, group, channel)?;
-        self.controllers
-            .put_facts(Content::Controllers, facts, group, channel)?;
-        self.put_value_facts(facts, group, channel)?;
-        self.params.put_facts(facts, group, channel)
+        for fact in ChannelFacts::of(self, group, channel) {
+            put(facts, Some(fact))?;
+        }
+        Ok(())
     }
 
-    // Adds the facts of the pressure, the bend and the program.
-    fn put_value_facts(&self, facts: &mut Vec<Fact>, group: U4, channel: U4) -> Result<(), NoMemory>
-        ensures { OnOk result ((scale : Scale) (state : definition.Channel)
-            → KeepsChannel scale self.now state
-            → facts.new.items ≡ facts.old.items ++ value_facts scale group channel state) }
-    {
-        put(facts, self.pressure_fact(group, channel))?;
-        put(facts, self.bend_fact(group, channel))?;
-        put(facts, self.program_fact(group, channel))
-    }
-
-    fn pressure_fact(&self, group: U4, channel: U4) -> Option<Fact>
+    pub(crate) fn pressure_fact(&self, group: U4, channel: U4) -> Option<Fact>
         ensures { (scale : Scale) (state : definition.Channel) → KeepsChannel scale self.now state
             → option_to_list result ≡ pressure_facts group channel state.pressure }
     {
@@ -149,7 +152,7 @@ impl Channel {
         }
     }
 
-    fn bend_fact(&self, group: U4, channel: U4) -> Option<Fact>
+    pub(crate) fn bend_fact(&self, group: U4, channel: U4) -> Option<Fact>
         ensures { (scale : Scale) (state : definition.Channel) → KeepsChannel scale self.now state
             → option_to_list result ≡ bend_facts (scale.wide 8192) group channel state.bend }
     {
@@ -161,7 +164,7 @@ impl Channel {
         })
     }
 
-    fn program_fact(&self, group: U4, channel: U4) -> Option<Fact>
+    pub(crate) fn program_fact(&self, group: U4, channel: U4) -> Option<Fact>
         ensures { (scale : Scale) (state : definition.Channel) → KeepsChannel scale self.now state
             → result ≡ option_map (program_fact group channel) state.program }
     {

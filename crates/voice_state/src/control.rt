@@ -20,8 +20,7 @@ use voice_messages::U7;
 
 impl Channel {
     /// Takes a control change of the MIDI 1.0 protocol (MIDI 1.0 Detailed Specification, control change;
-    /// RP-015). Where it isn't kept, nothing
-    /// has changed.
+    /// RP-015). If it isn't kept, nothing changes.
     pub(crate) fn control(&mut self, width: Width, index: U7, value: U7) -> Result<(), NotKept>
         ensures step { OnOk result
             ((state : definition.Channel) → KeepsChannel (scale_of width) self.old state
@@ -73,8 +72,8 @@ impl Channel {
     }
 
     /// Takes a control change of the MIDI 2.0 protocol (M2-104-UM, MIDI 2.0 control change): the indexes of
-    /// banks, data entry and parameter numbers do nothing. Where it isn't kept, nothing
-    /// has changed.
+    /// banks, data entry and parameter numbers do nothing. If it isn't kept, nothing
+    /// changes.
     pub(crate) fn control2(&mut self, index: U7, value: u32) -> Result<(), NotKept>
         ensures step { OnOk result ((state : definition.Channel) → KeepsChannel raised self.old state
             → KeepsChannel raised self.new (control2 (pairing false (role_of index)) index value state)) }

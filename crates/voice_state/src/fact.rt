@@ -1,12 +1,13 @@
-// What is told of a state.
+// The facts of a state.
 ghost use Rattle.std.specs.Prelude.{◌≡◌, ◌++◌, OnOk};
 ghost use Rattle.std.specs.Option.{option_to_list};
+ghost use Rattle.voice_state.specs.Addresses.{address_of};
 
 use small_types::NoMemory;
 use voice_messages::{Bank, U4, U7};
 
-/// One thing that is told of what messages have left in a receiver: a note or a channel mode message that
-/// came, or a value that isn't at its first one. Values are those of the stream, of 7 and 14 bits in MIDI 1.0
+/// One fact about what messages have left in a receiver: a note or a channel mode message that came, or a
+/// value that isn't at its first one. Values are those of the stream, of 7 and 14 bits in MIDI 1.0
 /// bytes, of 16 and 32 bits in packets.
 #[derive(Clone, Copy, Debug, PartialEq, Eq)]
 pub enum Fact {
@@ -45,13 +46,13 @@ pub enum Fact {
         index: U7,
         value: u32,
     },
-    /// The pressure of the channel, where it isn't 0.
+    /// The pressure of the channel, if it isn't 0.
     Pressure {
         group: U4,
         channel: U4,
         value: u32,
     },
-    /// The bend, where it isn't at its centre: 8,192 of 14 bits, 0x8000_0000 of 32.
+    /// The bend, if it isn't at its centre: 8,192 of 14 bits, 0x8000_0000 of 32.
     Bend {
         group: U4,
         channel: U4,
@@ -64,7 +65,7 @@ pub enum Fact {
         program: U7,
         bank: Option<Bank>,
     },
-    /// A registered parameter by the MSB (`bank`) and the LSB (`index`) of its number: its value, where it
+    /// A registered parameter by the MSB (`bank`) and the LSB (`index`) of its number: its value, if it
     /// was set, and whether a relative change came since.
     Registered {
         group: U4,
@@ -95,7 +96,43 @@ pub enum Fact {
     },
 }
 
-/// Adds a fact at the end, where there is one.
+/// What a fact is about: a channel of a group, or a whole group.
+#[derive(Clone, Copy, Debug, PartialEq, Eq)]
+pub struct FactAddress {
+    pub group: U4,
+    /// The channel, if the fact is about one channel.
+    pub channel: Option<U4>,
+}
+
+impl Fact {
+    /// The group and the channel that the fact is about. A count of system messages is about the whole group
+    /// and has no channel.
+    pub fn address(&self) -> FactAddress
+        ensures { result ≡ address_of self.now }
+    {
+        match *self {
+            Fact::On { group, channel, .. }
+            | Fact::Off { group, channel, .. }
+            | Fact::Mode { group, channel, .. }
+            | Fact::Poly { group, channel, .. }
+            | Fact::Control { group, channel, .. }
+            | Fact::Pressure { group, channel, .. }
+            | Fact::Bend { group, channel, .. }
+            | Fact::Program { group, channel, .. }
+            | Fact::Registered { group, channel, .. }
+            | Fact::Assignable { group, channel, .. } => FactAddress {
+                group,
+                channel: Some(channel),
+            },
+            Fact::System { group, .. } | Fact::RealTime { group, .. } => FactAddress {
+                group,
+                channel: None,
+            },
+        }
+    }
+}
+
+/// Adds a fact at the end, if there is one.
 pub(crate) fn put(facts: &mut Vec<Fact>, fact: Option<Fact>) -> Result<(), NoMemory>
     ensures { OnOk result (facts.new.items ≡ facts.old.items ++ option_to_list fact) }
 {

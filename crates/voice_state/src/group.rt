@@ -3,17 +3,17 @@ ghost use Rattle.std.specs.Prelude.{◌≡◌, ◌++◌, IfOk, OnOk, OnErr};
 ghost use Rattle.std.specs.Option.{option_to_list};
 ghost use Rattle.voice_messages.specs.declared.voice1.System as system;
 ghost use Rattle.midi1_bytes.specs.Messages.{Message};
-ghost use Rattle.midi_meaning.specs.Messages.{Scale, as_they_come, channel_of, raised, start};
-ghost use Rattle.midi_meaning.specs.Packets.{channel2};
+ghost use Rattle.midi_meaning.specs.Messages.{Scale, as_they_come, raised, start};
 ghost use Rattle.midi_meaning.specs.State.{GroupState, with_common, with_real_time};
 ghost use Rattle.voice_state.specs.declared.fact.Fact.TheVariants as fact;
-ghost use Rattle.voice_state.specs.Facts.{count_facts, facts_of_channels, group_facts};
+ghost use Rattle.voice_state.specs.Facts.{channel_facts, count_facts, facts_of_channels, group_facts};
 ghost use Rattle.voice_state.specs.Kept.{KeepsGroup};
 ghost use Rattle.voice_state.specs.Rooms.{ChannelsHaveRoom, IsFullWhere, IsGroupFull1, IsGroupFull2, KeepsRooms};
 ghost use Rattle.voice_state.specs.States.{after_voice1, after_voice2};
 ghost use Rattle.voice_state.specs.ForProofs.Widths.{scale_of};
 
 use crate::channel::Channel;
+use crate::channel_facts::ChannelFacts;
 use crate::fact::{Fact, put};
 use crate::not_kept::{NotKept, Room};
 use crate::width::Width;
@@ -21,41 +21,6 @@ use small_types::{NoMemory, U4};
 use std::alloc::Global;
 use std::marker::Model;
 use voice_messages::{Voice1, Voice2};
-
-// The channel of a message.
-fn channel_of(message: &Voice1) -> U4
-    ensures { result ≡ channel_of message.now }
-{
-    match *message {
-        Voice1::NoteOff { channel, .. }
-        | Voice1::NoteOn { channel, .. }
-        | Voice1::PolyPressure { channel, .. }
-        | Voice1::Control { channel, .. }
-        | Voice1::Program { channel, .. }
-        | Voice1::Pressure { channel, .. }
-        | Voice1::Bend { channel, .. } => channel,
-    }
-}
-
-// The channel of a message of the MIDI 2.0 protocol.
-fn channel2(message: &Voice2) -> U4
-    ensures { result ≡ channel2 message.now }
-{
-    match *message {
-        Voice2::NoteOff { channel, .. }
-        | Voice2::NoteOn { channel, .. }
-        | Voice2::PolyPressure { channel, .. }
-        | Voice2::Control { channel, .. }
-        | Voice2::Set { channel, .. }
-        | Voice2::Shift { channel, .. }
-        | Voice2::Program { channel, .. }
-        | Voice2::Pressure { channel, .. }
-        | Voice2::Bend { channel, .. }
-        | Voice2::NoteController { channel, .. }
-        | Voice2::NoteBend { channel, .. }
-        | Voice2::NoteManagement { channel, .. } => channel,
-    }
-}
 
 /// What messages have left in the sixteen channels of a group, and how many system messages came. To a
 /// contract it is a record of these.
@@ -106,8 +71,22 @@ impl Group {
         })
     }
 
-    /// Takes a message of the MIDI 1.0 protocol. Where it isn't kept, nothing has
-    /// changed.
+    /// Empties the group: it is as before its first message, with the same rooms. No memory is taken or given
+    /// back.
+    pub(crate) fn clear(&mut self)
+        ensures midi1 { KeepsGroup as_they_come self.new (start as_they_come) }
+        ensures packets { KeepsGroup raised self.new (start raised) }
+        ensures rooms { KeepsRooms self.old self.new }
+    {
+        for index in 0..16usize {
+            let channel = &mut self.channels[index];
+            channel.clear();
+        }
+        self.commons = 0;
+        self.real_times = 0;
+    }
+
+    /// Takes a message of the MIDI 1.0 protocol. If it isn't kept, nothing changes.
     pub(crate) fn voice1(&mut self, width: Width, message: &Voice1) -> Result<(), NotKept>
         ensures step { OnOk result ((state : GroupState) → KeepsGroup (scale_of width) self.old state
             → KeepsGroup (scale_of width) self.new (after_voice1 (scale_of width) message.now state)) }
@@ -115,12 +94,11 @@ impl Group {
         ensures full { IsFullWhere result (IsGroupFull1 message.now self.old) }
         ensures rooms { KeepsRooms self.old self.new }
     {
-        let channel = &mut self.channels[channel_of(message).get() as usize];
+        let channel = &mut self.channels[message.channel().get() as usize];
         channel.voice1(width, message)
     }
 
-    /// Takes a message of the MIDI 2.0 protocol. Where it isn't kept, nothing has
-    /// changed.
+    /// Takes a message of the MIDI 2.0 protocol. If it isn't kept, nothing changes.
     pub(crate) fn voice2(&mut self, message: &Voice2) -> Result<(), NotKept>
         ensures step { OnOk result ((state : GroupState) → KeepsGroup raised self.old state
             → KeepsGroup raised self.new (after_voice2 message.now state)) }
@@ -128,7 +106,7 @@ impl Group {
         ensures full { IsFullWhere result (IsGroupFull2 message.now self.old) }
         ensures rooms { KeepsRooms self.old self.new }
     {
-        let channel = &mut self.channels[channel2(message).get() as usize];
+        let channel = &mut self.channels[message.channel().get() as usize];
         channel.voice2(message)
     }
 
@@ -172,7 +150,16 @@ impl Group {
         Ok(())
     }
 
-    fn system_fact(&self, group: U4) -> Option<Fact>
+    /// The facts of a channel.
+    pub(crate) fn channel_facts(&self, group: U4, channel: U4) -> ChannelFacts<'_>
+        ensures { (scale : Scale) (state : GroupState) → KeepsGroup scale self.now state
+            → result ≡ channel_facts scale group channel (state.channels channel) }
+    {
+        ChannelFacts::of(&self.channels[channel.get() as usize], group, channel)
+    }
+
+    /// The count of the system common messages and exclusives, if it isn't 0.
+    pub(crate) fn system_fact(&self, group: U4) -> Option<Fact>
         ensures { option_to_list result ≡ count_facts (fact.System group) self.now.commons }
     {
         let count = self.commons;
@@ -183,7 +170,8 @@ impl Group {
         }
     }
 
-    fn real_time_fact(&self, group: U4) -> Option<Fact>
+    /// The count of the Real Time messages, if it isn't 0.
+    pub(crate) fn real_time_fact(&self, group: U4) -> Option<Fact>
         ensures { option_to_list result ≡ count_facts (fact.RealTime group) self.now.real_times }
     {
         let count = self.real_times;

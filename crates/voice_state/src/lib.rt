@@ -4,6 +4,7 @@
 
 mod acts;
 mod channel;
+pub mod channel_facts;
 mod control;
 pub mod fact;
 mod group;
@@ -17,7 +18,8 @@ mod table;
 mod voice;
 mod width;
 
-pub use crate::fact::Fact;
+pub use crate::channel_facts::ChannelFacts;
+pub use crate::fact::{Fact, FactAddress};
 pub use crate::not_kept::NotKept;
 pub use crate::running::{VoiceState, most_facts};
 pub use midi_meaning::{

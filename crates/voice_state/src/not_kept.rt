@@ -11,7 +11,7 @@ pub enum NotKept {
     NoMemory,
 }
 
-/// The most notes and mode messages that a channel keeps, and the most parameters of each kind. Where there
+/// The most notes and mode messages that a channel keeps, and the most parameters of each kind. If there
 /// is no limit, it's the greatest number: no list is as long.
 #[derive(Clone, Copy, Debug)]
 pub(crate) struct Room {

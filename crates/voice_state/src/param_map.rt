@@ -1,19 +1,20 @@
 // The parameters of one kind.
-ghost use Rattle.std.specs.Prelude.{◌≡◌, ◌≤◌, ℕ, ◌<◌, ◌==◌, ◌++◌, [], length, None, IfErr, IfOk, OnOk, OnErr};
+ghost use Rattle.std.specs.Prelude.{◌≡◌, ◌≤◌, ℕ, ◌<◌, ◌==◌, [], length, None, IfErr, IfOk, OnOk, OnErr};
 ghost use Rattle.std.specs.List.{insert};
 ghost use Rattle.midi_meaning.specs.State as definition;
+ghost use Rattle.std.specs.Iterator.{YieldsFirst};
 ghost use Rattle.voice_state.specs.Facts.{param_fact, params_in_order};
 ghost use Rattle.voice_state.specs.Params.{number_of, param_of, state_at, IsAt, IsGapFor, IsOf};
 ghost use Rattle.voice_state.specs.Rooms.{IsFullWhere};
 
-use crate::fact::{Fact, put};
+use crate::fact::Fact;
 use crate::not_kept::NotKept;
 use small_types::{NoMemory, U4};
 use std::alloc::Global;
 use std::marker::Model;
 use voice_messages::{ParamKind, U7};
 
-/// What is known of a parameter: its value, where it was set, and whether a relative change came since.
+/// What is known of a parameter: its value, if it was set, and whether a relative change came since.
 #[derive(Clone, Copy, Debug)]
 pub(crate) struct ParamState {
     pub value: Option<u32>,
@@ -29,7 +30,7 @@ fn number_of(bank: U7, index: U7) -> u16
     bank.get() as u16 * 128 + index.get() as u16
 }
 
-// What is told of a parameter.
+// The fact of a parameter.
 fn param_fact(group: U4, channel: U4, kind: ParamKind, number: u16, state: ParamState) -> Fact
     requires { number < 16384 }
     ensures { result ≡ param_fact group channel (param_of kind number) state.value state.loose }
@@ -77,7 +78,7 @@ impl Model for ParamMap {
 }
 
 impl ParamMap {
-    /// None yet. The memory for `taken` of them is taken here.
+    /// An empty list. The memory for `taken` of them is taken here. `NoMemory` if there isn't enough.
     pub(crate) fn new(alloc: Global, taken: usize) -> Result<ParamMap, NoMemory>
         ensures { IfOk result (λ map. map ≡ []) }
     {
@@ -87,7 +88,14 @@ impl ParamMap {
         }
     }
 
-    // Where the parameter of a number is, or where it would go.
+    /// Empties the list, which keeps its memory.
+    pub(crate) fn clear(&mut self)
+        ensures { self.new ≡ [] }
+    {
+        self.entries.clear();
+    }
+
+    // The place of the parameter of a number, or else the place where it would go.
     fn place(&self, number: u16) -> Result<usize, usize>
         ensures found { IfOk result (IsAt self.now number) }
         ensures absent { IfErr result (IsGapFor self.now number) }
@@ -107,8 +115,8 @@ impl ParamMap {
         }
     }
 
-    /// Puts what is known of a parameter in the place of what was, or adds it where there are fewer than
-    /// `room`. Else nothing changes.
+    /// Replaces what is known of a parameter, or adds it if there are fewer than `room`; otherwise nothing
+    /// changes.
     pub(crate) fn put(
         &mut self,
         bank: U7,
@@ -134,7 +142,7 @@ impl ParamMap {
         }
     }
 
-    // Adds a parameter at its place, where there are fewer than `room`. Else nothing changes.
+    // Adds a parameter at its place if there are fewer than `room`; otherwise nothing changes.
     fn add(
         &mut self,
         place: usize,
@@ -157,23 +165,48 @@ impl ParamMap {
         }
     }
 
-    /// Adds the facts of the parameters, by their numbers.
-    pub(crate) fn put_facts(
-        &self,
-        kind: ParamKind,
-        facts: &mut Vec<Fact>,
-        group: U4,
-        channel: U4,
-    ) -> Result<(), NoMemory>
-        ensures { OnOk result ((state : definition.Channel) → IsOf kind self.now state
-            → facts.new.items ≡ facts.old.items ++ params_in_order group channel kind state) }
+    /// The facts of the parameters, by their numbers.
+    pub(crate) fn facts(&self, kind: ParamKind, group: U4, channel: U4) -> ParamFacts<'_>
+        ensures { (state : definition.Channel) → IsOf kind self.now state
+            → result ≡ params_in_order group channel kind state }
     {
-        for (number, state) in &self.entries {
-            put(
-                facts,
-                Some(param_fact(group, channel, kind, *number, *state)),
-            )?;
+        ParamFacts {
+            entries: self.entries.as_slice(),
+            kind,
+            group,
+            channel,
         }
-        Ok(())
+    }
+}
+
+/// The facts of parameters that are still to come. To a contract it is the list of them.
+#[derive(Drop)]
+pub(crate) struct ParamFacts<'a> {
+    entries: &'a [(u16, ParamState)],
+    kind: ParamKind,
+    group: U4,
+    channel: U4,
+}
+
+impl<'a> Model for ParamFacts<'a> {
+    ghost use Rattle.std.specs.Prelude.{List, ◌<◌, All, map};
+    ghost use Rattle.voice_state.specs.Params.{entry_fact};
+    ghost use Rattle.voice_state.specs.declared.fact.Fact.{Fact};
+
+    ghost Value = { List Fact };
+
+    ghost view = { λ it. map (entry_fact it.group it.channel it.kind) it.entries.now };
+
+    ghost invariant = { λ it. All (λ entry. entry.0 < 16384) it.entries.now };
+}
+
+impl ParamFacts<'_> {
+    /// The next fact, if there is one left.
+    pub(crate) fn take_first(&mut self) -> Option<Fact>
+        ensures { YieldsFirst (λ left. left) self.old result self.new }
+    {
+        let ((number, state), others) = self.entries.split_first()?;
+        self.entries = others;
+        Some(param_fact(self.group, self.channel, self.kind, *number, *state))
     }
 }

@@ -1,16 +1,13 @@
 // The parameters of a channel.
-ghost use Rattle.std.specs.Prelude.{◌≡◌, ◌<◌, ◌++◌, true, IfOk, OnOk, OnErr};
-ghost use Rattle.voice_messages.specs.declared.voice2.ParamKind.TheVariants.{Registered, Assignable};
+ghost use Rattle.std.specs.Prelude.{◌≡◌, ◌<◌, true, IfOk, OnOk, OnErr};
 ghost use Rattle.midi_meaning.specs.Messages as messages;
 ghost use Rattle.midi_meaning.specs.State as definition;
-ghost use Rattle.voice_state.specs.Facts.{params_in_order};
 ghost use Rattle.voice_state.specs.KeptParams.{state_in, AreFull, KeepsParams, PutsParam};
 ghost use Rattle.voice_state.specs.Rooms.{IsFullWhere};
 
-use crate::fact::Fact;
 use crate::not_kept::NotKept;
 use crate::param_map::{ParamMap, ParamState};
-use small_types::{NoMemory, U4};
+use small_types::NoMemory;
 use std::alloc::Global;
 use voice_messages::{Param, ParamKind};
 
@@ -22,7 +19,7 @@ pub(crate) struct Params {
 }
 
 impl Params {
-    /// None yet. The memory for `taken` of each kind is taken here.
+    /// Empty lists. The memory for `taken` of each kind is taken here. `NoMemory` if there isn't enough.
     pub(crate) fn new(alloc: Global, taken: usize) -> Result<Params, NoMemory>
         ensures { IfOk result (λ params. (scale : messages.Scale)
             → KeepsParams params (messages.start_channel scale)) }
@@ -35,7 +32,15 @@ impl Params {
         })
     }
 
-    /// The value of a parameter, where it was set.
+    /// Empties both lists, which keep their memory.
+    pub(crate) fn clear(&mut self)
+        ensures { (scale : messages.Scale) → KeepsParams self.new (messages.start_channel scale) }
+    {
+        self.registered.clear();
+        self.assignable.clear();
+    }
+
+    /// The value of a parameter, if it was set.
     pub(crate) fn value(&self, param: &Param) -> Option<u32>
         ensures { (state : definition.Channel) → KeepsParams self.now state
             → result ≡ state.params param.now }
@@ -56,8 +61,8 @@ impl Params {
         }
     }
 
-    /// A parameter has a value, and isn't loose. Where it would be one more than `room` of
-    /// its kind, or there is no memory for it, nothing has changed.
+    /// Sets the value of a parameter, which isn't loose any more. If it would be one more than `room` of its
+    /// kind, or there is no memory for it, nothing changes.
     pub(crate) fn set(&mut self, param: &Param, value: u32, room: usize) -> Result<(), NotKept>
         ensures set { OnOk result ((state : definition.Channel) → KeepsParams self.old state
             → KeepsParams self.new (definition.with_param param.now value state)) }
@@ -71,8 +76,8 @@ impl Params {
         self.put(param, state, room)
     }
 
-    /// A parameter has a value, and is as loose as before. Where it would be one more than `room` of
-    /// its kind, or there is no memory for it, nothing has changed.
+    /// Sets the value of a parameter, which stays as loose as it was. If it would be one more than `room` of its
+    /// kind, or there is no memory for it, nothing changes.
     pub(crate) fn set_value(
         &mut self,
         param: &Param,
@@ -92,8 +97,8 @@ impl Params {
         self.put(param, state, room)
     }
 
-    /// A parameter is loose, and keeps its value. Where it would be one more than `room` of
-    /// its kind, or there is no memory for it, nothing has changed.
+    /// Makes a parameter loose; its value stays. If it would be one more than `room` of its kind, or there is no
+    /// memory for it, nothing changes.
     pub(crate) fn loosen(&mut self, param: &Param, room: usize) -> Result<(), NotKept>
         ensures loosened { OnOk result ((state : definition.Channel) → KeepsParams self.old state
             → KeepsParams self.new (definition.with_looseness true param.now state)) }
@@ -124,23 +129,5 @@ impl Params {
             ParamKind::Registered => self.registered.put(param.bank, param.index, state, room),
             ParamKind::Assignable => self.assignable.put(param.bank, param.index, state, room),
         }
-    }
-
-    /// Adds the facts of the parameters: the registered ones, then
-    /// the assignable ones, each by their numbers.
-    pub(crate) fn put_facts(
-        &self,
-        facts: &mut Vec<Fact>,
-        group: U4,
-        channel: U4,
-    ) -> Result<(), NoMemory>
-        ensures { OnOk result ((state : definition.Channel) → KeepsParams self.now state → facts.new.items
-            ≡ facts.old.items ++ params_in_order group channel Registered state
-            ++ params_in_order group channel Assignable state) }
-    {
-        self.registered
-            .put_facts(ParamKind::Registered, facts, group, channel)?;
-        self.assignable
-            .put_facts(ParamKind::Assignable, facts, group, channel)
     }
 }

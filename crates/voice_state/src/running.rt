@@ -1,15 +1,18 @@
-// What messages or packets have left in a receiver, kept while they come.
+// What messages or packets have left in a receiver, kept as they come.
 ghost use Rattle.std.specs.Prelude.{◌≡◌, ◌+◌, ◌*◌, ◌++◌, true, false, None, IfOk, OnOk, OnErr};
+ghost use Rattle.std.specs.Option.{option_to_list};
 ghost use Rattle.voice_messages.specs.declared.voice1.System as system;
 ghost use Rattle.midi1_bytes.specs.Messages.{Message, system_message, voice};
 ghost use Rattle.midi_meaning.specs.Messages.{Scale, as_they_come, raised};
 ghost use Rattle.midi_meaning.specs.State.{with_common, with_real_time};
-ghost use Rattle.voice_state.specs.Facts.{facts_of};
+ghost use Rattle.voice_state.specs.declared.fact.Fact.TheVariants as fact;
+ghost use Rattle.voice_state.specs.Facts.{channel_facts, count_facts, count_of, facts_of};
 ghost use Rattle.voice_state.specs.Kept.{Keeps};
 ghost use Rattle.voice_state.specs.Rooms.{GroupIs, HasRoom, IsFullWhere, IsGroupFull1, IsGroupFull2, IsPacketFull, KeepsAllRooms, no_limit};
 ghost use Rattle.voice_state.specs.States.{States, after_message, after_packet, after_voice1, after_voice2, at_group, first_states, is_real_time};
 ghost use Rattle.voice_state.specs.ForProofs.Widths.{scale_of};
 
+use crate::channel_facts::ChannelFacts;
 use crate::fact::Fact;
 use crate::group::Group;
 use crate::not_kept::{NotKept, Room};
@@ -21,12 +24,12 @@ use ump_grammar::Packet;
 use voice_messages::{System, Voice1, Voice2};
 
 /// What the messages of a MIDI 1.0 stream, or the packets of a recording, have left in a receiver: the states
-/// of sixteen groups, with counts in place of the lists of system messages. To a contract it is what is kept
+/// of sixteen groups, with counts instead of the lists of system messages. To a contract it is what is kept
 /// of each group; `Keeps` says which states that stands for. One state takes either messages, of 7 and 14
 /// bits, or packets, of 16 and 32 bits; what one that took both stands for isn't promised.
 ///
 /// Notes and channel mode messages are kept as the list of all that came, and parameters in a list by their
-/// numbers. All other memory is taken when it is made, and the memory of the lists too where they have a
+/// numbers. All other memory is taken when it is made, and the memory of the lists too if they have a
 /// room.
 #[derive(Drop)]
 pub struct VoiceState {
@@ -46,7 +49,7 @@ impl Model for VoiceState {
 
 impl VoiceState {
     /// The state before the first message or packet. Its lists have no limit and take memory while they grow.
-    /// `NoMemory` where there is none for its tables.
+    /// `NoMemory` if there isn't enough for its tables.
     pub fn new(alloc: Global) -> Result<VoiceState, NoMemory>
         ensures messages { IfOk result (λ state. Keeps as_they_come state (first_states as_they_come)) }
         ensures packets { IfOk result (λ state. Keeps raised state (first_states raised)) }
@@ -57,7 +60,7 @@ impl VoiceState {
 
     /// The state before the first message or packet, with room for so many notes and mode messages of each
     /// channel, and so many parameters of each kind and channel. All memory that it ever needs is taken here.
-    /// `NoMemory` where there isn't enough.
+    /// `NoMemory` if there isn't enough.
     pub fn with_room(alloc: Global, notes: usize, params: usize) -> Result<VoiceState, NoMemory>
         ensures messages { IfOk result (λ state. Keeps as_they_come state (first_states as_they_come)) }
         ensures packets { IfOk result (λ state. Keeps raised state (first_states raised)) }
@@ -104,8 +107,21 @@ impl VoiceState {
         Ok(VoiceState { groups })
     }
 
+    /// Empties the state: it is as `new`, `with_room` or `of_stream` made it, with the same room. No memory is
+    /// taken or given back.
+    pub fn reset(&mut self)
+        ensures messages { Keeps as_they_come self.new (first_states as_they_come) }
+        ensures packets { Keeps raised self.new (first_states raised) }
+        ensures rooms { KeepsAllRooms self.old self.new }
+    {
+        for index in 0..16usize {
+            let group = &mut self.groups[index];
+            group.clear();
+        }
+    }
+
     /// Takes a channel voice message of a MIDI 1.0 stream in a group, as `take_message` does. `NoMemory`
-    /// where it isn't kept, for want of memory or of room; then nothing has changed.
+    /// if it isn't kept, for want of memory or of room; then nothing changes.
     pub fn apply1(&mut self, group: U4, m: &Voice1) -> Result<(), NoMemory>
         ensures step { OnOk result ((states : States) → Keeps as_they_come self.old states
             → Keeps as_they_come self.new (after_message group (voice m.now) states)) }
@@ -117,8 +133,8 @@ impl VoiceState {
         }
     }
 
-    /// Takes a packet, as `take_packet` does. `NoMemory` where it isn't kept, for want of memory or of room;
-    /// then nothing has changed.
+    /// Takes a packet, as `take_packet` does. `NoMemory` if it isn't kept, for want of memory or of room; then
+    /// nothing changes.
     pub fn apply2(&mut self, p: &Packet) -> Result<(), NoMemory>
         ensures step { OnOk result ((states : States) → Keeps raised self.old states
             → Keeps raised self.new (after_packet p.now None states)) }
@@ -131,8 +147,8 @@ impl VoiceState {
     }
 
     /// Takes a channel voice message of a MIDI 1.0 stream in a group (MIDI 1.0 Detailed Specification,
-    /// channel voice messages; RP-015). `Full` exactly where it adds to a list of its channel that is full.
-    /// Where it isn't kept, nothing has changed.
+    /// channel voice messages; RP-015). `Full` exactly when it adds to a list of its channel that is full.
+    /// If it isn't kept, nothing changes.
     pub fn take_message(&mut self, group: U4, m: &Voice1) -> Result<(), NotKept>
         ensures step { OnOk result ((states : States) → Keeps as_they_come self.old states
             → Keeps as_they_come self.new (after_message group (voice m.now) states)) }
@@ -144,8 +160,8 @@ impl VoiceState {
     }
 
     /// Takes a packet (M2-104-UM). A packet of an exclusive changes nothing: whole exclusives are counted by
-    /// `system`. `Full` exactly where it adds to a list of its channel that is full. Where it isn't kept,
-    /// nothing has changed.
+    /// `system`. `Full` exactly when it adds to a list of its channel that is full. If it isn't kept,
+    /// nothing changes.
     pub fn take_packet(&mut self, p: &Packet) -> Result<(), NotKept>
         ensures step { OnOk result ((states : States) → Keeps raised self.old states
             → Keeps raised self.new (after_packet p.now None states)) }
@@ -232,6 +248,31 @@ impl VoiceState {
         group.count_real_time();
     }
 
+    /// The facts of one channel of a group, one at a time, in the order of `facts` (own rule). No memory is
+    /// taken.
+    pub fn channel_facts(&self, group: U4, channel: U4) -> ChannelFacts<'_>
+        ensures { (scale : Scale) (states : States) → Keeps scale self.now states
+            → result ≡ channel_facts scale group channel ((states group).channels channel) }
+    {
+        self.groups[group.get() as usize].channel_facts(group, channel)
+    }
+
+    /// The count of a group's system common messages and exclusives, if any came.
+    pub fn system_fact(&self, group: U4) -> Option<Fact>
+        ensures { (scale : Scale) (states : States) → Keeps scale self.now states
+            → option_to_list result ≡ count_facts (fact.System group) (count_of (states group).commons) }
+    {
+        self.groups[group.get() as usize].system_fact(group)
+    }
+
+    /// The count of a group's Real Time messages, if any came.
+    pub fn real_time_fact(&self, group: U4) -> Option<Fact>
+        ensures { (scale : Scale) (states : States) → Keeps scale self.now states
+            → option_to_list result ≡ count_facts (fact.RealTime group) (count_of (states group).real_times) }
+    {
+        self.groups[group.get() as usize].real_time_fact(group)
+    }
+
     /// What isn't at its first value, in order (own rule): by group and channel; of a channel the notes and
     /// mode messages as they came, then poly pressures by note, controllers by index, the pressure, the bend,
     /// the program, registered and assignable parameters by bank and index; after a group's channels its
@@ -245,8 +286,8 @@ impl VoiceState {
         Ok(facts)
     }
 
-    /// Adds the facts to a list. `NoMemory` where it has to grow and there is none; a list with a capacity of
-    /// `most_facts` that is empty hasn't to.
+    /// Adds the facts to a list. `NoMemory` if the list has to grow and there isn't enough memory; an empty list
+    /// with a capacity of `most_facts` never has to grow.
     pub fn put_facts(&self, facts: &mut Vec<Fact>) -> Result<(), NoMemory>
         ensures { OnOk result ((scale : Scale) (states : States) → Keeps scale self.now states
             → facts.new.items ≡ facts.old.items ++ facts_of scale states) }

@@ -1,11 +1,12 @@
 // Values by an index of seven bits.
-ghost use Rattle.std.specs.Prelude.{◌≡◌, ℕ, ◌<◌, ◌++◌, ◌==◌, None, Option, IfOk, OnOk};
+ghost use Rattle.std.specs.Prelude.{◌≡◌, ℕ, ◌<◌, ◌==◌, None, Option, IfOk};
 ghost use Rattle.std.specs.Option.{option_map};
 ghost use Rattle.midi_meaning.specs.State.{put};
+ghost use Rattle.std.specs.Iterator.{YieldsFirst};
 ghost use Rattle.voice_state.specs.Facts.{in_order};
 ghost use Rattle.voice_state.specs.Tables.{at, table_fact};
 
-use crate::fact::{Fact, put};
+use crate::fact::Fact;
 use small_types::{NoMemory, U4};
 use std::alloc::Global;
 use std::marker::Model;
@@ -19,7 +20,7 @@ pub(crate) enum Content {
 }
 
 impl Content {
-    // What is told of a value.
+    // The fact of a value.
     fn fact(self, group: U4, channel: U4, index: U7, value: u32) -> Fact
         ensures { result ≡ table_fact self group channel index value }
     {
@@ -40,8 +41,8 @@ impl Content {
     }
 }
 
-/// The pressures of 128 keys, or the values of 128 controllers, where
-/// they were set. To a contract it is the list of them.
+/// The pressures of 128 keys, or the values of 128 controllers, each if it was set. To a contract it is the
+/// list of them.
 #[derive(Drop)]
 pub(crate) struct Table {
     cells: Vec<Option<u32>>,
@@ -75,37 +76,72 @@ impl Table {
         self.cells[index.get() as usize] = Some(value);
     }
 
-    /// No value is set any more.
+    /// Empties the table.
     pub(crate) fn clear(&mut self)
         ensures { (index : ℕ) → at self.new index ≡ None }
     {
         self.cells.fill(None);
     }
 
-    /// Adds the facts of the values that are set, by their index.
-    #[tactic(auto, using(crate::proofs::ToldFacts::told_last), unfolding(crate::specs::Facts::first))]
-    pub(crate) fn put_facts(
-        &self,
-        content: Content,
-        facts: &mut Vec<Fact>,
-        group: U4,
-        channel: U4,
-    ) -> Result<(), NoMemory>
-        ensures { OnOk result ((map : ℕ → Option ℕ) → ((index : ℕ) → at self.now index ≡ map index)
-            → facts.new.items ≡ facts.old.items ++ in_order (table_fact content group channel) map) }
+    /// The facts of the values that are set, by their index.
+    pub(crate) fn facts(&self, content: Content, group: U4, channel: U4) -> TableFacts<'_>
+        ensures { (map : ℕ → Option ℕ) → ((index : ℕ) → at self.now index ≡ map index)
+            → result ≡ in_order (table_fact content group channel) map }
     {
-        for index in 0..128u8 {
-            put(facts, self.fact(content, group, channel, index))?;
+        TableFacts {
+            table: self,
+            content,
+            group,
+            channel,
+            index: 0,
         }
-        Ok(())
     }
 
-    // What is told of the value at an index, where it is set.
+    // The fact of the value at an index, if it is set.
     fn fact(&self, content: Content, group: U4, channel: U4, index: u8) -> Option<Fact>
         requires { index < 128 }
         ensures { result ≡ option_map (table_fact content group channel index) (at self.now index) }
     {
         let value = self.cells[index as usize]?;
         Some(content.fact(group, channel, U7::low_bits(index as u32), value))
+    }
+}
+
+/// The facts of a table that are still to come. To a contract it is the list of them.
+#[derive(Drop)]
+pub(crate) struct TableFacts<'a> {
+    table: &'a Table,
+    content: Content,
+    group: U4,
+    channel: U4,
+    index: u8,
+}
+
+impl<'a> Model for TableFacts<'a> {
+    ghost use Rattle.std.specs.Prelude.{List};
+    ghost use Rattle.voice_state.specs.Tables.{table_fact, table_left};
+    ghost use Rattle.voice_state.specs.declared.fact.Fact.{Fact};
+
+    ghost Value = { List Fact };
+
+    ghost view = { λ it. table_left (table_fact it.content it.group it.channel) it.table.now it.index };
+}
+
+impl TableFacts<'_> {
+    /// The next fact, if there is one left.
+    pub(crate) fn take_first(&mut self) -> Option<Fact>
+        ensures { YieldsFirst (λ left. left) self.old result self.new }
+    {
+        while self.index < 128 {
+            let index = self.index;
+            self.index += 1;
+            let fact = self
+                .table
+                .fact(self.content, self.group, self.channel, index);
+            if fact.is_some() {
+                return fact;
+            }
+        }
+        None
     }
 }

@@ -30,7 +30,7 @@ fn note_on(width: Width, note: U7, velocity: U7) -> NoteAct
 }
 
 impl Channel {
-    /// Takes a message of the MIDI 1.0 protocol. Where it isn't kept, nothing has changed.
+    /// Takes a message of the MIDI 1.0 protocol. If it isn't kept, nothing changes.
     pub(crate) fn voice1(&mut self, width: Width, message: &Voice1) -> Result<(), NotKept>
         ensures step { OnOk result
             ((state : definition.Channel) → KeepsChannel (scale_of width) self.old state
@@ -65,8 +65,8 @@ impl Channel {
         }
     }
 
-    /// Takes a message of the MIDI 2.0 protocol (M2-104-UM, MIDI 2.0 channel voice messages). Where it
-    /// isn't kept, nothing has changed.
+    /// Takes a message of the MIDI 2.0 protocol (M2-104-UM, MIDI 2.0 channel voice messages). If it
+    /// isn't kept, nothing changes.
     pub(crate) fn voice2(&mut self, message: &Voice2) -> Result<(), NotKept>
         ensures step { OnOk result ((state : definition.Channel) → KeepsChannel raised self.old state
             → KeepsChannel raised self.new (voice2_at false message.now state)) }

@@ -59,15 +59,15 @@ impl Width {
         self.wide(U14::low_bits(8192))
     }
 
-    /// The value of a parameter behind a data entry of its MSB, by which the LSB is 0 (own rule).
+    /// The value of a parameter after a data entry of its MSB, by which the LSB is 0 (own rule).
     pub(crate) fn of_msb(self, msb: U7) -> u32
         ensures { result ≡ (scale_of self).wide (msb * 128) }
     {
         self.wide(U14::low_bits(msb.get() as u32 * 128))
     }
 
-    /// The value of a parameter behind a data entry of its LSB, which
-    /// keeps the MSB of the old value, 0 where there is none.
+    /// The value of a parameter after a data entry of its LSB, which
+    /// keeps the MSB of the old value, or 0 if there is none.
     pub(crate) fn with_new_lsb(self, old: Option<u32>, lsb: U7) -> u32
         ensures { result ≡ with_new_lsb (scale_of self) old lsb }
     {

@@ -1,8 +1,10 @@
 // States with a room, whose lists can be full.
 use crate::tests::{control2, midi2, registered, set2, shift2, tells, u4, u7};
+use std::alloc::Global;
+use std::process::Abort;
 use ump_grammar::Packet;
 use voice_messages::{ParamKind, Voice1, Voice2};
-use voice_state::{Fact, NotKept, VoiceState, most_facts};
+use voice_state::{Fact, FactAddress, NotKept, VoiceState, most_facts};
 
 fn on2(channel: u32) -> Packet {
     midi2(Voice2::NoteOn {
@@ -114,6 +116,87 @@ fn a_full_stream(rt: HostRuntime) {
     );
     assert!(rt; state.apply1(u4(0), &control(6, 1)).is_err());
     tells(&rt, alloc, &state, &[]);
+}
+
+// An emptied state has no facts, and the room that it had.
+#[test]
+fn an_emptied_state(rt: HostRuntime) {
+    let alloc = rt.alloc();
+    let mut state = VoiceState::with_room(alloc, 1, 1).expect(&rt, "memory is ample");
+    assert_eq!(rt; state.take_packet(&on2(0)), Ok(()));
+    assert_eq!(rt; state.take_packet(&on2(15)), Ok(()));
+    assert_eq!(rt; state.take_packet(&control2(7, 5)), Ok(()));
+    assert_eq!(rt;
+        state.take_packet(&set2(ParamKind::Registered, 0, 1, 7)),
+        Ok(())
+    );
+    state.system(u4(15), true);
+    state.reset();
+    tells(&rt, alloc, &state, &[]);
+    // no parameter is selected any more, and the lists have their places again
+    assert_eq!(rt; state.take_packet(&on2(0)), Ok(()));
+    assert_eq!(rt; state.take_packet(&on2(0)), Err(NotKept::Full));
+    tells(&rt, alloc, &state, &[on_in(0)]);
+}
+
+fn channel_tells(rt: &impl Abort, alloc: Global, state: &VoiceState, channel: u32, facts: &[Fact]) {
+    let found: Vec<Fact> = state
+        .channel_facts(u4(0), u4(channel))
+        .collect(alloc)
+        .expect(rt, "memory is ample");
+    assert_eq!(rt; found.as_slice(), facts);
+}
+
+// The facts of each channel alone, and the counts of the group.
+#[test]
+fn facts_by_channel(rt: HostRuntime) {
+    let alloc = rt.alloc();
+    let mut state = VoiceState::with_room(alloc, 2, 2).expect(&rt, "memory is ample");
+    assert_eq!(rt; state.take_packet(&on2(0)), Ok(()));
+    assert_eq!(rt; state.take_packet(&on2(3)), Ok(()));
+    assert_eq!(rt; state.take_packet(&control2(0, 5)), Ok(()));
+    assert_eq!(rt; state.take_packet(&control2(119, 6)), Ok(()));
+    assert_eq!(rt;
+        state.take_packet(&set2(ParamKind::Registered, 0, 1, 7)),
+        Ok(())
+    );
+    state.system(u4(0), false);
+    let control = Fact::Control {
+        group: u4(0),
+        channel: u4(0),
+        index: u7(119),
+        value: 6,
+    };
+    let parameter = registered(0, 1, Some(7), false);
+    channel_tells(&rt, alloc, &state, 0, &[on_in(0), control, parameter]);
+    channel_tells(&rt, alloc, &state, 1, &[]);
+    channel_tells(&rt, alloc, &state, 3, &[on_in(3)]);
+    let count = Fact::System {
+        group: u4(0),
+        count: 1,
+    };
+    assert_eq!(rt; state.system_fact(u4(0)), Some(count));
+    assert_eq!(rt; state.real_time_fact(u4(0)), None);
+    assert_eq!(rt; state.system_fact(u4(1)), None);
+}
+
+// A count is about a whole group, any other fact about one channel.
+#[test]
+fn addresses_of_facts(rt: HostRuntime) {
+    let count = Fact::RealTime {
+        group: u4(4),
+        count: 1,
+    };
+    let whole_group = FactAddress {
+        group: u4(4),
+        channel: None,
+    };
+    let one_channel = FactAddress {
+        group: u4(0),
+        channel: Some(u4(9)),
+    };
+    assert_eq!(rt; count.address(), whole_group);
+    assert_eq!(rt; on_in(9).address(), one_channel);
 }
 
 // By hand: of a channel 128 and 128, a pressure, a bend and a program.

@@ -45,7 +45,7 @@ Suits states block received (action.Switch one) =
     (received.message.said ≡ switch one.id one.on) × IsFirstOf (key_at block received one.id) states one.number
 Suits states block received _ = Unit {0}
 
--- the switch of the profile with a key, or a NAK where that isn't named
+-- the switch of the profile with a key, or a NAK if that isn't named
 abbrev pub IsSwitchOf : List (Key × Bool) → Key → Bool → Action → Type 0
 IsSwitchOf states key on (action.Switch one) =
     (one.id ≡ key.id) × (one.on ≡ on) × IsFirstOf key states one.number × (is_some (state_in states key) ≡ true)

@@ -20,7 +20,7 @@ module _ (names : Named) (place : LinePlace) (named : (text : List ℕ) → is_n
     pub profiles_named : (profiles : List Profile) → AreNamed names (profile_lines place on profiles)
     profiles_named profiles = named-from 0 profiles
 
--- the same lines are put where the same is known of each key
+-- the same lines are put if the same is known of each key
 module _ (place : LinePlace) (on other : Key → Option Bool) (same : (key : Key) → on key ≡ other key) where
   same-from : (number : ℕ) (profiles : List Profile)
       → for_each (profile_line_of place on) number profiles ≡ for_each (profile_line_of place other) number profiles

@@ -13,7 +13,7 @@ struct Step<'a> {
     whole: &'a str,
 }
 
-// A place where puts are made: how a row says them, the status after one that fails, and the last line.
+// A place for puts: how a row says them, the status after one that fails, and the last line.
 #[derive(Clone, Copy)]
 struct FaultPlace {
     kind: &'static str,
@@ -153,8 +153,8 @@ pub(super) fn all_fail_in_turn(
     Ok(())
 }
 
-// Each front of a recording, where each packet has one put: it is done
-// where a packet ends, and else refused at its last packet.
+// Each front of a recording in which each packet has one put: it is done
+// if it ends with a packet, and otherwise refused at its last packet.
 fn fronts_hold(rt: &impl Abort, alloc: Global, given: &str, steps: &str) -> Result<(), Fail> {
     let steps = steps_of(alloc, steps)?;
     let length = given_of(alloc, given)?.input.len();

@@ -71,7 +71,7 @@ const CODES: [(Status, u8); 11] = [
     (Status::NoMemory, 10),
 ];
 
-// Where everything can be written, what is gathered is written out
+// If everything can be written, what is gathered is written out
 // whatever the status, which gives its own exit code.
 #[test]
 fn each_status_has_its_exit_code(rt: HostRuntime) -> Result<(), Fail> {
@@ -114,8 +114,8 @@ lanes,output 3 lane write failed
 notes 5
 output,notes 4";
 
-// A full place gives its own code and line where the run was done;
-// where it was refused both stay as they are.
+// A full place gives its own code and line if the run was done;
+// if it was refused both are unchanged.
 #[test]
 fn a_full_place_is_told(rt: HostRuntime) -> Result<(), Fail> {
     for row in FULL_PLACES.lines() {
@@ -128,7 +128,7 @@ fn a_full_place_is_told(rt: HostRuntime) -> Result<(), Fail> {
 }
 
 // A run of this status whose objects write to these full places ends
-// with this code, and this line where the notes take one.
+// with this code, and this line if the notes take one.
 fn is_told(
     rt: &impl Abort,
     files: &HostRuntime,

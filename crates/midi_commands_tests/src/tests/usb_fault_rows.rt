@@ -1,4 +1,4 @@
-// What a split and a packing leave where a read or a put fails: a row for each.
+// What a split and a packing leave if a read or a put fails: a row for each.
 use super::rows_hold;
 use std::test::Fail;
 

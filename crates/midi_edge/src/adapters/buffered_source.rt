@@ -15,7 +15,7 @@ use std::io::{BufReader, Read};
 // How many bytes are read at once: as many as a pipe of Linux holds.
 const READ_AHEAD: usize = 65_536;
 
-/// A source over any reader, of which up to 65,536 bytes are read at once and held. A `take` may wait where
+/// A source over any reader, of which up to 65,536 bytes are read at once and held. A `take` may wait if
 /// none is held, unless the source was made by `of_file`. A read that a signal interrupts is tried again.
 #[derive(Drop)]
 pub struct BufferedSource<R: Read> {

@@ -11,7 +11,7 @@ use std::rt::Files;
 
 /// A shelf of files, each named by its path. An empty path is no file, so fetching it fails, as does fetching
 /// a folder. No more than the limit is read, so `fetch` ends even at a file that has no end; at a limit of 0
-/// the file is opened, and nothing read. `into` grows as needed; where there is no memory to open, to read or
+/// the file is opened, and nothing read. `into` grows as needed; if there is no memory to open, to read or
 /// to grow, the answer is `NoMemory`. A read that a signal interrupts is tried again. What was read before an
 /// `Err` stays added.
 #[derive(Drop)]

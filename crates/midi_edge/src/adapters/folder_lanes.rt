@@ -14,7 +14,7 @@ use std::rt::Files;
 
 /// Sixteen files in a folder, `group-00.midi1` to `group-15.midi1`, one for each lane. `begin` creates or
 /// empties them; the folder must exist. It takes an empty buffer of 8,192 bytes for each file. An empty path
-/// is no folder, so opening it fails; where there is no memory to open the files, the answer is `NoMemory`. A
+/// is no folder, so opening it fails; if there is no memory to open the files, the answer is `NoMemory`. A
 /// small piece is gathered in the buffer, and written out when a later one doesn't fit. So an `Ok` of `put`
 /// says that the piece was accepted, and a fault shows at the `put` that writes out, or at `flush`. A fault
 /// takes nothing from what was accepted before: what it left unwritten is written out by the next call that
@@ -52,7 +52,7 @@ impl<R: Files + AllocGlobal> FolderLanes<R> {
         self.faults
     }
 
-    /// Writes out what is gathered, of every lane, also behind one that fails. After an `Err` what is not yet
+    /// Writes out what is gathered, of every lane, also after one that fails. After an `Err` what is not yet
     /// written stays gathered, and a later call goes on from there. Before `begin` there is nothing to write.
     pub fn flush(&mut self) -> Result<(), Failed>
         ensures begun { ⟦<FolderLanes<R> as Lanes>⟧.begun self.new

@@ -53,7 +53,7 @@ impl<R: Read> Source for ReadSource<R> {
     }
 }
 
-// One read, tried again where a signal interrupts it.
+// One read, tried again if a signal interrupts it.
 pub(super) fn read_once<R: Read>(reader: &mut R, buf: &mut [u8]) -> io::Result<usize>
     ensures bound { ReadsAtMost result buf.new }
     ensures bytes { ReadConsumes (R.remaining reader.old) (R.remaining reader.new) result buf.new }

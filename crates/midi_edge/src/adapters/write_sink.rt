@@ -100,7 +100,7 @@ impl<W: Write> WriteSink<W> {
         self.write_past(piece)
     }
 
-    // Writes a piece, where nothing is gathered.
+    // Writes a piece, if nothing is gathered.
     fn write_past(&mut self, piece: &[u8]) -> io::Result<()>
         requires { unwritten self.old ≡ [] }
         ensures accepts { Accepts (accepted W.contents self.old)
@@ -131,7 +131,7 @@ impl<W: Write> WriteSink<W> {
         }
     }
 
-    // Keeps what is gathered behind the first `written` bytes. It is a function of its own, so that its list,
+    // Keeps what is gathered after the first `written` bytes. It is a function of its own, so that its list,
     // of the size of the buffer, is made only after a fault.
     #[inline(never)]
     fn keep_behind(&mut self, written: usize)
@@ -177,7 +177,7 @@ impl<W: Write> Sink for WriteSink<W> {
     }
 }
 
-// One write, tried again where a signal interrupts it.
+// One write, tried again if a signal interrupts it.
 fn write_once<W: Write>(writer: &mut W, bytes: &[u8]) -> io::Result<usize>
     ensures bound { WritesAtMost result bytes.now }
     ensures bytes { WriteAppends (W.contents writer.old) (W.contents writer.new) result bytes.now }

@@ -209,7 +209,7 @@ fn each_error_but_an_interruption_is_a_fault_at_once(rt: HostRuntime) {
     }
 }
 
-// What lanes answer where a file opens so.
+// What lanes answer if a file opens so.
 fn lanes_answer(files: ScriptedFiles<'_>, alloc: Global) -> Result<(), OpenFault> {
     let mut lanes = FolderLanes::new((files, alloc));
     lanes.begin("folder")

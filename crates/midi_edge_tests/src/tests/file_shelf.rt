@@ -56,7 +56,7 @@ fn no_more_than_the_limit_is_read(rt: HostRuntime) {
     assert!(rt; answer == Ok(()) && into.len() == 100_000);
 }
 
-// What a fetch behind two bytes answers where the file opens so.
+// What a fetch after two bytes answers if the file opens so.
 pub(super) fn fetched(
     files: ScriptedFiles<'_>,
     limit: usize,

@@ -29,7 +29,7 @@ const NAMES: [&str; 16] = [
     "group-15.midi1",
 ];
 
-// What the calls answer where the file of lane 3 takes no byte, and what the file of lane 15 holds.
+// What the calls answer if the file of lane 3 takes no byte, and what the file of lane 15 holds.
 fn gathers<'a>(rt: &'a HostRuntime, lanes: &mut FolderLanes<&'a HostRuntime>, folder: &str) -> bool
     requires { ⟦<FolderLanes<&'a HostRuntime> as Lanes>⟧.folder lanes.old ≡ None }
 {

@@ -44,7 +44,7 @@ notes_around_a_clock_and_an_exclusive =
     note 0x3c ∷ packet.System 0 system.Clock ∷ note 0x3e
     ∷ packet.Exclusive 0 form.Complete (1 ∷ []) ∷ note 0x40 ∷ []
 
--- the parameter is selected by MIDI 1.0 packets, which are written also where they are needless
+-- the parameter is selected by MIDI 1.0 packets, which are written also if they are needless
 abbrev pub selected_before : List Packet
 selected_before =
     packet.Voice1 0 (voice1.Control 0 0x65 0) ∷ packet.Voice1 0 (voice1.Control 0 0x64 0) ∷ set_in 0

@@ -17,7 +17,7 @@ exclusives_of_two_groups =
     ∷ packet.Exclusive 0 form.End (7 ∷ [])
     ∷ []
 
--- an exclusive that a whole one cuts, a part where none is open, and one that is open at the end
+-- an exclusive that a whole one cuts, a part if none is open, and one that is open at the end
 abbrev pub cut_stray_and_open : List Placed
 cut_stray_and_open =
     record { offset = 0; packet = packet.Exclusive 0 form.Start (1 ∷ 2 ∷ 3 ∷ 4 ∷ 5 ∷ 6 ∷ []) }

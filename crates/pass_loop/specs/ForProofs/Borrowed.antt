@@ -100,7 +100,7 @@ module _ {Item : Type 0} (IsCut : Cutting Item) (work : Work Item) (old new : Se
   pub ends_keep : (end : RunEnd) → Ends IsCut work old new end → new.places.borrows ≡ old.places.borrows
   ends_keep end ends = stands_keep end ends.0
 
-  -- the same where another is known to be what stands
+  -- the same if another is known to be what stands
   pub ends_as : (end : RunEnd) (now : Places) → given_back new.places ≡ now → Ends IsCut work old new end
       → Ends IsCut work (seen_back old) (record new { places = now }) end
   ends_as end now same ends =

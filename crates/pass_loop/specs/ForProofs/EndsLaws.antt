@@ -5,7 +5,7 @@ use Rattle.pass_loop.specs.ForProofs.DoneLaws.{is_done_unless}
 use Rattle.pass_loop.specs.ForProofs.RefusedLaws.{is_refused_where}
 use Rattle.pass_loop.specs.declared.ends.RunEnd.{RunEnd}
 
--- where an input is cut in one way, what stands says which end it is
+-- if an input is cut in one way, what stands says which end it is
 pub pass_ends : {Item : Type 0} (IsCut : Cutting Item) (work : Work Item) → CutsOnce IsCut → (old new : Seen) (end : RunEnd)
     → Ends IsCut work old new end → PassEnds IsCut work old new end
 pass_ends IsCut work cuts old new end ends =

@@ -57,7 +57,7 @@ no_notes named (in_notes text ∷ puts) are none = absurd (not_both are.0 none)
 no_notes named (in_lane lane piece ∷ puts) are none = no_notes named puts are.1 none
 no_notes named (in_output text ∷ puts) are none = no_notes named puts are.1 none
 
--- what the unnamed places tell stays where these are put
+-- what the unnamed places tell stays if these are put
 pieces_stay : (named : Named) (puts : List Put) (old : Places) → AreNamed named puts → named.lanes ≡ false
     → (over_puts puts old).pieces ≡ old.pieces
 pieces_stay named puts old are none = ap (with_more old.pieces) (no_pairs named puts are none) ∙ with_more-none old.pieces

@@ -41,7 +41,7 @@ nothing_yet work Has Holds old has holds =
       reads = refl;
     }
 
--- it is still so where all places and the count of reads are as before
+-- it is still so if all places and the count of reads are as before
 abbrev pub still : {I : Type 0} (work : Work I) (Has : List I → Type 0) (Holds : List I → Type 0) (old now new : Seen)
     → SoFar work Has Holds old now
     → new.places ≡ now.places → new.reads ≡ now.reads → SoFar work Has Holds old new
@@ -57,7 +57,7 @@ still work Has Holds old now new so_far places reads =
       reads = reads ∙ so_far.reads;
     }
 
--- the same where the reader, which may be another, has given the same items
+-- the same if the reader, which may be another, has given the same items
 abbrev pub still_by : {I : Type 0} (work : Work I) (Has Has' : List I → Type 0) (Holds : List I → Type 0) (old now new : Seen)
     (so_far : SoFar work Has Holds old now)
     → Has' so_far.items → new.places ≡ now.places → new.reads ≡ now.reads → SoFar work Has' Holds old new
@@ -162,7 +162,7 @@ module _ {I : Type 0} (IsCut : Cutting I) (work : Work I) (Has : List I → Type
       put_failed OutputFault new ends.1.0 (inl (item, front, ends.0, ends.1.1)) ends.1.2 reads
   ends_at_step item NoteFault new front reads ends = put_failed NoteFault new ends.1.0 (inl (item, front, ends.0, ends.1.1)) ends.1.2 reads
 
-  -- the input ends where nothing of it is refused, and the pass is closed
+  -- the input ends if nothing of it is refused, and the pass is closed
   closed : (result : Result (Unit {0}) RunEnd) (new : Seen)
       → IfSome old.left (λ bytes. IsCut bytes so_far.items None × (new.left ≡ Some [])) → new.reads ≡ now.reads
       → work.refusal_at_end (reverse so_far.items) ≡ None

@@ -23,7 +23,7 @@ fault_of-is (in_lane lane piece) = refl
 fault_of-is (in_output text) = refl
 fault_of-is (in_notes text) = refl
 
--- where a put failed, no other end comes
+-- if a put failed, no other end comes
 pub no_other_end : (puts : List Put) (end : RunEnd) (old new : Places) → FailsAt puts end old new → is_put_fault end ≡ false → ⊥
 no_other_end puts end old new stops other =
     false≢true (sym other ∙ subst (λ e. is_put_fault e ≡ true) (sym stops.end_is) (fault_of-is stops.failed))

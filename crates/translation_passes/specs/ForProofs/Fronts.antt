@@ -1,6 +1,6 @@
 -- Several bytes that are taken up at once, and what is done with the packet to which they are raised.
 use Rattle.std.specs.Prelude.{◌≡◌, ◌⊎◌, ◌≤◌, ℕ, List, length, take, Result, Ok, Err}
-use Rattle.direct_packets.specs.declared.direct_message.DirectMessage.{DirectMessage}
+use Rattle.encoded_packets.specs.declared.direct_message.DirectMessage.{DirectMessage}
 use Rattle.up_translator.specs.DirectWords.{packet_of}
 use Rattle.up_translator.specs.Fronts.{IsDirectFront, RaiseNothing}
 use Rattle.up_translator.specs.Held.{UpState}

@@ -60,7 +60,7 @@ fn told_of(alloc: Global, down: &mut Down, offset: u64, words: &[u32]) -> Result
     Ok(told)
 }
 
-// The packet of the words; `None` where there is none.
+// The packet of the words; `None` if there is none.
 fn packet_of(words: &[u32]) -> Option<Packet>
     ensures { IfSome result IsPacket }
 {

@@ -1,8 +1,8 @@
 -- The direct message to which a voice message is raised.
 use Rattle.std.specs.Prelude.{◌≡◌, true, Some}
 use Rattle.voice_messages.specs.declared.voice1.Voice1.{Voice1}
-use Rattle.direct_packets.specs.declared.direct_message.DirectMessage.{DirectMessage}
-use Rattle.direct_packets.specs.DirectMessages.{direct_voice}
+use Rattle.encoded_packets.specs.declared.direct_message.DirectMessage.{DirectMessage}
+use Rattle.encoded_packets.specs.DirectMessages.{direct_voice}
 use Rattle.up_translator.specs.Direct.{RaisesTo, goes_direct}
 use Rattle.up_translator.specs.DirectWords.{IsRaisedDirect}
 use Rattle.up_translator.specs.Held.{RaiserState}

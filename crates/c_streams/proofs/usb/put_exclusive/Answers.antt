@@ -1,6 +1,6 @@
 use Rattle.std.proofs.Common.{◌≡◌, ◌*◌, ◌++◌, length, take, drop, ap, ◌∙◌, arith, length-drop}
 use Rattle.c_answers.specs.Fronts.{with_front}
-use Rattle.c_streams.proofs.FrontLaws.{rest_given_back, rest_lent}
+use Rattle.c_answers.proofs.FrontLaws.{rest_given_back, rest_lent}
 use Rattle.c_streams.proofs.PackedLaws.{below_end, event_size, next_fits, none_yet, one_more}
 use Rattle.c_streams.proofs.usb.put_exclusive.Goals as goal
 

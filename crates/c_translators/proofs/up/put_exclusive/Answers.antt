@@ -1,7 +1,7 @@
 use Rattle.std.proofs.Common.{◌≡◌, ◌+◌, ◌∙◌, ◌++◌, ℕ, List, take, sym, ap, subst, arith}
 use Rattle.c_answers.specs.Fronts.{with_front}
 use Rattle.c_translators.proofs.EncodedLaws.{AreCut, all_cut, cut_more, cut_part, cut_past, part_fits}
-use Rattle.c_translators.proofs.FrontLaws.{rest_given_back, rest_lent}
+use Rattle.c_answers.proofs.FrontLaws.{rest_given_back, rest_lent}
 use Rattle.c_translators.proofs.up.put_exclusive.Goals as goal
 
 pub exclusive_words-pair-requires : goal.exclusive_words-pair-requires

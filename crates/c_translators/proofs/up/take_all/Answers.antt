@@ -1,89 +1,120 @@
-use Rattle.std.proofs.Common.{◌≡◌, ◌≤◌, ◌<◌, ◌+◌, ◌-◌, ◌%◌, ◌^◌, ◌∙◌, ◌++◌, ℕ, true, List}
-use Rattle.std.proofs.Common.{length, take, drop, get_or, sym, ap, subst, arith}
+use Rattle.std.proofs.Common.{◌≡◌, ◌≤◌, ◌<◌, ◌+◌, ◌-◌, ◌%◌, ◌^◌, ◌∙◌, ℕ, false, List, refl}
+use Rattle.std.proofs.Common.{◌++◌, length, length-drop, take, drop, sym, ap, subst, arith}
+use Rattle.std.proofs.lemmas.List.{length-take-le, take_all}
 use borrow.Rule.Slice.PartMut.{put_mid}
-use Rattle.std.proofs.Math.Seq.{drop-cons}
-use Rattle.std.specs.Prelude.{slice_index}
-use Rattle.up_translator.specs.Held.{UpState, up_after}
+use Rattle.c_answers.specs.Blocks.{is_full, leaves_few, with_item}
 use Rattle.c_answers.specs.Fronts.{with_front}
 use Rattle.c_answers.specs.Numbers.{number_of}
-use Rattle.c_answers.specs.Within.{IsWithin}
-use Rattle.c_answers.specs.declared.line.ListingLine.{ListingLine}
-use Rattle.c_translators.specs.Blocks.{is_full}
-use Rattle.c_translators.specs.ByteBlocks.{AreTaken, bytes, lines_shown}
-use Rattle.c_translators.specs.Up.{IsAccepted, most_words}
-use Rattle.c_translators.specs.declared.block.Block.{Block}
-use Rattle.c_translators.proofs.BlockLaws.{full_listed, full_written, not_full}
-use Rattle.c_translators.proofs.ByteBlockLaws.{AreSoFar, byte_taken, ends_full, ends_refused, one_more}
-use Rattle.c_translators.proofs.FrontLaws.{rest_given_back, rest_lent, rest_unchanged}
-use Rattle.c_translators.proofs.UpLaws.{refused_after, stays_within}
+use Rattle.c_answers.specs.Refusals.{status_of_step}
+use Rattle.c_answers.specs.declared.status.Status.{Status}
+use Rattle.c_answers.specs.declared.block.Block.{Block}
+use Rattle.c_answers.specs.declared.outcome.ByteOutcome.{ByteOutcome}
+use Rattle.c_translators.specs.ByteBlocks.{AreTaken, RefusesByte, bytes}
+use Rattle.c_translators.specs.Up.{most_words}
+use Rattle.c_answers.proofs.BlockLaws as laws
+use Rattle.c_translators.proofs.ByteBlockLaws.{AreSoFar, Stays, run_more, refused_keeps}
+use Rattle.c_answers.proofs.FrontLaws.{rest_given_back, rest_lent, rest_unchanged}
 use Rattle.c_translators.proofs.up.take_all.Goals as goal
-use Rattle.c_translators.proofs.up.take_all.Goals.{then-words-block-via-then-words-block}
-use Rattle.c_translators.proofs.up.take_all.Goals.{then-words-block-via-else-words-block+then-lines-block-lt2}
 
-pub returns-then-words-block-clause-answer : goal.returns-then-words-block-clause-answer
-returns-then-words-block-clause-answer c =
+pub returns-then-is_full-clause-answer : goal.returns-then-is_full-clause-answer
+returns-then-is_full-clause-answer c =
     let l = c.loop-block in
-    let are = l.invariant in
-    let written : l.block.written ≡ length are.progress.written = ap (λ (b : Block). b.written) are.block_is in
-    let listed : l.block.listed ≡ length are.progress.listed = ap (λ (b : Block). b.listed) are.block_is in
-    let full : is_full bytes c.args.up.now c.args.words.now c.args.lines.now are.progress ≡ true = elim c.then-words-block.branch [
-      | then-words-block-via-then-words-block w ↦
-          full_written bytes c.args.up.now c.args.words.now c.args.lines.now are.progress
-          (subst (λ n. length c.args.words.now - length are.progress.written < n) c.requires.most
-          (omega (arith, w.if-words-block.true, written)))
-      | then-words-block-via-else-words-block+then-lines-block-lt2 w ↦
-          full_listed bytes c.args.up.now c.args.words.now c.args.lines.now are.progress (omega (arith, w.if-lines-block-lt2.true, listed))
-    ] in
-    ends_full c.args.up.now c.args.offset c.args.bytes.now c.args.words.now c.args.lines.now l.block l.next l.up l.words l.lines are
-    c.args.most_written
-    c.loop-block-test.true full (c.requires.most ∙ sym are.keeps.0)
+    let are = l.invariant.0 in
+    laws.ends_full_by bytes (Stays c.args.up.now) c.args.up.now c.args.offset c.args.bytes.now
+    c.args.words.now c.args.outcomes.now l.block l.next l.up l.words l.outcomes are (length l.words) c.args.most_written
+    (length l.outcomes) c.is_full.new.self l.auto.words (c.requires.most ∙ sym are.keeps.0) l.auto.outcomes c.loop-block-test.true
+    (sym c.is_full.ensures.answer ∙ c.if-is_full.true) (c.is_full.ensures.short c.if-is_full.true)
 
 pub loop-block-preserved : goal.loop-block-preserved
 loop-block-preserved c =
     let l = c.loop-block in
-    let byte = get_or c.args.bytes.now l.block.taken 0 in
-    let raised = c.in-Ok.raised in
-    let stays = stays_within c.exclusives_stay_within_their_limit.ensures l.up l.next byte l.invariant.keeps.1 in
-    let after : c.take.new.up ≡ up_after l.up l.next byte = c.take.ensures.after in
-    let A : List ℕ → Type 0 = λ rest. IsAccepted l.up byte l.next rest raised c.take.new.words in
-    let accepted = subst A (rest_lent l.block.written l.words) c.in-Ok.ensures.answer in
-    let told = c.put_lines-count.ensures.written ∙ ap (with_front (lines_shown raised)) (rest_lent l.block.listed l.lines) in
+    let b = c.is_full.new.self in
+    let same : b ≡ l.block = c.is_full.ensures.same c.if-is_full.false in
+    let old = c.args.words.now in
+    let old_outcomes = c.args.outcomes.now in
+    let input = c.args.bytes.now in
+    let are : AreSoFar c.args.up.now c.args.offset input old old_outcomes b l.next l.up l.words l.outcomes
+    = subst (λ block. AreSoFar c.args.up.now c.args.offset input old old_outcomes block l.next l.up l.words l.outcomes) (sym same)
+    l.invariant.0 in
+    let taken : b.taken ≡ l.block.taken = ap (λ (block : Block). block.taken) same in
+    let written : b.written ≡ l.block.written = ap (λ (block : Block). block.written) same in
+    let items : b.items ≡ l.block.items = ap (λ (block : Block). block.items) same in
+    let count = c.in-Ok.run'.count in
+    let is_run = c.in-Ok.ensures.0 in
+    let rest : List ℕ = take (length input - b.taken) (drop b.taken input) in
+    let rest_is : rest ≡ drop b.taken input =
+    take_all (length input - b.taken) (drop b.taken input) (omega (arith, length-drop b.taken input)) in
+    let run : List ℕ = take count rest in
+    let there : count ≤ length input - b.taken = omega (arith, is_run.within, ap length rest_is, length-drop b.taken input) in
+    let size : length run ≡ count = length-take-le count rest is_run.within in
+    let run_is : run ≡ take (length run) (drop b.taken input) =
+    ap (take count) rest_is ∙ ap (λ n. take n (drop b.taken input)) (sym size) in
+    let room : most_words l.up ≤ length old - b.written =
+    omega (arith, c.is_full.ensures.room c.if-is_full.false, c.requires.most, are.keeps.0, written, l.auto.words) in
+    let item_room : 1 ≤ length old_outcomes - b.items =
+    omega (arith, c.is_full.ensures.item_room c.if-is_full.false, items, l.auto.outcomes) in
     let more =
-    one_more c.args.up.now c.args.offset c.args.bytes.now c.args.words.now c.args.lines.now l.block l.next l.up l.words l.lines l.invariant
-    byte raised c.take.new.words
-    c.put_lines-count.new.lines c.take.new.up c.loop-block-test.true (byte_taken c.args.bytes.now l.block.taken c.loop-block-test.true) accepted told after
-    (ap most_words after ∙ stays.0 ∙ l.invariant.keeps.0, subst (λ (state : UpState). IsWithin state.parsing) (sym after) stays.1) in
-    let S : ℕ → List ℕ → List ListingLine → Type 0 =
-    λ count words lines. AreSoFar c.args.up.now c.args.offset c.args.bytes.now c.args.words.now c.args.lines.now
-    (record { taken = l.block.taken + 1; written = l.block.written + raised.words; listed = l.block.listed + count; need = l.block.need })
-    ((l.next + 1) % 2 ^ 64) c.take.new.up words lines in
-    let words = take l.block.written l.words ++ c.take.new.words in
-    let lines = take l.block.listed l.lines ++ c.put_lines-count.new.lines in
-    let count = c.put_lines-count.result in
-    subst (λ ls. S count (put_mid l.block.written (length l.words - l.block.written) l.words c.take.new.words) ls)
-    (sym (rest_given_back l.block.listed l.lines c.put_lines-count.new.lines))
-    (subst (λ ws. S count ws lines) (sym (rest_given_back l.block.written l.words c.take.new.words))
-    (subst (λ n. S n words lines) (sym c.put_lines-count.ensures.count) more))
+    run_more c.exclusives_stay_within_their_limit.ensures c.args.up.now c.args.offset input old old_outcomes run b l.next l.up l.words
+    l.outcomes are is_run.words is_run.items c.take_front.new.words c.take_front.new.outcomes c.take_front.new.up run_is
+    (omega (arith, size, there)) (λ longer. omega (arith, size, c.in-Ok.ensures.2 (omega (arith, size, longer))))
+    (omega (arith, size, c.in-Ok.ensures.1)) room item_room is_run.takes
+    (is_run.words_are ∙ ap (with_front is_run.words) (rest_lent b.written l.words))
+    (is_run.outcomes_are ∙ ap (with_front is_run.items) (rest_lent b.items l.outcomes)) in
+    let S : Block → ℕ → List ℕ → List ByteOutcome → Type 0 =
+    λ block n words outcomes. AreSoFar c.args.up.now c.args.offset input old old_outcomes block ((l.next + n) % 2 ^ 64) c.take_front.new.up
+    words outcomes in
+    let words = take b.written l.words ++ c.take_front.new.words in
+    let outcomes = take b.items l.outcomes ++ c.take_front.new.outcomes in
+    let put : with_item b (length run) (length is_run.words) (length is_run.items) ≡ c.add.new.self =
+    (λ i. with_item b (size i) (sym is_run.written_is i) (sym is_run.items_is i)) ∙ sym c.add.ensures in (
+      subst (λ os. S c.add.new.self count (put_mid b.written (length l.words - b.written) l.words c.take_front.new.words) os)
+          (sym (rest_given_back b.items l.outcomes c.take_front.new.outcomes))
+          (subst (λ ws. S c.add.new.self count ws outcomes) (sym (rest_given_back b.written l.words c.take_front.new.words))
+          (subst (λ block. S block count words outcomes) put
+          (subst (λ n. S (with_item b (length run) (length is_run.words) (length is_run.items)) n words outcomes) size more))),
+      λ no_wrap. omega (arith, l.invariant.1 no_wrap, there, taken, ap (λ (block : Block). block.taken) c.add.ensures),
+    )
 
-pub returns-in-Err-clause-answer : goal.returns-in-Err-clause-answer
-returns-in-Err-clause-answer c =
+pub returns-in-Err : goal.returns-in-Err
+returns-in-Err c =
     let l = c.loop-block in
-    let are = l.invariant in
-    let byte = get_or c.args.bytes.now l.block.taken 0 in
-    let written : l.block.written ≡ length are.progress.written = ap (λ (b : Block). b.written) are.block_is in
-    let listed : l.block.listed ≡ length are.progress.listed = ap (λ (b : Block). b.listed) are.block_is in
-    let full = not_full bytes c.args.up.now c.args.words.now c.args.lines.now are.progress
-    (subst (λ n. n ≤ length c.args.words.now - length are.progress.written) c.requires.most (omega (arith, c.if-words-block.false, written)))
-    (omega (arith, c.if-lines-block-lt2.false, listed)) in
-    let first : byte ≡ slice_index (drop l.block.taken c.args.bytes.now) 0 =
-    sym (ap (λ rest. slice_index rest 0) (drop-cons c.args.bytes.now l.block.taken 0 c.loop-block-test.true)) in
-    let refused = c.in-Err.ensures.answer.0 in
-    let out : Block = record { taken = l.block.taken + 1; written = l.block.written; listed = l.block.listed; need = l.block.need } in
-    let W : List ℕ → Type 0 =
-    λ words. AreTaken c.args.up.now c.args.offset c.args.bytes.now c.args.words.now c.args.lines.now (number_of c.of_step.result) out words
-    l.lines c.take.new.up in
-    subst W (sym (rest_unchanged l.block.written l.words c.take.new.words c.in-Err.ensures.answer.1))
-    (ends_refused c.args.up.now c.args.offset c.args.bytes.now c.args.words.now c.args.lines.now l.block l.next l.up l.words l.lines are
-    byte c.in-Err.bad (number_of c.of_step.result)
-    c.take.new.up c.loop-block-test.true full first (ap number_of c.of_step.ensures) refused
-    (c.take.ensures.after ∙ refused_after l.up l.next byte c.in-Err.bad refused))
+    let b = c.is_full.new.self in
+    let same : b ≡ l.block = c.is_full.ensures.same c.if-is_full.false in
+    let old = c.args.words.now in
+    let old_outcomes = c.args.outcomes.now in
+    let input = c.args.bytes.now in
+    let are : AreSoFar c.args.up.now c.args.offset input old old_outcomes b l.next l.up l.words l.outcomes
+    = subst (λ block. AreSoFar c.args.up.now c.args.offset input old old_outcomes block l.next l.up l.words l.outcomes) (sym same)
+    l.invariant.0 in
+    let full : is_full bytes old old_outcomes are.progress ≡ false =
+    laws.full_by bytes (Stays c.args.up.now) c.args.up.now c.args.offset input old old_outcomes b l.next l.up l.words l.outcomes are
+    (length l.words) c.args.most_written (length l.outcomes) l.auto.words (c.requires.most ∙ sym are.keeps.0) l.auto.outcomes
+    ∙ ap (λ block. leaves_few block (length l.words) c.args.most_written (length l.outcomes) 1) same
+    ∙ sym c.is_full.ensures.answer ∙ c.if-is_full.false in
+    let some : b.taken < length input = omega (arith, ap (λ (block : Block). block.taken) same, c.loop-block-test.true) in
+    let rest : List ℕ = take (length input - b.taken) (drop b.taken input) in
+    let rest_is : rest ≡ drop b.taken input =
+    take_all (length input - b.taken) (drop b.taken input) (omega (arith, length-drop b.taken input)) in
+    let why = c.of_step.result in
+    let after = c.take_front.new.up in
+    let R : List ℕ → Status → Type 0 = λ own why. RefusesByte l.up l.next own why after in
+    let refuses : RefusesByte l.up l.next (take 1 (drop b.taken input)) why after =
+    subst (λ why. R (take 1 (drop b.taken input)) why) (sym c.of_step.ensures)
+    (subst (λ own. R own (status_of_step c.in-Err.bad)) (ap (take 1) rest_is) c.in-Err.ensures.0) in
+    let ends =
+    laws.ends_refused bytes (Stays c.args.up.now) c.args.up.now c.args.offset input old old_outcomes b l.next l.up l.words l.outcomes are 1
+    why after some full refl (omega (arith, some)) refuses in
+    let keeps =
+    refused_keeps c.exclusives_stay_within_their_limit.ensures c.args.up.now l.up l.next (take 1 (drop b.taken input)) why after are.keeps
+    refuses in
+    let A : Block → List ℕ → List ByteOutcome → Type 0 =
+    λ block words outcomes. AreTaken c.args.up.now c.args.offset input old old_outcomes (number_of why) block words outcomes after in
+    let words = put_mid b.written (length l.words - b.written) l.words c.take_front.new.words in
+    record {
+      answer = subst (λ os. A c.refuse.new.self words os) (sym (rest_unchanged b.items l.outcomes c.take_front.new.outcomes
+          c.in-Err.ensures.2))
+          (subst (λ ws. A c.refuse.new.self ws l.outcomes) (sym (rest_unchanged b.written l.words c.take_front.new.words c.in-Err.ensures.1))
+          (subst (λ block. A block l.words l.outcomes) (sym c.refuse.ensures) ends));
+      most = keeps.0;
+      sound = keeps.1;
+    }

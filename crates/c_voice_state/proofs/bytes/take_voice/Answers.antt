@@ -1,7 +1,6 @@
-use Rattle.std.proofs.Common.{ℕ, List, refl, subst}
+use Rattle.std.proofs.Common.{ℕ, refl, subst}
 use Rattle.midi1_bytes.specs.Messages.{voice}
 use Rattle.midi_meaning.specs.Messages.{as_they_come}
-use Rattle.voice_state.specs.Kept.{KeptGroup}
 use Rattle.voice_state.specs.Rooms.{GroupIs, IsGroupFull1}
 use Rattle.voice_state.specs.States.{after_message}
 use Rattle.c_answers.specs.Numbers.{number_of}

@@ -7,7 +7,7 @@ use Rattle.down_translator.specs.Step.{piece_of}
 use Rattle.up_translator.specs.Raised.{packet_in}
 use Rattle.self_test.specs.ForProofs.Held.{HasReturned}
 use Rattle.self_test.proofs.BackLaws.{IsReturned, answered, comes_back_none, comes_back_some}
-use Rattle.self_test.proofs.BackLaws.{returned_accepted, returned_piece, returned_short, up_is_taken}
+use Rattle.self_test.proofs.BackLaws.{never_refused, returned_accepted, returned_piece, returned_short, up_is_taken}
 use Rattle.self_test.proofs.back.bring_byte_back.Goals as goal
 
 pub bring_down-requires-clause-accepted : goal.bring_down-requires-clause-accepted
@@ -47,7 +47,7 @@ returns-in-Some-clause-back c = λ past returned played place.
     let is : packet_in c.in-Ok.raised ≡ Some c.in-Some.packet.now = ap (option_map (λ packet. packet.now)) c.in-Some.is in
     let holds =
     up_is_taken law parsed past c.args.byte c.args.up.now returned.up_holds played c.args.offset place c.byte.follows.lender-at-none
-    returned.played c.byte.ensures.kept (c.byte.follows.holds-at-none) in
+    returned.played (c.byte.follows.holds-at-none) in
     comes_back_some past c.args.byte c.in-Ok.raised answer c.byte.follows.lender-at-none holds (played, returned.played)
     c.bring_down.new.down c.args.down.now c.args.offset c.bring_down.result c.in-Some.packet.now is returned.down_is
     c.bring_down.ensures.after c.bring_down.ensures.count
@@ -61,6 +61,11 @@ returns-in-None-clause-back c = λ past returned played place.
     let is : packet_in c.in-Ok.raised ≡ None = ap (option_map (λ packet. packet.now)) c.in-None.is in
     let holds =
     up_is_taken law parsed past c.args.byte c.args.up.now returned.up_holds played c.args.offset place c.byte.follows.lender-at-none
-    returned.played c.byte.ensures.kept (c.byte.follows.holds-at-none) in
+    returned.played (c.byte.follows.holds-at-none) in
     comes_back_none past c.args.byte c.in-Ok.raised answer c.byte.follows.lender-at-none holds (played, returned.played) c.args.down.now
     returned.down_is is
+
+pub returns-in-Err-clause-back : goal.returns-in-Err-clause-back
+returns-in-Err-clause-back c = λ past returned played place.
+    absurd (never_refused (c.raised_bytes_are_the_definition.ensures false) c.parsed_bytes_are_the_definition.ensures past c.args.byte
+    c.args.up.now returned.up_holds played c.args.offset place c.in-Err.field-0 c.in-Err.ensures.answer)

@@ -1,6 +1,6 @@
 use Rattle.std.proofs.Common.{map, refl}
 use Rattle.ump_endpoint.specs.Answers.{received_in_packets}
-use Rattle.ump_endpoint.proofs.HistoryLaws.{begun_is, held_next, packet_listed_is, packet_outcome_is}
+use Rattle.ump_endpoint.proofs.HistoryLaws.{begins_again, begun_is, held_next, packet_listed_is, packet_outcome_is}
 use Rattle.ump_endpoint.proofs.HistoryLaws.{packet_replies_are, protocol_next, refusal_is}
 use Rattle.ump_endpoint.proofs.laws.answers_are_those_of_the_history.Goals as goal
 
@@ -11,6 +11,7 @@ returns c =
     let follows = c.protocol_follows_the_requests.ensures in
     record {
       begins = λ setup room. refl;
+      reset = begins_again;
       refusal = λ setup room past least are. refusal_is fed room past least are setup;
       replies = λ setup room past least are. packet_replies_are fed room past least are setup history;
       outcome = λ setup room past least are. packet_outcome_is fed room past least are setup history;

@@ -1,7 +1,7 @@
 use Rattle.std.proofs.Common.{subst, sym}
 use Rattle.midi1_bytes.specs.Spoken.{voice_in}
-use Rattle.direct_packets.specs.declared.direct_message.DirectMessage.{DirectMessage}
-use Rattle.direct_packets.specs.DirectMessages.{direct_voice}
+use Rattle.encoded_packets.specs.declared.direct_message.DirectMessage.{DirectMessage}
+use Rattle.encoded_packets.specs.DirectMessages.{direct_voice}
 use Rattle.up_translator.specs.Direct.{RaisesTo}
 use Rattle.up_translator.specs.DirectWords.{IsRaisedDirect}
 use Rattle.up_translator.proofs.DirectLaws.{bare_by, raises_by}

@@ -1,6 +1,6 @@
 use Rattle.std.proofs.Common.{◌∙◌, refl, sym}
 use Rattle.ump_grammar.specs.declared.packet.Packet.TheVariants as packet
-use Rattle.direct_packets.specs.DirectMessages.{direct_voice}
+use Rattle.encoded_packets.specs.DirectMessages.{direct_voice}
 use Rattle.down_translator.proofs.LoweredLaws.{direct_step}
 use Rattle.down_translator.proofs.down.Down.lowered_message.Goals as goal
 

@@ -1,7 +1,7 @@
 use Rattle.std.proofs.Common.{◌≡◌, refl, true, sym, ap, subst}
 use Rattle.std.specs.Prelude.{◌&&◌, not}
 use Rattle.ump_grammar.specs.declared.packet.Packet.TheVariants as packet
-use Rattle.direct_packets.specs.DirectMessages.{direct_voice}
+use Rattle.encoded_packets.specs.DirectMessages.{direct_voice}
 use Rattle.down_translator.specs.declared.shortened.ShortenedMessage.{ShortenedMessage}
 use Rattle.down_translator.specs.Held.{DownState}
 use Rattle.down_translator.specs.KeptLanes.{is_plain, lane_at}

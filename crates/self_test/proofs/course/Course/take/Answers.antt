@@ -18,8 +18,8 @@ bring_back-again-requires-clause-ready c =
       ap (λ (counts : Counts). counts.bytes) taken.counts_are,
     )
 
-pub returns : goal.returns
-returns c = λ past taken.
+pub returns-in-Ok : goal.returns-in-Ok
+returns-in-Ok c = λ past taken.
     let old : Course = c.args.self.now in
     let new : Course = record {
       down = c.packet.follows.lender-at-none;

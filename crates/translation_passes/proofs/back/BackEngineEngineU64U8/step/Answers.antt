@@ -76,7 +76,7 @@ returns g c = λ first past held place.
       accepted = accepted;
       holds_up =
           holds_more paired law room group past up held.holds_up offset byte place
-          (c.rooms_that_are_not_reached_do_not_matter_in_bytes.ensures paired) c.put_byte.new.up accepted c.put_byte.ensures.kept
+          (c.rooms_that_are_not_reached_do_not_matter_in_bytes.ensures paired) c.put_byte.new.up accepted
           c.put_byte.ensures.after;
       holds_down = (comes.done c.put_byte.new.work written.0 (subst (D c.put_byte.new.work written.0) raised.packets written.1)).1;
     }

@@ -73,7 +73,7 @@ returns g c = λ first past holds place.
         accepted = accepted;
         holds =
             holds_more paired law room group past up held.holds offset byte place
-            (c.rooms_that_are_not_reached_do_not_matter_in_bytes.ensures paired) c.put_byte.new.up accepted c.put_byte.ensures.kept
+            (c.rooms_that_are_not_reached_do_not_matter_in_bytes.ensures paired) c.put_byte.new.up accepted
             c.put_byte.ensures.after;
       },
     )

@@ -1,6 +1,6 @@
 use Rattle.std.proofs.Common.{[], ◌∷◌, subst}
 use Rattle.ump_grammar.specs.Reading.{Encodes}
-use Rattle.direct_packets.specs.declared.direct_message.DirectMessage.{DirectMessage}
+use Rattle.encoded_packets.specs.declared.direct_message.DirectMessage.{DirectMessage}
 use Rattle.up_translator.specs.DirectWords.{packet_of}
 use Rattle.up_translator.proofs.WordLaws.{words_encode}
 use Rattle.up_translator.proofs.direct_words.DirectWords.pair.Goals as goal

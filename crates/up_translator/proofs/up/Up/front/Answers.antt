@@ -1,6 +1,6 @@
 use Rattle.std.proofs.Common.{ℕ, List, subst, sym, take}
 use Rattle.voice_messages.specs.declared.voice1.Voice1.{Voice1}
-use Rattle.direct_packets.specs.declared.direct_message.DirectMessage.{DirectMessage}
+use Rattle.encoded_packets.specs.declared.direct_message.DirectMessage.{DirectMessage}
 use Rattle.midi1_bytes.specs.Fronts.{IsFront}
 use Rattle.midi1_bytes.specs.Messages.{voice}
 use Rattle.midi1_bytes.specs.Parsing.{Parsing, AreMessage}

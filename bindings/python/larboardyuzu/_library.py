@@ -1,0 +1,108 @@
+"""Loads the library and has its calls, and turns numbers of Python into those of C: none is cut to its lower bits."""
+from __future__ import annotations
+
+import ctypes
+import functools
+import operator
+import os
+from array import array
+from ctypes import c_char_p, c_uint8, c_uint32
+from typing import Any, Callable, Iterable, Optional, Tuple, Union
+
+from . import _interface, _numbers
+
+SONAME = f"liblarboardyuzu.so.{_numbers.VERSION >> 16}.{_numbers.VERSION >> 8 & 0xFF}"
+
+# What takes words takes any numbers; array("I"), and a memoryview of it, aren't copied. What takes bytes takes bytes or numbers.
+Words = Iterable[int]
+Bytes = Union[bytes, bytearray, memoryview, Iterable[int]]
+
+
+def _loaded() -> ctypes.PyDLL:
+    name = os.environ.get("LARBOARDYUZU_LIBRARY") or SONAME
+    try:
+        # With PyDLL a call keeps the lock of the interpreter, so that two threads can't be in one handle.
+        return ctypes.PyDLL(name)
+    except OSError as error:
+        raise ImportError(f"{error}: install the library, or name its file in LARBOARDYUZU_LIBRARY") from error
+
+
+_LIBRARY = _loaded()
+
+
+@functools.lru_cache(maxsize=None)
+def call(name: str) -> Callable[..., Any]:
+    """The call of this name after larboardyuzu_."""
+    try:
+        found = getattr(_LIBRARY, f"larboardyuzu_{name}")
+    except AttributeError as error:
+        raise ImportError(f"{error}: the library has another version than {_numbers.VERSION:06x}") from error
+    found.argtypes = _interface.PROTOTYPES[name]
+    found.restype = None if name.endswith("_close") else ctypes.c_size_t if name in _interface.SIZES else c_uint32
+    return found  # type: ignore[no-any-return]
+
+
+_version = call("version")
+if _version() >> 8 != _numbers.VERSION >> 8:
+    raise ImportError(f"the library has version {_version():06x}, and this package is for {_numbers.VERSION:06x}")
+
+
+def _number(what: str, value: int, most: int) -> int:
+    value = operator.index(value)
+    if not 0 <= value <= most:
+        raise OverflowError(f"{what} is {value}, and has to be 0 to {most}")
+    return value
+
+
+def u8(what: str, value: int) -> int:
+    return _number(what, value, 0xFF)
+
+
+def u32(what: str, value: int) -> int:
+    return _number(what, value, 0xFFFFFFFF)
+
+
+def u64(what: str, value: int) -> int:
+    return _number(what, value, 0xFFFFFFFFFFFFFFFF)
+
+
+def words_of(words: Words) -> Tuple[Optional["ctypes.Array[c_uint32]"], int]:
+    """The words as an array of C, and how many there are. An array("I") is lent, not copied."""
+    if isinstance(words, (bytes, bytearray, str)):
+        raise TypeError("words are numbers of 32 bits: packets_in cuts bytes into words")
+    if isinstance(words, memoryview):
+        if words.format != "I" or words.ndim != 1 or not words.contiguous:
+            raise TypeError('a memoryview of words has the format "I", one dimension, and its items follow each other')
+        if words.readonly:
+            words = array("I", words)
+        count = len(words)
+        return (c_uint32 * count).from_buffer(words) if count else None, count
+    try:
+        held = words if isinstance(words, array) and words.typecode == "I" else array("I", list(words))
+    except OverflowError as error:
+        raise OverflowError(f"a word isn't 0 to 4294967295: {error}") from error
+    count = len(held)
+    return (c_uint32 * count).from_buffer(held) if count else None, count
+
+
+def bytes_of(data: Bytes) -> bytes:
+    """The bytes of something that has bytes, or of numbers in order. What has wider items, such as array("I"), isn't taken for its bytes."""
+    if isinstance(data, bytes):
+        return data
+    if isinstance(data, (int, str)):
+        raise TypeError(f"bytes are wanted, and this is {type(data).__name__}")
+    try:
+        view = memoryview(data)  # type: ignore[arg-type]
+    except TypeError:
+        return bytes(data)
+    if view.format.lstrip("@=<>!") != "B":
+        raise TypeError(f"bytes are wanted, and this has items of another type ({view.format})")
+    return view.tobytes()
+
+
+def byte_buffer(size: int) -> "ctypes.Array[c_uint8]":
+    return (c_uint8 * size)()
+
+
+def word_buffer(size: int) -> "ctypes.Array[c_uint32]":
+    return (c_uint32 * size)()

@@ -1,0 +1,2 @@
+pub mod PacketBlockLaws
+pub mod TakenLaws

@@ -1,0 +1,128 @@
+// The words of the header by their numbers.
+ghost use Rattle.std.specs.Prelude.{◌≡◌, map};
+ghost use Rattle.c_answers.specs.Numbers.{number_of};
+ghost use Rattle.c_pure.specs.Names.{heard_names, kind_names, status_names, AreShort, IsNamed};
+
+use c_answers::{Status, put_bytes};
+
+// The statuses, from 0 on.
+const STATUSES: [&str; 24] = [
+    "DONE",
+    "NO_MEMORY",
+    "HANDLE_CLOSED",
+    "ALREADY_OPEN",
+    "BAD_ROOM",
+    "BAD_WORD_COUNT",
+    "SMALL_BUFFER",
+    "BAD_COUNT",
+    "HIGH_BIT",
+    "DATA_INCREMENT",
+    "DATA_DECREMENT",
+    "EXCLUSIVE_TOO_LONG",
+    "BAD_GROUP",
+    "NOTHING",
+    "OTHER_KIND",
+    "BAD_STREAMS",
+    "SETUP_SYNTAX",
+    "SETUP_RULE",
+    "BAD_BITS",
+    "BAD_VALUE",
+    "STATE_FULL",
+    "BAD_FLAGS",
+    "BAD_SIZE",
+    "BAD_CHANNEL",
+];
+
+// The kinds of lines, from 0 on.
+const KINDS: [&str; 22] = [
+    "NO_LINE",
+    "UTILITY",
+    "STREAM",
+    "RESERVED",
+    "DATA8",
+    "FLEX",
+    "NOTE_ATTRIBUTE",
+    "NOTE_CONTROLLER",
+    "NOTE_BEND",
+    "NOTE_MANAGEMENT",
+    "NULL_PARAMETER",
+    "RELATIVE_PARAMETER",
+    "MISPLACED_CONTROLLER",
+    "FINE_CONTROLLER",
+    "STRAY_EXCLUSIVE",
+    "CUT_EXCLUSIVE",
+    "OPEN_EXCLUSIVE",
+    "STRAY",
+    "UNDEFINED",
+    "CUT_MESSAGE",
+    "OPEN_MESSAGE",
+    "IGNORED_DATA_ENTRY",
+];
+
+// What an endpoint did with a message, from 0 on.
+const HEARD: [&str; 18] = [
+    "NOTHING",
+    "NOT_CI",
+    "SHORT",
+    "BAD_ADDRESS",
+    "RESERVED_MUID",
+    "NO_BLOCK",
+    "SILENT",
+    "COLLISION",
+    "OLD_VERSION",
+    "NOT_OURS",
+    "MOVED",
+    "REPORT",
+    "BROADCAST",
+    "ANSWERED",
+    "PASSED",
+    "NAK",
+    "NO_ANSWER",
+    "BAD_FORMAT",
+];
+
+// Writes the word with this number, and its length.
+fn put_name(names: &[&str], number: u32, text: &mut [u8], length: &mut usize) -> Status
+    ensures { IsNamed (map (λ name. name.now) names.now) number
+        text.old (number_of result) text.new length.new }
+{
+    *length = 0;
+    let Some(name) = names.get(number as usize) else {
+        return Status::Nothing;
+    };
+    if text.len() < name.len() {
+        return Status::SmallBuffer;
+    }
+    *length = put_bytes(name.as_bytes(), text);
+    Status::Done
+}
+
+/// Writes the word of a status to the front of the buffer, as the header has it after its prefix, and returns
+/// its length (own rule). Nothing is written, and the length is 0, in these cases: `Nothing` when no status
+/// has the number; `SmallBuffer` when the word doesn't fit, which never happens with 32 bytes.
+pub fn status_name(number: u32, text: &mut [u8], length: &mut usize) -> Status
+    ensures { IsNamed status_names number text.old (number_of result) text.new length.new }
+{
+    put_name(&STATUSES, number, text, length)
+}
+
+/// Writes the word of a kind of line, in the same way.
+pub fn kind_name(number: u32, text: &mut [u8], length: &mut usize) -> Status
+    ensures { IsNamed kind_names number text.old (number_of result) text.new length.new }
+{
+    put_name(&KINDS, number, text, length)
+}
+
+/// Writes the word of what an endpoint did with a message, in the same way.
+pub fn heard_name(number: u32, text: &mut [u8], length: &mut usize) -> Status
+    ensures { IsNamed heard_names number text.old (number_of result) text.new length.new }
+{
+    put_name(&HEARD, number, text, length)
+}
+
+/// A buffer of 32 bytes takes each of these words.
+pub fn words_have_at_most_32_bytes()
+    ensures statuses { AreShort status_names }
+    ensures kinds { AreShort kind_names }
+    ensures heard { AreShort heard_names }
+{}

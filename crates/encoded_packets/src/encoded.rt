@@ -1,0 +1,297 @@
+// A packet as its words.
+ghost use Rattle.std.specs.Prelude.{◌≡◌, ◌≢◌, ◌≤◌, ◌%◌, ◌==◌, ◌&&◌, ◌<◌, ◌∷◌, [], true, false, All, Ok, IfOk, IfSome};
+ghost use Rattle.std.specs.Prelude.{MatchOption, length, slice_index, take};
+ghost use Rattle.packet_words.specs.Words.{IsWhole};
+ghost use Rattle.ump_grammar.specs.WordFields.{byte as place, count_of, field, group_of, opcode_of, type_of, word};
+ghost use Rattle.ump_grammar.specs.Ranges.{IsPacket};
+ghost use Rattle.ump_grammar.specs.Reading.{Decodes};
+ghost use Rattle.ump_grammar.specs.Reason.{reason};
+ghost use Rattle.ump_grammar.specs.Spelling.{exclusive_places, form_number};
+ghost use Rattle.ump_grammar.specs.declared.packet.Packet.TheVariants as packet;
+ghost use Rattle.voice_messages.specs.declared.voice2.Form.TheVariants as form;
+ghost use Rattle.encoded_packets.specs.Parts.{begins_part, continues_by_six, has_low_bytes, is_full_part, is_low_part};
+ghost use Rattle.encoded_packets.specs.Encoded.{ThePacket, the_packet-prop};
+ghost use Rattle.encoded_packets.specs.DirectMessages.{IsDirectMessage, has_direct_kind, is_direct_opcode, direct_voice};
+
+use crate::direct_message::{DirectKind, DirectMessage};
+use crate::exclusive_part::ExclusivePart;
+use packet_words::{Framed, Words};
+use std::marker::Model;
+use ump_grammar::decoding::form_of;
+use ump_grammar::fields::{bits, byte, nibble};
+use ump_grammar::laws::{spelled_packets_fit, words_spell_one_packet};
+use ump_grammar::{Bad, Packet, decode};
+use voice_messages::{U4, U7};
+
+/// A packet as the words that encode it (M2-104-UM). A contract sees the packet.
+#[derive(Drop)]
+pub struct EncodedPacket {
+    words: Words,
+    // Asked once, when the packet is read.
+    has_direct_kind: bool,
+    is_part: bool,
+    ghost packet: { ThePacket words } by { the_packet-prop words },
+    ghost asked: { has_direct_kind ≡ (type_of words == 4 && is_direct_opcode (opcode_of words)) },
+    ghost part_asked: { is_part ≡ is_low_part words },
+}
+
+impl Model for EncodedPacket {
+    ghost use Rattle.ump_grammar.specs.declared.packet.Packet.{Packet};
+
+    ghost Value = { Packet };
+
+    ghost view = { λ encoded. encoded.packet.0 };
+}
+
+impl EncodedPacket {
+    /// The packet that the words encode (M2-104-UM); they are as many as the type in the first one has.
+    /// `Err(BadCount)` is returned exactly when a 7-bit exclusive of form 0 to 3 counts more than six bytes,
+    /// and `Err(HighBit)` exactly when another packet has a byte of 128 or more that carries seven bits: of
+    /// an exclusive those that it counts, of a program's bank those of a bank that is there.
+    #[inline(always)]
+    pub fn new(framed: &Framed) -> Result<EncodedPacket, Bad>
+        requires { IsWhole framed.now.words }
+        ensures answer { Decodes framed.now.words result }
+        ensures fits { IfOk result IsPacket }
+    {
+        let first = framed.words.as_slice()[0];
+        // Most packets are such messages, so that others alone are taken apart.
+        if begins_direct(first) && byte(first, 8) < 128 {
+            return Ok(direct_packet(&framed.words));
+        }
+        if is_low_part(&framed.words) {
+            return Ok(part_packet(&framed.words));
+        }
+        words_spell_one_packet();
+        match decode(framed) {
+            Ok(_) => Ok(EncodedPacket {
+                words: framed.words.copied(),
+                has_direct_kind: begins_direct(first),
+                is_part: false,
+            }),
+            Err(bad) => Err(bad),
+        }
+    }
+
+    /// The packet that these two words encode (M2-104-UM), if it is a direct message or a 7-bit exclusive
+    /// in which no byte is high, counted or not. `None` says nothing of the words: `new` has their answer.
+    #[inline(always)]
+    pub fn of_two(first: u32, second: u32) -> Option<EncodedPacket>
+        ensures whole { IfSome result (λ _. IsWhole (first ∷ second ∷ [])) }
+        ensures answer { IfSome result (λ packet. Decodes (first ∷ second ∷ []) (Ok packet)) }
+        ensures fits { IfSome result IsPacket }
+    {
+        let words = Words::of_two(first, second);
+        if byte(first, 8) < 128 && begins_direct(first) {
+            return Some(direct_packet(&words));
+        }
+        if begins_part(first) && has_low_bytes(words.as_slice()) {
+            return Some(part_packet(&words));
+        }
+        None
+    }
+
+    /// The packet, taken apart.
+    #[inline(always)]
+    pub fn decode(&self) -> Packet
+        ensures value { result ≡ self.now }
+        ensures fits { IsPacket result }
+    {
+        let framed = Framed {
+            offset: 0,
+            words: self.words.copied(),
+        };
+        match decode(&framed) {
+            Ok(packet) => packet,
+            // The words decode to a packet: the type keeps this packet beside them.
+            Err(_) => unreachable!(),
+        }
+    }
+
+    /// The packet as a part of an exclusive, if none of its six bytes is 128 or more, counted or not: so
+    /// always if all six count. For others `None` comes, and `decode` has them.
+    #[inline(always)]
+    pub fn exclusive(&self) -> Option<ExclusivePart>
+        ensures { MatchOption result (is_full_part self.now ≡ false) (λ part. (part.count ≤ 6)
+            × All (λ byte. byte < 128) part.bytes
+            × (self.now ≡ packet.Exclusive part.group part.form (take part.count part.bytes))) }
+    {
+        if self.is_part {
+            let words = self.words.as_slice();
+            part_in(words)
+        } else {
+            None
+        }
+    }
+
+    /// The group and the six bytes of a packet that continues an exclusive by six bytes, each below 128
+    /// (M2-104-UM, system exclusive 7-bit messages); `None` exactly for all other packets.
+    #[inline(always)]
+    pub fn continued(&self) -> Option<(U4, [u8; 6])>
+        ensures { MatchOption result (continues_by_six self.now ≡ false) (λ part.
+            All (λ byte. byte < 128) part.1
+            × (self.now ≡ packet.Exclusive part.0 form.Continue part.1)) }
+    {
+        if self.is_part {
+            let words = self.words.as_slice();
+            six_in(words)
+        } else {
+            None
+        }
+    }
+
+    /// The message, if its MIDI 1.0 counterpart has its status byte; `None` exactly for all other packets.
+    #[inline(always)]
+    pub fn direct_message(&self) -> Option<DirectMessage>
+        ensures { MatchOption result (has_direct_kind self.now ≡ false) (λ message. IsDirectMessage message
+            × (self.now ≡ packet.Voice2 message.group (direct_voice message))) }
+    {
+        if self.has_direct_kind {
+            let words = self.words.as_slice();
+            Some(message_in(words))
+        } else {
+            None
+        }
+    }
+}
+
+// The packet, if it is a 7-bit exclusive in which no byte is high, counted or not.
+#[inline(always)]
+fn part_packet(words: &Words) -> EncodedPacket
+    requires whole { IsWhole words.now }
+    requires low { is_low_part words.now ≡ true }
+    ensures answer { Decodes words.now (Ok result) }
+    ensures fits { IsPacket result }
+{
+    words_spell_one_packet();
+    spelled_packets_fit();
+    EncodedPacket {
+        words: words.copied(),
+        has_direct_kind: false,
+        is_part: true,
+    }
+}
+
+// The packet, if it is a direct message and no byte of seven bits is high.
+#[inline(always)]
+fn direct_packet(words: &Words) -> EncodedPacket
+    requires whole { IsWhole words.now }
+    requires begins { (type_of words.now == 4 && is_direct_opcode (opcode_of words.now)) ≡ true }
+    requires low { place words.now 3 < 128 }
+    ensures answer { Decodes words.now (Ok result) }
+    ensures fits { IsPacket result }
+{
+    words_spell_one_packet();
+    spelled_packets_fit();
+    EncodedPacket {
+        words: words.copied(),
+        has_direct_kind: true,
+        is_part: false,
+    }
+}
+
+// The part of an exclusive in these words; `None` exactly if they have no form.
+#[inline(always)]
+fn part_in(words: &[u32]) -> Option<ExclusivePart>
+    requires { length words.now ≡ 2 }
+    ensures { MatchOption result (3 < opcode_of words.now) (λ part. (part.group ≡ group_of words.now)
+        × (opcode_of words.now ≡ form_number part.form) × (part.count ≡ count_of words.now)
+        × (part.bytes ≡ exclusive_places words.now)) }
+{
+    let first = words[0];
+    let form = form_of(bits(first, 20, 4))?;
+    Some(ExclusivePart {
+        group: nibble(first, 24),
+        form,
+        count: bits(first, 16, 4) as usize,
+        bytes: exclusive_bytes(words),
+    })
+}
+
+// The group and the bytes of these words, if their form is Continue and they count six bytes; `None`
+// exactly for others.
+#[inline(always)]
+fn six_in(words: &[u32]) -> Option<(U4, [u8; 6])>
+    requires { length words.now ≡ 2 }
+    ensures { MatchOption result (field (slice_index words.now 0) 16 8 ≢ 0x26) (λ part.
+        (field (slice_index words.now 0) 16 8 ≡ 0x26) × (part.0 ≡ group_of words.now)
+        × (part.1 ≡ exclusive_places words.now)) }
+{
+    let first = words[0];
+    if bits(first, 16, 8) == 0x26 {
+        Some((nibble(first, 24), exclusive_bytes(words)))
+    } else {
+        None
+    }
+}
+
+// Bytes 3 to 8.
+#[inline(always)]
+fn exclusive_bytes(words: &[u32]) -> [u8; 6]
+    requires { length words.now ≡ 2 }
+    ensures { result ≡ exclusive_places words.now }
+{
+    let [_, _, byte3, byte4] = words[0].to_be_bytes();
+    let [byte5, byte6, byte7, byte8] = words[1].to_be_bytes();
+    [byte3, byte4, byte5, byte6, byte7, byte8]
+}
+
+// Whether this is a 7-bit exclusive in which no byte is high, counted or not.
+#[inline(always)]
+fn is_low_part(words: &Words) -> bool
+    requires { IsWhole words.now }
+    ensures { result ≡ is_low_part words.now }
+{
+    let words = words.as_slice();
+    begins_part(words[0]) && has_low_bytes(words)
+}
+
+// Whether this is the first word of a 7-bit exclusive that counts at most six bytes.
+#[inline(always)]
+fn begins_part(first: u32) -> bool
+    ensures { result ≡ begins_part first }
+{
+    (bits(first, 28, 4) == 3) & (bits(first, 20, 4) <= 3) & (bits(first, 16, 4) <= 6)
+}
+
+// Whether no byte of six is high.
+#[inline(always)]
+fn has_low_bytes(words: &[u32]) -> bool
+    requires { length words.now ≡ 2 }
+    ensures { result ≡ has_low_bytes words.now }
+{
+    (byte(words[0], 8) < 128)
+        & (byte(words[0], 0) < 128)
+        & (byte(words[1], 24) < 128)
+        & (byte(words[1], 16) < 128)
+        & (byte(words[1], 8) < 128)
+        & (byte(words[1], 0) < 128)
+}
+
+// The message in these words.
+#[inline(always)]
+fn message_in(words: &[u32]) -> DirectMessage
+    requires { length words.now ≡ 2 }
+    ensures group { result.group ≡ group_of words.now }
+    ensures status { result.status ≡ place words.now 2 }
+    ensures index { result.index ≡ place words.now 3 % 128 }
+    ensures attribute_type { result.attribute_type ≡ place words.now 4 }
+    ensures value { result.value ≡ word words.now 2 }
+{
+    let first = words[0];
+    DirectMessage {
+        group: nibble(first, 24),
+        status: byte(first, 16),
+        index: U7::low_bits(u32::from(byte(first, 8))),
+        attribute_type: byte(first, 0),
+        value: words[1],
+    }
+}
+
+// Whether this is the first word of a direct message.
+#[inline(always)]
+fn begins_direct(first: u32) -> bool
+    ensures { result ≡ (field first 28 4 == 4 && is_direct_opcode (field first 20 4)) }
+{
+    bits(first, 28, 4) == 4 && DirectKind::of(bits(first, 20, 4) as u8).is_direct()
+}
