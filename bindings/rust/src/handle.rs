@@ -16,8 +16,8 @@ pub(crate) struct Held {
     close: Close,
 }
 
-// SAFETY: the library has no variables of its own, and a handle may be used by one thread after another (docs/c-library.md,
-// Threads). It isn't Sync, by the cell and the raw pointer in it: one call at a time has a handle, even to read.
+// SAFETY: the library has no variables of its own, and a handle may be used by one thread after another (docs/c-library.md, What
+// C must promise). It is not Sync, by the cell and the raw pointer in it: one call at a time has a handle, even to read.
 unsafe impl Send for Held {}
 
 impl Held {

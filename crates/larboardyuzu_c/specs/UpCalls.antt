@@ -1,8 +1,6 @@
 -- What the calls of the translator up answer, by what the handle holds.
 use Rattle.std.specs.Prelude.{◌≡◌, nat_lt, ℕ, Bool, true, false, List, Option, Some, None}
-use Rattle.midi1_bytes.specs.Parsing.{idle}
-use Rattle.param_collector.specs.Holding.{fresh}
-use Rattle.up_translator.specs.Held.{UpState}
+use Rattle.up_translator.specs.Held.{UpState, new_up}
 use Rattle.c_answers.specs.Numbers.{number_of}
 use Rattle.c_answers.specs.declared.line.ListingLine.{ListingLine}
 use Rattle.c_answers.specs.declared.status.Status.{Status}
@@ -18,10 +16,6 @@ use Rattle.c_answers.specs.declared.outcome.ByteOutcome.{ByteOutcome}
 use Rattle.larboardyuzu_c.specs.Flags.{are_of_up, has_paired}
 use Rattle.larboardyuzu_c.specs.Held.{HoldsUp, is_room, Opens}
 
--- a translator for a stream that has had no byte yet
-abbrev pub new_up : ℕ → ℕ → Bool → UpState
-new_up group room is_paired = record { group = group; parsing = idle room; holding = fresh is_paired }
-
 -- by whether the room and the group are in range, and the call has the flags
 abbrev pub opens : Bool → Bool → Bool → Option Engine → Engine → ℕ → Option Engine → Type 0
 opens false is_group are_known before fresh status after = (status ≡ number_of statuses.BadRoom) × (after ≡ before)
@@ -31,7 +25,7 @@ opens true true true before fresh status after = Opens before fresh status after
 
 abbrev pub IsOpened : Option Engine → ℕ → ℕ → ℕ → ℕ → Option Engine → Type 0
 IsOpened before group room flags status after =
-    opens (is_room room) (nat_lt group 16) (are_of_up flags) before (engine.Up (new_up group room (has_paired flags))) status after
+    opens (is_room room) (nat_lt group 16) (are_of_up flags) before (engine.Up (new_up (has_paired flags) room group)) status after
 
 -- nothing is taken
 abbrev pub IsUntaken : Status → List ℕ → ℕ → ByteOutcome → List ℕ → Type 0
@@ -65,7 +59,7 @@ HasEnd (Some other) old status new = (status ≡ number_of statuses.OtherKind) �
 
 -- what a handle holds that is opened with the arguments of this translator
 abbrev pub IsNew : UpState → UpState → Type 0
-IsNew state held = held ≡ new_up state.group state.parsing.room state.holding.paired
+IsNew state held = held ≡ new_up state.holding.paired state.parsing.room state.group
 
 abbrev pub IsReset : Option Engine → ℕ → Option Engine → Type 0
 IsReset None status after = (status ≡ number_of statuses.HandleClosed) × (after ≡ None)

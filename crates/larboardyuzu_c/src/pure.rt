@@ -26,7 +26,7 @@ pub extern "C" fn larboardyuzu_words_in_packet(first: u32) -> u32
     words_in_packet(first) as u32
 }
 
-/// Writes the word of a status in this header, without its prefix, and its length.
+/// Writes the word of a status, as the header has it after its prefix, and its length.
 #[unsafe(no_mangle)]
 pub extern "C" fn larboardyuzu_status_name(status: u32, text: &mut [u8], length: &mut usize) -> u32
     ensures { IsNamed status_names status text.old result text.new length.new }
