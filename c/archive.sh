@@ -2,7 +2,7 @@
 # archive.sh here|TARGET FILE: makes the proved archive of crates/larboardyuzu_c anew if its sources or the kit changed; with two words, the
 # archive FILE of the same crate, proved for another TARGET. An archive that is newer than all of them is left as it is, without asking the kit.
 #
-# rt lib proves each library below anew that has no stamp, as none has after rt ci in a fresh clone. Where none has one, this builds the
+# rt lib proves each library below anew that has no stamp, as none has after rt ci in a fresh clone. If none has one, this builds the
 # crate alone over the libraries that are there, with the words with which rt itself would call the compiler. What a build proves is kept in the
 # crate's out/, as rt lib keeps it, so that the archive for another target isn't proved from nothing again.
 set -euo pipefail

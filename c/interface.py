@@ -163,7 +163,7 @@ class Header:
 
 
 def in_c(name, kind, structs, header, told):
-    """The C arguments of one of Rattle's, as (name, type); (None, type) where any name will do. A struct is a pair of names."""
+    """The C arguments of one of Rattle's, as (name, type); (None, type) if any name will do. A struct is a pair of names."""
     if kind in NUMBERS:
         return [(name, NUMBERS[kind])]
     slice_of = re.fullmatch(r"&(mut )?\[(\w+)\]", kind)

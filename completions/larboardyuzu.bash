@@ -19,7 +19,7 @@ _larboardyuzu_sort() {
   done
 }
 
-# The options that the command of these words takes; of all its directions, where it has none yet.
+# The options that the command of these words takes; those of all its directions if none is given yet.
 _larboardyuzu_options() {
   case "$*" in
     'translate down'*) echo --folder --compact --paired --little --room ;;

@@ -25,8 +25,8 @@ function __larboardyuzu_is --argument-names commands
     string match -q -r -- "^($commands)\$" "$(__larboardyuzu_plain | string join ' ')"
 end
 
-# Whether these commands are asked for, and neither this option nor the other one was given. An option that was given last is completed
-# where it waits for its word.
+# Whether these commands are asked for, and neither this option nor the other one was given. An option that was given last still counts
+# while it waits for its word.
 function __larboardyuzu_takes --argument-names commands option other
     set -l given (commandline -opc)
     if contains -- $option $__larboardyuzu_valued

@@ -211,7 +211,7 @@ uint32_t larboardyuzu_down_packets(larboardyuzu_down *down, const uint32_t *word
                                    uint64_t offset, uint8_t *bytes, size_t size, larboardyuzu_piece *pieces,
                                    size_t piece_count, larboardyuzu_block *block);
 
-/* Returns where the exclusive began that a group has open. */
+/* Finds the offset at which the exclusive began that a group has open. LARBOARDYUZU_NOTHING: none is open. */
 uint32_t larboardyuzu_down_begun(const larboardyuzu_down *down, uint8_t group, uint64_t *offset);
 
 /* Makes the handle as if it were just opened, with the same arguments, and takes no memory: no exclusive is
@@ -371,7 +371,7 @@ typedef struct larboardyuzu_profile {
 uint32_t larboardyuzu_endpoint_profile(const larboardyuzu_endpoint *endpoint, size_t index,
                                        larboardyuzu_profile *profile);
 
-/* Returns where the exclusive began that a group has open. */
+/* Finds the offset at which the exclusive began that a group has open. LARBOARDYUZU_NOTHING: none is open. */
 uint32_t larboardyuzu_endpoint_begun(const larboardyuzu_endpoint *endpoint, uint8_t group, uint64_t *offset);
 
 /* Makes the handle as if it were just opened with the same setup, and takes no memory: protocol, MUIDs and
@@ -422,7 +422,7 @@ typedef struct larboardyuzu_fact {
 #define LARBOARDYUZU_MOST_NOTES 1048576u
 #define LARBOARDYUZU_MOST_PARAMS 16384u
 
-/* In place of a channel: the facts of the group that belong to no channel. */
+/* Instead of a channel: the facts of the group that belong to no channel. */
 #define LARBOARDYUZU_NO_CHANNEL 255u
 
 /* notes: the most notes on, notes off and mode messages of each channel. They are a history in the order in
@@ -500,7 +500,8 @@ uint32_t larboardyuzu_sysex8_packets(larboardyuzu_sysex8 *sysex8, const uint32_t
                                      uint64_t offset, uint8_t *bytes, size_t size, larboardyuzu_part *parts,
                                      size_t part_count, larboardyuzu_block *block);
 
-/* Returns where the exclusive began that a stream of a group has open. */
+/* Finds the offset at which the exclusive began that a stream of a group has open. LARBOARDYUZU_NOTHING: none
+ * is open. */
 uint32_t larboardyuzu_sysex8_begun(const larboardyuzu_sysex8 *sysex8, uint8_t group, uint8_t stream,
                                    uint64_t *offset);
 

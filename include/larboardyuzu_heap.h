@@ -25,7 +25,7 @@ typedef struct larboardyuzu_given {
 /* Gives `size` bytes at an address that `align`, a power of two up to 16, divides. */
 larboardyuzu_given rattle_alloc(size_t size, size_t align);
 
-/* Gives `size` bytes in place of a block of `kept` bytes, with as many of those as fit at their front.
+/* Gives `size` bytes instead of a block of `kept` bytes, with as many of those as fit at their front.
  * If it gives nothing, the block stays as it is. */
 larboardyuzu_given rattle_realloc(void *at, size_t kept, size_t size, size_t align);
 

@@ -2,8 +2,8 @@
 """check_packages.py all: tries `make install`, `make uninstall` and `make deb`, with what is built here, in empty folders.
 
 What is installed has to run with no PATH, be readable by all whatever the umask is, and have pages whose links lead somewhere; once it is
-removed, only what others put there is left. The packages have to be the same twice, and are installed and removed again by dpkg in an empty
-root. What needs a tool or a library that isn't here is left out, with a line. The exit code is 1 if anything fails."""
+removed, only what others put there is left. The packages have to be the same twice, have no error by lintian, and are installed and removed
+again by dpkg in an empty root. What needs a tool or a library that isn't here is left out, with a line. The exit code is 1 if anything fails."""
 import contextlib
 import os
 import re
@@ -175,6 +175,15 @@ def check_package(path, room):
     print(f"packages: {os.path.basename(path)} installed in an empty root, tried and removed", flush=True)
 
 
+def check_lintian(path):
+    """What lintian calls an error, except what the package says is so on purpose."""
+    if not shutil.which("lintian"):
+        left_out(f"{os.path.basename(path)} by lintian", "lintian")
+        return
+    done = ran(["lintian", path], env={**os.environ, "LC_ALL": "C.UTF-8"})
+    yield from (f"{path}: lintian: {it}" for it in done[1].decode().splitlines() if it.startswith("E: "))
+
+
 def check_debian():
     """The packages, made twice, with the second time another umask and later files."""
     lacks = next((it for it in ("dpkg-deb", "dpkg") if not shutil.which(it)), None)
@@ -195,6 +204,7 @@ def check_debian():
     with tempfile.TemporaryDirectory(prefix="larboardyuzu-deb-") as room:
         for it in sums[0]:
             yield from check_package(f"{TOP}/out/deb/{it}", room)
+            yield from check_lintian(f"{TOP}/out/deb/{it}")
 
 
 def main(words):

@@ -6,7 +6,9 @@ isn't built is left out, with a line. The files come from tools/install.sh, the 
 by default that of the commit: the same files make the same packages, byte for byte."""
 import email.utils
 import gzip
+import hashlib
 import os
+import re
 import shutil
 import subprocess
 import sys
@@ -26,6 +28,19 @@ LIBRARY = """MIDI 2.0 packets to MIDI 1.0 bytes and back, library for C
  The translators, the parser, the endpoint, the running state, SysEx8 and
  USB-MIDI events of Larboardyuzu, with headers for C and C++.
 """
+
+# The terms of the Apache License in a notice, and the sum of their words: each Debian system has them in this file.
+APACHE = re.compile(r"[ \t]*Apache License\s+Version 2\.0.*?(TERMS AND CONDITIONS FOR USE.*?END OF TERMS AND CONDITIONS)", re.DOTALL)
+APACHE_SUM = "b316b715c7f48af32f6265b3de80b9656fdbddc57f5854215c8a4c6e0ad42c05"
+APACHE_FILE = "/usr/share/common-licenses/Apache-2.0"
+# What lintian finds in a package, or in one with the shared library, and why it is so.
+SAME_BITS = ("unstripped-binary-or-object", "the file is that of the release, bit for bit, so that it has the same sum")
+ONE_PACKAGE = "one package has the whole library: the headers, the archive and the shared library"
+FOUND = {
+    "larboardyuzu": [SAME_BITS, ("zero-byte-file-in-doc-directory", "an empty py.typed says that the package for Python has type hints")],
+    "liblarboardyuzu-dev": [SAME_BITS, ("link-to-shared-library-in-wrong-package", ONE_PACKAGE),
+                            ("package-name-doesnt-match-sonames", ONE_PACKAGE)],
+}
 
 
 def packages():
@@ -62,6 +77,31 @@ def changelog(name, time):
     return f"{says} -- {MAINTAINER}  {email.utils.formatdate(time)}\n"
 
 
+def without_terms(found):
+    """What replaces what APACHE found: the name of Debian's file, if the words are exactly the licence's."""
+    words = " ".join(found[1].split())
+    if hashlib.sha256(words.encode()).hexdigest() != APACHE_SUM:
+        return found[0]
+    return f"Apache License, Version 2.0. {APACHE_FILE} has its terms."
+
+
+def copyright_texts():
+    """The notices of a release without the terms of the Apache License. What a crate wrote after them stays."""
+    return [APACHE.sub(without_terms, text) for text in release.notices()]
+
+
+def overrides(name):
+    """The text of the package's overrides: what lintian finds and is so on purpose, each with its reason."""
+    return "\n".join(f"# {why}\n{name}: {tag}" for tag, why in FOUND[name])
+
+
+def describe_shared(folder):
+    """Writes that the loader has to learn of the shared library, and on what a program that uses it depends."""
+    soname = os.path.splitext(built.version())[0]
+    release.write(f"{folder}/triggers", ["activate-noawait ldconfig"])
+    release.write(f"{folder}/shlibs", [f"liblarboardyuzu {soname} liblarboardyuzu-dev (>= {built.version()})"])
+
+
 def compress(text, target):
     """As Debian has man pages and changelogs."""
     with open(target, "wb") as out:
@@ -80,9 +120,15 @@ def make(name, part, processor, needed, says):
         os.remove(f"{stage}/usr/share/man/man1/larboardyuzu.1")
     os.makedirs(f"{stage}/usr/share/doc/{name}", exist_ok=True)
     compress(changelog(name, release.epoch()).encode(), f"{stage}/usr/share/doc/{name}/changelog.gz")
-    release.write(f"{stage}/usr/share/doc/{name}/copyright", release.notices())
+    release.write(f"{stage}/usr/share/doc/{name}/copyright", copyright_texts())
+    has_shared = len(needed) > 1
+    if part == "program" or has_shared:
+        os.makedirs(f"{stage}/usr/share/lintian/overrides")
+        release.write(f"{stage}/usr/share/lintian/overrides/{name}", [overrides(name)])
     size = size_of(stage)
     os.makedirs(f"{stage}/DEBIAN")
+    if has_shared:
+        describe_shared(f"{stage}/DEBIAN")
     release.write(f"{stage}/DEBIAN/control", [control(name, processor, needed, says, size).rstrip("\n")])
     subprocess.run(["chmod", "-R", "u=rwX,go=rX,a-s", stage], check=True)
     env = {**os.environ, "SOURCE_DATE_EPOCH": str(release.epoch())}

@@ -66,7 +66,7 @@ def lanes_of(folder):
 
 
 def state_seen(said):
-    """The lines of the state, which come where nothing is refused."""
+    """The lines of the state, which come if nothing is refused."""
     code, output, errors, lanes = said
     lines = [it for it in output.split(b"\n") if it.startswith(b"state")]
     return code, lines if code == 0 else [], errors, lanes

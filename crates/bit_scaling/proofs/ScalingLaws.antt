@@ -36,7 +36,7 @@ up_14_32_ends = (refl, refl, refl)
 
 pub ruleset keeps_ends = (up_7_16_ends, up_7_32_ends, up_14_32_ends)
 
--- up to the centre, and above it, where the bits below the highest are repeated
+-- up to the centre, and above it: there the bits below the highest are repeated
 pub low_7_16 : (velocity : ℕ) → velocity ≤ 64 → up velocity 7 16 ≡ velocity * 512
 unfolding up
 low_7_16 velocity h = grind (arith, cond_both)

@@ -5,7 +5,8 @@ use Rattle.std.specs.Prelude.{ℕ, ◌≡◌, ◌+◌, ◌*◌, ◌-◌, ◌/◌
 abbrev pub IsScaling : ℕ → ℕ → Type 0
 IsScaling narrow wide = ((narrow ≡ 7) × (wide ≡ 16)) ⊎ ((narrow ≡ 7) × (wide ≡ 32)) ⊎ ((narrow ≡ 14) × (wide ≡ 32))
 
--- a value of `narrow` bits as one of `wide` bits: the least, the centre and the greatest stay the least, the centre and the greatest
+-- a value of `narrow` bits as one of `wide` bits: the least, the centre and the greatest stay the least, the
+-- centre and the greatest
 unfoldable pub up : ℕ → ℕ → ℕ → ℕ
 up value narrow wide =
     if nat_le value (2 ^ (narrow - 1)) then value * 2 ^ (wide - narrow)

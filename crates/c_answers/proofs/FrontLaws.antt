@@ -1,4 +1,4 @@
--- What is written behind what was written before.
+-- What is written after what was written before.
 use Rattle.std.proofs.Common.{◌≡◌, ◌≤◌, ◌<◌, ◌+◌, ℕ, ◌-◌, List, [], ◌∷◌, ◌++◌, refl, length, take}
 use Rattle.std.proofs.Common.{drop, ap, sym, ◌∙◌, append_assoc, arith, length-append, length-drop}
 use Rattle.std.proofs.Math.Seq.{take-append_seam, drop-append_seam}
@@ -7,7 +7,7 @@ use Rattle.std.specs.Prelude.{slice_set}
 use borrow.Rule.Slice.PartMut.{mid_of, put_mid}
 use Rattle.c_answers.specs.Fronts.{with_front}
 
--- the places behind what was written are those of the buffer before
+-- the places after what was written are those of the buffer before
 pub behind_front : {X : Type 0} (done old : List X) → drop (length done) (with_front done old) ≡ drop (length done) old
 behind_front done old = drop-append_seam done (drop (length done) old)
 

@@ -1,5 +1,5 @@
--- How far a call over a block came. A block is words or bytes that are taken from the front, one item after another: a packet of
--- words, or one byte of a stream. The one definition for all calls of this kind.
+-- How far a call over a block came. A block is words or bytes that are taken from the front, one item after
+-- another: a packet of words, or one byte of a stream. The one definition for all calls of this kind.
 use Rattle.std.specs.Prelude.{◌≡◌, ◌+◌, ◌*◌, ◌-◌, ◌%◌, ◌^◌, ◌==◌, ◌||◌, if◌then◌else◌, nat_lt, ℕ, zero, suc, Bool, true, false}
 use Rattle.std.specs.Prelude.{List, [], ◌∷◌, ◌++◌, length, take}
 use Rattle.c_answers.specs.Fronts.{with_front}
@@ -16,7 +16,8 @@ nothing_taken = record { taken = 0; written = 0; items = 0; refused = 0; need = 
 abbrev pub needed : Bool → ℕ → ℕ
 needed short most = if short then most else 0
 
--- a first buffer and a second one of these sizes are short for one more item, of which any may need so many places
+-- a first buffer and a second one of these sizes are short for one more item: any item may need so many
+-- places in each
 abbrev pub leaves_few : Block → ℕ → ℕ → ℕ → ℕ → Bool
 leaves_few block size most item_size most_items = nat_lt (size - block.written) most || nat_lt (item_size - block.items) most_items
 
@@ -58,10 +59,12 @@ with_refused block count =
 
 -- ---- one item
 
--- How a handle takes one item: how many words or bytes the item has that begins with this one, and what each of them adds to the
--- offset; what it takes, by what is held before it, the item's offset, its words or bytes, what it writes to the first buffer, what it
--- writes to the second one, and what is held after it; what it refuses, with the status and what is held after that; and how many
--- places any item may need in the first buffer, and in the second one.
+-- How a handle takes one item:
+--   how many words or bytes the item has that begins with this one, and what each of them adds to the offset;
+--   what it takes, by the state before it, the item's offset, its words or bytes, what it writes to the
+--   first buffer, what it writes to the second one, and the state after it;
+--   what it refuses, with the status and the state after that;
+--   and how many places any item may need in the first buffer, and in the second one.
 pub record Taking (Held Item : Type 0) : Type 1 where
   pub size_of : ℕ → ℕ
   pub step : ℕ
@@ -77,7 +80,8 @@ is_one taking (first ∷ more) = taking.size_of first == length (first ∷ more)
 
 -- ---- the items so far
 
--- their words or bytes, what they wrote to both buffers, each in order, the offset of the next item, and what is held after them
+-- their words or bytes, what they wrote to both buffers, each in order, the offset of the next item, and what
+-- is held after them
 pub record Progress (Held Item : Type 0) : Type 0 where
   pub taken : List ℕ
   pub written : List ℕ
@@ -122,7 +126,7 @@ Goes {Held} {Item} taking old old_items held offset (suc count) progress =
 
 -- ---- the end
 
--- so many words or bytes at the end of those taken are the item that was refused, and so many places are needed
+-- so many words or bytes at the end of those taken are the item that was refused; so many places are needed
 abbrev pub block_after : {Held Item : Type 0} → Progress Held Item → ℕ → ℕ → ℕ → Block
 block_after progress refused need need_items =
     record {
@@ -164,8 +168,8 @@ ends taking [] old old_items progress status block after =
 ends taking (first ∷ more) old old_items progress status block after =
     ends_full taking (is_full taking old old_items progress) old old_items progress (taking.size_of first) (first ∷ more) status block after
 
--- The items at the front are taken one after another: all of them, or up to one for which a buffer is short, whose words aren't all
--- there, or that is refused. What they write is at the front of the buffers.
+-- The items at the front are taken one after another: all of them, or up to one for which a buffer is short,
+-- whose words aren't all there, or that is refused. What they write is at the front of the buffers.
 pub record AreTaken {Held Item : Type 0} (taking : Taking Held Item) (held : Held) (offset : ℕ) (input old : List ℕ)
     (old_items : List Item) (status : ℕ) (block : Block) (new : List ℕ) (items : List Item) (after : Held) : Type 0 where
   pub count : ℕ

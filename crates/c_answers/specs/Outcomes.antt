@@ -1,4 +1,4 @@
--- What comes of one byte of a stream, as a caller gets it.
+-- The outcome of one byte of a stream, as a caller gets it.
 use Rattle.std.specs.Prelude.{◌==◌, ◌||◌, if◌then◌else◌, not, ℕ, Bool, List, [], ◌∷◌}
 use Rattle.c_answers.specs.Lines.{no_line}
 use Rattle.c_answers.specs.declared.line.ListingLine.{ListingLine}

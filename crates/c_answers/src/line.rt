@@ -11,7 +11,7 @@ use listing_terms::{Kind, Listed};
 pub struct ListingLine {
     /// The offset of what it tells.
     pub offset: u64,
-    /// The number of its kind; 0 where there is no line.
+    /// The number of its kind; 0 if there is no line.
     pub kind: u8,
 }
 

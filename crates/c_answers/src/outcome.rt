@@ -1,10 +1,10 @@
-// What comes of one byte of a stream.
+// The outcome of one byte of a stream.
 ghost use Rattle.std.specs.Prelude.{◌≡◌};
 ghost use Rattle.c_answers.specs.Outcomes.{empty_outcome, is_told, needing, no_outcome, outcome_of};
 
 use crate::line::ListingLine;
 
-/// What comes of one byte of a stream: what is written for it, and its lines of the listing.
+/// The outcome of one byte of a stream: what is written for it, and its lines of the listing.
 #[repr(C)]
 #[derive(Clone, Copy)]
 pub struct ByteOutcome {

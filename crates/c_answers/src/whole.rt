@@ -6,8 +6,8 @@ ghost use Rattle.c_answers.specs.Whole.{is_whole};
 use packet_words::words::words_in_packet;
 use packet_words::{Framed, Words};
 
-/// The words as those of one packet, where they are as many as the
-/// message type of the first one has (M2-104-UM).
+/// The words as those of one packet, if they are as many as the message type of the first one has
+/// (M2-104-UM).
 #[inline(always)]
 pub fn framed(words: &[u32], offset: u64) -> Option<Framed>
     ensures { MatchOption result (is_whole words.now ≡ false) (λ framed. (framed.words ≡ words.now)

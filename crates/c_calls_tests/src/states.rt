@@ -44,7 +44,8 @@ fn a_note_of_packets_is_told(rt: HostRuntime) -> Result<(), Fail> {
     Ok(())
 }
 
-// A note on and a clock (MIDI 1.0 Detailed Specification). The clock is of no channel; there is no channel 16.
+// A note on and a clock (MIDI 1.0 Detailed Specification). The clock is of no channel, and there is no
+// channel 16.
 #[test]
 fn a_clock_of_bytes_is_counted(rt: HostRuntime) -> Result<(), Fail> {
     let mut state = CByteState::new(rt.alloc(), 6, 1, 0)?;

@@ -39,8 +39,8 @@ fn packets_go_down(rt: HostRuntime) -> Result<(), Fail> {
     Ok(())
 }
 
-// A note under running status with a clock in it, F7 where nothing is
-// open, and an exclusive of seven bytes (MIDI 1.0 Detailed Specification).
+// A note under running status with a clock in it, F7 while nothing is open, and an exclusive of seven bytes
+// (MIDI 1.0 Detailed Specification).
 const STREAM: [u8; 16] = [
     0x90, 0x3C, 0x64, 0x3E, 0xF8, 0x64, 0xF7, 0xF0, 1, 2, 3, 4, 5, 6, 7, 0xF7,
 ];

@@ -1,4 +1,4 @@
--- What an endpoint answers where it is asked for what it holds.
+-- What an endpoint answers if it is asked for what it holds.
 use Rattle.std.specs.Prelude.{◌≡◌, ℕ, nat_lt, Bool, true, false, Option, Some, None, slice_get, unwrap_or}
 use Rattle.std.specs.Option.{option_map}
 use Rattle.function_blocks.specs.declared.setup.Profile.{Profile}
@@ -20,7 +20,7 @@ tells (Some found) status old new = (status ≡ number_of statuses.Done) × (new
 abbrev pub IsMuid : EndpointState → ℕ → ℕ → ℕ → ℕ → Type 0
 IsMuid held block status old new = tells (muid_in held.responder.blocks block) status old new
 
--- where the exclusive started that a group has open
+-- the start of the exclusive that a group has open
 abbrev pub begins : Bool → EndpointState → ℕ → ℕ → ℕ → ℕ → Type 0
 begins false held group status old new = (status ≡ number_of statuses.BadGroup) × (new ≡ old)
 begins true held group status old new = tells (option_map (λ begun. begun.start) (begun_in held.exclusives group)) status old new
@@ -28,7 +28,7 @@ begins true held group status old new = tells (option_map (λ begun. begun.start
 abbrev pub IsBegun : EndpointState → ℕ → ℕ → ℕ → ℕ → Type 0
 IsBegun held group status old new = begins (nat_lt group 16) held group status old new
 
--- whether a profile is on: as the setup says, where no switch was accepted
+-- whether a profile is on: as the setup says, if no switch was accepted
 abbrev pub is_on_in : EndpointState → Profile → Bool
 is_on_in held profile = unwrap_or (state_in held.responder.states (key_of profile)) profile.on
 

@@ -1,4 +1,4 @@
--- What comes of the text of a setup.
+-- The outcome of the text of a setup.
 use Rattle.std.specs.Prelude.{◌≡◌, ◌⊎◌, ℕ, Result, Ok, Err, MatchResult}
 use Rattle.function_blocks.specs.Rules.{Read}
 use Rattle.function_blocks.specs.Setups.{SetupData}

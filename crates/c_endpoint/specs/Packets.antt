@@ -74,7 +74,7 @@ abbrev pub IsRead : List ℕ → Result Packet Status → Type 0
 IsRead words (Ok packet) = Reads words packet
 IsRead words (Err why) = Unread (is_whole words) (reason words) why
 
--- the words are of a packet that is accepted: what is written for it, and what is held after it
+-- the words are of a packet that is accepted: what is written for it, and the state after it
 pub record TakesPacket (held : EndpointState) (offset : ℕ) (words written : List ℕ) (replies : PacketReplies)
     (after : EndpointState) : Type 0 where
   pub packet : Packet
@@ -91,7 +91,8 @@ pub record IsUntaken (held : EndpointState) (offset : ℕ) (words : List ℕ) (w
   pub why_is : why ≡ status_of_step bad
   pub after_is : after ≡ after_packet offset packet held
 
--- by whether the words are as many as their type has, and why no packet has them, which leaves the endpoint as it was
+-- by whether the words are as many as their type has, and why no packet has them, which leaves the endpoint
+-- as it was
 abbrev pub refuses : Bool → Option Bad → EndpointState → ℕ → List ℕ → Status → EndpointState → Type 0
 refuses true None held offset words why after = IsUntaken held offset words why after
 refuses whole bad held offset words why after = Unread whole bad why × (after ≡ held)
@@ -101,13 +102,14 @@ RefusesPacket held offset words why after = refuses (is_whole words) (reason wor
 
 -- ---- the call for one packet
 
--- what is told of a packet that is taken, or why it is refused; the words that are written for it are at the front of the buffer
+-- what is told of a packet that is taken, or why it is refused; the words that are written for it are at the
+-- front of the buffer
 abbrev pub TakesOrRefuses : EndpointState → ℕ → List ℕ → List ℕ → Result PacketReplies Status → List ℕ → EndpointState → Type 0
 TakesOrRefuses held offset words old (Ok replies) new after =
     (written : List ℕ) × TakesPacket held offset words written replies after × (new ≡ with_front written old)
 TakesOrRefuses held offset words old (Err why) new after = RefusesPacket held offset words why after × (new ≡ old)
 
--- the status, and what is told where nothing is taken
+-- the status, and what is told if nothing is taken
 abbrev pub Tells : Result PacketReplies Status → ℕ → PacketReplies → Type 0
 Tells (Ok told) status replies = (status ≡ number_of statuses.Done) × (replies ≡ told)
 Tells (Err why) status replies = (status ≡ number_of why) × (replies ≡ no_replies)

@@ -8,7 +8,7 @@ use Rattle.c_endpoint.specs.declared.profile.EndpointProfile.{EndpointProfile}
 abbrev pub no_profile : EndpointProfile
 no_profile = record { block = 255; group = 255; channel = 255; id = 0 ∷ 0 ∷ 0 ∷ 0 ∷ 0 ∷ []; is_on = false }
 
--- the group and the channel of a place; 255 where it has none
+-- the group and the channel of a place; 255 if it has none
 abbrev pub group_in : Place → ℕ
 group_in place.Function = 255
 group_in (place.Group group) = group

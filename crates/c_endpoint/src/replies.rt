@@ -1,4 +1,4 @@
-// What comes of one packet.
+// The outcome of one packet.
 ghost use Rattle.std.specs.Prelude.{◌≡◌};
 ghost use Rattle.c_endpoint.specs.Packets.{group_number, needing, no_replies, replies_of};
 
@@ -7,7 +7,7 @@ use c_answers::ListingLine;
 use ump_endpoint::Taken;
 use ump_grammar::Packet;
 
-/// What comes of one packet.
+/// The outcome of one packet.
 #[repr(C)]
 #[derive(Clone, Copy)]
 pub struct PacketReplies {
@@ -15,8 +15,8 @@ pub struct PacketReplies {
     pub written: usize,
     /// If the buffer is too small, how many words it has to have; otherwise 0.
     pub need: usize,
-    /// The offset of the line of the listing: where the exclusive began
-    /// that is cut off, or that of the packet that is stray.
+    /// The offset of the line of the listing: that of the start of the exclusive that is cut off, or that of
+    /// the packet that is stray.
     pub offset: u64,
     /// What became of the message that the packet ended; 0 if it ended none.
     pub heard: u8,

@@ -109,8 +109,8 @@ impl Handle {
         let _was_open = std::mem::replace(self, Handle::of(Parted::of(value))).let_go();
     }
 
-    /// Puts this in a handle that is closed. `NoMemory` where there
-    /// isn't enough for it; the handle then stays closed.
+    /// Puts this in a handle that is closed. `NoMemory` if there isn't
+    /// enough for it; the handle then stays closed.
     pub fn fill(&mut self, alloc: Global, engine: Engine) -> Status
         requires { self.old.holds ≡ None }
         ensures { IsFilled engine (number_of result) self.new.holds }

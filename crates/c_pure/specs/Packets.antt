@@ -16,8 +16,9 @@ use Rattle.c_answers.specs.declared.status.Status.TheVariants as statuses
 abbrev pub count_at : Order → List ℕ → ℕ
 count_at order bytes = words_asked (word_at order bytes 0)
 
--- Why no packet is taken from the front of these bytes, where there are so many places for its words, and how many it needs: there are no
--- bytes; they are fewer than a word has; its words don't fit; its bytes aren't all there.
+-- Why no packet is taken from the front of these bytes, if there are so many places for its words, and how
+-- many it needs: there are no bytes; they are fewer than a word has; its words don't fit; its bytes aren't
+-- all there.
 abbrev pub stop_before : Order → ℕ → List ℕ → Option (Status × ℕ)
 stop_before order places [] = Some (statuses.Done, 0)
 stop_before order places (first ∷ more) =
@@ -34,8 +35,8 @@ abbrev pub block_of : Order → List (List ℕ) → ℕ → Block
 block_of order packets need =
     record nothing_taken { taken = length (concat packets); written = length (words_by order packets); need = need }
 
--- The packets at the front of the bytes are taken, each with as many bytes as its first word asks for, up to the first one that can't be.
--- Their words are at the front of the buffer.
+-- The packets at the front of the bytes are taken, up to the first one that can't be: each has as many bytes
+-- as its first word asks for. Their words are at the front of the buffer.
 pub record AreCut (order : Order) (bytes old : List ℕ) (status : ℕ) (new : List ℕ) (block : Block) : Type 0 where
   pub packets : List (List ℕ)
   pub rest : List ℕ

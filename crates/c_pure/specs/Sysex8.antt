@@ -1,7 +1,7 @@
 -- The packets of an 8-bit exclusive, one at a time.
 use Rattle.std.specs.Prelude.{◌≡◌, nat_lt, ℕ, Bool, true, false, List, length, Option, Some, None}
 use Rattle.sysex8_streams.specs.declared.part8.Part8.{Part8}
-use Rattle.sysex8_packets.specs.Cut8.{part8_at, Encodes8}
+use Rattle.sysex8_streams.specs.Cut8.{part8_at, Encodes8}
 use Rattle.c_answers.specs.Fronts.{with_front}
 use Rattle.c_answers.specs.Numbers.{number_of}
 use Rattle.c_answers.specs.declared.status.Status.{Status}

@@ -1,7 +1,9 @@
 // The words of the header by their numbers.
 ghost use Rattle.std.specs.Prelude.{◌≡◌, map};
 ghost use Rattle.c_answers.specs.Numbers.{number_of};
+ghost use Rattle.c_endpoint.specs.Numbers.{heard_number};
 ghost use Rattle.c_pure.specs.Names.{heard_names, kind_names, status_names, AreShort, IsNamed};
+ghost use Rattle.c_pure.specs.Words.{heard_word, kind_word, line_number, status_word, AreWordsOf};
 
 use c_answers::{Status, put_bytes};
 
@@ -125,4 +127,12 @@ pub fn words_have_at_most_32_bytes()
     ensures statuses { AreShort status_names }
     ensures kinds { AreShort kind_names }
     ensures heard { AreShort heard_names }
+{}
+
+/// The word at the number of each status is that status's own, and there are no other words. So it is with the
+/// kinds of lines, of which 0 is none, and with what an endpoint did with a message.
+pub fn words_are_those_of_the_numbers()
+    ensures statuses { AreWordsOf number_of status_word status_names }
+    ensures kinds { AreWordsOf line_number kind_word kind_names }
+    ensures heard { AreWordsOf heard_number heard_word heard_names }
 {}

@@ -5,7 +5,7 @@ ghost use Rattle.c_pure.specs.Sysex8.{IsCut};
 
 use c_answers::{Status, put_words};
 use small_types::U4;
-use sysex8_packets::{part8, part8_words};
+use sysex8_streams::packets::{part8, part8_words};
 
 /// Writes the four words of a packet, counted from 0, of an 8-bit exclusive of a stream with these bytes to
 /// the front of the buffer (M2-104-UM, system exclusive 8-bit messages). Each packet but the last has

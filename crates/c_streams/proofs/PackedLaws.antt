@@ -109,7 +109,7 @@ accepted undefined within = refl
 accepted (cut start what after) within = refl
 accepted too_long within = absurd (within refl)
 
--- the outcome of what comes of a byte that is not refused
+-- the outcome of a byte that is not refused
 abbrev pub outcome_in : Packed → ℕ → ByteOutcome
 outcome_in one offset =
     outcome_of offset (length (concat (events_in one))) (listed_line (first_in one.lines)) (listed_line (second_in one.lines))
@@ -129,7 +129,7 @@ refused step is = ap refusal_of is
 
 -- ---- the events of an exclusive, one by one
 
--- the first k events of an exclusive are written, and those of the bytes behind them are not
+-- the first k events of an exclusive are written, and those of the bytes after them are not
 pub record AreFirst (cable : ℕ) (whole : List ℕ) (k : ℕ) (old now : List ℕ) : Type 0 where
   pub first : List (List ℕ)
   pub parts : exclusive_events cable whole ≡ first ++ exclusive_events cable (drop (3 * k) whole)
@@ -187,7 +187,7 @@ module _ (in_order : ExclusiveEventsComeInOrder) (cable : ℕ) (whole : List ℕ
             ∙ then_front (concat are.first) one old ∙ ap (λ bytes. with_front bytes old) (sym (joined one));
       }
 
-  -- behind the last one
+  -- after the last one
   all_parts : None ≡ first_event cable (drop (3 * k) whole) → exclusive_events cable whole ≡ are.first
   all_parts is = are.parts ∙ ap (λ events. are.first ++ events) (in_order.last cable whole k (sym is)) ∙ append-nil are.first
 
@@ -197,7 +197,7 @@ module _ (in_order : ExclusiveEventsComeInOrder) (cable : ℕ) (whole : List ℕ
   pub all_written : None ≡ first_event cable (drop (3 * k) whole) → now ≡ with_front (concat (exclusive_events cable whole)) old
   all_written is = are.stands ∙ ap (λ events. with_front (concat events) old) (sym (all_parts is))
 
--- there is an event where there are bytes
+-- there is an event if there are bytes
 some_bytes : (cable : ℕ) (bytes one : List ℕ) → Some one ≡ first_event cable bytes → 0 < length bytes
 some_bytes cable [] one is = let e : Some one ≡ None = is in cc
 some_bytes cable (byte ∷ bytes) one is = omega arith
@@ -206,7 +206,7 @@ pub below_end : (cable : ℕ) (whole : List ℕ) (k : ℕ) (one : List ℕ) → 
     → 3 * k < length whole
 below_end cable whole k one is = omega (arith, some_bytes cable (drop (3 * k) whole) one is, length-drop (3 * k) whole)
 
--- where there is no other event, the events are those of the exclusive
+-- if there is no other event, the events are those of the exclusive
 pub only_whole : (one : Packed) (whole : List ℕ) → one.event ≡ None → whole_in one ≡ Some whole
     → events_in one ≡ exclusive_events (cable_in one) whole
 only_whole one whole none is =

@@ -1,5 +1,5 @@
--- What a reader of the bytes of a MIDI 1.0 stream answers a caller, of one byte and of many. The parser is one, and the packer of
--- USB-MIDI events is another.
+-- What a reader of the bytes of a MIDI 1.0 stream answers a caller, of one byte and of many. The parser is
+-- one, and the packer of USB-MIDI events is another.
 use Rattle.std.specs.Prelude.{◌≡◌, ℕ, nat_lt, Bool, true, false, List, [], ◌∷◌, length, Option, Some, None, Result, Ok, Err}
 use Rattle.midi1_bytes.specs.Steps.{Step, too_long}
 use Rattle.midi1_bytes.specs.Stream.{Open}
@@ -15,8 +15,8 @@ use Rattle.c_answers.specs.declared.outcome.ByteOutcome.{ByteOutcome}
 use Rattle.c_answers.specs.declared.status.Status.{Status}
 use Rattle.c_answers.specs.declared.status.Status.TheVariants as statuses
 
--- A reader: what a byte does, and what is held after it, by what is held before it and the byte's offset; what is written for a byte that
--- does this; and how many places any byte may need.
+-- A reader: what a byte does, and the state after it, by the state before it and the byte's offset;
+-- what is written for a byte that does this; and how many places any byte may need.
 pub record Reader (Held : Type 0) : Type 0 where
   pub step : Held → ℕ → ℕ → Step
   pub after : Held → ℕ → ℕ → Held
@@ -30,7 +30,7 @@ abbrev pub refusal_of : Step → Option Status
 refusal_of too_long = Some statuses.ExclusiveTooLong
 refusal_of _ = None
 
--- the outcome of a byte at an offset that does this, where this is written for it
+-- the outcome of a byte at an offset that does this, if these bytes are written for it
 abbrev pub outcome_at : Step → ℕ → List ℕ → ByteOutcome
 outcome_at step offset written =
     outcome_of offset (length written) (first_line (kinds_of_step step offset)) (second_line (kinds_of_step step offset))

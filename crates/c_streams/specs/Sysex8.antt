@@ -24,7 +24,7 @@ ended_by (whole8 bytes) = bytes
 ended_by (restarted_whole8 at bytes) = bytes
 ended_by _ = []
 
--- where the exclusive started that a part cuts off
+-- the start of the exclusive that a part cuts off
 abbrev pub cut_by : Answer8 → ℕ
 cut_by (restarted8 at) = at
 cut_by (restarted_whole8 at bytes) = at
@@ -174,7 +174,7 @@ begins false start status old new = (status ≡ number_of statuses.BadGroup) × 
 begins true None status old new = (status ≡ number_of statuses.Nothing) × (new ≡ old)
 begins true (Some start) status old new = (status ≡ number_of statuses.Done) × (new ≡ start)
 
--- where the exclusive started that a stream has begun
+-- the start of the exclusive that a stream has begun
 abbrev pub IsBegun : Table8 → ℕ → ℕ → ℕ → ℕ → ℕ → Type 0
 IsBegun table group stream status old new =
     begins (nat_lt group 16) (option_map (λ begun. begun.start) (begun8_in table (key_of group stream))) status old new

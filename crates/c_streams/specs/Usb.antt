@@ -45,6 +45,7 @@ abbrev pub carries_four : Bool → List ℕ → ℕ → CarriedBytes → Carried
 carries_four false bytes status old new = (status ≡ number_of statuses.BadSize) × (new ≡ old)
 carries_four true bytes status old new = let event = event_of bytes in carries (is_reserved event.code) event status old new
 
--- The cable of an event of four bytes, and the bytes that it carries, the first of its three; nothing if its code is reserved.
+-- The cable of an event of four bytes, and the bytes that it carries, the first of its three; nothing if its
+-- code is reserved.
 abbrev pub IsCarried : List ℕ → ℕ → CarriedBytes → CarriedBytes → Type 0
 IsCarried bytes status old new = carries_four (length bytes == 4) bytes status old new

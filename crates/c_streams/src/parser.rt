@@ -27,7 +27,7 @@ pub fn parser_size(room: u32) -> usize
     room as usize + 2
 }
 
-// Writes a whole message, and returns what comes of the byte at this offset that completes it.
+// Writes a whole message, and returns the outcome of the byte at this offset that completes it.
 #[inline(always)]
 fn whole(bytes: &[u8], offset: u64, buffer: &mut [u8]) -> ByteOutcome
     requires { length bytes.now ≤ length buffer.old }
@@ -38,7 +38,7 @@ fn whole(bytes: &[u8], offset: u64, buffer: &mut [u8]) -> ByteOutcome
     ByteOutcome::of(offset, put_bytes(bytes, buffer), none, none)
 }
 
-// What comes of the byte at this offset that is only listed.
+// The outcome of the byte at this offset that is only listed.
 fn listed(kind: Kind, offset: u64) -> ByteOutcome
     ensures { result ≡ outcome_of offset 0 (line_of (kind, offset)) no_line }
 {
@@ -50,7 +50,7 @@ fn listed(kind: Kind, offset: u64) -> ByteOutcome
     )
 }
 
-// What comes of the byte at this offset that cuts off what started at `start`.
+// The outcome of the byte at this offset that cuts off what started at `start`.
 fn cut(start: u64, what: CutKind, after: AfterCut, offset: u64, buffer: &mut [u8]) -> ByteOutcome
     requires { length (message_in (steps.cut start what after)) ≤ length buffer.old }
     ensures { ShowsStep (steps.cut start what after) offset (message_in (steps.cut start what after))

@@ -1,4 +1,4 @@
--- A packet that is accepted, by what comes of it.
+-- A packet that is accepted, by its outcome.
 use Rattle.std.proofs.Common.{◌≡◌, ◌<◌, ◌∙◌, ℕ, Bool, true, false, List, length, refl, sym, Option, Some, None}
 use Rattle.std.specs.Prelude.{if◌then◌else◌}
 use Rattle.std.specs.Option.{option_map}

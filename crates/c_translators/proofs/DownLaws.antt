@@ -1,4 +1,4 @@
--- What is held after a packet.
+-- The state after a packet.
 use Rattle.std.proofs.Common.{ℕ, ◌≡◌, ◌≢◌, ◌≤◌, ◌∙◌, refl, ap, sym, subst, List, ◌++◌, length, Option, Some, None, Bool, true, false, cond}
 use Rattle.std.proofs.lemmas.Bool.{le-ltb}
 use Rattle.std.proofs.lemmas.Option.{same_Some}
@@ -39,7 +39,7 @@ most_stays offset _ state = refl
 
 -- ---- a packet that is refused
 
--- a part is refused only where it goes on with an exclusive that then is too long, and nothing is open after it
+-- a part is refused only if it goes on with an exclusive that then is too long; nothing is open after it
 goes_on : (fits : Bool) (going : Answer) (kept : Option Begun) (why : BadStep) → bad_answer going ≡ None
     → bad_answer (cond fits going too_long) ≡ Some why →
     (why ≡ bad.ExclusiveTooLong) × (cond fits kept None ≡ None)
@@ -132,7 +132,7 @@ refuses_words true None state words why unread = absurd unread
 refuses_words true (Some bad) state words why unread = (unread, refl)
 refuses_words false reason state words why unread = (unread, refl)
 
--- where the buffer is large enough, the call answers as the packet is taken
+-- if the buffer is large enough, the call answers as the packet is taken
 pub answered : (state : DownState) (offset : ℕ) (words old : List ℕ) (piece : Piece) (new : List ℕ) (after : DownState)
     → most_bytes state ≤ length old →
     IsTakenOrRefused state offset words old (Ok piece) new after

@@ -74,7 +74,7 @@ part_fits group payload k form bytes below low part =
     subst (λ (chunk : List ℕ). (group < 16) × (length chunk ≤ 6) × All (λ b. b < 128) chunk) (sym part.chunk)
     (below, omega (arith, length-take 6 (drop (k * 6) payload)), chunk_data payload k low)
 
--- one more packet of an exclusive is written behind those before it
+-- one more packet of an exclusive is written after those before it
 pub record AreCut (group : ℕ) (payload old : List ℕ) (k written : ℕ) (words : List ℕ) : Type 0 where
   pub within : k ≤ part_count payload
   pub all : List ℕ

@@ -41,7 +41,7 @@ pub whole_is_one : (words : List ℕ) → is_whole words ≡ true → is_one pac
 whole_is_one [] whole = whole
 whole_is_one (first ∷ more) whole = whole
 
--- so far, where a buffer that was large enough stays so
+-- so far: a buffer that was large enough stays so
 abbrev pub AreSoFar : DownState → ℕ → List ℕ → List ℕ → List Piece → Block → ℕ → DownState → List ℕ → List Piece → Type 0
 AreSoFar state offset words old old_pieces block next now buffer pieces =
     laws.AreSoFar packets (λ held. most_bytes held ≡ most_bytes state) state offset words old old_pieces block next now buffer pieces

@@ -1,4 +1,5 @@
--- The piece of a packet has at most as many bytes as an exclusive of the limit with its F0 and F7, or as four messages.
+-- The piece of a packet has at most as many bytes as an exclusive of the limit with its F0 and F7, or as four
+-- messages.
 use Rattle.std.proofs.Common.{ℕ, ◌≤◌, ◌+◌, ◌*◌, arith, List, [], ◌∷◌, ◌++◌, length, Option, Some, None, Bool, length-append}
 use Rattle.std.proofs.Math.Nat.{le-max_left, le-max_right}
 use Rattle.std.proofs.lemmas.Bool.{cond_both, leb-true}

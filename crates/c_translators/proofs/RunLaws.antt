@@ -1,4 +1,4 @@
--- Bytes that are taken at once: what comes of each is known, since nothing is raised of them, or one packet of the last.
+-- Bytes that are taken at once: the outcome of each is known, since nothing is raised of them, or one packet of the last.
 use Rattle.std.proofs.Common.{ℕ, zero, suc, ◌≡◌, ◌≤◌, ◌<◌, ◌+◌, ◌-◌, ◌∙◌, refl, ap, sym, subst, arith, Bool, true, false}
 use Rattle.std.proofs.Common.{List, [], ◌∷◌, ◌++◌, length, Option, Some, None}
 use Rattle.std.proofs.Math.Bool.{or-true}

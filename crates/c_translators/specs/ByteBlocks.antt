@@ -18,8 +18,8 @@ use Rattle.c_translators.specs.Encoded.{EncodesAll}
 use Rattle.c_translators.specs.Up.{after_refused, most_words, outcome_shown}
 use Rattle.c_translators.specs.declared.up.Run.{Run}
 
--- One byte that is accepted, with its words, and its outcome if it completes a packet or has a line. Each state that was kept before
--- it is kept after it.
+-- One byte that is accepted, with its words, and its outcome if it completes a packet or has a line. Each
+-- state that was kept before it is kept after it.
 pub record TakesByte (held : UpState) (offset : ℕ) (bytes words : List ℕ) (outcomes : List ByteOutcome) (after : UpState) : Type 0 where
   pub byte : ℕ
   pub raised : Raised
@@ -42,7 +42,8 @@ pub record RefusesByte (held : UpState) (offset : ℕ) (bytes : List ℕ) (why :
 
 -- ---- several bytes that are taken at once
 
--- Of these bytes, the first at this offset, only the last writes anything: these words and these outcomes; and what is held after it.
+-- Of these bytes, the first at this offset, only the last writes anything: these words and these outcomes;
+-- and the state after it.
 abbrev pub TakesRun : UpState → ℕ → List ℕ → List ℕ → List ByteOutcome → UpState → Type 0
 TakesRun held offset [] words outcomes after = (words ≡ []) × (outcomes ≡ []) × (after ≡ held)
 TakesRun held offset (byte ∷ []) words outcomes after = TakesByte held offset (byte ∷ []) words outcomes after
@@ -62,7 +63,8 @@ pub record IsRun (held : UpState) (offset : ℕ) (bytes old : List ℕ) (old_out
   pub words_are : new ≡ with_front words old
   pub outcomes_are : outcomes ≡ with_front items old_outcomes
 
--- The bytes at the front are taken, one at least, and several only where their offsets don't begin again at 0; or the first is refused.
+-- The bytes at the front are taken, one at least, and several only if their offsets don't begin again at 0;
+-- or the first is refused.
 abbrev pub IsFrontTaken : UpState → ℕ → List ℕ → List ℕ → List ByteOutcome → Result Run BadStep → List ℕ → List ByteOutcome → UpState → Type 0
 IsFrontTaken held offset bytes old old_outcomes (Ok run) new outcomes after =
     IsRun held offset bytes old old_outcomes run new outcomes after × (0 < run.count) × (1 < run.count → offset + run.count < 2 ^ 64)

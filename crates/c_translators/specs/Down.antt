@@ -22,7 +22,8 @@ use Rattle.c_answers.specs.declared.status.Status.TheVariants as statuses
 use Rattle.c_translators.specs.Pieces.{needing, no_piece, piece_shown}
 use Rattle.c_translators.specs.declared.piece.Piece.{Piece}
 
--- The size of a buffer that takes the piece of any packet: an exclusive of this limit with its F0 and F7, or else four messages.
+-- The size of a buffer that takes the piece of any packet: an exclusive of this limit with its F0 and F7, or
+-- else four messages.
 abbrev pub most_bytes_of : ℕ → ℕ
 most_bytes_of room = max (room + 2) 12
 
@@ -36,7 +37,7 @@ abbrev pub without_begun : Option ℕ → Table → Table
 without_begun None table = table
 without_begun (Some group) table = record { room = table.room; groups = slice_set table.groups group None }
 
--- what is held after a packet that is refused: only an exclusive that is too long is dropped
+-- the state after a packet that is refused: only an exclusive that is too long is dropped
 abbrev pub after_refused : BadStep → Option ℕ → DownState → DownState
 after_refused bad.ExclusiveTooLong group state = record { exclusives = without_begun group state.exclusives; lanes = state.lanes }
 after_refused _ group state = state
@@ -58,7 +59,7 @@ abbrev pub IsCarried : DownState → ℕ → Packet → List ℕ → Result Piec
 IsCarried state offset packet old (Ok piece) new = IsAccepted state offset packet old piece new
 IsCarried state offset packet old (Err why) new = (refusal_in state packet ≡ Some why) × (new ≡ old)
 
--- the answer with the piece that is written where it is done
+-- the answer, with the piece that is written if it is done
 abbrev pub with_piece : {E : Type 0} → Result (Unit {0}) E → Piece → Result Piece E
 with_piece (Ok done) piece = Ok piece
 with_piece (Err why) piece = Err why
@@ -82,7 +83,7 @@ abbrev pub IsRead : List ℕ → Result Packet Status → Type 0
 IsRead words (Ok packet) = Reads words packet
 IsRead words (Err why) = Unread (is_whole words) (reason words) why
 
--- these words are of a packet that is accepted, and what is held after it
+-- these words are of a packet that is accepted, and the state after it
 pub record IsTaken (state : DownState) (offset : ℕ) (words : List ℕ) (packet : Packet) (piece : Piece) (after : DownState) : Type 0 where
   pub read : Reads words packet
   pub accepted : refusal_in state packet ≡ None
@@ -122,7 +123,8 @@ answers true state offset words old status piece new after =
 answers false state offset words old status piece new after =
     (result : Result Piece Status) × IsTakenOrRefused state offset words old result new after × Shows result status piece
 
--- The words come at an offset. They are refused before anything is taken where the buffer may be too small; else they are taken or refused.
+-- The words come at an offset. If the buffer may be too small, they are refused before anything is taken;
+-- otherwise they are taken or refused.
 abbrev pub IsAnswered : DownState → ℕ → List ℕ → List ℕ → ℕ → Piece → List ℕ → DownState → Type 0
 IsAnswered state offset words old status piece new after =
     answers (nat_lt (length old) (most_bytes state)) state offset words old status piece new after
@@ -134,7 +136,7 @@ begins false start old status new = (status ≡ number_of statuses.BadGroup) × 
 begins true None old status new = (status ≡ number_of statuses.Nothing) × (new ≡ old)
 begins true (Some start) old status new = (status ≡ number_of statuses.Done) × (new ≡ start)
 
--- where the exclusive began that a group has open
+-- the start of the exclusive that a group has open
 abbrev pub HasBegun : DownState → ℕ → ℕ → ℕ → ℕ → Type 0
 HasBegun state group old status new =
     begins (nat_lt group 16) (option_map (λ begun. begun.start) (begun_in state.exclusives group)) old status new

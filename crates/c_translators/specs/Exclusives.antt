@@ -21,8 +21,8 @@ pub record IsWrittenOut (group : ℕ) (form : Form) (bytes old : List ℕ) (stat
   pub answer : status ≡ number_of statuses.Done
   pub front : new ≡ with_front words old
 
--- A byte of 128 or more is refused: one of the packet's, and before the first packet any, so that no part is sent of an exclusive that has
--- one.
+-- A byte of 128 or more is refused: one of the packet's, and before the first packet any, so that no part is
+-- sent of an exclusive that has one.
 abbrev pub is_refused : ℕ → List ℕ → List ℕ → Bool
 is_refused index payload own = has_high own || index == 0 && has_high payload
 

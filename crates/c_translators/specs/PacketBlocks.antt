@@ -41,7 +41,8 @@ is_front_refused true state offset words old count refused piece new after =
 is_front_refused false state offset words old count refused piece new after =
     (refused.1 ≡ count) × IsTakenOrRefused state offset (take count words) old (Err refused.0) new after
 
--- The packet at the front of the words is taken, and has so many of them; or it isn't, and so many are refused.
+-- The packet at the front of the words is taken, and has so many of them; or it isn't, and so many are
+-- refused.
 abbrev pub IsFrontTaken : DownState → ℕ → List ℕ → List ℕ → Result ℕ (Status × ℕ) → Piece → List ℕ → DownState → Type 0
 IsFrontTaken state offset words old (Ok count) piece new after =
     (count ≡ words_asked (slice_index words 0)) × (count ≤ length words)

@@ -25,7 +25,8 @@ use Rattle.c_answers.specs.declared.status.Status.{Status}
 use Rattle.c_answers.specs.declared.status.Status.TheVariants as statuses
 use Rattle.c_translators.specs.Encoded.{AreEncoded}
 
--- The size of a buffer that takes the words of any byte: two for each packet of an exclusive of this limit, or else those of a packet.
+-- The size of a buffer that takes the words of any byte: two for each packet of an exclusive of this limit,
+-- or else those of a packet.
 abbrev pub most_words_of : ℕ → ℕ
 most_words_of room = max (div_ceil room 6 * 2) 4
 
@@ -40,8 +41,8 @@ CutsWithin (Some payload) size = 2 * part_count payload ≤ size
 abbrev pub RaisesWithin : Raised → ℕ → Type 0
 RaisesWithin raised size = (4 ≤ size) × CutsWithin (payload_in raised) size
 
--- What is so of a translator between two bytes: its group is one of sixteen, what is open of an exclusive is within the limit, and what
--- control changes have set is kept of some state.
+-- What is so of a translator between two bytes: its group is one of sixteen, what is open of an exclusive is
+-- within the limit, and what control changes have set is kept of some state.
 pub record IsSound (up : UpState) : Type 0 where
   pub below : up.group < 16
   pub within : IsWithin up.parsing
@@ -60,8 +61,8 @@ pub record HasRaised (raised : Raised) (offset : ℕ) (old : List ℕ) (outcome 
   pub words : AreEncoded (packets_in raised) old outcome.written new
   pub shown : outcome ≡ outcome_shown offset outcome.written raised
 
--- A byte that is accepted. Each state that was kept before it is kept after it, as it then is, so that the next byte's packets are
--- those of that state.
+-- A byte that is accepted. Each state that was kept before it is kept after it, as it then is, so that the
+-- next byte's packets are those of that state.
 pub record IsAccepted (up : UpState) (byte offset : ℕ) (old : List ℕ) (outcome : ByteOutcome) (new : List ℕ) : Type 0 where
   pub raised : Raised
   pub accepts : Accepts up.holding up.group offset (step_in up offset byte) raised
@@ -79,7 +80,7 @@ abbrev pub IsTakenOrRefused : UpState → ℕ → ℕ → List ℕ → Result (U
 IsTakenOrRefused up byte offset old (Ok done) outcome new = IsAccepted up byte offset old outcome new
 IsTakenOrRefused up byte offset old (Err why) outcome new = IsRefused up byte offset old why outcome new
 
--- what is held after a byte that is refused: what control changes have set stays
+-- the state after a byte that is refused: what control changes have set stays
 abbrev pub after_refused : UpState → ℕ → ℕ → UpState
 after_refused up offset byte = record { group = up.group; parsing = (parse up.parsing offset byte).after; holding = up.holding }
 

@@ -23,8 +23,8 @@ use std::marker::Model;
 /// The size of a buffer that takes any piece but that of an exclusive.
 const LEAST_SIZE: usize = 12;
 
-// The packet of the two words at the front of these, if there are so many and the packet is known by them. Most
-// are, so that what comes next rests on no table of lengths.
+// The packet of the two words at the front of these, if there are so many and the packet is known by them.
+// Most are, so that what comes next rests on no table of lengths.
 #[inline(always)]
 fn pair_in(words: &[u32]) -> Option<EncodedPacket>
     ensures packet { IfSome result (λ packet. Reads (take 2 words.now) packet) }
@@ -34,7 +34,8 @@ fn pair_in(words: &[u32]) -> Option<EncodedPacket>
     if words.len() < 2 {
         return None;
     }
-    EncodedPacket::of_two(words[0], words[1])
+    let packet = EncodedPacket::of_two(words[0], words[1])?;
+    Some(packet)
 }
 
 // The packet that the words encode, or why none has them.
@@ -220,8 +221,8 @@ fn take_any(
     }
 }
 
-// Takes a packet if one message alone carries it, or if it only adds six bytes to an exclusive, and writes its
-// piece. Most packets are so. Otherwise nothing changes.
+// Takes a packet if one message alone carries it, or if it only adds six bytes to an exclusive, and writes
+// its piece. Most packets are so. Otherwise nothing changes.
 #[inline(always)]
 fn take_simple(
     down: &mut Down,
@@ -294,8 +295,8 @@ fn take_one(
     take_any(down, words, offset, buffer, piece)
 }
 
-// Takes the packet at the front of the words, writes its piece, and returns how many words it has. If it isn't
-// taken, it returns why, and how many words are refused with it: none if they aren't all there.
+// Takes the packet at the front of the words, writes its piece, and returns how many words it has. If it
+// isn't taken, it returns why, and how many words are refused with it: none if they aren't all there.
 #[inline(always)]
 fn take_front(
     down: &mut Down,
@@ -323,7 +324,7 @@ fn take_front(
     }
 }
 
-// Takes the packets whose words follow one another, where any piece has at most so many bytes.
+// Takes the packets whose words follow one another. Any piece has at most `most_written` bytes.
 #[inline(always)]
 fn take_all(
     down: &mut Down,
@@ -406,8 +407,8 @@ impl CDown {
         })
     }
 
-    /// Begins again: the translator is then as `new` makes it with the same arguments. Nothing is open, and in
-    /// compact style nothing is known of what a receiver holds (own rule). Takes no memory.
+    /// Begins again: the translator is then as `new` makes it with the same arguments. Nothing is open, and
+    /// in compact style nothing is known of what a receiver holds (own rule). Takes no memory.
     pub fn reset(&mut self)
         ensures { self.new ≡ new_down (paired_of self.old) (style_of self.old) (limit_of self.old) }
     {
@@ -419,9 +420,9 @@ impl CDown {
     ///
     /// Nothing is taken, and nothing written to the buffer, in these cases, of which the first that holds is
     /// returned: `SmallBuffer` if the buffer has fewer places than any piece may need (`down_size`);
-    /// `BadWordCount` if the words aren't as many as the message type of the first one has; `BadCount` if they
-    /// are of a 7-bit exclusive and count more than six bytes; `HighBit` if a byte that carries seven bits is
-    /// 128 or more. `DataIncrement` and `DataDecrement` leave the translator as it was; after
+    /// `BadWordCount` if the words aren't as many as the message type of the first one has; `BadCount` if
+    /// they are of a 7-bit exclusive and count more than six bytes; `HighBit` if a byte that carries seven
+    /// bits is 128 or more. `DataIncrement` and `DataDecrement` leave the translator as it was; after
     /// `ExclusiveTooLong` the group has nothing open, and all else is as it was (own rules).
     #[tactic(auto, using(crate::proofs::DownLaws::taken_keeps))]
     #[inline(always)]
@@ -452,10 +453,10 @@ impl CDown {
     /// another in the buffer, and their pieces in `pieces`. The offset is that of the first; each word adds 4
     /// to it, modulo 2^64. The block says how far it came.
     ///
-    /// `Done` comes exactly when all words are taken. `SmallBuffer` comes exactly before the first packet for
-    /// which there is no piece left, or fewer places in the rest of the buffer than any piece may need;
-    /// `BadWordCount` before a last packet whose words aren't all there. A packet that is refused ends the call
-    /// with its status, has no piece, and its words count as taken and as refused (own rules).
+    /// Returns `Done` exactly when all words are taken. `SmallBuffer` comes exactly before the first packet
+    /// for which there is no piece left, or fewer places in the rest of the buffer than any piece may need;
+    /// `BadWordCount` before a last packet whose words aren't all there. A packet that is refused ends the
+    /// call with its status, has no piece, and its words count as taken and as refused (own rules).
     pub fn packets(
         &mut self,
         words: &[u32],
@@ -481,8 +482,8 @@ impl CDown {
         status
     }
 
-    /// Where the exclusive began that a group has open: the offset of its first packet. `BadGroup` if the group
-    /// isn't 0 to 15, and `Nothing` if it has none open; the offset is then left as it was.
+    /// Finds the start of the exclusive that a group has open: the offset of its first packet. `BadGroup` if
+    /// the group isn't 0 to 15, and `Nothing` if it has none open; the offset is then left as it was.
     pub fn begun(&self, group: u8, offset: &mut u64) -> Status
         ensures { HasBegun self.now group offset.old (number_of result) offset.new }
     {

@@ -112,7 +112,7 @@ fn show_line(listed: Option<Listed>, line: &mut ListingLine)
     }
 }
 
-// What comes of a byte: writes the words of its packets, and shows how many they are, and its lines. Most bytes
+// Writes the words of the packets of a byte, and shows how many they are, and its lines. Most bytes
 // have none of these.
 #[tactic(auto, using(crate::proofs::UpLaws::shows_alone))]
 #[inline(always)]
@@ -131,7 +131,7 @@ fn show(raised: &Raised<'_>, offset: u64, words: &mut [u32], outcome: &mut ByteO
     }
 }
 
-// Takes one more byte, and writes what comes of it.
+// Takes one more byte, and writes its outcome.
 #[inline(always)]
 fn take(
     up: &mut Up,
@@ -214,7 +214,7 @@ fn put_item(outcome: ByteOutcome, outcomes: &mut [ByteOutcome]) -> usize
     0
 }
 
-// Takes the first of these bytes, and writes what comes of it.
+// Takes the first of these bytes, and writes its outcome.
 #[inline(always)]
 fn take_first(
     up: &mut Up,
@@ -270,7 +270,7 @@ fn take_front(
     take_first(up, bytes, next, words, outcomes)
 }
 
-// Takes bytes that follow one another, where any byte has at most so many words.
+// Takes bytes that follow one another, if any byte has at most so many words.
 #[inline(always)]
 fn take_all(
     up: &mut Up,
@@ -290,7 +290,7 @@ fn take_all(
 {
     exclusives_stay_within_their_limit();
     *block = Block::nothing();
-    // Where the offsets begin again at 0, bytes are taken one by one.
+    // If the offsets begin again at 0, bytes are taken one by one.
     let has_wrap = offset.checked_add(bytes.len() as u64).is_none();
     let mut next = offset;
     while block.taken < bytes.len() {

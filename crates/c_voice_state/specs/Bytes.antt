@@ -19,7 +19,8 @@ pub record ByteKept : Type 0 where
   pub kept : List KeptGroup
   pub parsing : Parsing
 
--- the states of a stream after a message, if a byte completes one; a stream has no groups, so it is in group 0 (own rule)
+-- the states of a stream after a message, if a byte completes one; a stream has no groups, so the message is
+-- in group 0 (own rule)
 abbrev pub after_completed : Option Message → States → States
 after_completed None states = states
 after_completed (Some message) states = after_message 0 message states
@@ -29,7 +30,7 @@ abbrev pub IsFull : Option Message → List KeptGroup → Type 0
 IsFull (Some (voice message)) kept = GroupIs kept 0 (IsGroupFull1 message)
 IsFull _ kept = ⊥
 
--- what a byte does is kept; the message isn't where it adds to a full list, or there isn't enough memory for it
+-- what a byte does is kept; the message isn't if it adds to a full list, or there isn't enough memory for it
 abbrev pub takes_step : Step → List KeptGroup → ℕ → List KeptGroup → Type 0
 takes_step too_long old status new = (status ≡ number_of statuses.ExclusiveTooLong) × (new ≡ old)
 takes_step step old status new =

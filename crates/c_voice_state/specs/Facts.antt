@@ -95,8 +95,8 @@ abbrev pub facts_at : Scale → States → ℕ → ℕ → List Fact
 facts_at scale states group channel =
     if nat_lt channel 16 then channel_facts scale group channel ((states group).channels channel) else group_counts group (states group)
 
--- As many as they are were written, if the buffer has room for them all. Otherwise nothing was written; so many need room, at most the
--- greatest number of 64 bits.
+-- All of them were written, and counted, if the buffer has room for them all. Otherwise nothing was written;
+-- so many need room, at most the greatest number of 64 bits.
 abbrev pub ArePut : List Fact → List FactNumbers → Result ℕ ℕ → List FactNumbers → Type 0
 ArePut told old (Ok written) new =
     (nat_lt (length old) (length told) ≡ false) × (written ≡ length told) × (new ≡ with_front (map numbers_of told) old)

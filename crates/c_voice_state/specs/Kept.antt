@@ -35,8 +35,8 @@ kept_status (Ok value) = number_of statuses.Done
 kept_status (Err not_kept.Full) = number_of statuses.StateFull
 kept_status (Err not_kept.NoMemory) = number_of statuses.NoMemory
 
--- Where it is done, what is kept stands for the changed states if it stood for the states before; where it adds to a full list, or
--- there isn't enough memory, nothing has changed.
+-- If it is done, what is kept stands for the changed states if it stood for the states before. If it adds to
+-- a full list, or there isn't enough memory, nothing has changed.
 pub record Changes (scale : Scale) (change : States → States) (IsFull : Type 0) (old : List KeptGroup) (status : ℕ)
     (new : List KeptGroup) : Type 0 where
   pub done : status ≡ number_of statuses.Done → (states : States) → Keeps scale old states → Keeps scale new (change states)
@@ -78,7 +78,8 @@ IsPacketTaken old words status new = takes (is_whole words) (reason words) old w
 
 -- ---- a block
 
--- How a state takes one item, by how many words or bytes the item has that begins with this one: it writes nothing, and has no offset.
+-- How a state takes one item, by how many words or bytes the item has that begins with this one: it writes
+-- nothing, and has no offset.
 abbrev pub alone : {Held : Type 0} → (ℕ → ℕ) → (Held → List ℕ → Held → Type 0) → (Held → List ℕ → Status → Held → Type 0)
     → Taking Held (Unit {0})
 alone size_of Takes Refuses =

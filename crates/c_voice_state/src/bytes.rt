@@ -7,7 +7,6 @@ ghost use Rattle.midi_meaning.specs.Messages.{as_they_come, Scale};
 ghost use Rattle.voice_state.specs.Kept.{Keeps};
 ghost use Rattle.voice_state.specs.Rooms.{GroupIs, HasRoom, IsGroupFull1, KeepsAllRooms};
 ghost use Rattle.voice_state.specs.States.{after_message, first_states, States};
-ghost use Rattle.c_answers.specs.Blocks.{nothing_taken};
 ghost use Rattle.c_answers.specs.Numbers.{number_of};
 ghost use Rattle.c_voice_state.specs.Bytes.{takes_step, AreBytesTaken, IsByteTaken};
 ghost use Rattle.c_voice_state.specs.Facts.{HasFacts};
@@ -110,11 +109,13 @@ impl CByteState {
         take_step(&mut self.state, &step)
     }
 
-    // Takes bytes as `bytes` does, and counts them in the block, in which nothing is taken yet.
-    fn take_all(&mut self, bytes: &[u8], block: &mut Block) -> Status
-        requires { block.old ≡ nothing_taken }
+    /// Takes the bytes one after another, each as `byte` does. The block says how far the call came: `Done`
+    /// comes when all are taken. A byte for which the answer isn't `Done` ends the call with that status; it
+    /// counts as taken.
+    pub fn bytes(&mut self, bytes: &[u8], block: &mut Block) -> Status
         ensures { AreBytesTaken self.old bytes.now (number_of result) block.new self.new }
     {
+        *block = Block::nothing();
         while block.taken < bytes.len() {
             match self.byte(bytes[block.taken]) {
                 Status::Done => block.add(1, 0, 0),
@@ -125,18 +126,6 @@ impl CByteState {
             }
         }
         Status::Done
-    }
-
-    /// Takes the bytes one after another, each as `byte` does. The block says how far the call came: `Done`
-    /// comes when all are taken. A byte for which the answer isn't `Done` ends the call with that status; it
-    /// counts as taken.
-    pub fn bytes(&mut self, bytes: &[u8], block: &mut Block) -> Status
-        ensures { AreBytesTaken self.old bytes.now (number_of result) block.new self.new }
-    {
-        let mut so_far = Block::nothing();
-        let status = self.take_all(bytes, &mut so_far);
-        *block = so_far;
-        status
     }
 
     /// Empties the state: it is as `new` made it, with the same limit of an exclusive and the same room for

@@ -7,7 +7,6 @@ ghost use Rattle.midi_meaning.specs.Messages.{raised, Scale};
 ghost use Rattle.voice_state.specs.Kept.{Keeps};
 ghost use Rattle.voice_state.specs.Rooms.{HasRoom, IsPacketFull, KeepsAllRooms};
 ghost use Rattle.voice_state.specs.States.{after_packet, first_states, States};
-ghost use Rattle.c_answers.specs.Blocks.{nothing_taken};
 ghost use Rattle.c_answers.specs.Numbers.{number_of};
 ghost use Rattle.c_voice_state.specs.Facts.{HasFacts};
 ghost use Rattle.c_voice_state.specs.Kept.{kept_status, takes_part, ArePacketsTaken, Changes, IsPacketTaken, IsTaken};
@@ -131,11 +130,13 @@ impl CPacketState {
         }
     }
 
-    // Takes packets as `packets` does, and counts them in the block, in which nothing is taken yet.
-    fn take_all(&mut self, words: &[u32], block: &mut Block) -> Status
-        requires { block.old ≡ nothing_taken }
+    /// Takes the packets whose words follow one another, each as `packet` does. The block says how far the
+    /// call came: `Done` comes when all words are taken, and `BadWordCount` before a packet whose words
+    /// aren't all there. A packet that is refused ends the call with its status; its words count as taken.
+    pub fn packets(&mut self, words: &[u32], block: &mut Block) -> Status
         ensures { ArePacketsTaken self.old words.now (number_of result) block.new self.new }
     {
+        *block = Block::nothing();
         while block.taken < words.len() {
             let rest = &words[block.taken..];
             let count = words_in_packet(rest[0]);
@@ -151,18 +152,6 @@ impl CPacketState {
             }
         }
         Status::Done
-    }
-
-    /// Takes the packets whose words follow one another, each as `packet` does. The block says how far the
-    /// call came: `Done` comes when all words are taken, and `BadWordCount` before a packet whose words
-    /// aren't all there. A packet that is refused ends the call with its status; its words count as taken.
-    pub fn packets(&mut self, words: &[u32], block: &mut Block) -> Status
-        ensures { ArePacketsTaken self.old words.now (number_of result) block.new self.new }
-    {
-        let mut so_far = Block::nothing();
-        let status = self.take_all(words, &mut so_far);
-        *block = so_far;
-        status
     }
 
     /// Empties the state: it is as `new` made it, with the same limit of an exclusive and the same room for

@@ -1,4 +1,4 @@
--- What a rehearsal keeps is what its course says; and what is held was told by a reply.
+-- What a rehearsal keeps is what its course says; and each state was reported by a reply.
 use Rattle.std.proofs.Common.{◌≡◌, ◌⊎◌, inl, inr, ◌∙◌, ap, sym, refl, subst, ℕ, zero, suc, Bool, true, false, if◌then◌else◌}
 use Rattle.std.proofs.Common.{nat_lt, List, [], ◌∷◌, ◌++◌, length, map, slice_get, Option, Some, None, option_map}
 use Rattle.std.specs.Prelude.{Ok, Err}
@@ -131,7 +131,7 @@ module _ (law : HeldIsTheHistory) (setup : SetupData) (distinct : profiles_are_d
       ap (λ s. stage_after (stage_of setup course) (note_with (stage_of setup course) s)) (get-map (λ m. m.sent) course.replies n)
       ∙ noting (slice_get course.replies n)
 
--- ---- what is held
+-- ---- the state
 
 tells-of : (row : Noted) (d : Incoming) (watch : Watch) (on : Bool) → tells_by row d watch ≡ Some on → tells d watch ≡ Some on
 tells-of (noted.Told k) d watch on is = is

@@ -11,7 +11,7 @@ use Rattle.ci_initiator.specs.Rows.{is_from, noted_row, row_of_said, told_row}
 use Rattle.ci_initiator.specs.History.{Entry, entries, first_peer, held_at, last_told, noted_at, older_or, peer_at, since_gone}
 use Rattle.ci_initiator.specs.Known.{Known, after, after_by, held_by, known_at, noted_in}
 
--- a watch, and what is held of it
+-- a watch, and its state
 abbrev held-with : (Watch → Option Bool) → Watch → Watched
 held-with hold watch = record { watch = watch; held = hold watch }
 
@@ -21,7 +21,7 @@ pub same-watches : (hold : Watch → Option Bool) (watches : List Watch)
 same-watches hold [] = refl
 same-watches hold (w ∷ ws) = ap (λ rest. w ∷ rest) (same-watches hold ws)
 
--- what is held of each is changed by one function
+-- the state of each is changed by one function
 changed : (change : Watched → Watched) (one two : Watch → Option Bool) → ((w : Watch) → change (held-with one w) ≡ held-with two w) →
     (watches : List Watch) → map change (map (held-with one) watches) ≡ map (held-with two) watches
 changed change one two same [] = refl

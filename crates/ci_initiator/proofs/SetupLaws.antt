@@ -243,7 +243,8 @@ among-few (suc n) ms each =
     (λ k some within. without-others (suc n) k ms (λ same. omega (arith, same, within)) (each k some (omega (arith, within)))) in
     omega (arith, fewer, rest)
 
--- What a search from a number on has found: all before it are named, and it isn't, or nothing was left to try.
+-- What a search from a number on has found: all before it are named, and it isn't, or nothing was left to
+-- try.
 abbrev Found : List Block → ℕ → ℕ → ℕ → Type 0
 Found blocks tries start r =
     ((n : ℕ) → start ≤ n → n < r → is_named blocks n ≡ true) × (start ≤ r) × ((is_named blocks r ≡ false) ⊎ (r ≡ tries + start))

@@ -1,4 +1,4 @@
--- What is held was told.
+-- Each state was reported.
 use Rattle.std.proofs.Common.{arith, ◌≡◌, ◌∙◌, ◌%◌, length-append, ap, sym, refl, subst, ℕ, suc, Bool, true, false}
 use Rattle.std.proofs.Common.{not, cond, if◌then◌else◌, ◌==◌, ◌&&◌, ◌||◌, List, [], ◌∷◌, ◌++◌, length, Option}
 use Rattle.std.proofs.Common.{Some, None, is_some, option_map, option_and_then, unwrap_or, replicate, true≢false}

@@ -19,7 +19,8 @@ abbrev pub message : Address → ℕ → ℕ → Kind → List Value → List �
 message address source destination kind values =
     message_of_payload (payload_with address (sub_of kind) 2 source destination (bytes_of_fields (fields_of format.Full kind) values))
 
--- Discovery of a device without an identity, with the category of profiles, 04; it takes exclusives of up to 512 bytes
+-- Discovery of a device without an identity, with the category of profiles, 04; it takes exclusives of up to
+-- 512 bytes
 abbrev pub discovery : ℕ → List ℕ
 discovery muid = message address.Block muid broadcast kind.Discovery
     (list (replicate 3 0) ∷ list (replicate 2 0) ∷ list (replicate 2 0) ∷ list (replicate 4 0)
@@ -41,8 +42,8 @@ abbrev pub asked_with : (ℕ → ℕ → Watch → List ℕ) → ℕ → Option 
 asked_with write muid (Some peer) (Some watch) = Some (write muid peer watch)
 asked_with write muid _ _ = None
 
--- The message that an initiator with this MUID and this peer writes. There is none if the watch isn't there, or if the
--- message is for a peer and none is known.
+-- The message that an initiator with this MUID and this peer writes. There is none if the watch isn't there,
+-- or if the message is for a peer and none is known.
 abbrev pub asked : ℕ → Option ℕ → List Watch → Ask → Option (List ℕ)
 asked muid peer watches ask.Discover = Some (discovery muid)
 asked muid peer watches (ask.Inquire k) = asked_with inquiry muid peer (slice_get watches k)

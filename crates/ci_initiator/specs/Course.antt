@@ -1,5 +1,6 @@
--- The course of a rehearsal: the messages that both sides have sent and heard by a list of events. It is computed from the tables of
--- the initiator and of the responder, each over the history of what its own side has heard.
+-- The course of a rehearsal: the messages that both sides have sent and heard by a list of events. It is
+-- computed from the tables of the initiator and of the responder, each over the history of what its own side
+-- has heard.
 use Rattle.std.specs.Prelude.{◌≡◌, ℕ, Bool, nat_lt, if◌then◌else◌, List, [], ◌∷◌, ◌++◌, length}
 use Rattle.std.specs.Prelude.{map, slice_get, Option, Some, None, option_map, option_and_then}
 use Rattle.function_blocks.specs.Setups.{SetupData}
@@ -20,7 +21,8 @@ use Rattle.ci_initiator.specs.Rows.{tells}
 use Rattle.ci_initiator.specs.Stage.{Stage}
 use Rattle.ci_initiator.specs.Watching.{own_muid, watches_of_setup}
 
--- a reply, and what the responder had heard when it was made, newest first: the message that it replies to, and those before it
+-- a reply, and what the responder had heard when it was made, newest first: the message that it replies to,
+-- and those before it
 pub record Made : Type 0 where
   pub sent : Sent
   pub past : List Received
@@ -50,7 +52,7 @@ made group past (Some payload) =
     record { sent = record { group = group; bytes = message_of_payload payload }; past = past } ∷ []
 
 module _ (setup : SetupData) where
-  -- what is held of a watch
+  -- the state of a watch
   abbrev pub held_in : Course → Watch → Option Bool
   held_in course watch = held_at (own_muid setup.blocks) (watches_of_setup setup) course.initiator_heard watch
 
@@ -97,7 +99,8 @@ module _ (setup : SetupData) where
     replies = map (λ made. made.sent) course.replies;
   }
 
-  -- the profile of the responder that a watch is of: that of the block of its group, at its place, with its id
+  -- the profile of the responder that a watch is of: that of the block of its group, at its place, with its
+  -- id
   abbrev pub key_of_watch : Watch → Option Key
   key_of_watch watch =
       option_map (λ block. record { block = block; place = place_at watch.address watch.group; id = watch.id })
@@ -107,8 +110,8 @@ module _ (setup : SetupData) where
   abbrev pub was_on : List Received → Watch → Option Bool
   was_on past watch = option_and_then (on_at setup past) (key_of_watch watch)
 
-  -- A reply told of a watch that its profile is on, or off: a report, or an inventory of its place. When the reply was made, the
-  -- responder's profile was so.
+  -- A reply told of a watch that its profile is on, or off: a report, or an inventory of its place. When the
+  -- reply was made, the responder's profile was so.
   pub record IsTold (course : Course) (watch : Watch) (on : Bool) : Type 0 where
     pub number : ℕ
     pub reply : Made

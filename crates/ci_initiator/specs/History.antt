@@ -1,4 +1,5 @@
--- What an initiator knows by the messages that it has heard. They are listed the newest first, and searched from the newest back.
+-- What an initiator knows by the messages that it has heard. They are listed the newest first, and searched
+-- from the newest back.
 use Rattle.std.specs.Prelude.{ℕ, Bool, if◌then◌else◌, List, [], ◌∷◌, Option, Some, None}
 use Rattle.ci_initiator.specs.declared.watch.Watch.{Watch}
 use Rattle.ci_initiator.specs.declared.noted.Noted.{Noted}
@@ -47,6 +48,6 @@ module _ (muid : ℕ) (watches : List Watch) where
   abbrev pub noted_at : List Incoming → Incoming → Noted
   noted_at past heard = noted_row muid (peer_at past) watches heard
 
-  -- what is held of a watch: what the last message says that told of it, unless the peer was gone after it
+  -- the state of a watch: what the newest message about it said, unless the peer was gone after it
   abbrev pub held_at : List Incoming → Watch → Option Bool
   held_at past watch = last_told watch (since_gone (entries past))

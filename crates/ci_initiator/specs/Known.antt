@@ -31,7 +31,7 @@ watches_of known = map (λ watched. watched.watch) known.watched
 abbrev pub noted_in : Known → Incoming → Noted
 noted_in known heard = noted_row known.muid known.peer (watches_of known) heard
 
--- what is held of a watch after a message that is noted so
+-- the state of a watch after a message that is noted so
 abbrev pub held_by : Noted → Incoming → Watched → Watched
 held_by noted.Gone heard watched = record { watch = watched.watch; held = None }
 held_by row heard watched = record { watch = watched.watch; held = newer_or (tells heard watched.watch) watched.held }

@@ -16,8 +16,8 @@ use Rattle.ci_initiator.specs.Known.{after, known_at, noted_in}
 use Rattle.ci_initiator.specs.Stage.{next_stage, stage_after}
 use Rattle.ci_initiator.specs.Watching.{HasIds, IsLeastUnnamed, own_muid, watches_of_setup}
 
--- What is known after a history is what the history says, searched from its end: one more message is noted as the history says,
--- and leaves what the longer history says.
+-- What is known after a history is what the history says, searched from its end: one more message is noted as
+-- the history says, and leaves what the longer history says.
 pub record KnownIsTheHistory : Type 0 where
   pub noted : (muid : ℕ) (watches : List Watch) (past : List Incoming) (heard : Incoming) →
       noted_in (known_at muid watches past) heard ≡ noted_at muid watches past heard
@@ -31,8 +31,8 @@ StageIsTheCourse =
     stage_after (stage_of setup course) (next_stage (stage_of setup course) event)
     ≡ stage_of setup (more setup course event)
 
--- Whatever events there were, so whatever was lost, repeated or out of order: if a watch is held on, a reply told that its
--- profile is on, and when that reply was made it was on; and likewise off.
+-- Whatever events there were, so whatever was lost, repeated or out of order: if a watch is held on, a reply
+-- told that its profile is on, and when that reply was made it was on; and likewise off.
 abbrev pub HeldIsTold : Type 0
 HeldIsTold =
     (setup : SetupData) → profiles_are_distinct setup.profiles ≡ true → HasIds setup.profiles →
@@ -46,7 +46,8 @@ OwnMuidIsTheLeast = (blocks : List Block) → IsLeastUnnamed blocks (own_muid bl
 -- The profile that a watch is of, by the block of its group, is one of the setup's.
 abbrev pub WatchesAreOfTheSetup : Type 0
 WatchesAreOfTheSetup =
-    (setup : SetupData) → IsSetup setup → (k : ℕ) (watch : Watch) → slice_get (watches_of_setup setup) k ≡ Some watch →
+    (setup : SetupData) → IsSetup setup → (k : ℕ) (watch : Watch) →
+    slice_get (watches_of_setup setup) k ≡ Some watch →
     (n : ℕ) × (profile : Profile) × (slice_get setup.profiles n ≡ Some profile)
     × (key_of_watch setup watch ≡ Some (key_of profile))
 

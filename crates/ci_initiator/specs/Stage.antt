@@ -88,7 +88,7 @@ note_with stage (Some sent) =
       },
     )
 
--- what comes of an event, and what is kept after it
+-- the outcome of an event, and what is kept after it
 abbrev pub next_stage : Stage → Event → Result (Told × Stage) EventFault
 next_stage stage (event.Ask what) =
     ask_with stage (group_asked (watches_of stage.initiator) what) (asked_by stage.initiator what)

@@ -24,7 +24,7 @@ pub(crate) struct Question {
     pub(crate) muid: Muid,
     /// The MUID of the peer.
     pub(crate) peer: Muid,
-    /// The profile that is asked about, and where.
+    /// The profile that is asked about, and its address.
     pub(crate) watch: Watch,
     ghost not_reserved: { muid < 0x0FFFFF00 },
 }

@@ -1,12 +1,14 @@
 // The initiator.
-ghost use Rattle.std.specs.Prelude.{◌≡◌, ◌<◌, ◌≤◌, ◌^◌, ℕ, List, [], true, length, slice_get, is_some, IfOk, IfSome, Some};
+ghost use Rattle.std.specs.Prelude.{◌≡◌, ◌<◌, ◌≤◌, ◌^◌, ℕ, List, [], true, length};
+ghost use Rattle.std.specs.Prelude.{slice_get, is_some, IfOk, IfSome, Some};
 ghost use Rattle.std.specs.Option.{option_map};
 ghost use Rattle.ci_messages.specs.Writing.{IsView};
 ghost use Rattle.ci_responder.specs.Replies.{IsMessage};
 ghost use Rattle.ci_initiator.specs.declared.watch.Watch.{Watch};
 ghost use Rattle.ci_initiator.specs.Asks.{asked_with, group_asked, group_of_watch};
 ghost use Rattle.ci_initiator.specs.Incoming.{incoming_of};
-ghost use Rattle.ci_initiator.specs.Known.{after, after_by, are_different, asked_by, known_at, noted_in, watches_of};
+ghost use Rattle.ci_initiator.specs.Known.{after, after_by, are_different, asked_by, known_at, noted_in};
+ghost use Rattle.ci_initiator.specs.Known.{watches_of};
 
 use crate::ask::Ask;
 use crate::asking::{Question, discovery, inquiry, set_off, set_on};
@@ -41,9 +43,9 @@ impl Model for Initiator {
 }
 
 impl Initiator {
-    /// An initiator with a MUID of its own, below 0FFFFF00, and at most 64 watches that are all different
-    /// (`watches_differ`). At first no peer is known, and nothing is held. Takes all memory that it ever
-    /// takes; `NoMemory` if there isn't enough.
+    /// Makes an initiator with a MUID of its own, below 0FFFFF00 (M2-101-UM, MUID), and at most 64 watches
+    /// that are all different (`watches_differ`). At first no peer is known, and nothing is held. The call
+    /// takes all memory that the initiator ever takes. `NoMemory` is returned if there isn't enough.
     pub fn new(alloc: Global, muid: u32, watches: &[Watch]) -> Result<Initiator, NoMemory>
         requires muid { muid < 0x0FFFFF00 }
         requires few { length watches.now ≤ 64 }
@@ -67,7 +69,8 @@ impl Initiator {
         })
     }
 
-    /// Whether `ask` writes a message: the watch is there, and for all but Discovery a peer is known.
+    /// Tests whether `ask` writes a message (own rule): the watch is there, and a peer is known, which
+    /// Discovery doesn't need.
     pub fn can_ask(&self, what: Ask) -> bool
         ensures { result ≡ is_some (asked_by self.now what) }
     {
@@ -94,10 +97,11 @@ impl Initiator {
         })
     }
 
-    /// What is asked, as a message (M2-101-UM): Discovery to all at the function block, with an identity of
-    /// zeros, the category of profiles, 512 as the most bytes and the output path 0; the others to the peer
-    /// at the watch's address, Set Profile On with the count 1 for a channel and 0 otherwise. All are of
-    /// version 02. `None` exactly when the watch isn't there, or, except for Discovery, no peer is known.
+    /// Writes what is asked as a message of version 02 (M2-101-UM). Discovery goes to all at the function
+    /// block, with an identity of zeros, the category of profiles, 512 as the most bytes and the output path
+    /// 0. The others go to the peer at the watch's address; Set Profile On has the count 1 for a channel and
+    /// 0 otherwise. Returns the message, or `None` exactly when the watch isn't there, or no peer is known
+    /// and something other than Discovery is asked.
     pub fn asked(&self, what: Ask) -> Option<CiMessage>
         ensures { result ≡ asked_by self.now what }
     {
@@ -118,8 +122,8 @@ impl Initiator {
         }
     }
 
-    /// Writes what is asked, from F0 to F7, into an empty list; `ci_messages::read` takes it. The watch must
-    /// be there, and for all but Discovery a peer must be known: `can_ask` tells both.
+    /// Writes what is asked, from F0 to F7 (M2-101-UM), into an empty list, which `ci_messages::read` takes.
+    /// The watch must be there, and a peer must be known unless Discovery is asked: `can_ask` tests both.
     pub fn ask(&self, what: Ask, into: &mut ShortList<u8, 512>)
         requires asks { is_some (asked_by self.now what) ≡ true }
         requires empty { into.old ≡ [] }
@@ -131,7 +135,8 @@ impl Initiator {
         }
     }
 
-    /// Hears a message that `ci_messages::read` gives, on its group. Takes no memory.
+    /// Hears a message that `ci_messages::read` returned, on its group (M2-101-UM). Returns what is noted of
+    /// it. The call takes no memory.
     pub fn hear(&mut self, group: U4, view: &CiView<'_>) -> Noted
         requires { IsView view.now }
         ensures noted { result ≡ noted_in self.old (incoming_of group view.now) }
@@ -159,7 +164,7 @@ impl Initiator {
         }
     }
 
-    /// The number of watches, at most 64.
+    /// Returns the number of watches, at most 64 (own rule).
     pub fn watches(&self) -> usize
         ensures value { result ≡ length self.now.watched }
         ensures few { result ≤ 64 }
@@ -167,8 +172,8 @@ impl Initiator {
         self.watched.len()
     }
 
-    /// The group on which is asked: that of the watch, and for Discovery
-    /// that of watch 0; 0 if there is no such watch.
+    /// Returns the group on which a question is sent (own rule): that of the watch, and for Discovery that of
+    /// watch 0. It is 0 if there is no such watch.
     pub fn group_asked(&self, what: Ask) -> U4
         ensures { result ≡ group_asked (watches_of self.now) what }
     {
@@ -189,8 +194,8 @@ impl Initiator {
         }
     }
 
-    /// What is held of watch `k`, counted from 0: whether the peer has last told that the profile is on.
-    /// `None` exactly when nothing is held.
+    /// Returns the state of watch `k`, counted from 0 (M2-101-UM, profile configuration): whether the peer
+    /// last said that the profile is on. Returns `None` exactly when nothing is known.
     pub fn holds(&self, k: usize) -> Option<bool>
         requires { k < length self.now.watched }
         ensures { option_map (λ watched. watched.held) (slice_get self.now.watched k) ≡ Some result }
@@ -198,7 +203,7 @@ impl Initiator {
         self.watched[k].held
     }
 
-    /// The peer's MUID, below 2^28. `None` exactly when no peer is known.
+    /// Returns the peer's MUID, below 2^28 (M2-101-UM, MUID), or `None` exactly when no peer is known.
     pub fn peer(&self) -> Option<u32>
         ensures value { result ≡ self.now.peer }
         ensures fits { IfSome result (λ muid. muid < 2 ^ 28) }

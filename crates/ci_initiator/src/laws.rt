@@ -18,8 +18,8 @@ pub fn known_is_the_history()
     ensures { KnownIsTheHistory }
 {}
 
-/// What a view of a message tells an initiator is a function of the
-/// message's bytes and its group, by the places of M2-101-UM.
+/// What a view of a message tells an initiator is a function of the message's bytes and its group, by the
+/// places of M2-101-UM.
 pub fn views_tell_their_bytes()
     ensures { ViewsTellTheirBytes }
 {}

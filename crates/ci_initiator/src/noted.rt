@@ -1,9 +1,9 @@
 // What is noted of a message.
 
-/// What an initiator notes of a MIDI-CI message (M2-101-UM): the first of these that applies, but for
-/// `Other`, which also comes first, for a message with the initiator's own MUID as source and for one that is
-/// neither for it nor for all. Own rules are the order, what is held, and that a message with the initiator's
-/// own MUID as source is passed over.
+/// What an initiator notes of a MIDI-CI message (M2-101-UM). A message is `Other` if its source is the
+/// initiator's own MUID, or if it is neither for the initiator nor for all. Of any other message it notes the
+/// first of the rows after `Other` that applies, and `Other` if none does. Own rules are the order, what is
+/// held, and that a message with the initiator's own MUID as source is passed over.
 #[derive(Clone, Copy, Debug, PartialEq, Eq)]
 pub enum Noted {
     /// Nothing.

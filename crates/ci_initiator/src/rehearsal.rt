@@ -1,5 +1,6 @@
 // A rehearsal.
-ghost use Rattle.std.specs.Prelude.{◌≡◌, ◌<◌, ◌≤◌, ◌++◌, ℕ, List, Option, length, slice_get, true, IfOk, Some};
+ghost use Rattle.std.specs.Prelude.{◌≡◌, ◌<◌, ◌≤◌, ◌++◌, ℕ, List, Option, length};
+ghost use Rattle.std.specs.Prelude.{slice_get, true, IfOk, Some};
 ghost use Rattle.std.specs.Option.{option_map};
 ghost use Rattle.function_blocks.specs.Profiles.{profiles_are_distinct};
 ghost use Rattle.ci_responder.specs.Held.{after as responder_after, heard_in, message_in};
@@ -125,11 +126,11 @@ fn note(initiator: &mut Initiator, sent: &Sent) -> Noted
 }
 
 impl Rehearsal {
-    /// The rehearsal of a setup (own rule). The responder is the setup's. The initiator has the least MUID
-    /// from 1 on that the setup doesn't name, and watches the profiles of one function block, in the setup's
-    /// order: of the first profile's whose block has MIDI-CI. If no profile's block has it, nothing is
-    /// watched. A profile of the function block is watched on its first group. Takes all memory that it ever
-    /// takes; `NoMemory` if there isn't enough.
+    /// Makes the rehearsal of a setup (own rule). The responder is the setup's. The initiator has the least
+    /// MUID from 1 on that the setup doesn't name, and watches the profiles of one function block, in the
+    /// setup's order: of the first profile's whose block has MIDI-CI. If no profile's block has it, nothing
+    /// is watched. A profile of the function block is watched on its first group. The call takes all memory
+    /// that the rehearsal ever takes. `NoMemory` is returned if there isn't enough.
     pub fn new(alloc: Global, setup: &Setup) -> Result<Rehearsal, NoMemory>
         ensures first { IfOk result (λ rehearsal. rehearsal ≡ first_stage setup.now) }
         ensures least { IfOk result (λ rehearsal.
@@ -148,7 +149,7 @@ impl Rehearsal {
         })
     }
 
-    /// The number of watches, at most 64 (own rule).
+    /// Returns the number of watches, at most 64 (own rule).
     pub fn watches(&self) -> usize
         ensures value { result ≡ length self.now.initiator.watched }
         ensures few { result ≤ 64 }
@@ -156,8 +157,9 @@ impl Rehearsal {
         self.initiator.watches()
     }
 
-    /// What the initiator holds of watch `k`, counted from 0: whether the responder has last told it that the
-    /// profile is on (M2-101-UM, profile configuration). `None` exactly when nothing is held.
+    /// Returns what the initiator holds of watch `k`, counted from 0 (M2-101-UM, profile configuration):
+    /// whether the responder last told it that the profile is on. Returns `None` exactly when nothing is
+    /// held.
     pub fn holds(&self, k: usize) -> Option<bool>
         requires { k < length self.now.initiator.watched }
         ensures { option_map (λ watched. watched.held) (slice_get self.now.initiator.watched k)
@@ -166,16 +168,16 @@ impl Rehearsal {
         self.initiator.holds(k)
     }
 
-    /// Whether a profile of the responder is on (M2-101-UM, profile
-    /// configuration); `None` exactly when the setup doesn't name it.
+    /// Returns whether a profile of the responder is on (M2-101-UM, profile configuration), or `None` exactly
+    /// when the setup doesn't name it.
     pub fn profile_is_on(&self, key: &Key) -> Option<bool>
         ensures { result ≡ state_in self.now.responder.states key.now }
     {
         self.responder.profile_is_on(key)
     }
 
-    /// Takes the event of a kind and a number (own rule; the messages are those of M2-101-UM). Takes no
-    /// memory, and after an error nothing has changed.
+    /// Takes the event of a kind and a number (own rule; the messages are those of M2-101-UM). Returns what
+    /// came of it. The call takes no memory, and after an error nothing has changed.
     ///
     /// Kind 0 asks: number 0 for Discovery, and 1 + 3k, 2 + 3k and 3 + 3k for an inquiry, a switch on and a
     /// switch off of watch k, on the group of the watch; Discovery is sent on that of watch 0, or on 0. Kind

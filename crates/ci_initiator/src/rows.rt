@@ -118,7 +118,7 @@ fn told_of(watch: &Watch, group: U4, view: &CiView<'_>) -> Option<bool>
     }
 }
 
-// What is held of a watch after a message that is noted so.
+// The state of a watch after a message that is noted so.
 fn held_after(noted: Noted, watched: &Watched, group: U4, view: &CiView<'_>) -> Watched
     ensures { result ≡ held_by noted (incoming_of group view.now) watched.now }
 {
@@ -132,14 +132,14 @@ fn held_after(noted: Noted, watched: &Watched, group: U4, view: &CiView<'_>) -> 
     }
 }
 
-// Changes what is held of one watch.
+// Changes the state of one watch.
 fn hold_one(watched: &mut Watched, noted: Noted, group: U4, view: &CiView<'_>)
     ensures { watched.new ≡ held_by noted (incoming_of group view.now) watched.old }
 {
     *watched = held_after(noted, watched, group, view);
 }
 
-/// Changes what is held of each watch by a message that is noted so.
+/// Changes the state of each watch by a message that is noted so.
 pub(crate) fn hold(watched: &mut [Watched], noted: Noted, group: U4, view: &CiView<'_>)
     ensures { watched.new ≡ map (held_by noted (incoming_of group view.now)) watched.old }
 {

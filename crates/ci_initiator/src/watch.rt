@@ -18,7 +18,7 @@ pub struct Watch {
     pub id: ProfileId,
 }
 
-/// A watch, and what is held of it.
+/// A watch, and its state.
 #[derive(Clone, Copy, Debug, PartialEq, Eq)]
 pub struct Watched {
     pub watch: Watch,
@@ -26,7 +26,7 @@ pub struct Watched {
     pub held: Option<bool>,
 }
 
-/// Whether these watches, at most 64, are all different, as `Initiator::new` asks of them.
+/// Tests whether these watches, at most 64, are all different, as `Initiator::new` asks of them (own rule).
 pub fn watches_differ(watches: &[Watch]) -> bool
     requires { length watches.now ≤ 64 }
     ensures { result ≡ are_different watches.now }

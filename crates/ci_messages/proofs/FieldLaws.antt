@@ -89,11 +89,11 @@ closed-rest (counted size) fields closed = closed
 closed-rest (reserved size) fields closed = closed
 closed-rest (absent only) fields closed = closed
 
--- the fields hold the values, and end where the body does
+-- the fields hold the values, and end with the body
 abbrev pub FillBody : List Field → List Value → List ℕ → ℕ → Type 0
 FillBody fields values body at = HasFields fields values body at × (end_of_fields fields body at ≡ length body)
 
--- fields that are written hold what was written, and end where the bytes do
+-- fields that are written hold what was written, and end with the bytes
 pub fields-again : (fields : List Field) (values : List Value) (before : List ℕ) (at : ℕ) →
     at ≡ length before → FitsFields fields values → IsClosed fields →
     FillBody fields values (before ++ bytes_of_fields fields values) at

@@ -94,7 +94,7 @@ fields-fit (field ∷ fields) (value ∷ values) body at data_bytes within hold 
     )
 fields-fit _ _ body at data_bytes within hold = absurd hold
 
--- no fault comes where none of the four tests holds
+-- no fault comes if none of the four tests holds
 no-fault : (a b c d : Bool) (one two three four : CiFault) →
     (if a then Some one else if b then Some two else if c then Some three else if d then Some four else None) ≡ None →
     (b ≡ false) × (d ≡ false)

@@ -8,7 +8,8 @@ use Rattle.ci_messages.specs.declared.view.Body.{Body}
 use Rattle.ci_messages.specs.declared.view.Body.TheVariants as body
 use Rattle.ci_messages.specs.Fields.{Field, Value, byte, number2, number4, bytes, counted, reserved, absent, unread, number, list, nothing}
 
--- Version 00 has no rows, and version 01 none for the messages of the endpoint: such a body is left unread (own rule).
+-- Version 00 has no rows, and version 01 none for the messages of the endpoint: such a body is left unread
+-- (own rule).
 abbrev pub has_row : ℕ → ℕ → Bool
 has_row sub version = not (version == 0 || (version == 1 && (sub == 0x72 || sub == 0x73)))
 
@@ -31,8 +32,8 @@ kind_of sub version =
     else if nat_le 0x30 sub && nat_le sub 0x3F then kind.Property
     else kind.Other
 
--- The sub-id of a kind of message: the only one, but for Property Exchange, which has 30 to 3F, and for what has no kind of its own.
--- Of these it is the least.
+-- The sub-id of a kind of message: its only one. Property Exchange has 30 to 3F, and the messages without a
+-- kind of their own have many; of these it is the least.
 abbrev pub sub_of : Kind → ℕ
 sub_of kind.Discovery = 0x70
 sub_of kind.DiscoveryReply = 0x71

@@ -1,4 +1,4 @@
--- Where the parts of a message are. Places are counted from 0.
+-- The parts of a message by their places, which are counted from 0.
 use Rattle.std.specs.Prelude.{ℕ, ◌+◌, ◌*◌, ◌%◌, ◌/◌, List, [], ◌∷◌, ◌++◌, take, drop, slice_index}
 
 -- the byte at a place

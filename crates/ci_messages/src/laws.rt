@@ -7,8 +7,8 @@ ghost use Rattle.ci_messages.specs.Messages.{has_row, kind_of, sub_of};
 ghost use Rattle.ci_messages.specs.Reading.{CiSpells, IsExclusive, Reads, ci_fault};
 ghost use Rattle.ci_messages.specs.Writing.{IsView, SameView, message_bytes};
 
-/// A message that is written is an exclusive. If its source is below
-/// 0FFFFF00, it is read back as the same view.
+/// A message that is written is an exclusive. If its source is below 0FFFFF00, it is read back as the same
+/// view.
 pub fn written_messages_are_read_again()
     ensures exclusive { (view : CiView) → IsView view → length (message_bytes view) ≤ 512 →
         IsExclusive (message_bytes view) }
@@ -31,8 +31,8 @@ pub fn views_that_are_read_fit()
         CiSpells view message → IsView view }
 {}
 
-/// The sub-id of a kind tells it: in version 02 and above each kind,
-/// and in version 01 each that it has a row for.
+/// The sub-id of a kind names it: in version 02 and above each kind, and in version 01 each that has a row
+/// there.
 pub fn sub_ids_tell_their_kinds()
     ensures full { (kind : Kind) (version : ℕ) → 2 ≤ version → kind_of (sub_of kind) version ≡ kind }
     ensures short { (kind : Kind) → has_row (sub_of kind) 1 ≡ true → kind_of (sub_of kind) 1 ≡ kind }

@@ -38,7 +38,7 @@ pub(crate) fn is_reserved(number: u32) -> bool
 }
 
 impl Muid {
-    /// The MUID of this number (M2-101-UM, MUID); `None` exactly if it has more than 28 bits.
+    /// Makes the MUID of this number (M2-101-UM, MUID). Returns `None` exactly if it has more than 28 bits.
     pub fn new(number: u32) -> Option<Muid>
         ensures { MatchOption result (2 ^ 28 ≤ number) (λ muid. (muid ≡ number) × (number < 2 ^ 28)) }
     {
@@ -49,7 +49,7 @@ impl Muid {
         }
     }
 
-    /// The MUID of a number below 0FFFFF00, which a device may have as its own (M2-101-UM, MUID).
+    /// Makes the MUID of a number below 0FFFFF00, which a device may have as its own (M2-101-UM, MUID).
     pub fn unreserved(number: u32) -> Muid
         requires { number < 0x0FFFFF00 }
         ensures { result ≡ number }
@@ -57,7 +57,7 @@ impl Muid {
         Muid { number }
     }
 
-    /// The number, of 28 bits (M2-101-UM, MUID).
+    /// Returns the number, of 28 bits (M2-101-UM, MUID).
     pub fn get(self) -> u32
         ensures value { result ≡ self }
         ensures fits { self < 2 ^ 28 }

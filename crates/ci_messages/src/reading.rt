@@ -35,7 +35,7 @@ use crate::positions::{array, number_of_four, number_of_two, part, profile_id};
 use crate::view::{Address, Body, CiFault, CiView, NO_BLOCK, ProfileId};
 use voice_messages::U4;
 
-/// Where the body begins.
+/// The place at which the body begins.
 const BODY: usize = 14;
 
 /// The bytes of a message without a body: those before it, and F7.

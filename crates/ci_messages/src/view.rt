@@ -25,7 +25,7 @@ impl Address {
     ghost use Rattle.std.specs.Prelude.{◌≡◌, ◌<◌};
     ghost use Rattle.ci_messages.specs.Writing.{IsAddress, channels_of};
 
-    /// The number of channels of a profile at this address: one for a channel (own rule), and none for the
+    /// Returns the number of channels of a profile at this address: 1 for a channel (own rule), and 0 for the
     /// group or the function block (M2-101-UM, profile configuration).
     pub fn channels(self) -> u16
         ensures value { result ≡ channels_of self }
@@ -44,7 +44,7 @@ impl Address {
     }
 }
 
-/// The id of a profile, five data bytes.
+/// The id of a profile, five data bytes (M2-101-UM, profile id).
 #[derive(Clone, Copy, Debug, PartialEq, Eq)]
 pub struct ProfileId {
     pub bytes: [U7; 5],
@@ -54,7 +54,7 @@ impl ProfileId {
     ghost use Rattle.std.specs.Prelude.{◌≡◌};
     ghost use Rattle.ci_messages.specs.Fields.{IsData};
 
-    /// The id as it stands in a message.
+    /// Returns the id as it is written in a message (M2-101-UM, profile id).
     pub fn data_bytes(&self) -> [u8; 5]
         ensures value { result ≡ self.now.bytes }
         ensures data_bytes { IsData self.now.bytes }
@@ -88,21 +88,21 @@ pub struct CiView<'a> {
 impl<'a> CiView<'a> {
     ghost use Rattle.std.specs.Prelude.{◌≡◌, ◌==◌, ◌||◌};
 
-    /// Whether the device of this MUID sends it (M2-101-UM, MUID).
+    /// Tests whether the device of this MUID sends it (M2-101-UM, MUID): its source is that MUID.
     pub fn is_from(&self, muid: Muid) -> bool
         ensures { result ≡ (self.now.source == muid) }
     {
         self.source == muid.get()
     }
 
-    /// Whether it is for all devices (M2-101-UM, MUID): its destination is 0FFFFFFF.
+    /// Tests whether it is for all devices (M2-101-UM, MUID): its destination is 0FFFFFFF.
     pub fn is_for_all(&self) -> bool
         ensures { result ≡ (self.now.destination == 0x0FFFFFFF) }
     {
         self.destination == BROADCAST
     }
 
-    /// Whether it is for the device of this MUID (M2-101-UM, MUID): for that one alone, or for all.
+    /// Tests whether it is for the device of this MUID (M2-101-UM, MUID): for that one alone, or for all.
     pub fn is_for(&self, muid: Muid) -> bool
         ensures { result ≡ (self.now.destination == muid || self.now.destination == 0x0FFFFFFF) }
     {
@@ -219,8 +219,8 @@ impl<'a> Body<'a> {
     ghost use Rattle.std.specs.Prelude.{◌≡◌, ◌<◌};
     ghost use Rattle.ci_messages.specs.Messages.{body_kind, sub_of};
 
-    /// The sub-id of a message with this body (M2-101-UM): its only one, but for `Property` and `Other`, of
-    /// which it is the least, 30 and 00.
+    /// Returns the sub-id of a message with this body (M2-101-UM). `Property` and `Other` have several, and
+    /// the least is returned, 30 and 00.
     pub fn sub(&self) -> u8
         ensures value { result ≡ sub_of (body_kind self.now) }
         ensures data_byte { result < 128 }

@@ -1,4 +1,4 @@
--- What is held is what the history says.
+-- The state is what the history says.
 use Rattle.std.proofs.Common.{subst, arith, ◌≡◌, ◌≤◌, ◌+◌, ◌∙◌, ap, sym, refl, ℕ, zero, suc, Bool, true, false, cond}
 use Rattle.std.proofs.Common.{not, ◌==◌, ◌&&◌, ◌||◌, nat_lt, if◌then◌else◌, List, [], ◌∷◌, map, length, slice_get, None}
 use Rattle.std.proofs.Common.{Some, Option, is_some, option_map, option_and_then, unwrap_or, true≢false, add-zero}
@@ -127,7 +127,7 @@ on-by : (last : Key → Option Bool) (key here : Key) (on : Bool) (b : Bool) →
 on-by last key here on true same some before rest = ap (λ k. Some (unwrap_or (last k) on)) (sym (key-is key here same))
 on-by last key here on false same some before rest = rest
 
--- what is held of a profile is its last switch, or the setup's
+-- the state of a profile is its last switch, or the setup's
 pub on-same : (last : Key → Option Bool) (ps : List Profile) (key : Key)
     → state_in (states_with last ps) key ≡ option_map (unwrap_or (last key)) (state_in (first_states ps) key)
 on-same last [] key = refl
@@ -246,7 +246,7 @@ module _ (setup : SetupData) (room : ℕ) (past : List Received) where
       ap (sender_in (responder_at setup room past)) (own-block received.group) ∙ sender-follows (block_of setup received.group) in
       (λ j. replies_by (sender j) (heard_follows received j) received)
 
-  -- what is held behind a message that is heard so by its block
+  -- the state after a message that is heard so by its block
   abbrev behind : Received → Option ℕ → Heard → Held
   behind received own h = record (responder_at setup room past) {
     blocks = kept_from 0 (λ m. spent_more m own h (spent_at setup past m)) setup.blocks;

@@ -17,7 +17,7 @@ take-next xs k x is =
     let at = got xs k x x is in
     take_more xs k x at.0 ∙ ap (λ y. take k xs ++ y ∷ []) (sym at.1)
 
--- where no item is at a place, all items stand before it
+-- if no item is at a place, all items stand before it
 pub past-last : {X : Type 0} (xs : List X) (k : ℕ) → None ≡ slice_get xs k → length xs ≤ k
 past-last [] k none = omega arith
 past-last (x ∷ xs) zero none = absurd (true≢false (sym (ap is_some none)))

@@ -30,7 +30,7 @@ part-cut bytes k p within is =
 none-some : (p : Form × List ℕ) → None ≡ Some p → ⊥
 none-some p e = cc
 
--- a packet that is there is one of the count, and behind the last one there is none
+-- a packet that is there is one of the count, and after the last one there is none
 pub part-within : (bytes : List ℕ) (k : ℕ) (p : Form × List ℕ) → Some p ≡ part_at bytes k → k < part_count bytes
 part-within bytes k p is = elim (cases_Bool (nat_lt k (part_count bytes))) [
   | inl some ↦ ltb-true k (part_count bytes) some

@@ -1,4 +1,4 @@
--- What is held as it was at first.
+-- The state as it was at first.
 use Rattle.std.proofs.Common.{arith, ◌≡◌, ◌<◌, ◌≤◌, ◌+◌, ◌∙◌, ap, sym, refl, subst, ℕ, zero, suc, Bool, List, [], ◌∷◌, length}
 use Rattle.std.proofs.Common.{map, get_or, set}
 use Rattle.std.specs.List.{All}

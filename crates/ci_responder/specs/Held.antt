@@ -29,7 +29,7 @@ pub record IsCiBlock (block : CiBlock) : Type 0 where
   pub muids : All (λ muid. muid < 0x0FFFFF00) block.muids
   pub few : length block.muids ≤ 16
 
--- what the rules of a setup leave of what is held
+-- the rules of a setup that the state keeps
 pub record IsHeld (held : Held) : Type 0 where
   pub few_blocks : length held.blocks ≤ 32
   pub blocks : All IsCiBlock held.blocks
@@ -76,11 +76,11 @@ change_at change n [] = []
 change_at change zero (block ∷ blocks) = change block ∷ blocks
 change_at change (suc n) (block ∷ blocks) = block ∷ change_at change n blocks
 
--- the blocks behind a message that one of them heard so
+-- the blocks after a message that one of them heard so
 abbrev pub blocks_by : Heard → ℕ → List CiBlock → List CiBlock
 blocks_by heard block blocks = if loses_muid heard then change_at next block blocks else blocks
 
--- the profiles behind a message: a switch that is answered switches its own
+-- the profiles after a message: a switch that is answered switches its own
 abbrev pub states_by : Heard → SaidToResponder → ℕ → Received → List (Key × Bool) → List (Key × Bool)
 states_by heard.Answered (switch id on) block received states = set_value (same_key (key_at block received id)) states on
 states_by _ _ block received states = states
@@ -92,7 +92,7 @@ after_for held received (Some block) = record held {
   states = states_by (heard_for held received (Some block)) received.message.said block received held.states;
 }
 
--- what is held behind a message
+-- the state after a message
 abbrev pub after : Held → Received → Held
 after held received = after_for held received (block_in held.blocks received.group)
 

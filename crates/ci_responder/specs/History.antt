@@ -1,4 +1,5 @@
--- What a history of messages says. It lists the messages of all groups, the newest first, and is searched from the newest back.
+-- What a history of messages says. It lists the messages of all groups, the newest first, and is searched
+-- from the newest back.
 use Rattle.std.specs.Prelude.{ℕ, Bool, ◌+◌, ◌==◌, ◌&&◌, nat_le, nat_lt, if◌then◌else◌, List, [], ◌∷◌, map}
 use Rattle.std.specs.Prelude.{slice_get, position, Option, None, Some, option_map, option_and_then, unwrap_or}
 use Rattle.ump_grammar.specs.declared.packet.Packet.{Packet}
@@ -88,7 +89,8 @@ module _ (setup : SetupData) where
   last_switch [] key = None
   last_switch (received ∷ past) key = newer_or (accepted_at past received key) (last_switch past key)
 
-  -- whether a profile is on: by its last accepted switch, else as the setup says; none if the setup doesn't name it
+  -- whether a profile is on: by its last accepted switch, else as the setup says; none if the setup doesn't
+  -- name it
   abbrev pub on_at : List Received → Key → Option Bool
   on_at past key = option_map (unwrap_or (last_switch past key)) (state_in (first_states setup.profiles) key)
 

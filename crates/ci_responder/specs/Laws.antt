@@ -14,8 +14,8 @@ use Rattle.ci_responder.specs.Reset.{IsOf}
 use Rattle.ci_responder.specs.Held.{Held, after, heard_in, muid_in, replies_in, reply_in}
 use Rattle.ci_responder.specs.History.{accepted_at, block_of, covers, heard_at, responder_at, muid_at, on_at, replies_at, reply_at}
 
--- What is held after a history is what the history says: `heard`, `replies`, `muid` and `on` of it are those of the history, and
--- one more message leaves what the longer history says.
+-- The state after a history is what the history says: `heard`, `replies`, `muid` and `on` of it are those
+-- of the history, and one more message leaves what the longer history says.
 pub record HeldIsTheHistory : Type 0 where
   pub heard : (setup : SetupData) (room : ℕ) (past : List Received) (received : Received) →
       heard_in (responder_at setup room past) received ≡ heard_at setup past received
@@ -56,4 +56,5 @@ ViewsTellTheirBytes =
 pub record StaysOfItsSetup : Type 0 where
   pub room : (held : Held) (received : Received) → (after held received).room ≡ held.room
   pub at : (setup : SetupData) (room : ℕ) (past : List Received) → IsOf setup (responder_at setup room past)
-  pub after : (setup : SetupData) (held : Held) (received : Received) → IsOf setup held → IsOf setup (after held received)
+  pub after : (setup : SetupData) (held : Held) (received : Received) → IsOf setup held →
+      IsOf setup (after held received)

@@ -55,7 +55,8 @@ pub record Received : Type 0 where
 abbrev pub received_of : ℕ → CiView → Received
 received_of group view = record { group = group; message = viewed_message view }
 
--- The place of an address (M2-101-UM, device id): a channel of the message's group, that group, or the function block.
+-- The place of an address (M2-101-UM, device id): a channel of the message's group, that group, or the
+-- function block.
 abbrev pub place_at : Address → ℕ → Place
 place_at (address.Channel channel) group = place.Channel group channel
 place_at address.Group group = place.Group group

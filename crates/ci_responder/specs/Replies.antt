@@ -39,13 +39,13 @@ pub record Sender : Type 0 where
 abbrev pub reply_version : Message → ℕ
 reply_version message = if message.version == 1 then 1 else 2
 
--- the bytes between F0 and F7 of a message: its address, sub-id, version, source and destination, and its body
+-- the bytes between F0 and F7 of a message: its address, sub-id, version, source, destination and body
 abbrev pub payload_with : Address → ℕ → ℕ → ℕ → ℕ → List ℕ → List ℕ
 payload_with address sub version source destination body =
     0x7E ∷ address_number address ∷ 0x0D ∷ sub ∷ version ∷ ((bytes4 source ++ bytes4 destination) ++ body)
 
--- Those of a reply to a message: the sub-id and the fields are those of its kind. What has no place in the format of its version
--- isn't written.
+-- Those of a reply to a message: the sub-id and the fields are those of its kind. A field without a place in
+-- the format of its version isn't written.
 abbrev pub payload : Message → Address → ℕ → ℕ → Kind → List Value → List ℕ
 payload message address source destination kind values =
     payload_with address (sub_of kind) (reply_version message) source destination

@@ -11,7 +11,7 @@ use Rattle.ci_responder.specs.Keys.{key_of}
 abbrev pub unspent : CiBlock → CiBlock
 unspent block = record block { spent = 0 }
 
--- what is held is the setup's, but for the MUIDs that are used up and the switches of profiles
+-- the state is the setup's, except for the MUIDs that are used up and the switches of profiles
 pub record IsOf (setup : SetupData) (held : Held) : Type 0 where
   pub blocks : map unspent held.blocks ≡ map (kept 0) setup.blocks
   pub profiles : keys_of held.states ≡ map key_of setup.profiles

@@ -44,8 +44,8 @@ is_answered named profiles = true
 is_answered named (switch id on) = named
 is_answered named _ = false
 
--- the row of a message for a block in which this MUID is in force, if it is for that block, from another device, and not of
--- version 00
+-- the row of a message for a block in which this MUID is in force, if it is for that block, from another
+-- device, and not of version 00
 abbrev pub row_of_ours : ℕ → Bool → Message → Heard
 row_of_ours muid named message =
     if is_of_another muid message.said then heard.NotOurs

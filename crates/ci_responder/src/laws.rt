@@ -22,21 +22,21 @@ pub fn switches_stand_alone()
     ensures { SwitchesStandAlone }
 {}
 
-/// The block of a group, by which the history tells which block hears a message, is an active block with
+/// The block of a group, by which the history says which block hears a message, is an active block with
 /// MIDI-CI that has the group. If no two of them share a group, as in each setup, it is the only one, and
 /// there is none only if no block has it.
 pub fn block_of_a_group_is_the_one()
     ensures { BlockOfIsTheOne }
 {}
 
-/// What a view of a message tells is a function of the message's
-/// bytes and its group, by the places of M2-101-UM.
+/// What a view of a message says is a function of the message's bytes and its group, by the places of
+/// M2-101-UM.
 pub fn views_tell_their_bytes()
     ensures { ViewsTellTheirBytes }
 {}
 
-/// A responder stays one of its setup, so that it can begin again with it: hearing a message uses up MUIDs and
-/// switches profiles, and changes nothing else.
+/// A responder stays one of its setup, so that it can begin again with it: hearing a message uses up MUIDs
+/// and switches profiles, and changes nothing else.
 pub fn responders_stay_of_their_setup()
     ensures { StaysOfItsSetup }
 {}

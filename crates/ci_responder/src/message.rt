@@ -27,8 +27,8 @@ impl Model for CiMessage {
 }
 
 impl CiMessage {
-    /// Writes a message of version 01 or above, whose source is below
-    /// 0FFFFF00, of at most 342 bytes between F0 and F7.
+    /// Writes a message of version 01 or above (M2-101-UM), whose source is below 0FFFFF00, of at most 342
+    /// bytes between F0 and F7.
     pub fn new(view: &CiView<'_>) -> CiMessage
         requires view { IsView view.now }
         requires version { 1 ≤ view.now.version }
@@ -42,7 +42,7 @@ impl CiMessage {
         CiMessage { bytes }
     }
 
-    /// Its bytes, from F0 to F7.
+    /// Returns its bytes, from F0 to F7 (M2-101-UM).
     pub fn as_slice(&self) -> &[u8]
         ensures value { result.now ≡ self.now }
         ensures message { IsMessage result.now }

@@ -1,5 +1,6 @@
 // The profiles, by their keys.
-ghost use Rattle.std.specs.Prelude.{◌≡◌, ◌≤◌, ◌+◌, ◌*◌, ◌%◌, ◌==◌, ◌&&◌, ◌++◌, length, true, false, is_some, IfSome};
+ghost use Rattle.std.specs.Prelude.{◌≡◌, ◌≤◌, ◌+◌, ◌*◌, ◌%◌, ◌==◌, ◌&&◌, ◌++◌};
+ghost use Rattle.std.specs.Prelude.{length, true, false, is_some, IfSome};
 ghost use Rattle.std.specs.Map.{set_value};
 ghost use Rattle.ci_messages.specs.Fields.{IsData};
 ghost use Rattle.function_blocks.specs.Profiles.{same_place};

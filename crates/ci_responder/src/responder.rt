@@ -74,9 +74,9 @@ impl Model for Responder {
 }
 
 impl Responder {
-    /// A responder that has used up no MUID, with its profiles as the setup has them. `room` is the most
-    /// bytes of a System Exclusive message that it tells to take, 6 to 1,048,576. Takes all memory that it
-    /// ever takes; `NoMemory` if there isn't that much.
+    /// Makes a responder that has used up no MUID, with its profiles as the setup has them (M2-101-UM).
+    /// `room` is the most bytes of a System Exclusive message that it reports to take, 6 to 1,048,576. The
+    /// call takes all memory that the responder ever takes. `NoMemory` is returned if there isn't that much.
     pub fn new(alloc: Global, setup: &Setup, room: u32) -> Result<Responder, NoMemory>
         requires least { 6 ≤ room }
         requires most { room ≤ 1048576 }
@@ -95,9 +95,9 @@ impl Responder {
         })
     }
 
-    /// Begins again: the responder is as `new` makes one of the same setup and room, so no MUID is used up, and
-    /// each profile is on or off as the setup has it (own rule). It takes no memory. The setup is the one that
-    /// it was made of.
+    /// Begins again (own rule): the responder equals the one that `new` makes of the same setup and room. So
+    /// no MUID is used up, and each profile is on or off as the setup has it. The setup must be the one of
+    /// which the responder was made. The call takes no memory.
     pub fn reset(&mut self, setup: &Setup)
         requires { IsOf setup.now self.old }
         ensures { self.new ≡ responder_at setup.now self.old.room [] }
@@ -106,8 +106,9 @@ impl Responder {
         reset_states(&mut self.states, setup.profiles());
     }
 
-    /// The MUID in force of a function block, counted from 0; it is below 0FFFFF00. `None` exactly if the
-    /// block has no MIDI-CI or has used up its MUIDs, or if there is no such block.
+    /// Returns the MUID in force of a function block, counted from 0 (M2-101-UM, MUID); it is below 0FFFFF00.
+    /// Returns `None` exactly if the block has no MIDI-CI or has used up its MUIDs, or if there is no such
+    /// block.
     pub fn muid(&self, block: u8) -> Option<u32>
         ensures value { result ≡ muid_in self.now.blocks block }
         ensures fits { IfSome result (λ muid. muid < 0x0FFFFF00) }
@@ -118,16 +119,17 @@ impl Responder {
         }
     }
 
-    /// Whether a profile is on; `None` exactly if the setup doesn't name it.
+    /// Returns whether a profile is on (M2-101-UM, profile configuration), or `None` exactly if the setup
+    /// doesn't name it.
     pub fn profile_is_on(&self, key: &Key) -> Option<bool>
         ensures { result ≡ state_in self.now.states key.now }
     {
         state(&self.states, key)
     }
 
-    /// Hears a message that `ci_messages::read` gives, on its group, and adds the packets of the reply to
-    /// `replies`, which is empty. Takes no memory. The reply goes out on the same group, and has at most 114
-    /// words.
+    /// Hears a message that `ci_messages::read` returned, on its group (M2-101-UM), and adds the packets of
+    /// the reply to `replies`, which is empty. The reply goes out on the same group, and has at most 114
+    /// words. Returns what the block did with the message. The call takes no memory.
     pub fn hear(&mut self, group: U4, view: &CiView<'_>, replies: &mut Replies) -> Heard
         requires view { IsView view.now }
         requires empty { replies.old ≡ [] }
@@ -143,8 +145,8 @@ impl Responder {
         heard
     }
 
-    /// The same, but gives the reply as a message, which goes out on
-    /// the same group; `None` if there is no reply.
+    /// Hears a message as `hear` does (M2-101-UM). Returns what the block did with it, and the reply as a
+    /// message, which goes out on the same group; `None` if there is no reply.
     pub fn hear_message(&mut self, group: U4, view: &CiView<'_>) -> (Heard, Option<CiMessage>)
         requires { IsView view.now }
         ensures heard { result.0 ≡ heard_in self.old (received_of group view.now) }
@@ -174,7 +176,7 @@ impl Responder {
         spend(self.blocks.as_mut_slice(), owner.block as usize);
     }
 
-    // Carries out an action, and gives what the message is heard as, with the reply.
+    // Carries out an action, and returns what the message is heard as, with the reply.
     fn act(
         &mut self,
         owner: &Owner,

@@ -46,7 +46,8 @@ impl Responder {
         }
     }
 
-    // What a block does with a message that is for it, and not of version 00: the first of these that applies.
+    // What a block does with a message that is for it, and not of version 00: the first of these that
+    // applies.
     fn action_by_body(&self, owner: &Owner, view: &CiView<'_>) -> Action
         requires view { IsView view.now }
         requires version { (view.now.version == 0) ≡ false }

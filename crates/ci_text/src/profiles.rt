@@ -10,7 +10,7 @@ use function_blocks::{Profile, Setup};
 use pass_loop::{Outputs, RunEnd};
 use text_lines::profile_line;
 
-/// Where a line is put.
+/// The place in which a line is put.
 #[derive(Clone, Copy, Debug, PartialEq, Eq)]
 pub enum LinePlace {
     /// In the output, among what the command puts there.

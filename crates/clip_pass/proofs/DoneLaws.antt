@@ -1,4 +1,4 @@
--- Where the pass is done, the input is a whole clip file, and its lines were put.
+-- When the pass is done, the input is a whole clip file, and its lines were put.
 use Rattle.std.proofs.Common.{◌≡◌, ◌+◌, ℕ, Bool, true, false, List, [], ◌∷◌, ◌++◌, is_some}
 use Rattle.std.proofs.Common.{Option, None, Some, refl, ap, sym, ◌∙◌, subst, arith, inl, inr}
 use Rattle.std.specs.Prelude.{IfSome, Result, Ok, reverse, ◌&&◌}

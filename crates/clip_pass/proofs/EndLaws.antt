@@ -1,4 +1,4 @@
--- What stands where the pass over a clip file ends, and which end it is where nothing fails.
+-- What stands when the pass over a clip file ends, and which end it is if nothing fails.
 use Rattle.std.proofs.Common.{◌≡◌, ◌+◌, ◌≤◌, ◌<◌, ℕ, true, false, List, [], ◌++◌, length, take}
 use Rattle.std.proofs.Common.{Option, None, Some, refl, ap, sym, ◌∙◌, subst, arith, inl, inr}
 use Rattle.std.specs.Prelude.{IfSome}
@@ -69,7 +69,7 @@ abbrev offset_of : RunEnd → ℕ
 offset_of (Refused why offset) = offset
 offset_of _ = 0
 
--- what stands is what any pass says, where no such end is one of the two that only a clip file has
+-- what stands is what any pass says, if no such end is one of the two that only a clip file has
 pub as_any : (Is : RunEnd → Type 0) → ((offset : ℕ) → Is (Refused reason.NotClip offset) → ⊥)
     → ((offset : ℕ) → Is (Refused reason.NoEnd offset) → ⊥)
     → (old new : Seen) (end : RunEnd) → Is end → Stands clip_cutting clipping old new end → ClipEnds old new end
@@ -146,7 +146,7 @@ clip_ends_as old new end now same (inr (e, fails)) =
       },
     )
 
--- ---- where nothing fails
+-- ---- if nothing fails
 
 abbrev pub IsTold : Seen → Seen → RunEnd → Type 0
 IsTold old new end = IsDoneUnless clip_cutting clipping old new end × IsRefusedWhere clip_cutting clipping old new end

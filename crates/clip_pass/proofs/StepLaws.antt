@@ -1,4 +1,4 @@
--- What one more packet does to what is held, and what each end says.
+-- What one more packet does to the state, and what each end says.
 use Rattle.std.proofs.Common.{◌≡◌, ◌+◌, ◌*◌, ◌≤◌, ◌<◌, ◌^◌, ◌==◌, ◌%◌, ℕ, Bool, true, false, List, [], ◌∷◌}
 use Rattle.std.proofs.Common.{◌++◌, length, is_some, Option, None, Some, refl, ap, sym, ◌∙◌, subst, arith}
 use Rattle.std.specs.Prelude.{Result, Ok, Err, if◌then◌else◌}
@@ -80,7 +80,7 @@ few-more (Started ticks) (Delta more) few = omega (arith, few)
 few-more (Started ticks) Other few = omega arith
 few-more (Ended ticks) role few = omega arith
 
--- ---- what is held
+-- ---- the state
 
 -- the clip is that of these packets, newest first, and its ticks are few
 pub record HoldsClip (clip : Stage) (past : List (Framed × Packet)) : Type 0 where

@@ -139,7 +139,7 @@ fn reason(fault: ClipFault) -> Reason
     }
 }
 
-// Takes one more packet, and puts what comes of it, as a line made in the place of the one before.
+// Takes one more packet, and puts its result, as a line made in the place of the one before.
 #[inline(always)]
 fn take_packet<O: Outputs>(
     clip: &mut Clip,
@@ -163,7 +163,7 @@ fn take_packet<O: Outputs>(
     }
 }
 
-// Puts what comes of a packet, as a line made in the place of the one before.
+// Puts the result of a packet, as a line made in the place of the one before.
 #[inline(always)]
 fn put_step<O: Outputs>(
     step: ClipStep,

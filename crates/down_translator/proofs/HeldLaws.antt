@@ -1,4 +1,4 @@
--- What is held is the definition that looks back over the packets.
+-- The state equals the definition that looks back over the packets.
 use Rattle.std.proofs.Common.{ℕ, ◌≡◌, ◌≢◌, ◌<◌, ◌≤◌, ◌∙◌, ap, refl, List, [], ◌∷◌, ◌++◌}
 use Rattle.std.proofs.Common.{length, Option, Some, None, Bool, true, false, cond}
 use Rattle.std.proofs.lemmas.List.Elements.{recursion_from_All}

@@ -12,3 +12,5 @@ pub mod Spelling
 pub mod StyledLaws
 pub mod Turned
 pub mod UnsetLaws
+mod Midi1Laws
+mod UncarriedLaws

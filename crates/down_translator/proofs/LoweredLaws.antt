@@ -10,11 +10,10 @@ use Rattle.sysex_groups.specs.Exclusives.{IsData}
 use Rattle.std.specs.Option.{option_map, option_to_list}
 use Rattle.bit_scaling.specs.Scaling.{down7, down14, release_down}
 use Rattle.encoded_packets.specs.declared.direct_message.DirectMessage.{DirectMessage}
-use Rattle.encoded_packets.specs.DirectMessages.{IsDirectMessage, has_direct_kind, kind_by, message_by, direct_voice, one_of_six}
+use Rattle.encoded_packets.specs.DirectMessages.{IsDirectMessage, kind_by, message_by, direct_voice, one_of_six}
 use Rattle.voice_messages.specs.declared.voice1.Voice1.{Voice1}
 use Rattle.voice_messages.specs.declared.voice1.Voice1.TheVariants as voice1
 use Rattle.voice_messages.specs.declared.voice2.Voice2.{Voice2}
-use Rattle.voice_messages.specs.declared.voice2.Voice2.TheVariants as voice2
 use Rattle.midi1_bytes.specs.Messages.{spelled, spelled_voice, voice}
 use Rattle.ump_grammar.specs.declared.packet.Packet.{Packet}
 use Rattle.ump_grammar.specs.declared.packet.Packet.TheVariants as packet
@@ -71,7 +70,7 @@ module _ (m : DirectMessage) where
 
 -- ---- a control change that is carried by one message
 
-single_accepted : (paired : Bool) (role : Role) → is_single (pairing paired role) ≡ true → bad_role role ≡ None
+pub single_accepted : (paired : Bool) (role : Role) → is_single (pairing paired role) ≡ true → bad_role role ≡ None
 single_accepted paired data_increment e = cc
 single_accepted paired data_decrement e = cc
 single_accepted paired _ e = refl
@@ -95,7 +94,7 @@ single_kind reset_all e = refl
 single_kind plain e = refl
 single_kind _ e = cc
 
-direct_single : (role : Role) → is_direct role ≡ true → is_single role ≡ true
+pub direct_single : (role : Role) → is_direct role ≡ true → is_single role ≡ true
 direct_single channel_mode e = refl
 direct_single plain e = refl
 direct_single _ e = cc
@@ -216,18 +215,9 @@ direct_packet paired m is =
     ≡ goes_by (kind_by o) paired m in
     one_of_six Same refl refl refl refl refl refl (m.status / 16) is.opcode
 
-pub no_direct_packet : (paired : Bool) (p : Packet) → has_direct_kind p ≡ false → packet_goes_direct paired p ≡ false
-no_direct_packet paired (packet.Voice2 group (voice2.Control channel index value)) none = cc
-no_direct_packet paired (packet.Voice2 group message) none = none
-no_direct_packet paired p none = none
-
 pub none_else : (whole direct : Bool) → direct ≡ false → (whole && direct) ≡ false
 none_else true direct e = e
 none_else false direct e = refl
-
-pub not_direct : (state : DownState) (p : Packet) → has_direct_kind p ≡ false → goes_direct state p ≡ false
-not_direct state p none =
-    none_else (is_plain state.lanes.style) (packet_goes_direct state.lanes.paired p) (no_direct_packet state.lanes.paired p none)
 
 pub same_direct : (state : DownState) (p : Packet) (m : DirectMessage) → IsDirectMessage m → p ≡ packet.Voice2 m.group (direct_voice m) →
     goes_direct state p ≡ (is_plain state.lanes.style && message_goes_direct state.lanes.paired m)
@@ -238,7 +228,7 @@ both : (whole direct : Bool) → (whole && direct) ≡ true → (whole ≡ true)
 both true direct e = (refl, e)
 both false direct e = cc
 
-plain_is : (style : Style) → is_plain style ≡ true → style ≡ plain_style
+pub plain_is : (style : Style) → is_plain style ≡ true → style ≡ plain_style
 plain_is plain_style e = refl
 plain_is compact_style e = cc
 

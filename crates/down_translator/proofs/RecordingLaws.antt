@@ -63,7 +63,7 @@ carried_in_group paired whole (packet.Flex g wd) e = cc
 carried_in_group paired whole (packet.Stream f s l wd x y) e = cc
 carried_in_group paired whole (packet.Reserved wd) e = cc
 
--- an answer's pair, by what is held
+-- an answer's pair, by the state
 pair-held : (state : DownState) → CarriedPacketsHaveAPiece (paired_of state) → (offset : ℕ) (p : Packet) (carried : Carried)
     → IsStep state offset p carried
     → pair_put carried ≡ pair_by (group_of p) (is_carried (paired_of state) (whole_in state p) p) (piece_of state p)

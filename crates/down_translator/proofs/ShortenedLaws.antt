@@ -4,7 +4,7 @@ use Rattle.std.proofs.Common.{◌≡◌, ◌∙◌, ◌++◌, ◌∷◌, ap, sym
 use Rattle.std.specs.Prelude.{◌&&◌, not, slice_index}
 use Rattle.std.specs.Option.{option_to_list}
 use Rattle.encoded_packets.specs.declared.direct_message.DirectMessage.{DirectMessage}
-use Rattle.encoded_packets.specs.DirectMessages.{IsDirectMessage, direct_voice, has_direct_kind}
+use Rattle.encoded_packets.specs.DirectMessages.{IsDirectMessage, direct_voice}
 use Rattle.midi1_bytes.specs.Messages.{spelled_voice}
 use Rattle.midi1_bytes.specs.RunningStatus.{is_running, running_over, without_status}
 use Rattle.ump_grammar.specs.declared.packet.Packet.{Packet}
@@ -20,12 +20,12 @@ use Rattle.down_translator.specs.declared.statuses.Statuses.TheVariants.{Changes
 use Rattle.down_translator.specs.Held.{DownState, lanes_after_packet, paired_of, unless_refused}
 use Rattle.down_translator.specs.KeptLanes.{is_plain, kept_by, lane_at, lanes_after, piece_by, with_lane}
 use Rattle.down_translator.specs.Lowered.{IsShortenedStep, attribute_line, goes_shortened, lowered_bytes, has_attribute}
-use Rattle.down_translator.specs.Lowered.{message_goes_direct, packet_goes_direct, shortened_bytes, voice_of}
+use Rattle.down_translator.specs.Lowered.{message_goes_direct, shortened_bytes, voice_of}
 use Rattle.down_translator.specs.Step.{IsStep, lane_of}
-use Rattle.down_translator.proofs.LoweredLaws.{IsSingle, direct_packet, is_single_of, no_direct_packet, none_else}
+use Rattle.down_translator.proofs.LoweredLaws.{IsSingle, direct_packet, is_single_of}
 use Rattle.down_translator.proofs.PieceLaws.{piece1, single_piece}
 
-compact_is : (style : Style) → is_plain style ≡ false → style ≡ compact_style
+pub compact_is : (style : Style) → is_plain style ≡ false → style ≡ compact_style
 compact_is plain_style e = cc
 compact_is compact_style e = refl
 
@@ -84,17 +84,13 @@ module _ (state : DownState) (m : DirectMessage) (l : LoweredMessage) where
 
 -- ---- the packets that are taken so
 
-pub not_shortened : (state : DownState) (p : Packet) → has_direct_kind p ≡ false → goes_shortened state p ≡ false
-not_shortened state p none =
-    none_else (not (is_plain state.lanes.style)) (packet_goes_direct state.lanes.paired p) (no_direct_packet state.lanes.paired p none)
-
 pub same_shortened : (state : DownState) (p : Packet) (m : DirectMessage) → IsDirectMessage m
     → p ≡ packet.Voice2 m.group (direct_voice m)
     → goes_shortened state p ≡ (not (is_plain state.lanes.style) && message_goes_direct state.lanes.paired m)
 same_shortened state p m is same =
     ap (goes_shortened state) same ∙ ap (λ direct. not (is_plain state.lanes.style) && direct) (direct_packet state.lanes.paired m is)
 
-both_shortened : (plain direct : Bool) → (not plain && direct) ≡ true → (plain ≡ false) × (direct ≡ true)
+pub both_shortened : (plain direct : Bool) → (not plain && direct) ≡ true → (plain ≡ false) × (direct ≡ true)
 both_shortened true direct e = cc
 both_shortened false direct e = (refl, e)
 

@@ -4,7 +4,7 @@ use Rattle.std.proofs.lemmas.List.{ext_get_or, get_or-replicate, length-replicat
 use Rattle.midi_meaning.specs.LaneState.{LaneState, new_lane, registers_at}
 use Rattle.midi_meaning.specs.Registers.{unset_registers}
 use Rattle.midi_meaning.specs.Styles.{Style}
-use Rattle.down_translator.specs.KeptLanes.{KeptLanes, new_lanes}
+use Rattle.down_translator.specs.KeptLanes.{new_lanes}
 
 same_each : {X : Type 0} (n done : ℕ) (same : X) (all : List X) → length all ≡ n → n ≤ done →
     ((k : ℕ) → k < done → get_or all k same ≡ same) → all ≡ replicate n same

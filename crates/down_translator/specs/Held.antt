@@ -73,7 +73,7 @@ lanes_after_packet packet state =
     let whole : Option (List ℕ) = whole_in state packet in
     lanes_after (unless_refused (refusal_in state packet) (lane_written whole packet)) whole packet state.lanes
 
--- What is held after a packet at this offset, whether it is refused or not: only packets of exclusives change what is open, and
+-- The state after a packet at this offset, whether it is refused or not: only packets of exclusives change what is open, and
 -- only packets that are accepted change what is kept of the lanes.
 abbrev pub down_after : ℕ → Packet → DownState → DownState
 down_after offset packet state = record {

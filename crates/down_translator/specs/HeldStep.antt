@@ -29,7 +29,7 @@ pub record IsNothing (carried : Carried) : Type 0 where
   pub lane : lane_in carried ≡ 0
   pub line : line_in carried ≡ None
 
--- It is the whole step of a packet at any offset: an answer without bytes and without a line is the packet's, and this is held behind it.
+-- It is the whole step of a packet at any offset: an answer without bytes and without a line is the packet's, and this is held after it.
 pub record IsHeldStep (state : DownState) (packet : Packet) (behind : DownState) : Type 0 where
   pub whole : goes_held state packet ≡ true
   pub step : (offset : ℕ) (carried : Carried) → IsNothing carried → IsStep state offset packet carried

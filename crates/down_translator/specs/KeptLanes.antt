@@ -61,7 +61,7 @@ abbrev pub is_pair : Role → Bool
 is_pair coarse = true
 is_pair _ = false
 
--- a message other than a control change where controllers are paired
+-- a message other than a control change if controllers are paired
 abbrev pub IsUnpaired : Bool → Voice2 → Type 0
 IsUnpaired paired (voice2.Control channel index value) = paired ≡ false
 IsUnpaired paired message = Unit {0}
@@ -71,7 +71,7 @@ abbrev pub statuses_in : Style → LaneState → Statuses
 statuses_in plain_style lane = All
 statuses_in compact_style lane = Changes lane.running
 
--- messages without the two that select, where what they select is there
+-- messages without the two that select, if what they select is there
 abbrev pub unless_there : Bool → List Message → List Message
 unless_there true messages = drop 2 messages
 unless_there false messages = messages
@@ -116,7 +116,7 @@ lanes_after None whole packet lanes = lanes
 lanes_after (Some group) whole packet lanes =
     with_lane group (lane_state_after lanes.paired (lane_at lanes.states group) whole packet) lanes
 
--- where an exclusive ends, it ends the running status
+-- an exclusive that ends ends the running status
 abbrev pub with_exclusive : ℕ → KeptLanes → KeptLanes
 with_exclusive group lanes = with_lane group (record { running = None; channels = (lane_at lanes.states group).channels }) lanes
 

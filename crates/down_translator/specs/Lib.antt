@@ -9,3 +9,6 @@ pub mod Recording
 pub mod Running
 pub mod Statuses
 pub mod Step
+pub mod LoweredBytes
+pub mod Midi1
+pub mod Uncarried

@@ -27,7 +27,7 @@ abbrev pub AreAccepted : ℕ → List Placed → Type 0
 AreAccepted room [] = Unit {0}
 AreAccepted room (placed ∷ past) = (bad_step (Some room) (parts_of past) placed.packet ≡ None) × AreAccepted room past
 
--- what is put for an answer: nothing where its piece is empty
+-- what is put for an answer: nothing if its piece is empty
 abbrev pub pair_put : Carried → List (ℕ × List ℕ)
 pair_put carried = if length carried.piece.now == 0 then [] else (lane_in carried, carried.piece.now) ∷ []
 
@@ -42,7 +42,7 @@ lines_put [] = []
 lines_put (carried ∷ before) = lines_put before ++ option_to_list (line_in carried)
 
 module _ (paired : Bool) where
-  -- what is kept of the lanes after these packets, and what is held after them
+  -- what is kept of the lanes after these packets, and the state after them
   abbrev pub lanes_of : Style → ℕ → List Placed → KeptLanes
   lanes_of style room [] = new_lanes paired style
   lanes_of style room (placed ∷ past) =

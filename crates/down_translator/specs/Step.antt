@@ -10,7 +10,7 @@ use Rattle.down_translator.specs.Carried.{lane_in, line_in}
 use Rattle.down_translator.specs.Held.{DownState, paired_of, style_of, whole_in, begun_at_in, refusal_in}
 use Rattle.down_translator.specs.KeptLanes.{lane_at, piece_by}
 
--- the lane of a packet is its group where it is carried, and otherwise 0
+-- the lane of a packet is its group if it is carried, and otherwise 0
 abbrev pub lane_of : Option ℕ → Bool → ℕ
 lane_of (Some group) true = group
 lane_of _ _ = 0

@@ -52,7 +52,7 @@ impl LentLine {
     }
 }
 
-/// What comes of a packet.
+/// The outcome of a packet.
 #[derive(Clone, Copy, Debug)]
 pub struct Carried<'a> {
     /// The MIDI 1.0 bytes of the packet, empty exactly when it isn't carried.
@@ -82,7 +82,7 @@ impl<'a> Carried<'a> {
         }
     }
 
-    /// A piece in the lane of its group, or none where it is empty.
+    /// A piece in the lane of its group, or none if it is empty.
     pub(crate) fn lent(group: U4, piece: &'a Piece, listed: Option<Listed>) -> Carried<'a>
         ensures lane { lane_in result ≡ (if length piece.now == 0 then 0 else group) }
         ensures piece { result.piece.now ≡ piece.now }
@@ -119,14 +119,14 @@ impl<'a> Carried<'a> {
         Carried::new(U4::low_bits(0), &[], Some(listed))
     }
 
-    /// The lane: the packet's group where it is carried, and otherwise 0.
+    /// The lane: the packet's group if it is carried, and otherwise 0.
     pub fn lane(&self) -> U4
         ensures { result ≡ lane_in self.now }
     {
         self.lane.get()
     }
 
-    /// The line of the listing, where the packet has one.
+    /// The line of the listing, if the packet has one.
     pub fn listed(&self) -> Option<Listed>
         ensures { result ≡ line_in self.now }
     {

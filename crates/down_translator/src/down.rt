@@ -2,10 +2,23 @@
 ghost use Rattle.std.specs.Prelude.{◌≡◌, ◌≤◌, ◌<◌, ◌&&◌, not, IfOk, IsTrue, MatchOption, true, false, Some, None, length, take};
 ghost use Rattle.sysex_groups.specs.Exclusives.{IsData};
 ghost use Rattle.ump_grammar.specs.Ranges.{IsPacket};
-ghost use Rattle.encoded_packets.specs.DirectMessages.{IsDirectMessage, direct_voice};
+ghost use Rattle.encoded_packets.specs.DirectMessages.{IsDirectMessage, has_direct_kind};
+ghost use Rattle.midi1_bytes.specs.RunningStatus.{without_status};
 ghost use Rattle.down_translator.specs.HeldStep.{IsHeldStep, goes_held};
-ghost use Rattle.down_translator.specs.KeptLanes.{is_plain};
-ghost use Rattle.down_translator.specs.Lowered.{IsDirectStep, IsShortenedStep, message_goes_direct, goes_direct, goes_shortened};
+ghost use Rattle.midi_meaning.specs.Controllers.{is_direct, pairing, role_of};
+ghost use Rattle.down_translator.specs.KeptLanes.{is_plain, lane_at};
+ghost use Rattle.down_translator.specs.Midi1.{control_index};
+ghost use Rattle.down_translator.specs.Lowered.{
+  IsDirectStep,
+  IsShortenedStep,
+  after_status,
+  goes_direct,
+  goes_shortened,
+  lowered_bytes,
+  message_goes_direct,
+  message_packet,
+  shortened_bytes,
+};
 ghost use Rattle.ump_grammar.specs.declared.packet.Packet.TheVariants as packet;
 ghost use Rattle.voice_messages.specs.declared.voice2.Voice2.TheVariants as voice2;
 
@@ -13,10 +26,12 @@ use crate::carried::Carried;
 use crate::kept_lanes::KeptLanes;
 use crate::listing::{line, paired_kind, voice_kind};
 use crate::lowered::{LoweredMessage, lowered};
+use crate::midi1_message::{message_index, midi1_message};
 use crate::pieces::{Piece, write_paired, write_system, write_voice1, write_voice2};
 use crate::refusals::{bad_voice1, bad_voice2};
 use crate::shortened::{ShortenedMessage, control_index, unless_running};
 use crate::style::Style;
+use crate::uncarried::read_uncarried;
 use encoded_packets::{DirectMessage, EncodedPacket, ExclusivePart};
 use midi_meaning::laws::carried_packets_have_a_piece;
 use midi_meaning::{BadStep, Kind, Listed};
@@ -147,7 +162,7 @@ impl Down {
         self.lanes.paired()
     }
 
-    /// Takes a voice message of MIDI 2.0, except for a control change where controllers are paired.
+    /// Takes a voice message of MIDI 2.0, except for a control change if controllers are paired.
     #[tactic(auto, using(crate::proofs::StyledLaws::lent2, crate::proofs::PieceLaws::unpaired_kind))]
     #[inline(always)]
     fn unpaired(&mut self, group: U4, message: &Voice2, offset: u64) -> Result<Carried<'_>, BadStep>
@@ -167,7 +182,7 @@ impl Down {
         }
     }
 
-    /// Takes a control change of MIDI 2.0 where controllers are paired.
+    /// Takes a control change of MIDI 2.0 if controllers are paired.
     #[tactic(auto, using(crate::proofs::StyledLaws::lent2))]
     #[inline(always)]
     fn paired_control(
@@ -282,6 +297,24 @@ impl Down {
         self.lanes.goes_direct(control_index(message))
     }
 
+    // The same for a message of MIDI 1.0, which has its own bytes.
+    #[inline(always)]
+    fn lowers(&self, message: &LoweredMessage) -> bool
+        ensures { result ≡ (is_plain self.now.lanes.style
+            && is_direct (pairing self.now.lanes.paired (role_of (control_index message.now)))) }
+    {
+        self.lanes.goes_direct(message_index(message))
+    }
+
+    // The same for a message of MIDI 1.0 in compact style.
+    #[inline(always)]
+    fn shortens(&self, message: &LoweredMessage) -> bool
+        ensures { result ≡ (not (is_plain self.now.lanes.style)
+            && is_direct (pairing self.now.lanes.paired (role_of (control_index message.now)))) }
+    {
+        self.lanes.is_shortened(message_index(message))
+    }
+
     // Whether it is carried by one MIDI 1.0 message, perhaps without its
     // status byte, and leaves the registers as they are.
     #[tactic(auto, using(crate::proofs::DirectLaws::direct_index))]
@@ -293,8 +326,8 @@ impl Down {
         self.lanes.is_shortened(control_index(message))
     }
 
-    /// Answers a packet that is held as its words as `packet` does. It is taken apart, unless it is a part of
-    /// an exclusive whose bytes are read from the words.
+    /// Answers a packet that is held as its words as `packet` does. It is taken apart only if its words don't
+    /// tell its answer: those of a part of an exclusive do, and those of a packet that nothing carries.
     #[inline(always)]
     pub fn encoded(&mut self, packet: &EncodedPacket, offset: u64) -> Result<Carried<'_>, BadStep>
         ensures answer { Translates self.old offset packet.now result }
@@ -302,18 +335,33 @@ impl Down {
     {
         match packet.exclusive() {
             Some(part) => self.part(part, offset),
+            None => self.whole(packet, offset),
+        }
+    }
+
+    // Answers a packet that isn't read as a part of an exclusive.
+    #[inline(always)]
+    fn whole(&mut self, packet: &EncodedPacket, offset: u64) -> Result<Carried<'_>, BadStep>
+        ensures answer { Translates self.old offset packet.now result }
+        ensures* after { sem 𝓛 (KeepsDown self.entry (down_after offset packet.now self.old)) }
+    {
+        match read_uncarried(packet) {
+            Some(told) => Ok(Carried::only_listed(offset, told.group, told.kind)),
             None => self.packet(&packet.decode(), offset),
         }
     }
 
-    // Takes a direct message in compact style.
+    // Takes a message in compact style: it is written without its status byte if that is the running status
+    // of its lane.
+    #[tactic(auto, using(crate::proofs::ShortenedLaws::shortened_is))]
     #[inline(always)]
-    fn shorten(&mut self, message: &DirectMessage) -> ShortenedMessage
-        requires value { IsDirectMessage message.now }
-        requires direct { (not (is_plain self.old.lanes.style)
-            && message_goes_direct self.old.lanes.paired message.now) ≡ true }
-        ensures { IsShortenedStep self.old (packet.Voice2 message.now.group (direct_voice message.now))
-            result self.new }
+    fn shorten(&mut self, message: LoweredMessage) -> ShortenedMessage
+        requires compact { is_plain self.old.lanes.style ≡ false }
+        ensures lane { result.lane ≡ message.lane }
+        ensures bytes { shortened_bytes result ≡ without_status
+            (lane_at self.old.lanes.states message.lane).running (lowered_bytes message) }
+        ensures attribute { result.has_attribute ≡ message.has_attribute }
+        ensures after { self.new ≡ after_status message.lane message.status self.old }
     {
         let LoweredMessage {
             lane,
@@ -321,7 +369,7 @@ impl Down {
             first,
             second,
             has_attribute,
-        } = lowered(message);
+        } = message;
         let is_running = self.lanes.take_status(lane, status);
         ShortenedMessage {
             lane,
@@ -332,12 +380,42 @@ impl Down {
         }
     }
 
-    /// Takes the packet, where in compact style one MIDI 1.0 message carries it and leaves the registers as
-    /// they are, and returns the message, without its status byte where that is the running status of its
-    /// lane (MIDI 1.0 Detailed Specification, running status). These are the packets of which `lowered`
-    /// speaks. It is the answer of `packet`, and what `packet` would leave is kept. `None` exactly for other
-    /// packets and in plain style, and then the translator stays as it is: `packet` has their answer.
-    #[tactic(auto, using(crate::proofs::ShortenedLaws::not_shortened, crate::proofs::ShortenedLaws::same_shortened))]
+    // The same as `shortened` for a direct message.
+    #[tactic(auto, using(crate::proofs::ShortenedLaws::same_shortened))]
+    #[inline(always)]
+    fn shortened_direct(&mut self, message: &DirectMessage) -> Option<ShortenedMessage>
+        requires { IsDirectMessage message.now }
+        ensures { MatchOption result
+            ((goes_shortened self.old (message_packet message.now) ≡ false) × (self.new ≡ self.old))
+            (λ short. IsShortenedStep self.old (message_packet message.now) short self.new) }
+    {
+        if self.is_shortened(message) {
+            Some(self.shorten(lowered(message)))
+        } else {
+            None
+        }
+    }
+
+    // The same as `shortened` for a packet that isn't a direct message.
+    #[tactic(auto, using(crate::proofs::Midi1Laws::not_short, crate::proofs::Midi1Laws::same_short))]
+    #[inline(always)]
+    fn shortened_midi1(&mut self, packet: &EncodedPacket) -> Option<ShortenedMessage>
+        requires { has_direct_kind packet.now ≡ false }
+        ensures { MatchOption result
+            ((goes_shortened self.old packet.now ≡ false) × (self.new ≡ self.old))
+            (λ short. IsShortenedStep self.old packet.now short self.new) }
+    {
+        match midi1_message(packet) {
+            Some(message) if self.shortens(&message) => Some(self.shorten(message)),
+            _ => None,
+        }
+    }
+
+    /// Takes the packet if in compact style one MIDI 1.0 message carries it and leaves the registers as they
+    /// are, and returns the message, without its status byte if that is the running status of its lane (MIDI
+    /// 1.0 Detailed Specification, running status). These are the packets of which `lowered` speaks. It is
+    /// the answer of `packet`, and what `packet` would leave is kept. `None` exactly for other packets and in
+    /// plain style, and then the translator stays as it is: `packet` has their answer.
     #[inline(always)]
     pub fn shortened(&mut self, packet: &EncodedPacket) -> Option<ShortenedMessage>
         ensures { MatchOption result
@@ -345,24 +423,38 @@ impl Down {
             (λ message. IsShortenedStep self.old packet.now message self.new) }
     {
         match packet.direct_message() {
-            Some(message) if self.is_shortened(&message) => Some(self.shorten(&message)),
-            _ => None,
+            Some(message) => self.shortened_direct(&message),
+            None => self.shortened_midi1(packet),
         }
     }
 
-    /// The message that carries the packet, where in plain style one MIDI 1.0 message with the packet's
-    /// status byte does (M2-104-UM, default translation): a note off or on, the pressure of a note or of a
-    /// channel, a bend, and a control change of a controller that has a value and isn't one of a pair, or a
-    /// channel mode message other than the reset of all controllers. It is the answer of `packet`, and the
-    /// translator stays as it is. `None` exactly for other packets and in compact style: `packet` has their
-    /// answer.
+    /// The message that carries the packet, if in plain style one MIDI 1.0 message with the packet's status
+    /// byte does (M2-104-UM, default translation): a note off or on, the pressure of a note or of a channel,
+    /// a bend, a control change of a controller that has a value and isn't one of a pair, and a channel mode
+    /// message other than the reset of all controllers, of either protocol, and a program change of MIDI
+    /// 1.0. It is the answer of `packet`, and the translator stays as it is. `None` exactly for other packets
+    /// and in compact style: `packet` has their answer.
     #[inline(always)]
     pub fn lowered(&self, packet: &EncodedPacket) -> Option<LoweredMessage>
         ensures { MatchOption result (goes_direct self.now packet.now ≡ false)
             (λ message. IsDirectStep self.now packet.now message) }
     {
         match packet.direct_message() {
-            Some(message) if self.is_lowered(&message) => Some(lowered(&message)),
+            Some(message) => self.lowered_message(&message),
+            None => self.lowered_midi1(packet),
+        }
+    }
+
+    // The same as `lowered` for a packet that isn't a direct message.
+    #[tactic(auto, using(crate::proofs::Midi1Laws::not_lowered, crate::proofs::Midi1Laws::same_lowered))]
+    #[inline(always)]
+    fn lowered_midi1(&self, packet: &EncodedPacket) -> Option<LoweredMessage>
+        requires { has_direct_kind packet.now ≡ false }
+        ensures { MatchOption result (goes_direct self.now packet.now ≡ false)
+            (λ message. IsDirectStep self.now packet.now message) }
+    {
+        match midi1_message(packet) {
+            Some(message) if self.lowers(&message) => Some(message),
             _ => None,
         }
     }
@@ -371,10 +463,8 @@ impl Down {
     #[inline(always)]
     pub fn lowered_message(&self, message: &DirectMessage) -> Option<LoweredMessage>
         requires { IsDirectMessage message.now }
-        ensures { MatchOption result
-            (goes_direct self.now (packet.Voice2 message.now.group (direct_voice message.now)) ≡ false)
-            (λ lowered. IsDirectStep self.now
-            (packet.Voice2 message.now.group (direct_voice message.now)) lowered) }
+        ensures { MatchOption result (goes_direct self.now (message_packet message.now) ≡ false)
+            (λ lowered. IsDirectStep self.now (message_packet message.now) lowered) }
     {
         if self.is_lowered(message) {
             Some(lowered(message))

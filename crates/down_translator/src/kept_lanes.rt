@@ -67,8 +67,8 @@ impl Model for KeptLanes {
         × (l.shortened ≡ definition.when_compact (definition.style_in l.style) l.paired) };
 }
 
-// The direct control changes in plain style, where they are carried
-// with all their bytes, and those in compact style.
+// The direct control changes in plain style, which carries them with
+// all their bytes, and those in compact style.
 fn direct_controls(style: Style, paired: bool) -> (DirectControls, DirectControls)
     ensures whole { result.0 ≡ when_plain (style_in style) paired }
     ensures shortened { result.1 ≡ when_compact (style_in style) paired }
@@ -124,7 +124,7 @@ impl KeptLanes {
     }
 
     /// Whether the style is plain and the control change with this index
-    /// is direct, where controllers are paired or aren't.
+    /// is direct, whether controllers are paired or not.
     #[tactic(auto, using(crate::proofs::DirectLaws::direct_when_plain))]
     #[inline(always)]
     pub fn goes_direct(&self, index: U7) -> bool
@@ -135,7 +135,7 @@ impl KeptLanes {
     }
 
     /// Whether the style is compact and the control change with this index
-    /// is direct, where controllers are paired or aren't.
+    /// is direct, whether controllers are paired or not.
     #[tactic(auto, using(crate::proofs::DirectLaws::direct_when_compact))]
     #[inline(always)]
     pub fn is_shortened(&self, index: U7) -> bool
@@ -181,7 +181,7 @@ impl KeptLanes {
     }
 
     /// Adds the bytes of a voice message of MIDI 1.0 to a piece, in compact style without its status byte
-    /// where that is the running status, and keeps what it leaves (MIDI 1.0 Detailed Specification, running
+    /// if that is the running status, and keeps what it leaves (MIDI 1.0 Detailed Specification, running
     /// status). Of a message that is carried by one, the style is asked for here alone.
     #[inline(always)]
     pub fn write(&mut self, piece: &mut Piece, group: U4, message: &Voice1)

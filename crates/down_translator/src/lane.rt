@@ -97,7 +97,7 @@ impl Lane {
         is_param(self.channels[channel.get() as usize].selected(), param)
     }
 
-    /// Adds the bytes of a voice message of MIDI 1.0 to a piece, without its status byte where that is the
+    /// Adds the bytes of a voice message of MIDI 1.0 to a piece, without its status byte if that is the
     /// running status, and keeps what the message leaves (MIDI 1.0 Detailed Specification, running status).
     #[inline(always)]
     pub fn write(&mut self, piece: &mut Piece, message: &Voice1, bytes: &[u8])

@@ -43,7 +43,7 @@ pub fn spelled_packets_are_in_range()
 
 /// What the translator holds after any packets tells of one more packet what the definitions tell, which look
 /// back over the packets: the exclusive that it ends, where the exclusive that its group has open started,
-/// and why it is refused. What is held after it is what is held after all of them. A data increment or
+/// and why it is refused. The state after it is the state after all of them. A data increment or
 /// decrement, which is refused, leaves the translator as it was.
 pub fn what_is_held_is_the_definition()
     ensures { (paired : Bool) → WhatIsHeldIsTheDefinition paired }

@@ -9,12 +9,14 @@ mod lane;
 pub mod laws;
 mod listing;
 pub mod lowered;
+mod midi1_message;
 mod pieces;
 mod refusals;
 mod running;
 pub mod shortened;
 mod statuses;
 pub mod style;
+mod uncarried;
 mod voice;
 
 pub use crate::carried::Carried;

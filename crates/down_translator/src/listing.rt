@@ -37,7 +37,7 @@ fn control_kind(index: U7) -> Option<Kind>
     }
 }
 
-/// The same where controllers are paired, with the LSB of a pair (own rules).
+/// The same if controllers are paired, with the LSB of a pair (own rules).
 pub fn paired_kind(index: U7) -> Option<Kind>
     ensures { result ≡ control_kind (pairing true (role_of index)) }
 {

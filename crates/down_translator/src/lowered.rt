@@ -9,17 +9,16 @@ use encoded_packets::{DirectKind, DirectMessage};
 use small_types::U4;
 use voice_messages::U7;
 
-/// A MIDI 1.0 channel voice message, which alone carries a message of
-/// the MIDI 2.0 protocol and has its status byte.
+/// A MIDI 1.0 channel voice message, which alone carries a packet and has its status byte.
 #[derive(Clone, Copy, Debug)]
 pub struct LoweredMessage {
     /// The lane, which is the packet's group.
     pub lane: U4,
-    /// The status byte, 80 to BF, or D0 to EF.
+    /// The status byte, 80 to EF.
     pub status: u8,
     /// The first data byte.
     pub first: U7,
-    /// The second data byte; none exactly in a channel pressure.
+    /// The second data byte; none exactly in a channel pressure or a program change.
     pub second: Option<U7>,
     /// Whether it leaves out the attribute of a note, which is listed.
     pub has_attribute: bool,
@@ -27,7 +26,7 @@ pub struct LoweredMessage {
 
 // The data bytes, by the kind: the note or the index, and the value; of a bend the low and the high seven
 // bits of its value, of a channel pressure the value alone. Branchless, since the kind of the next message
-// can't be predicted, but for a channel pressure, which has one byte.
+// can't be predicted; only a channel pressure, which has one byte, is told by a branch.
 #[inline(always)]
 fn data_bytes(kind: DirectKind, message: &DirectMessage) -> (U7, Option<U7>)
     ensures first { result.0 ≡ first_by kind message.now }

@@ -49,7 +49,7 @@ fn fill_system(piece: &mut Piece, message: &System)
 }
 
 /// Whether a control change of MIDI 2.0 is carried by one of MIDI
-/// 1.0, where controllers are paired or aren't.
+/// 1.0, whether controllers are paired or not.
 #[inline(always)]
 pub fn is_single_index(index: U7, paired: bool) -> bool
     ensures { result ≡ is_single (pairing paired (role_of index)) }
@@ -183,7 +183,7 @@ pub fn write_voice1(piece: &mut Piece, lanes: &mut KeptLanes, group: U4, message
     lanes.write(piece, group, message);
 }
 
-/// Writes the control changes that set a parameter, none where that is the null parameter (M2-104-UM, default
+/// Writes the control changes that set a parameter, none if that is the null parameter (M2-104-UM, default
 /// translation of registered and assignable controllers).
 #[tactic(auto, using(crate::proofs::PieceLaws::piece_set, crate::proofs::PieceLaws::kept_set, crate::proofs::PieceLaws::null_piece, crate::proofs::PieceLaws::null_kept))]
 #[inline(never)]
@@ -259,7 +259,7 @@ fn write_pair(
     lanes.keep_statuses(group, statuses);
 }
 
-/// Writes a control change of MIDI 2.0 where controllers are paired: both halves of a pair, nothing of what
+/// Writes a control change of MIDI 2.0 if controllers are paired: both halves of a pair, nothing of what
 /// isn't carried (own rule). Why it is refused, if it is refused; then nothing is written. Out of line, so
 /// that without pairs the packets of all kinds are translated in few instructions.
 #[tactic(auto, using(crate::proofs::PieceLaws::single_piece, crate::proofs::PieceLaws::kept_single, crate::proofs::PieceLaws::single_control, crate::proofs::PieceLaws::control_piece, crate::proofs::PieceLaws::kept_control))]
@@ -321,8 +321,8 @@ fn write_others(piece: &mut Piece, lanes: &mut KeptLanes, group: U4, message: &V
     }
 }
 
-/// Writes a voice message of MIDI 2.0, except for a control change where controllers are paired, into the
-/// lane of a group, nothing where it isn't carried (M2-104-UM, default translation). One that is carried by a
+/// Writes a voice message of MIDI 2.0, except for a control change if controllers are paired, into the
+/// lane of a group, nothing if it isn't carried (M2-104-UM, default translation). One that is carried by a
 /// single message is written as that one, so that most packets of both protocols are written in one place.
 #[tactic(auto, using(crate::proofs::PieceLaws::alone, crate::proofs::PieceLaws::unpaired_piece, crate::proofs::PieceLaws::kept_unpaired))]
 #[inline(always)]

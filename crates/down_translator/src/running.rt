@@ -8,7 +8,7 @@ use std::marker::Model;
 /// is it. A contract sees the status byte, if there is one.
 #[derive(Drop)]
 pub struct RunningStatus {
-    // The status byte; 256 where there is none.
+    // The status byte; 256 if there is none.
     number: u16,
 }
 

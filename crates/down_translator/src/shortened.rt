@@ -6,17 +6,17 @@ ghost use Rattle.down_translator.specs.Lowered.{index_by};
 use encoded_packets::{DirectKind, DirectMessage};
 use voice_messages::{U4, U7};
 
-/// A MIDI 1.0 channel voice message in compact style, which alone carries a message of the MIDI 2.0 protocol.
+/// A MIDI 1.0 channel voice message in compact style, which alone carries a packet.
 #[derive(Clone, Copy, Debug)]
 pub struct ShortenedMessage {
     /// The lane, which is the packet's group.
     pub lane: U4,
-    /// The status byte, 80 to BF, or D0 to EF; none where it is left out, since it is the running status of
+    /// The status byte, 80 to EF; none if it is left out, since it is the running status of
     /// the lane.
     pub status: Option<u8>,
     /// The first data byte.
     pub first: U7,
-    /// The second data byte; none exactly in a channel pressure.
+    /// The second data byte; none exactly in a channel pressure or a program change.
     pub second: Option<U7>,
     /// Whether it leaves out the attribute of a note, which is listed.
     pub has_attribute: bool,

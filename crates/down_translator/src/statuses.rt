@@ -30,7 +30,7 @@ fn add_status(piece: &mut Piece, running: Option<u8>, status: u8)
     }
 }
 
-/// Adds the bytes of a message to a piece, without its status byte where that is the running status (MIDI 1.0
+/// Adds the bytes of a message to a piece, without its status byte if that is the running status (MIDI 1.0
 /// Detailed Specification, running status). All other bytes are added in one place, so that the message stays
 /// in registers.
 #[tactic(auto, using(crate::proofs::PieceLaws::without_status_is))]

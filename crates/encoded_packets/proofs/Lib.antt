@@ -1,3 +1,4 @@
 pub mod EncodedLaws
 pub mod PartLaws
 pub mod DirectLaws
+mod RowLaws

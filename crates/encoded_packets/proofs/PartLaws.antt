@@ -29,7 +29,7 @@ form_at (suc zero) = form.Start
 form_at (suc (suc zero)) = form.Continue
 form_at (suc (suc (suc n))) = form.End
 
-form-at-is : (number : ℕ) → number ≤ 3 → number ≡ form_number (form_at number)
+pub form-at-is : (number : ℕ) → number ≤ 3 → number ≡ form_number (form_at number)
 form-at-is zero small = refl
 form-at-is (suc zero) small = refl
 form-at-is (suc (suc zero)) small = refl

@@ -1,3 +1,4 @@
 pub mod Encoded
 pub mod Parts
 pub mod DirectMessages
+pub mod Pairs

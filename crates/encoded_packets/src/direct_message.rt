@@ -23,7 +23,7 @@ pub enum DirectKind {
     Other,
 }
 
-// The kinds of the opcodes 0 to F: a table, since no order in which they come could be guessed.
+// The kinds of the opcodes 0 to F: a table, since the kind of the next message can't be predicted.
 static KINDS: [DirectKind; 16] = [
     DirectKind::Other,
     DirectKind::Other,

@@ -1,5 +1,5 @@
 // A packet as its words.
-ghost use Rattle.std.specs.Prelude.{◌≡◌, ◌≢◌, ◌≤◌, ◌%◌, ◌==◌, ◌&&◌, ◌<◌, ◌∷◌, [], true, false, All, Ok, IfOk, IfSome};
+ghost use Rattle.std.specs.Prelude.{◌≡◌, ◌≢◌, ◌≤◌, ◌%◌, ◌==◌, ◌&&◌, ◌<◌, ◌∷◌, [], true, false, All, Ok, IfOk, IfSome, None};
 ghost use Rattle.std.specs.Prelude.{MatchOption, length, slice_index, take};
 ghost use Rattle.packet_words.specs.Words.{IsWhole};
 ghost use Rattle.ump_grammar.specs.WordFields.{byte as place, count_of, field, group_of, opcode_of, type_of, word};
@@ -11,10 +11,12 @@ ghost use Rattle.ump_grammar.specs.declared.packet.Packet.TheVariants as packet;
 ghost use Rattle.voice_messages.specs.declared.voice2.Form.TheVariants as form;
 ghost use Rattle.encoded_packets.specs.Parts.{begins_part, continues_by_six, has_low_bytes, is_full_part, is_low_part};
 ghost use Rattle.encoded_packets.specs.Encoded.{ThePacket, the_packet-prop};
+ghost use Rattle.encoded_packets.specs.Pairs.{begins_low_voice2, is_low_pair, is_low_voice1};
 ghost use Rattle.encoded_packets.specs.DirectMessages.{IsDirectMessage, has_direct_kind, is_direct_opcode, direct_voice};
 
 use crate::direct_message::{DirectKind, DirectMessage};
 use crate::exclusive_part::ExclusivePart;
+use crate::refusal::{exclusive_bytes, refusal};
 use packet_words::{Framed, Words};
 use std::marker::Model;
 use ump_grammar::decoding::form_of;
@@ -62,23 +64,21 @@ impl EncodedPacket {
         if is_low_part(&framed.words) {
             return Ok(part_packet(&framed.words));
         }
-        words_spell_one_packet();
-        match decode(framed) {
-            Ok(_) => Ok(EncodedPacket {
-                words: framed.words.copied(),
-                has_direct_kind: begins_direct(first),
-                is_part: false,
-            }),
-            Err(bad) => Err(bad),
+        match refusal(framed.words.as_slice()) {
+            None => Ok(fine_packet(&framed.words)),
+            Some(bad) => Err(bad),
         }
     }
 
-    /// The packet that these two words encode (M2-104-UM), if it is a direct message or a 7-bit exclusive
-    /// in which no byte is high, counted or not. `None` says nothing of the words: `new` has their answer.
+    /// The packet that these two words encode (M2-104-UM), if it is a direct message whose byte 3 is below
+    /// 128, a 7-bit exclusive in which no byte is high, counted or not, or another voice message of MIDI 2.0
+    /// without a program whose bytes 3 and 4 are below 128. `None` comes exactly for other words: `new` has
+    /// their answer.
     #[inline(always)]
     pub fn of_two(first: u32, second: u32) -> Option<EncodedPacket>
         ensures whole { IfSome result (λ _. IsWhole (first ∷ second ∷ [])) }
-        ensures answer { IfSome result (λ packet. Decodes (first ∷ second ∷ []) (Ok packet)) }
+        ensures answer { MatchOption result (is_low_pair (first ∷ second ∷ []) ≡ false)
+            (λ packet. Decodes (first ∷ second ∷ []) (Ok packet)) }
         ensures fits { IfSome result IsPacket }
     {
         let words = Words::of_two(first, second);
@@ -88,7 +88,35 @@ impl EncodedPacket {
         if begins_part(first) && has_low_bytes(words.as_slice()) {
             return Some(part_packet(&words));
         }
+        if is_low_voice2(first) {
+            return Some(fine_packet(&words));
+        }
         None
+    }
+
+    /// The packet that this word encodes, if it is a channel voice message of MIDI 1.0 whose bytes 3 and 4 are
+    /// below 128 (M2-104-UM, MIDI 1.0 channel voice messages). `None` comes exactly for other words: `new`
+    /// has their answer.
+    #[inline(always)]
+    pub fn of_one(first: u32) -> Option<EncodedPacket>
+        ensures whole { IfSome result (λ _. IsWhole (first ∷ [])) }
+        ensures answer { MatchOption result (is_low_voice1 (first ∷ []) ≡ false)
+            (λ packet. Decodes (first ∷ []) (Ok packet)) }
+        ensures fits { IfSome result IsPacket }
+    {
+        if is_low_voice1(first) {
+            Some(voice1_packet(&Words::from_slice(&[first])))
+        } else {
+            None
+        }
+    }
+
+    /// The words, which encode the packet (M2-104-UM); they are as many as the type in the first one has.
+    #[inline(always)]
+    pub fn words(&self) -> &[u32]
+        ensures { Decodes result.now (Ok self.now) }
+    {
+        self.words.as_slice()
     }
 
     /// The packet, taken apart.
@@ -152,6 +180,42 @@ impl EncodedPacket {
         } else {
             None
         }
+    }
+}
+
+// The packet, which is a channel voice message of MIDI 1.0.
+#[inline(always)]
+fn voice1_packet(words: &Words) -> EncodedPacket
+    requires whole { IsWhole words.now }
+    requires fine { reason words.now ≡ None }
+    requires kind { type_of words.now ≡ 2 }
+    ensures answer { Decodes words.now (Ok result) }
+    ensures fits { IsPacket result }
+{
+    words_spell_one_packet();
+    spelled_packets_fit();
+    EncodedPacket {
+        words: words.copied(),
+        has_direct_kind: false,
+        is_part: false,
+    }
+}
+
+// The packet, which is neither refused nor a 7-bit exclusive in which no byte is high, counted or not.
+#[inline(always)]
+fn fine_packet(words: &Words) -> EncodedPacket
+    requires whole { IsWhole words.now }
+    requires fine { reason words.now ≡ None }
+    requires part { is_low_part words.now ≡ false }
+    ensures answer { Decodes words.now (Ok result) }
+    ensures fits { IsPacket result }
+{
+    words_spell_one_packet();
+    spelled_packets_fit();
+    EncodedPacket {
+        words: words.copied(),
+        has_direct_kind: begins_direct(words.as_slice()[0]),
+        is_part: false,
     }
 }
 
@@ -225,17 +289,6 @@ fn six_in(words: &[u32]) -> Option<(U4, [u8; 6])>
     }
 }
 
-// Bytes 3 to 8.
-#[inline(always)]
-fn exclusive_bytes(words: &[u32]) -> [u8; 6]
-    requires { length words.now ≡ 2 }
-    ensures { result ≡ exclusive_places words.now }
-{
-    let [_, _, byte3, byte4] = words[0].to_be_bytes();
-    let [byte5, byte6, byte7, byte8] = words[1].to_be_bytes();
-    [byte3, byte4, byte5, byte6, byte7, byte8]
-}
-
 // Whether this is a 7-bit exclusive in which no byte is high, counted or not.
 #[inline(always)]
 fn is_low_part(words: &Words) -> bool
@@ -294,4 +347,27 @@ fn begins_direct(first: u32) -> bool
     ensures { result ≡ (field first 28 4 == 4 && is_direct_opcode (field first 20 4)) }
 {
     bits(first, 28, 4) == 4 && DirectKind::of(bits(first, 20, 4) as u8).is_direct()
+}
+
+// Whether this is the first word of a voice message of MIDI 2.0 without a program whose bytes 3 and 4 are low.
+#[inline(always)]
+fn is_low_voice2(first: u32) -> bool
+    ensures { result ≡ begins_low_voice2 first }
+{
+    (bits(first, 28, 4) == 4)
+        & (bits(first, 20, 4) != 0xC)
+        & (byte(first, 8) < 128)
+        & (byte(first, 0) < 128)
+}
+
+// Whether this is the word of a channel voice message of MIDI 1.0 whose bytes 3 and 4 are low.
+#[inline(always)]
+fn is_low_voice1(first: u32) -> bool
+    ensures { result ≡ is_low_voice1 (first ∷ []) }
+{
+    (bits(first, 28, 4) == 2)
+        & (bits(first, 20, 4) >= 0x8)
+        & (bits(first, 20, 4) <= 0xE)
+        & (byte(first, 8) < 128)
+        & (byte(first, 0) < 128)
 }

@@ -5,6 +5,7 @@
 pub mod direct_message;
 pub mod encoded;
 pub mod exclusive_part;
+mod refusal;
 
 pub use crate::direct_message::{DirectKind, DirectMessage};
 pub use crate::encoded::EncodedPacket;

@@ -50,8 +50,8 @@ pub fn profile_id() -> ProfileId
     }
 }
 
-/// The exclusive with these bytes between F0 and F7; `None` where one
-/// of them is no data byte, or they are more than 510.
+/// The exclusive with these bytes between F0 and F7; `None` if one of them is no data byte, or if they are
+/// more than 510.
 pub fn framed(payload: &[u8]) -> Option<ShortList<u8, 512>>
     ensures { IfSome result IsExclusive }
 {
@@ -65,7 +65,7 @@ pub fn framed(payload: &[u8]) -> Option<ShortList<u8, 512>>
     Some(message)
 }
 
-/// A MIDI-CI message by its fields, in their order, behind 7E and around the sub-id 0D.
+/// A MIDI-CI message by its fields, in their order, after 7E and around the sub-id 0D.
 #[derive(Clone, Copy)]
 pub struct CiMessage<'a> {
     /// The device id: a channel, 7E for the group, 7F for the function block.
@@ -81,7 +81,7 @@ pub struct CiMessage<'a> {
 }
 
 impl CiMessage<'_> {
-    /// The bytes between F0 and F7; `None` where the body has more than 497.
+    /// The bytes between F0 and F7; `None` if the body has more than 497.
     pub fn payload(&self) -> Option<ShortList<u8, 510>> {
         if self.body.len() > 497 {
             return None;
@@ -94,8 +94,8 @@ impl CiMessage<'_> {
         Some(payload)
     }
 
-    /// The exclusive of the message; `None` where one of its bytes is
-    /// no data byte, or the body has more than 497.
+    /// The exclusive of the message; `None` if one of its bytes is no data byte, or if the body has more than
+    /// 497.
     pub fn exclusive(&self) -> Option<ShortList<u8, 512>>
         ensures { IfSome result IsExclusive }
     {

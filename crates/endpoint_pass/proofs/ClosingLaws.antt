@@ -1,4 +1,4 @@
--- The lines of the blocks are the same where each block has the same MUID.
+-- The lines of the blocks are the same if each block has the same MUID.
 use Rattle.std.proofs.Common.{◌≡◌, ℕ, List, [], ◌∷◌, ◌++◌, ◌+◌, Option, refl, ap, ◌∙◌}
 use Rattle.std.specs.Prelude.{if◌then◌else◌}
 use Rattle.function_blocks.specs.Blocks.{has_ci}
@@ -8,7 +8,7 @@ use Rattle.pass_loop.specs.Each.{for_each}
 use Rattle.pass_loop.specs.Put.{Put, in_notes}
 use Rattle.endpoint_pass.specs.Answering.{block_line_of}
 
--- the same is put for each, where the same is put for one
+-- the same is put for each, if the same is put for one
 same_for_each : {X : Type 0} (one other : ℕ → X → List Put) → ((n : ℕ) (x : X) → one n x ≡ other n x) → (number : ℕ) (xs : List X)
     → for_each one number xs ≡ for_each other number xs
 same_for_each one other same number [] = refl

@@ -92,7 +92,7 @@ next_packet (p ∷ ps) words adds some =
       follow = subst A (sym rest) more.2;
     }
 
--- there are words where packets are left
+-- there are words if packets are left
 none_left : (p : Packet) (ps : List Packet) (words : List ℕ) → AddsPackets (p ∷ ps) [] words → length words ≡ 0 → ⊥
 none_left p ps words adds none =
     let one = adds.1 in

@@ -9,7 +9,7 @@ use std::fmt::{Debug, Display};
 use std::process::Abort;
 use std::test::Fail;
 
-// Fails where what was found is not what is expected, and prints both. A function of its own is proved once,
+// Fails if what was found is not what is expected, and prints both. A function of its own is proved once, but
 // `assert_eq!` at each place.
 fn is_same<T: PartialEq + Debug>(rt: &impl Abort, found: &T, expected: &T) {
     assert_eq!(rt; *found, *expected);

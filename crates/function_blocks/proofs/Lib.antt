@@ -1,7 +1,9 @@
 pub mod FewLaws
+pub mod FitLaws
 pub mod FourLaws
 pub mod InForceLaws
 pub mod KeyLaws
 pub mod Printable
 pub mod PushLaws
 pub mod ReadLaws
+pub mod RuleLaws

@@ -47,7 +47,7 @@ block_in table =
 abbrev pub blocks_of : Members → Read (List Block)
 blocks_of setup = and_then (entries_at rule.BlocksAreTables 32 (codes "block") setup) (each rule.BlocksAreTables block_in)
 
--- a block has MIDI-CI where it is active and names a version
+-- a block has MIDI-CI if it is active and names a version
 abbrev pub has_ci : Block → Bool
 has_ci block = block.active && not (block.ci == 0)
 
@@ -87,7 +87,8 @@ pub record IsBlock (b : Block) : Type 0 where
 abbrev pub Gives : {A : Type 0} → Read (List A) → Result (Vec A Global) SetupFault → Type 0
 Gives read result = MatchResult result (λ v. read ≡ Ok v.items) (λ e. (e ≡ NoMemory) ⊎ (read ≡ Err e))
 
--- One more item that meets a condition is read and added at the end, or nothing is added: the fault was read, or memory ran out.
+-- One more item that meets a condition is read and added at the end, or nothing is added: the fault was read,
+-- or memory ran out.
 abbrev pub AddsRead : {A : Type 0} → Read A → (A → Type 0) → List A → List A → Result (Unit {0}) SetupFault → Type 0
 AddsRead {A} read Fits old new (Ok done) = (x : A) × (Ok x ≡ read) × Fits x × (new ≡ old ++ x ∷ [])
 AddsRead read Fits old new (Err e) = ((e ≡ NoMemory) ⊎ (read ≡ Err e)) × (new ≡ old)

@@ -9,7 +9,7 @@ use Rattle.function_blocks.specs.Rules.{Read, needs, holds}
 use Rattle.function_blocks.specs.declared.rules.Rule.TheVariants as rule
 use Rattle.function_blocks.specs.declared.setup.Endpoint.{Endpoint}
 
--- MIDI 1.0 or MIDI 2.0, where it is supported
+-- whether this is a protocol, 1 for MIDI 1.0 or 2 for MIDI 2.0, that is supported
 abbrev pub is_supported : Bool → Bool → ℕ → Bool
 is_supported midi1 midi2 protocol = (protocol == 1 && midi1) || (protocol == 2 && midi2)
 

@@ -10,7 +10,7 @@ use Rattle.function_blocks.specs.Endpoints.{is_supported}
 use Rattle.function_blocks.specs.Replies.{stream_replies}
 use Rattle.function_blocks.specs.Setups.{SetupData}
 
--- the message of a stream packet, where its format is one that its status has
+-- the message of a stream packet, if its format is one that its status has
 abbrev pub message_read : Packet → Option StreamMessage
 message_read (packet.Stream format status low second third fourth) =
     if has_bad_format (packet.Stream format status low second third fourth) then None
@@ -23,7 +23,8 @@ protocol_requested setup (stream.ConfigRequest wanted jr) =
     if is_supported setup.endpoint.midi1 setup.endpoint.midi2 wanted then Some wanted else None
 protocol_requested setup _ = None
 
--- the protocol in force after packets, newest first: that of the last request for one that is supported, else the setup's
+-- the protocol in force after packets, newest first: that of the last request for one that is supported, else
+-- the setup's
 abbrev pub protocol_at : SetupData → List Packet → ℕ
 protocol_at setup [] = setup.endpoint.protocol
 protocol_at setup (packet ∷ past) = unwrap_or (option_and_then (protocol_requested setup) (message_read packet)) (protocol_at setup past)

@@ -2,6 +2,7 @@
 use Rattle.std.specs.Prelude.{ℕ, ℤ, pos, negsuc, Bool, ◌==◌, ◌&&◌, ◌+◌, List, [], ◌∷◌, length, Option}
 use Rattle.std.specs.Prelude.{Some, None, option_map, option_and_then, if◌then◌else◌, nat_le, is_some, Ok}
 use Rattle.std.specs.List.{list_all}
+use Rattle.std.specs.Str.{is_utf8}
 use Rattle.toml.specs.Data.{Data, Items, no_items, item, Members, get_member, as_str, as_integer, as_bool, as_array, as_table}
 use Rattle.function_blocks.specs.declared.rules.Rule.{Rule}
 use Rattle.function_blocks.specs.Rules.{Read, holds, needs, and_then, in_front}
@@ -18,9 +19,9 @@ flag_at key members = option_and_then as_bool (get_member key members)
 abbrev pub array_at : List ℕ → Members → Option Items
 array_at key members = option_and_then as_array (get_member key members)
 
--- a text of 1 to `most` bytes
+-- a text of 1 to `most` bytes, in UTF-8, as every TOML string is
 abbrev pub limited : ℕ → List ℕ → Option (List ℕ)
-limited most text = if nat_le 1 (length text) && nat_le (length text) most then Some text else None
+limited most text = if (nat_le 1 (length text) && nat_le (length text) most) && is_utf8 text then Some text else None
 
 abbrev pub limited_text_at : ℕ → List ℕ → Members → Option (List ℕ)
 limited_text_at most key members = option_and_then (limited most) (text_at key members)

@@ -14,7 +14,7 @@ use Rattle.function_blocks.specs.declared.setup.Profile.{Profile}
 use Rattle.function_blocks.specs.declared.profiles.PlaceKind.{PlaceKind}
 use Rattle.function_blocks.specs.declared.profiles.PlaceKind.TheVariants as kind
 
--- the block of a number, where its `ci` isn't 0
+-- the block of a number, if its `ci` isn't 0
 abbrev pub naming_ci : Block → Option Block
 naming_ci block = if block.ci == 0 then None else Some block
 
@@ -77,7 +77,8 @@ abbrev pub has_place_in : Option Block → Place → Bool
 has_place_in None place = false
 has_place_in (Some block) place = has_place block place
 
--- a profile keeps the rules that its block is there, with a `ci` that isn't 0, and that its place is one of that block
+-- a profile keeps the rules that its block is there, with a `ci` that isn't 0, and that its place is one of
+-- that block
 pub record IsProfile (blocks : List Block) (profile : Profile) : Type 0 where
   pub block : profile.block < length blocks
   pub names_ci : is_some (block_naming_ci blocks profile.block) ≡ true

@@ -12,7 +12,7 @@ use Rattle.function_blocks.specs.declared.setup.Block.{Block}
 use Rattle.function_blocks.specs.Endpoints.{is_supported}
 use Rattle.function_blocks.specs.Setups.{SetupData, in_two_bytes}
 
--- these replies, where they are asked for
+-- these replies, if they are asked for
 abbrev pub asked : Bool → List Packet → List Packet
 asked true replies = replies
 asked false replies = []
@@ -38,7 +38,8 @@ identity_message setup =
 abbrev pub notice_of : ℕ → StreamMessage
 notice_of protocol = stream.ConfigNotice protocol 0
 
--- bit 0 of the filter asks for the info, bit 1 for the identity, bit 2 for the name, bit 3 for the product id, bit 4 for the notice
+-- bit 0 of the filter asks for the info, bit 1 for the identity, bit 2 for the name, bit 3 for the product
+-- id, bit 4 for the notice
 abbrev pub discovery_replies : SetupData → ℕ → ℕ → List Packet
 discovery_replies setup protocol filter =
     asked (flag filter 0) (packet_of (info_of setup) ∷ [])

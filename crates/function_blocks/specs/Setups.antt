@@ -34,7 +34,7 @@ setup_in members =
     holds rule.ProfilesAreDistinct (profiles_are_distinct profiles) (
     Ok (record { endpoint = endpoint; blocks = blocks; profiles = profiles })))))))
 
--- the tree of a text, where it is UTF-8 and `toml` gives one
+-- the tree of a text, if it is UTF-8 and `toml` gives one
 abbrev pub tree_of : List ℕ → Option Members
 tree_of text = if is_utf8 text then parse_document text else None
 

@@ -70,7 +70,8 @@ fn array_at<'a>(table: &'a Table, key: &str) -> Option<&'a Vec<Value>>
     value_at(table, key)?.as_array()
 }
 
-/// A text of 1 to `N` bytes.
+/// A text of 1 to `N` bytes of UTF-8.
+#[tactic(auto, using(crate::proofs::FitLaws::limited_itself))]
 pub(crate) fn limited_text_at<const N: usize>(table: &Table, key: &str) -> Option<ShortList<u8, N>>
     ensures value { result ≡ limited_text_of N key.now (table_view table.now) }
     ensures some { IfSome result (λ text. 0 < length text) }
@@ -227,8 +228,7 @@ fn are_tables(values: &[Value], most: usize) -> bool
     values.len() <= most && are_each_tables(values)
 }
 
-/// The entries of a list of at most `most` tables, which is what the
-/// rule asks for; none where the key is absent.
+/// The entries of a list of at most `most` tables, for which the rule asks; none if the key is absent.
 pub(crate) fn entries_at<'a>(
     table: &'a Table,
     key: &str,

@@ -36,9 +36,10 @@ pub fn protocol_follows_the_requests()
         protocol_at setup (packet ∷ past) ≡ protocol_at setup past }
 {}
 
-/// The setup of a text keeps the rules that compare its blocks and its profiles: there are at most 32 blocks
-/// and 64 profiles, no two active blocks with MIDI-CI share a group, no MUID appears twice, and no two
-/// profiles have the same block, place and id.
+/// The setup of a text keeps all rules (`Rule`). Each number is in its range, and each name is UTF-8 and
+/// short enough. There are at most 32 blocks and 64 profiles. No two active blocks with MIDI-CI share a
+/// group, and no MUID appears twice. Each profile is of a block whose `ci` isn't 0, at a place of that block,
+/// and no two profiles have the same block, place and id.
 pub fn setups_are_consistent()
     ensures { SetupsAreConsistent }
 {}

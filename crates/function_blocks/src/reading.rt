@@ -15,10 +15,12 @@ use toml::Table;
 pub const MOST_BYTES: usize = 65_536;
 
 impl Setup {
-    /// Reads the setup from a TOML text, by the rules in their order (`Rule`). A number is a TOML integer,
-    /// and unknown keys are ignored. `Field` is returned only when the rule of that number is the first that
-    /// is broken; `Syntax` only when the text is short enough and isn't UTF-8, or `toml` gives no tree for
-    /// it. Each comes then, unless there is no memory: then `NoMemory` is returned.
+    /// Reads a setup from a TOML text, by the rules in their order (`Rule`; own rules). A number is a TOML
+    /// integer, and unknown keys are ignored. Returns the setup, which keeps all rules.
+    ///
+    /// `Field` is returned exactly when the rule of that number is the first that is broken, and `Syntax`
+    /// exactly when the text is short enough and isn't UTF-8, or `toml` gives no tree for it. Instead of any
+    /// answer, `NoMemory` is returned when there is no memory.
     pub fn read(alloc: Global, text: &[u8]) -> Result<Setup, SetupFault>
         ensures setup { MeetsRead (setup_of text.now) result }
         ensures fits { IfOk result IsSetup }

@@ -13,7 +13,7 @@ pub enum Rule {
     TextIsShort,
     /// `endpoint` is a table.
     EndpointIsATable,
-    /// `endpoint.name` is a text of 1 to 98 bytes.
+    /// `endpoint.name` is a text of 1 to 98 bytes of UTF-8.
     NameIsShort,
     /// `endpoint.id` is a text of 1 to 42 bytes, each 32 to 126.
     IdIsPrintable,
@@ -35,7 +35,7 @@ pub enum Rule {
     BlocksAreTables,
     /// `active` is a boolean.
     ActiveIsAFlag,
-    /// `name` is a text of 1 to 91 bytes.
+    /// `name` is a text of 1 to 91 bytes of UTF-8.
     BlockNameIsShort,
     /// `hint` is 0 to 3.
     HintIsInRange,
@@ -51,7 +51,7 @@ pub enum Rule {
     CiIsInRange,
     /// `sysex8` is 0 to 255.
     Sysex8IsInRange,
-    /// `muids` is a list of at most 16 numbers 0 to 268,435,199, with at least one where `ci` isn't 0.
+    /// `muids` is a list of at most 16 numbers 0 to 268,435,199, with at least one if `ci` isn't 0.
     MuidsAreInRange,
     /// No two active blocks whose `ci` isn't 0 share a group.
     BlocksThatHaveCiShareNoGroup,
@@ -76,7 +76,7 @@ pub enum Rule {
 }
 
 impl Rule {
-    /// The number of the rule, 0 to 31, which `SetupFault::Field` carries.
+    /// Returns the number of the rule, 0 to 31, which `SetupFault::Field` carries (own rule).
     pub fn number(self) -> u8
         ensures { result ≡ number_of self }
     {

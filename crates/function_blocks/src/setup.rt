@@ -38,8 +38,8 @@ pub struct Block {
     pub name: ShortList<u8, 91>,
     /// What it mainly does, as a hint to users, 0 to 3: 0 undeclared, 1 receives, 2 sends, 3 both.
     pub hint: u8,
-    /// Whether a MIDI 1.0 port is behind it, 0 to 2: 0 none, 1 one
-    /// without a limit of speed, 2 one at 31.25 kbit/s.
+    /// Whether it stands for a MIDI 1.0 port, 0 to 2: 0 none, 1 one without a limit of speed, 2 one at
+    /// 31.25 kbit/s.
     pub midi1: u8,
     /// Which way its messages go, 1 to 3: 1 it only receives, 2 it only sends, 3 both.
     pub direction: u8,
@@ -51,15 +51,16 @@ pub struct Block {
     pub ci: u8,
     /// How many System Exclusive 8 streams it takes at a time, 0 to 255; 0 is none.
     pub sysex8: u8,
-    /// The MUIDs that the block takes one after the other, each at
-    /// most 268,435,199; at least one where `ci` isn't 0.
+    /// The MUIDs that the block takes one after the other, each at most 268,435,199; at least one if `ci`
+    /// isn't 0.
     pub muids: ShortList<u32, 16>,
 }
 
 impl Block {
     ghost use Rattle.function_blocks.specs.Blocks.{has_ci as has_midi_ci};
 
-    /// Whether the block has MIDI-CI: it is active, and its `ci` isn't 0 (M2-101-UM; own rule).
+    /// Tests whether the block has MIDI-CI (M2-104-UM, Function Block Info; own rule). Returns true exactly
+    /// if it is active and its `ci` isn't 0.
     pub fn has_ci(&self) -> bool
         ensures { result ≡ has_midi_ci self.now }
     {

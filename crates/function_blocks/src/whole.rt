@@ -47,8 +47,8 @@ impl Setup {
     ghost use Rattle.function_blocks.specs.Profiles.{IsProfile, profiles_are_distinct};
     ghost use Rattle.function_blocks.specs.Setups.{identity_of};
 
-    /// The function blocks by number, at most 32. No two active ones with
-    /// MIDI-CI share a group, and no MUID appears twice.
+    /// Returns the function blocks by number, at most 32 (M2-104-UM, Function Block Info). No two active
+    /// ones with MIDI-CI share a group, and no MUID appears twice.
     pub fn blocks(&self) -> &[Block]
         ensures value { result.now ≡ self.now.blocks }
         ensures few { length result.now ≤ 32 }
@@ -59,7 +59,7 @@ impl Setup {
         self.blocks.as_slice()
     }
 
-    /// The number of function blocks, at most 32. No two active ones with
+    /// Returns the number of function blocks, at most 32 (M2-104-UM, Endpoint Info). No two active ones with
     /// MIDI-CI share a group, and no MUID appears twice.
     pub fn block_count(&self) -> u8
         ensures value { result ≡ length self.now.blocks }
@@ -71,7 +71,8 @@ impl Setup {
         self.blocks.len() as u8
     }
 
-    /// The block of number `n`, counted from 0; `None` exactly when `n` is past the last one.
+    /// Looks the block of number `n` up, counted from 0 (M2-104-UM, Function Block Info). Returns `None`
+    /// exactly when `n` is past the last one.
     pub fn block(&self, n: u8) -> Option<&Block>
         ensures value { option_map (λ b. b.now) result ≡ slice_get self.now.blocks n }
         ensures fits { IfSome result (λ b. IsBlock b.now) }
@@ -81,9 +82,9 @@ impl Setup {
         self.blocks.get(n as usize)
     }
 
-    /// The profiles in the order of the setup, at most 64. No two have the same block, place and id. The
-    /// block of each is one of the setup's blocks whose `ci` isn't 0, and where its place names a group, that
-    /// is one of the block's.
+    /// Returns the profiles in the order of the setup, at most 64 (own rule). No two have the same block,
+    /// place and id. The block of each is one of the setup's blocks whose `ci` isn't 0. If its place names a
+    /// group, that group is one of the block.
     pub fn profiles(&self) -> &[Profile]
         ensures value { result.now ≡ self.now.profiles }
         ensures few { length result.now ≤ 64 }
@@ -93,7 +94,7 @@ impl Setup {
         self.profiles.as_slice()
     }
 
-    /// The number of profiles, at most 64. No two have the same block, place and id.
+    /// Returns the number of profiles, at most 64 (own rule). No two have the same block, place and id.
     pub fn profile_count(&self) -> usize
         ensures value { result ≡ length self.now.profiles }
         ensures few { length self.now.profiles ≤ 64 }
@@ -102,9 +103,9 @@ impl Setup {
         self.profiles.len()
     }
 
-    /// Profile `k` in the order of the setup, counted from 0; `None` exactly when `k` is past the last one.
-    /// Its block is one of the setup's blocks whose `ci` isn't 0, and where its place names a group, that is
-    /// one of the block's.
+    /// Looks profile `k` up in the order of the setup, counted from 0 (own rule). Returns `None` exactly when
+    /// `k` is past the last one. The block of a profile is one of the setup's blocks whose `ci` isn't 0. If
+    /// its place names a group, that group is one of the block.
     pub fn profile(&self, k: usize) -> Option<&Profile>
         ensures value { option_map (λ p. p.now) result ≡ slice_get self.now.profiles k }
         ensures block { IfSome result (λ p. p.now.block < length self.now.blocks) }
@@ -113,8 +114,8 @@ impl Setup {
         self.profiles.get(k)
     }
 
-    /// The identity as it stands in Device Identity (M2-104-UM), `family` and `model` with seven bits in each
-    /// byte, the lowest first. Each byte is below 128.
+    /// Returns the identity as it is written in Device Identity (M2-104-UM): `family` and `model` have seven
+    /// bits in each byte, the lowest first. Each byte is below 128.
     pub fn identity(&self) -> Identity
         ensures value { result ≡ identity_of self.now }
         ensures manufacturer { (length result.manufacturer ≡ 3)
@@ -131,7 +132,7 @@ impl Setup {
         }
     }
 
-    /// The product instance id, 1 to 42 bytes of 32 to 126.
+    /// Returns the product instance id, 1 to 42 bytes of 32 to 126 (M2-104-UM, Product Instance Id).
     pub fn product_id(&self) -> &str
         ensures value { result.now ≡ self.now.endpoint.id }
         ensures some { 0 < length self.now.endpoint.id }
@@ -145,7 +146,8 @@ impl Setup {
         }
     }
 
-    /// The configuration with which an endpoint of this setup starts.
+    /// Returns the configuration with which an endpoint of this setup starts (M2-104-UM, Stream
+    /// Configuration Notification): the protocol is the setup's.
     pub fn config(&self) -> Config
         ensures { result.protocol ≡ self.now.endpoint.protocol }
     {

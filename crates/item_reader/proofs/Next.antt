@@ -20,7 +20,7 @@ ahead-lost chunk rest window (Some left) before same parts =
     let P : Option (List ℕ) → Type 0 = λ b. Loses b (Some (rest ++ left)) chunk in
     subst P same (ap (λ xs. xs ++ left) parts ∙ append_assoc chunk rest left)
 
--- what is seen where no item of the front is in the room
+-- what is seen if no item of the front is in the room
 pub sees_too_long : (asked : List ℕ → ℕ) → IsLength asked → (bytes : List ℕ) (room : ℕ) → room < length bytes → room < asked bytes
     → Sees asked bytes room FrontTooLong
 sees_too_long asked lengths bytes room long few = (long, few-front asked lengths room bytes (omega arith) few)
@@ -111,13 +111,13 @@ module _ {How : Type 0} (asked : How → List ℕ → ℕ) (how : How) (at limit
         let R : Item → Type 0 = λ i. Gives (asked old.how) (cursor old left) (cursor new now) (item_of old.how) i in
         subst R (sym is_item) (subst Q (sym is_new) (subst P is_old given))
 
--- all of what is behind some bytes
+-- all of what comes after some bytes
 pub all_behind : (at : ℕ) (bytes : List ℕ) → take (length bytes - at) (drop at bytes) ≡ drop at bytes
 all_behind at bytes =
     let len : length (drop at bytes) ≡ length bytes - at = length-drop at bytes in
     take_all (length bytes - at) (drop at bytes) (omega (arith, len))
 
--- what is allowed behind some bytes that are
+-- what is allowed after some bytes that are
 rest_allowed : (end : Option Tail) (held room at : ℕ) → at ≤ allowed_by end held room
     → allowed_by end held room - at ≡ allowed_by end (held - at) (room - at)
 rest_allowed None held room at fits = omega (arith, fits)
@@ -134,7 +134,7 @@ pub held-within : {How : Type 0} (reader : Reading How) → reader.offset ≤ re
 held-within reader within =
     omega (arith, within, length-held reader, (allowed-fits reader.end (length reader.pending) (reader.limit - reader.offset)).1)
 
--- what is whole in the allowed bytes behind some of them is an item that is held there
+-- what is whole in the allowed bytes after some of them is an item that is held there
 module _ {How Item : Type 0} (asked : How → List ℕ → ℕ) (item_of : How → ℕ → List ℕ → Item) (reader : Reading How)
     (lengths : IsLength (asked reader.how)) (within : reader.offset ≤ reader.limit) where
   pub held_at : (at : ℕ) → at ≤ allowed_bytes reader
@@ -206,7 +206,7 @@ none_brought End e = cc
 none_brought (Truncated o) e = cc
 none_brought TooLong e = cc
 
--- where an item was brought the items go on
+-- if an item was brought the items go on
 pub brought_goes_on : (A B : Type 0) (end : Option Tail) (is_held : Bool) → is_held ≡ true
     → IfSome end (λ tail. (Ok is_held ≡ more_of tail) × A × B) → end ≡ None
 brought_goes_on A B None is_held e ended = refl

@@ -80,7 +80,7 @@ module _ {How Item : Type 0} (asked : List ℕ → ℕ) (lengths : IsLength aske
             p.lost gives.lost);
       }
 
-  -- the same items, where no byte is lost and the reader goes on
+  -- the same items, if no byte is lost and the reader goes on
   goes_on : (reader' : Reading How) (now' : Option (List ℕ)) → ahead reader'.pending now' ≡ ahead reader.pending now
       → reader' ≡ record reader { pending = reader'.pending } → ReadSoFar asked item_of how limit reader' (given before now' read)
   goes_on reader' now' same place =
@@ -100,12 +100,12 @@ module _ {How Item : Type 0} (asked : List ℕ → ℕ) (lengths : IsLength aske
       → ReadSoFar asked item_of how limit reader' (given before now' read)
   waits reader' now' kept = goes_on reader' now' kept.same kept.goes_on
 
-  -- where an item was brought
+  -- if an item was brought
   brought : (reader' : Reading How) (now' : Option (List ℕ)) → IsBrought asked (cursor reader now) (cursor reader' now')
       → ReadSoFar asked item_of how limit reader' (given before now' read)
   brought reader' now' kept = goes_on reader' now' kept.same kept.goes_on
 
-  -- where the source tells what it has left, the bytes are the items so far and what is ahead
+  -- if the source tells what it has left, the bytes are the items so far and what is ahead
   abbrev IsTold : List ℕ → Type 0
   IsTold bytes = (left : List ℕ) × (now ≡ Some left) × (bytes ≡ concat so_far.chunks ++ (reader.pending ++ left))
 
@@ -125,7 +125,7 @@ module _ {How Item : Type 0} (asked : List ℕ → ℕ) (lengths : IsLength aske
   abbrev EndsHere : (reader' : Reading How) (now' : Option (List ℕ)) (tail : Tail) → Type 0
   EndsHere reader' now' tail = Finishes asked (cursor reader now) (cursor reader' now') tail
 
-  -- the whole stream, where it ends here
+  -- the whole stream, if it ends here
   cut_here : (bytes rest : List ℕ) (tail : Tail) → bytes ≡ concat so_far.chunks ++ rest → Ends asked reader.limit reader.offset rest tail
       → IsCutInto asked item_of limit bytes read tail
   cut_here bytes rest tail whole ends =

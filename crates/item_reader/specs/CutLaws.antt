@@ -29,7 +29,7 @@ pub record CutsStreams (asked : List ℕ → ℕ) : Type 0 where
 
 -- By what a reader that goes on has given of a stream (`before`, of which `now` is left), and by its next answer: with one more
 -- item it has given that too, and it stands in the stream after the others; if a read failed it has given the same, and goes
--- on; at the end the stream is cut into its items, and where it ends with the last of them nothing is left.
+-- on; at the end the stream is cut into its items, and if it ends with the last of them nothing is left.
 pub record ItemsAreReadInOrder {How Item : Type 0} (asked : How → List ℕ → ℕ) (item_of : How → ℕ → List ℕ → Item) : Type 0 where
   pub step : (how : How) (limit : ℕ) (reader : Reading How) (before now : Option (List ℕ)) (read : List Item) →
       ReadSoFar (asked how) (item_of how) how limit reader (given before now read) →

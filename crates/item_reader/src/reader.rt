@@ -103,7 +103,7 @@ impl<H: Cut> ItemReader<H> {
         (self.window.allowed(), self.offset)
     }
 
-    /// The item that begins after `at` of the bytes that `held` returned, and the place where the next
+    /// The item that begins after `at` of the bytes that `held` returned, and the place at which the next
     /// one begins: the item that `next` would return there. `None` exactly if no whole item begins there.
     /// `offset` is the offset of the first of the bytes.
     #[inline(always)]

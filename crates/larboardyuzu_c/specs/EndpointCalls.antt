@@ -23,7 +23,8 @@ abbrev pub HoldsEndpoint : Option Engine → (EndpointState → Type 0) → Type
 HoldsEndpoint (Some (engine.Endpoint held)) IsSo = IsSo held
 HoldsEndpoint _ IsSo = ⊥
 
--- a handle that is closed holds an endpoint of the setup, or nothing if its text has a fault or if there isn't enough memory
+-- a handle that is closed holds an endpoint of the setup, or nothing if its text has a fault or if there
+-- isn't enough memory
 abbrev pub Makes : Read SetupData → ℕ → ℕ → ℕ → ℕ → Option Engine → Type 0
 Makes (Ok setup) room status old new after =
     MatchOption after (status ≡ number_of statuses.NoMemory)

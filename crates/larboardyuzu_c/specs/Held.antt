@@ -22,13 +22,14 @@ HoldsUp _ IsSo = ⊥
 abbrev pub is_room : ℕ → Bool
 is_room room = nat_le 6 room && nat_le room 1048576
 
--- a handle that is open stays as it is; one that is closed holds this, or nothing where there isn't enough memory
+-- a handle that is open stays as it is; one that is closed holds this, or nothing if there isn't enough
+-- memory
 abbrev pub Opens : Option Engine → Engine → ℕ → Option Engine → Type 0
 Opens (Some held) fresh status after = (status ≡ number_of statuses.AlreadyOpen) × (after ≡ Some held)
 Opens None fresh status after =
     MatchOption after (status ≡ number_of statuses.NoMemory) (λ held. (held ≡ fresh) × (status ≡ number_of statuses.Done))
 
--- the handle stays as it is where an argument is out of range
+-- the handle stays as it is if an argument is out of range
 abbrev pub opens_in_range : Bool → Option Engine → Engine → ℕ → Option Engine → Type 0
 opens_in_range false before fresh status after = (status ≡ number_of statuses.BadRoom) × (after ≡ before)
 opens_in_range true before fresh status after = Opens before fresh status after

@@ -120,7 +120,7 @@ IsEmptied (engine.ByteState old) (engine.ByteState new) =
     (new.parsing ≡ idle old.parsing.room) × Keeps as_they_come new.kept (first_states as_they_come) × KeepsAllRooms old.kept new.kept
 IsEmptied _ new = ⊥
 
--- what is held then, of an engine that is a state
+-- the state then, of an engine that is a state
 abbrev pub resets : Engine → ℕ → Option Engine → Type 0
 resets (engine.PacketState state) status after =
     MatchOption after ⊥ (λ held. (status ≡ number_of statuses.Done) × IsEmptied (engine.PacketState state) held)

@@ -107,7 +107,7 @@ pub extern "C" fn larboardyuzu_down_size(room: u32) -> usize
     down_size(room)
 }
 
-/// Where the exclusive began that a group has open.
+/// Finds the start of the exclusive that a group has open.
 #[unsafe(no_mangle)]
 pub extern "C" fn larboardyuzu_down_begun(
     alloc: Global,

@@ -32,8 +32,8 @@ fn fill_endpoint(
 }
 
 /// Opens a handle: an endpoint of the setup in a text, which is TOML. `room` is the limit of an exclusive, 6
-/// to 1,048,576. All the memory that it ever needs is taken here. The setup of a text without a fault is
-/// consistent, as the laws of an endpoint ask of its setup.
+/// to 1,048,576. All the memory that it ever needs is taken here. The setup of a text without a fault keeps
+/// all rules of setups, as the laws of an endpoint ask.
 #[unsafe(no_mangle)]
 pub extern "C" fn larboardyuzu_endpoint_open(
     alloc: Global,
@@ -185,7 +185,7 @@ pub extern "C" fn larboardyuzu_endpoint_profile(
     status.number()
 }
 
-/// Where the exclusive began that a group has open.
+/// Finds the start of the exclusive that a group has open.
 #[unsafe(no_mangle)]
 pub extern "C" fn larboardyuzu_endpoint_begun(
     alloc: Global,

@@ -91,7 +91,7 @@ pub extern "C" fn larboardyuzu_sysex8_packets(
     status.number()
 }
 
-/// Returns where the exclusive began that a stream has open.
+/// Finds the start of the exclusive that a stream has open.
 #[unsafe(no_mangle)]
 pub extern "C" fn larboardyuzu_sysex8_begun(
     alloc: Global,

@@ -1,4 +1,5 @@
--- What of exclusives is listed (M2-104-UM, default translation), and refused (own rule). Parts are listed the newest first.
+-- What of exclusives is listed (M2-104-UM, default translation), and refused (own rule). Parts are listed the
+-- newest first.
 use Rattle.std.specs.Prelude.{ℕ, if◌then◌else◌, List, [], ◌∷◌, Option, Some, None}
 use Rattle.std.specs.List.{flat_map}
 use Rattle.std.specs.Option.{option_map, option_to_list}
@@ -13,7 +14,8 @@ use Rattle.listing_terms.specs.declared.listed.Kind.{Kind}
 use Rattle.listing_terms.specs.declared.listed.Kind.TheVariants as kinds
 use Rattle.listing_terms.specs.declared.listed.Listed.{Listed}
 
--- an exclusive that is open is cut when another one begins; a part that continues or ends one is stray if none is open
+-- an exclusive that is open is cut when another one begins; a part that continues or ends one is stray if
+-- none is open
 abbrev pub exclusive_kind : Form → Option ℕ → Option Kind
 exclusive_kind form.Complete (Some start) = Some kinds.CutExclusive
 exclusive_kind form.Start (Some start) = Some kinds.CutExclusive
@@ -26,7 +28,8 @@ abbrev pub line_offset : Kind → Option ℕ → ℕ → ℕ
 line_offset kinds.CutExclusive (Some start) offset = start
 line_offset _ begun offset = offset
 
--- where the exclusive that the packet's group has open started; only packets of exclusives ask for it
+-- the offset at which the exclusive that the packet's group has open started; only packets of exclusives ask
+-- for it
 abbrev pub begun_before : Room → List Part → Packet → Option ℕ
 begun_before room parts (packet.Exclusive group form bytes) = started room group parts
 begun_before room parts _ = None

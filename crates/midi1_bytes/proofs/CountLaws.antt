@@ -9,7 +9,7 @@ use Rattle.midi1_bytes.specs.Messages.{voice, common, voice_of, common_of}
 use Rattle.midi1_bytes.specs.Steps.{completes, held}
 use Rattle.midi1_bytes.specs.Parsing.{Begun, begun_after, message_step}
 
-voice_below : (b : ℕ) (count : Count) → sort_of b ≡ voice_status count → b < 240
+pub voice_below : (b : ℕ) (count : Count) → sort_of b ≡ voice_status count → b < 240
 unfolding sort_of
 voice_below b count e = grind (arith, nat_tests)
 

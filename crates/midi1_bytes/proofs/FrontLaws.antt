@@ -1,117 +1,164 @@
 -- What some bytes begin with, taken at once, is what is taken byte by byte.
 use Rattle.std.proofs.Common.{◌≡◌, ◌<◌, ◌≤◌, ◌+◌, ◌-◌, ℕ, List, Option, [], ◌∷◌, ◌++◌, Some, None, Bool, true, false, cond}
 use Rattle.std.proofs.Common.{ap, arith, refl, sym, subst, ◌∙◌, length, suc, take, drop, length-append, slice_index}
-use Rattle.std.specs.Prelude.{IfSome}
+use Rattle.std.specs.Prelude.{IfSome, MatchOption}
+use Rattle.voice_messages.specs.declared.voice1.Voice1.{Voice1}
 use Rattle.std.proofs.lemmas.Bool.{le-leb, ltb-true}
 use Rattle.std.proofs.lemmas.List.{append_assoc, append-nil, length-take-le, take-take, take_all}
 use lib.Dec.{ltb}
 use Rattle.midi1_bytes.specs.declared.spoken.VoiceBytes.{VoiceBytes}
-use Rattle.midi1_bytes.specs.Sorts.{one, two, sort_of, voice_status}
-use Rattle.midi1_bytes.specs.Messages.{voice, AreData}
-use Rattle.midi1_bytes.specs.Spoken.{voice_by, voice_in}
+use Rattle.midi1_bytes.specs.Sorts.{one, two, Sort, data_byte, voice_status, exclusive_start, common_status, tune_request}
+use Rattle.midi1_bytes.specs.Sorts.{undefined_status, exclusive_end, real_time_status, undefined_real_time, sort_of}
+use Rattle.midi1_bytes.specs.Messages.{AreData}
+use Rattle.midi1_bytes.specs.Spoken.{voice_in}
 use Rattle.midi1_bytes.specs.Stream.{fits}
 use Rattle.midi1_bytes.specs.declared.begun.Begun as declared
 use Rattle.midi1_bytes.specs.declared.begun.Begun.TheVariants as kind
 use Rattle.midi1_bytes.specs.Held.{begun_view, HoldsData, IsKept}
-use Rattle.midi1_bytes.specs.Parsing.{Begun, begun_exclusive, Parsing, quiet, AreHeld, AreMessage}
-use Rattle.midi1_bytes.specs.Fronts.{IsFront, after_voice, leading_data}
-use Rattle.midi1_bytes.proofs.SortLaws.{data_is}
+use Rattle.midi1_bytes.specs.Parsing.{Begun, begun_exclusive, Parsing, quiet, AreHeld}
+use Rattle.midi1_bytes.specs.Fronts.{IsFront, front_voice, leading_data, voice_from, voice_running, voice_with}
+use Rattle.midi1_bytes.proofs.SortLaws.{data_below, data_is}
 
--- ---- a voice message
-
-pub status_and_two : (room : ℕ) (running : Option ℕ) (status first second offset : ℕ) → sort_of status ≡ voice_status two
-    → first < 128 → second < 128
-    → AreMessage (status ∷ first ∷ second ∷ []) (quiet room running) offset (voice (voice_by (sort_of status) status first second))
-    (quiet room (Some status))
-status_and_two room running status first second offset is_status first_below second_below =
-    rw (is_status, data_is first first_below, data_is second second_below)
-    (rw is_status (rw is_status (refl, (refl, (refl, refl)))))
-
-pub status_and_one : (room : ℕ) (running : Option ℕ) (status only second offset : ℕ) → sort_of status ≡ voice_status one → only < 128
-    → AreMessage (status ∷ only ∷ []) (quiet room running) offset (voice (voice_by (sort_of status) status only second))
-    (quiet room (Some status))
-status_and_one room running status only second offset is_status below =
-    rw (is_status, data_is only below) (rw is_status (refl, (refl, refl)))
-
-pub two_that_run : (room status first second offset : ℕ) → sort_of status ≡ voice_status two → first < 128 → second < 128
-    → AreMessage (first ∷ second ∷ []) (quiet room (Some status)) offset (voice (voice_by (sort_of status) status first second))
-    (quiet room (Some status))
-two_that_run room status first second offset is_status first_below second_below =
-    rw (data_is first first_below, data_is second second_below, is_status) (rw is_status (refl, (refl, refl)))
-
-pub one_that_runs : (room status only second offset : ℕ) → sort_of status ≡ voice_status one → only < 128
-    → AreMessage (only ∷ []) (quiet room (Some status)) offset (voice (voice_by (sort_of status) status only second))
-    (quiet room (Some status))
-one_that_runs room status only second offset is_status below = rw (data_is only below, is_status) (refl, refl)
-
--- ---- among the bytes that follow
-
-take_three : (bytes : List ℕ) → 3 ≤ length bytes
-    → slice_index bytes 0 ∷ slice_index bytes 1 ∷ slice_index bytes 2 ∷ [] ≡ take 3 bytes
-take_three [] long = absurd (omega (arith, long))
-take_three (a ∷ []) long = absurd (omega (arith, long))
-take_three (a ∷ b ∷ []) long = absurd (omega (arith, long))
-take_three (a ∷ b ∷ c ∷ more) long = refl
-
-take_two : (bytes : List ℕ) → 2 ≤ length bytes → slice_index bytes 0 ∷ slice_index bytes 1 ∷ [] ≡ take 2 bytes
-take_two [] long = absurd (omega (arith, long))
-take_two (a ∷ []) long = absurd (omega (arith, long))
-take_two (a ∷ b ∷ more) long = refl
-
-take_one : (bytes : List ℕ) → 1 ≤ length bytes → slice_index bytes 0 ∷ [] ≡ take 1 bytes
-take_one [] long = absurd (omega (arith, long))
-take_one (a ∷ more) long = refl
-
--- what the first bytes begin with
-in_first : (parsing : Parsing) (bytes first : List ℕ) (size : ℕ) (message : VoiceBytes) (count : ℕ) → size ≤ length bytes
-    → first ≡ take size bytes → IsFront parsing first message count → IsFront parsing bytes message count
-in_first parsing bytes first size message count long is front =
-    let same : length first ≡ size = ap length is ∙ length-take-le size bytes long in
-    let within : count ≤ size = omega (arith, same, front.within) in
-    record {
-      nothing_open = front.nothing_open;
-      some = front.some;
-      within = omega (arith, within, long);
-      message = λ offset.
-          subst (λ (taken : List ℕ). AreMessage taken parsing offset (voice (voice_in message)) (after_voice parsing message.status))
-          (ap (take count) is ∙ take-take count size bytes within) (front.message offset);
-    }
+-- ---- what a parser has at the front
 
 quiet_is : (parsing : Parsing) → parsing.begun ≡ None → quiet parsing.room parsing.running ≡ parsing
 quiet_is parsing nothing = ap (λ (b : Option Begun). record { room = parsing.room; running = parsing.running; begun = b }) (sym nothing)
-
-pub front_with_status : (parsing : Parsing) (bytes : List ℕ) (given : Option (VoiceBytes × ℕ)) → parsing.begun ≡ None → 3 ≤ length bytes
-    → IfSome given (λ g. (room : ℕ) (running : Option ℕ) →
-    IsFront (quiet room running) (slice_index bytes 0 ∷ slice_index bytes 1 ∷ slice_index bytes 2 ∷ []) g.0 g.1)
-    → IfSome given (λ g. IsFront parsing bytes g.0 g.1)
-front_with_status parsing bytes None nothing long law = tt
-front_with_status parsing bytes (Some given) nothing long law =
-    let first : List ℕ = slice_index bytes 0 ∷ slice_index bytes 1 ∷ slice_index bytes 2 ∷ [] in
-    in_first parsing bytes first 3 given.0 given.1 long (take_three bytes long)
-    (subst (λ (p : Parsing). IsFront p first given.0 given.1) (quiet_is parsing nothing) (law parsing.room parsing.running))
 
 running_is : (parsing : Parsing) (status : ℕ) → parsing.begun ≡ None → parsing.running ≡ Some status
     → quiet parsing.room (Some status) ≡ parsing
 running_is parsing status nothing running = ap (quiet parsing.room) (sym running) ∙ quiet_is parsing nothing
 
-pub front_of_two : (parsing : Parsing) (bytes : List ℕ) (given : Option (VoiceBytes × ℕ)) (status : ℕ) → parsing.begun ≡ None
-    → parsing.running ≡ Some status → 2 ≤ length bytes
-    → IfSome given (λ g. (room : ℕ) → IsFront (quiet room (Some status)) (slice_index bytes 0 ∷ slice_index bytes 1 ∷ []) g.0 g.1)
-    → IfSome given (λ g. IsFront parsing bytes g.0 g.1)
-front_of_two parsing bytes None status nothing running long law = tt
-front_of_two parsing bytes (Some given) status nothing running long law =
-    let first : List ℕ = slice_index bytes 0 ∷ slice_index bytes 1 ∷ [] in
-    in_first parsing bytes first 2 given.0 given.1 long (take_two bytes long)
-    (subst (λ (p : Parsing). IsFront p first given.0 given.1) (running_is parsing status nothing running) (law parsing.room))
+-- the first two, and those after them
+pub two_and_more : (bytes : List ℕ) → 2 ≤ length bytes
+    → bytes ≡ slice_index bytes 0 ∷ slice_index bytes 1 ∷ take (length bytes - 2) (drop 2 bytes)
+two_and_more [] long = absurd (omega (arith, long))
+two_and_more (byte ∷ []) long = absurd (omega (arith, long))
+two_and_more (byte ∷ next ∷ more) long =
+    ap (λ (l : List ℕ). byte ∷ next ∷ l) (sym (take_all (length (byte ∷ next ∷ more) - 2) more (omega arith)))
 
-pub front_of_one : (parsing : Parsing) (bytes : List ℕ) (given : VoiceBytes × ℕ) (status : ℕ) → parsing.begun ≡ None
-    → parsing.running ≡ Some status → 1 ≤ length bytes
-    → ((room : ℕ) → IsFront (quiet room (Some status)) (slice_index bytes 0 ∷ []) given.0 given.1)
+pub three_and_more : (bytes : List ℕ) → 3 ≤ length bytes
+    → bytes ≡ slice_index bytes 0 ∷ slice_index bytes 1 ∷ slice_index bytes 2 ∷ take (length bytes - 3) (drop 3 bytes)
+three_and_more [] long = absurd (omega (arith, long))
+three_and_more (byte ∷ []) long = absurd (omega (arith, long))
+three_and_more (byte ∷ next ∷ []) long = absurd (omega (arith, long))
+three_and_more (byte ∷ next ∷ third ∷ more) long =
+    ap (λ (l : List ℕ). byte ∷ next ∷ third ∷ l) (sym (take_all (length (byte ∷ next ∷ third ∷ more) - 3) more (omega arith)))
+
+-- fewer than two data bytes are none of a message
+none_of_one : (sort : Sort) (status byte : ℕ) → voice_with sort status (byte ∷ []) ≡ None
+none_of_one (voice_status one) status byte = refl
+none_of_one (voice_status two) status byte = refl
+none_of_one data_byte status byte = refl
+none_of_one exclusive_start status byte = refl
+none_of_one (common_status count) status byte = refl
+none_of_one tune_request status byte = refl
+none_of_one undefined_status status byte = refl
+none_of_one exclusive_end status byte = refl
+none_of_one real_time_status status byte = refl
+none_of_one undefined_real_time status byte = refl
+
+none_of_nothing : (sort : Sort) (status : ℕ) → voice_with sort status [] ≡ None
+none_of_nothing (voice_status one) status = refl
+none_of_nothing (voice_status two) status = refl
+none_of_nothing data_byte status = refl
+none_of_nothing exclusive_start status = refl
+none_of_nothing (common_status count) status = refl
+none_of_nothing tune_request status = refl
+none_of_nothing undefined_status status = refl
+none_of_nothing exclusive_end status = refl
+none_of_nothing real_time_status status = refl
+none_of_nothing undefined_real_time status = refl
+
+none_running : (running : Option ℕ) (byte : ℕ) → voice_running running (byte ∷ []) ≡ None
+none_running None byte = refl
+none_running (Some status) byte = none_of_one (sort_of status) status byte
+
+none_from : (sort : Sort) (running : Option ℕ) (byte : ℕ) → voice_from sort running byte [] ≡ None
+none_from data_byte running byte = none_running running byte
+none_from (voice_status count) running byte = none_of_nothing (voice_status count) byte
+none_from exclusive_start running byte = refl
+none_from (common_status count) running byte = refl
+none_from tune_request running byte = refl
+none_from undefined_status running byte = refl
+none_from exclusive_end running byte = refl
+none_from real_time_status running byte = refl
+none_from undefined_real_time running byte = refl
+
+-- one byte alone is no message
+pub none_of_short : (parsing : Parsing) (bytes : List ℕ) → parsing.begun ≡ None → length bytes < 2 → front_voice parsing bytes ≡ None
+none_of_short parsing [] nothing short = rw nothing refl
+none_of_short parsing (byte ∷ []) nothing short = rw nothing (none_from (sort_of byte) parsing.running byte)
+none_of_short parsing (byte ∷ next ∷ more) nothing short = absurd (omega (arith, short))
+
+-- if the first byte is a status byte
+pub status_first : (parsing : Parsing) (bytes more : List ℕ) (byte : ℕ) → parsing.begun ≡ None → bytes ≡ byte ∷ more → 128 ≤ byte
+    → front_voice parsing bytes ≡ voice_with (sort_of byte) byte more
+status_first parsing bytes more byte nothing is above =
+    ap (front_voice parsing) is ∙ rw nothing (by_sort (sort_of byte) refl)
+  where
+    by_sort : (sort : Sort) → sort_of byte ≡ sort → voice_from sort parsing.running byte more ≡ voice_with sort byte more
+    by_sort data_byte e = absurd (omega (arith, above, data_below byte e))
+    by_sort (voice_status count) e = refl
+    by_sort exclusive_start e = refl
+    by_sort (common_status count) e = refl
+    by_sort tune_request e = refl
+    by_sort undefined_status e = refl
+    by_sort exclusive_end e = refl
+    by_sort real_time_status e = refl
+    by_sort undefined_real_time e = refl
+
+-- a status byte with one byte after it is no message
+pub none_of_status : (parsing : Parsing) (bytes : List ℕ) → parsing.begun ≡ None → 2 ≤ length bytes → length bytes < 3
+    → 128 ≤ slice_index bytes 0 → front_voice parsing bytes ≡ None
+none_of_status parsing [] nothing long short above = absurd (omega (arith, long))
+none_of_status parsing (byte ∷ []) nothing long short above = absurd (omega (arith, long))
+none_of_status parsing (byte ∷ next ∷ []) nothing long short above =
+    let more : List ℕ = next ∷ [] in
+    status_first parsing (byte ∷ next ∷ []) more byte nothing refl above ∙ none_of_one (sort_of byte) byte next
+none_of_status parsing (byte ∷ next ∷ third ∷ more) nothing long short above = absurd (omega (arith, short))
+
+-- if it is a data byte
+pub data_first : (parsing : Parsing) (bytes more : List ℕ) (byte : ℕ) (running : Option ℕ) → parsing.begun ≡ None
+    → parsing.running ≡ running → bytes ≡ byte ∷ more → byte < 128 → front_voice parsing bytes ≡ voice_running running (byte ∷ more)
+data_first parsing bytes more byte running nothing under is below =
+    ap (front_voice parsing) is ∙ rw (nothing, data_is byte below, under) refl
+
+-- what is given of the first byte and those after it
+pub given_of_status : (parsing : Parsing) (bytes more : List ℕ) (status first second : ℕ) (given : Option (VoiceBytes × ℕ))
+    → parsing.begun ≡ None → bytes ≡ status ∷ first ∷ second ∷ more
+    → IfSome given (λ g. (room : ℕ) (running : Option ℕ) (more : List ℕ) →
+    IsFront (quiet room running) (status ∷ first ∷ second ∷ more) g.0 g.1)
+    → IfSome given (λ g. IsFront parsing bytes g.0 g.1)
+given_of_status parsing bytes more status first second None nothing is law = tt
+given_of_status parsing bytes more status first second (Some given) nothing is law =
+    subst (λ (l : List ℕ). IsFront parsing l given.0 given.1) (sym is)
+    (subst (λ (p : Parsing). IsFront p (status ∷ first ∷ second ∷ more) given.0 given.1) (quiet_is parsing nothing)
+    (law parsing.room parsing.running more))
+
+pub given_of_two : (parsing : Parsing) (bytes more : List ℕ) (first second status : ℕ) (given : Option (VoiceBytes × ℕ))
+    → parsing.begun ≡ None → parsing.running ≡ Some status → bytes ≡ first ∷ second ∷ more
+    → IfSome given (λ g. (room : ℕ) (more : List ℕ) → IsFront (quiet room (Some status)) (first ∷ second ∷ more) g.0 g.1)
+    → IfSome given (λ g. IsFront parsing bytes g.0 g.1)
+given_of_two parsing bytes more first second status None nothing running is law = tt
+given_of_two parsing bytes more first second status (Some given) nothing running is law =
+    subst (λ (l : List ℕ). IsFront parsing l given.0 given.1) (sym is)
+    (subst (λ (p : Parsing). IsFront p (first ∷ second ∷ more) given.0 given.1) (running_is parsing status nothing running)
+    (law parsing.room more))
+
+pub given_of_one : (parsing : Parsing) (bytes more : List ℕ) (byte status : ℕ) (given : VoiceBytes × ℕ) → parsing.begun ≡ None
+    → parsing.running ≡ Some status → bytes ≡ byte ∷ more
+    → ((room : ℕ) (more : List ℕ) → IsFront (quiet room (Some status)) (byte ∷ more) given.0 given.1)
     → IsFront parsing bytes given.0 given.1
-front_of_one parsing bytes given status nothing running long law =
-    let first : List ℕ = slice_index bytes 0 ∷ [] in
-    in_first parsing bytes first 1 given.0 given.1 long (take_one bytes long)
-    (subst (λ (p : Parsing). IsFront p first given.0 given.1) (running_is parsing status nothing running) (law parsing.room))
+given_of_one parsing bytes more byte status given nothing running is law =
+    subst (λ (l : List ℕ). IsFront parsing l given.0 given.1) (sym is)
+    (subst (λ (p : Parsing). IsFront p (byte ∷ more) given.0 given.1) (running_is parsing status nothing running) (law parsing.room more))
+
+-- the message that is told is the one with which the bytes begin
+pub told_as : (voice front : Option Voice1) (given : Option (VoiceBytes × ℕ)) → front ≡ voice
+    → MatchOption given (voice ≡ None) (λ g. voice ≡ Some (voice_in g.0))
+    → MatchOption given (front ≡ None) (λ g. front ≡ Some (voice_in g.0))
+told_as voice front None is told = is ∙ told
+told_as voice front (Some given) is told = is ∙ told
 
 -- ---- the data bytes of an exclusive
 

@@ -1,6 +1,7 @@
 pub mod CountLaws
 pub mod DataLaws
 pub mod FrontLaws
+pub mod HeldLaws
 pub mod OpenLaws
 pub mod ParserLaws
 pub mod Ranges

@@ -14,7 +14,7 @@ use Rattle.midi1_bytes.specs.Messages.{common}
 use Rattle.midi1_bytes.specs.Sorts.{Count, one, two, Sort, data_byte, voice_status, exclusive_start, common_status, tune_request}
 use Rattle.midi1_bytes.specs.Sorts.{undefined_status, exclusive_end, real_time_status, undefined_real_time, sort_of, is_real_time}
 use Rattle.midi1_bytes.specs.Stream.{Open, fits, without_real_time, last_status, last_data, open_in, open_by, open_under}
-use Rattle.midi1_bytes.specs.Stream.{open_at_end, offset_before, size_behind_start, start_by, start_in, running_by, running_under}
+use Rattle.midi1_bytes.specs.Stream.{open_at_end, offset_before, size_after_start, start_by, start_in, running_by, running_under}
 use Rattle.midi1_bytes.specs.Steps.{Step, held, completes, undefined, cut_or, end_by, data_by, data_under, step_under, step_of}
 use Rattle.midi1_bytes.specs.Parsing.{Begun, begun_exclusive, open_begun, open_of, cut_by, ended_by}
 use Rattle.midi1_bytes.specs.Parsing.{begun_by, parse_data, parse_under, parse, held_over}
@@ -74,7 +74,7 @@ before_more offset before size = cond (eqb size 0) offset (before (size - 1))
 
 abbrev DataLaw : ℕ → ℕ → ℕ → ℕ → (ℕ → ℕ) → Sort → List ℕ → Type 0
 DataLaw room s b offset before t ds =
-    parse_data room (running_under t s) (begun_of (before (size_behind_start t (length ds))) ds s (open_under (Some room) t (length ds)))
+    parse_data room (running_under t s) (begun_of (before (size_after_start t (length ds))) ds s (open_under (Some room) t (length ds)))
     offset b
     ≡ record {
       step = data_under (Some room) t s ds b;
@@ -82,7 +82,7 @@ DataLaw room s b offset before t ds =
         room = room;
         running = running_under t s;
         begun =
-            begun_of (before_more offset before (size_behind_start t (suc (length ds)))) (b ∷ ds) s
+            begun_of (before_more offset before (size_after_start t (suc (length ds)))) (b ∷ ds) s
             (open_under (Some room) t (suc (length ds)));
       };
     }
@@ -205,7 +205,7 @@ real-held room past b e =
     rw e (ap (λ at. record { room = room; running = running_by (status_of past); begun = begun_on room (status_of past) at (data_of past) })
     start)
 
--- a Real Time byte leaves what is held
+-- a Real Time byte leaves the state as it is
 real-time-parsed : (room : ℕ) (past : List ℕ) (b : ℕ) (t : Sort) → sort_of b ≡ t → is_real_time t ≡ true →
     parse_under t (held_over room past) (length past) b ≡ record { step = step_under (Some room) t past b; after = held_over room past } →
     Means room past b

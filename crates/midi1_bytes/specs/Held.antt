@@ -21,8 +21,8 @@ running_view running.Unset = None
 running_view (running.One status) = Some status
 running_view (running.Two status) = Some status
 
--- A message has as many data bytes as its status says, and its first data byte is one; an open exclusive keeps to its limit, F0
--- aside.
+-- A message has as many data bytes as its status says, and its first data byte is one; an open exclusive
+-- keeps to its limit, F0 aside.
 abbrev pub IsKept : ℕ → Begun → ℕ → Type 0
 IsKept room begun.Nothing size = Unit {0}
 IsKept room (begun.Only start status) size = count_of (sort_of status) ≡ Some one

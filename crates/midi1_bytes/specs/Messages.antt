@@ -1,4 +1,5 @@
--- Messages of a MIDI 1.0 stream, from their bytes and to them (MIDI 1.0 Detailed Specification, the tables of messages).
+-- Messages of a MIDI 1.0 stream, from their bytes and to them (MIDI 1.0 Detailed Specification, the tables of
+-- messages).
 use Rattle.std.specs.Prelude.{ℕ, ◌+◌, ◌*◌, ◌/◌, ◌%◌, ◌<◌, ◌==◌, if◌then◌else◌, List, [], ◌∷◌, ◌++◌, slice_index}
 use Rattle.std.specs.List.{AllByRecursion}
 use Rattle.voice_messages.specs.declared.voice1.Voice1.{Voice1}

@@ -1,5 +1,5 @@
--- What a parser holds between two bytes, and what a byte does to it (MIDI 1.0 Detailed Specification): the rows of the
--- definition, by what is held instead of all the bytes before.
+-- What a parser holds between two bytes, and what a byte does to it (MIDI 1.0 Detailed Specification): the
+-- rows of the definition, by the state instead of all the bytes before.
 use Rattle.std.specs.Prelude.{◌≡◌, ℕ, ◌+◌, if◌then◌else◌, List, [], ◌∷◌, ◌++◌, reverse, length, suc, Option, Some, None}
 use Rattle.std.specs.Option.{option_map, option_and_then}
 use Rattle.voice_messages.specs.declared.voice1.System.TheVariants as system
@@ -13,8 +13,8 @@ use Rattle.midi1_bytes.specs.Messages.{Message, voice, common, exclusive, real_t
 use Rattle.midi1_bytes.specs.Stream.{Open, fits, without_real_time, last_status, last_data, open_in, start_in, running}
 use Rattle.midi1_bytes.specs.Steps.{Step, held, completes, stray, undefined, cut, too_long}
 
--- What is open: a message by its start, its status byte, and its first data byte if one came; an exclusive by its start and
--- the bytes after its F0, in order.
+-- What is open: a message by its start, its status byte, and its first data byte if one came; an exclusive by
+-- its start and the bytes after its F0, in order.
 pub data Begun : Type 0 where
   begun_message : ℕ → ℕ → Option ℕ → Begun
   begun_exclusive : ℕ → List ℕ → Begun
@@ -86,7 +86,7 @@ begun_after _ begun = None
 
 -- ---- a byte
 
--- what a byte does, and what is held after it
+-- what a byte does, and the state after it
 pub record Parsed : Type 0 where
   pub step : Step
   pub after : Parsing
@@ -126,14 +126,15 @@ parse parsing offset byte = parse_under (sort_of byte) parsing offset byte
 
 -- ---- several bytes, oldest first
 
--- These bytes, the first of them at this offset, are held one after the other; and what is held after the last of them.
+-- These bytes, the first of them at this offset, are held one after the other; and the state after the
+-- last of them.
 abbrev pub AreHeld : List ℕ → Parsing → ℕ → Parsing → Type 0
 AreHeld [] parsing offset new = new ≡ parsing
 AreHeld (byte ∷ more) parsing offset new =
     ((parse parsing offset byte).step ≡ held) × AreHeld more (parse parsing offset byte).after (offset + 1) new
 
--- These bytes, the first of them at this offset, are a message: each is held but the last, which completes it; and what is held
--- after the last of them.
+-- These bytes, the first of them at this offset, are a message: each is held but the last, which completes
+-- it; and the state after the last of them.
 abbrev pub AreMessage : List ℕ → Parsing → ℕ → Message → Parsing → Type 0
 AreMessage [] parsing offset message new = ⊥
 AreMessage (byte ∷ []) parsing offset message new =

@@ -1,5 +1,5 @@
--- Messages written under running status (MIDI 1.0 Detailed Specification, running status): a status byte that equals the running
--- status is left out.
+-- Messages written under running status (MIDI 1.0 Detailed Specification, running status): a status byte that
+-- equals the running status is left out.
 use Rattle.std.specs.Prelude.{ℕ, ◌≡◌, ◌==◌, if◌then◌else◌, Bool, false, List, [], ◌∷◌, ◌++◌, reverse, slice_index, Option, Some, None}
 use Rattle.voice_messages.specs.declared.voice1.Voice1.{Voice1}
 use Rattle.midi1_bytes.specs.Messages.{Message, voice, common, exclusive, real_time, spelled, spelled_voice}
@@ -15,8 +15,8 @@ abbrev pub without_status : Option ℕ → List ℕ → List ℕ
 without_status in_force [] = []
 without_status in_force (status ∷ bytes) = if is_running in_force status then bytes else status ∷ bytes
 
--- Messages written after these bytes, which are newest first. A status byte is left out that equals the running status of those
--- bytes followed by what is written of the messages before it.
+-- Messages written after these bytes, which are newest first. A status byte is left out that equals the
+-- running status of those bytes followed by what is written of the messages before it.
 abbrev pub written_behind : List ℕ → List Message → List ℕ
 written_behind past [] = []
 written_behind past (message ∷ messages) =
@@ -29,7 +29,8 @@ written_behind past (message ∷ messages) =
 abbrev pub status_of : Voice1 → ℕ
 status_of message = slice_index (spelled_voice message) 0
 
--- A voice message's status becomes the running status; system common messages and exclusives end it; Real Time leaves it.
+-- A voice message's status becomes the running status; system common messages and exclusives end it; Real
+-- Time leaves it.
 abbrev pub running_after : Message → Option ℕ → Option ℕ
 running_after (voice message) in_force = Some (status_of message)
 running_after (common message) in_force = None

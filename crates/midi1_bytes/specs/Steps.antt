@@ -1,5 +1,6 @@
--- What a byte of a MIDI 1.0 stream does, from the bytes before it (MIDI 1.0 Detailed Specification). `past` is those bytes,
--- newest first. Own rules: what is cut off is dropped and reported, and so is a byte that belongs to nothing.
+-- What a byte of a MIDI 1.0 stream does, from the bytes before it (MIDI 1.0 Detailed Specification). `past`
+-- is those bytes, newest first. Own rules: what is cut off is dropped and reported, and so is a byte that
+-- belongs to nothing.
 use Rattle.std.specs.Prelude.{◌≡◌, ℕ, ◌%◌, nat_lt, ◌==◌, if◌then◌else◌, List, [], ◌∷◌, ◌++◌, reverse, length, suc, Option, Some, None}
 use Rattle.std.specs.Option.{option_to_list}
 use Rattle.voice_messages.specs.declared.voice1.System.TheVariants as system
@@ -20,8 +21,9 @@ pub data Step : Type 0 where
   cut : ℕ → CutKind → AfterCut → Step
   too_long : Step
 
--- A data byte after a status of this sort and the data bytes that follow it. Voice messages follow one another under running
--- status; a common status is for a single message; an exclusive takes what its limit allows.
+-- A data byte after a status of this sort and the data bytes that follow it. Voice messages follow one
+-- another under running status; a common status is for a single message; an exclusive takes what its limit
+-- allows.
 abbrev pub data_under : Room → Sort → ℕ → List ℕ → ℕ → Step
 data_under room (voice_status count) status before byte =
     if suc (length before) % data_count count == 0 then completes (voice (voice_of count status byte before))

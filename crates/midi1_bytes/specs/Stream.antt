@@ -1,5 +1,6 @@
--- What is open in a MIDI 1.0 stream, counted back from its end (MIDI 1.0 Detailed Specification, running status, system common,
--- system exclusive and system Real Time messages). `past` is the bytes so far, newest first.
+-- What is open in a MIDI 1.0 stream, counted back from its end (MIDI 1.0 Detailed Specification, running
+-- status, system common, system exclusive and system Real Time messages). `past` is the bytes so far, newest
+-- first.
 use Rattle.std.specs.Prelude.{ℕ, ◌-◌, ◌%◌, nat_lt, nat_le, ◌==◌, Bool, true, if◌then◌else◌, List, [], ◌∷◌, length, Option, Some, None}
 use Rattle.std.specs.Option.{option_map}
 use Rattle.midi1_bytes.specs.declared.step.CutKind.{CutKind}
@@ -31,8 +32,8 @@ abbrev pub fits : Room → ℕ → Bool
 fits None size = true
 fits (Some room) size = nat_le size room
 
--- What is open after a status of this sort and this many data bytes. A voice status is one for all the messages that follow it
--- under running status; a common one is for a single message.
+-- What is open after a status of this sort and this many data bytes. A voice status is one for all the
+-- messages that follow it under running status; a common one is for a single message.
 abbrev pub open_under : Room → Sort → ℕ → Option CutKind
 open_under room (voice_status count) size =
     if size == 0 then Some kind.Message
@@ -49,7 +50,7 @@ open_by room (Some status) size = open_under room (sort_of status) size
 abbrev pub open_in : Room → List ℕ → Option CutKind
 open_in room past = let bytes = without_real_time past in open_by room (last_status bytes) (length (last_data bytes))
 
--- ---- where it starts
+-- ---- its start
 
 -- the offset of the byte that is followed by this many bytes other than Real Time
 abbrev pub offset_before : ℕ → List ℕ → ℕ
@@ -59,21 +60,21 @@ offset_before size (byte ∷ past) =
     else if size == 0 then length past
     else offset_before (size - 1) past
 
--- How many bytes follow the start, Real Time left out: it is the status byte, or under running status the first data byte of the
--- message.
-abbrev pub size_behind_start : Sort → ℕ → ℕ
-size_behind_start (voice_status count) size = if nat_lt (data_count count) size then size % data_count count - 1 else size
-size_behind_start _ size = size
+-- How many bytes follow the start, Real Time left out: it is the status byte, or under running status the
+-- first data byte of the message.
+abbrev pub size_after_start : Sort → ℕ → ℕ
+size_after_start (voice_status count) size = if nat_lt (data_count count) size then size % data_count count - 1 else size
+size_after_start _ size = size
 
 abbrev pub start_by : Option ℕ → ℕ → List ℕ → ℕ
 start_by None size past = 0
-start_by (Some status) size past = offset_before (size_behind_start (sort_of status) size) past
+start_by (Some status) size past = offset_before (size_after_start (sort_of status) size) past
 
 -- the offset at which what is open starts
 abbrev pub start_in : List ℕ → ℕ
 start_in past = let bytes = without_real_time past in start_by (last_status bytes) (length (last_data bytes)) past
 
--- what is open at the end, and where it starts
+-- what is open at the end, and its start
 pub record Open : Type 0 where
   pub start : ℕ
   pub kind : CutKind

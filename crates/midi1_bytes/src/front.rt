@@ -1,20 +1,23 @@
 // Voice messages whose bytes stand together, if nothing is open.
-ghost use Rattle.std.specs.Prelude.{ℕ, ◌≡◌, ◌<◌, ◌≤◌, [], ◌∷◌, Option, Some, IfSome, length, take};
+ghost use Rattle.std.specs.Prelude.{ℕ, ◌≡◌, ◌<◌, ◌≤◌, List, ◌∷◌, Option, Some, None, IfSome, MatchOption, length, take};
 ghost use Rattle.midi1_bytes.specs.Messages.{AreData};
-ghost use Rattle.midi1_bytes.specs.Fronts.{IsFront, leading_data};
+ghost use Rattle.midi1_bytes.specs.Fronts.{IsFront, leading_data, voice_with};
 ghost use Rattle.midi1_bytes.specs.Parsing.{quiet};
+ghost use Rattle.midi1_bytes.specs.Spoken.{voice_in};
 ghost use Rattle.midi1_bytes.specs.Sorts.{one, two, sort_of, voice_status};
 
 use crate::spoken::VoiceBytes;
 
-// The message with its status byte, and how many of the bytes it has; a byte that follows is given even if
-// it isn't one of the message's.
+// The message with its status byte, and how many of these bytes it has.
 #[tactic(auto, unfolding(crate::specs::Sorts::sort_of))]
 #[inline(always)]
 pub(crate) fn with_status(status: u8, first: u8, second: u8) -> Option<(VoiceBytes, usize)>
     requires { 128 ≤ status }
-    ensures { IfSome result (λ given. (room : ℕ) (running : Option ℕ) →
-        IsFront (quiet room running) (status ∷ first ∷ second ∷ []) given.0 given.1) }
+    ensures message { (more : List ℕ) →
+        MatchOption result (voice_with (sort_of status) status (first ∷ second ∷ more) ≡ None)
+        (λ given. voice_with (sort_of status) status (first ∷ second ∷ more) ≡ Some (voice_in given.0)) }
+    ensures front { IfSome result (λ given. (room : ℕ) (running : Option ℕ) (more : List ℕ) →
+        IsFront (quiet room running) (status ∷ first ∷ second ∷ more) given.0 given.1) }
 {
     if (status >= 0xf0) | (first >= 0x80) {
         return None;
@@ -44,8 +47,11 @@ pub(crate) fn with_status(status: u8, first: u8, second: u8) -> Option<(VoiceByt
 pub(crate) fn two_running(status: u8, first: u8, second: u8) -> Option<(VoiceBytes, usize)>
     requires sort { sort_of status ≡ voice_status two }
     requires below { first < 128 }
-    ensures { IfSome result (λ given. (room : ℕ) →
-        IsFront (quiet room (Some status)) (first ∷ second ∷ []) given.0 given.1) }
+    ensures message { (more : List ℕ) →
+        MatchOption result (voice_with (sort_of status) status (first ∷ second ∷ more) ≡ None)
+        (λ given. voice_with (sort_of status) status (first ∷ second ∷ more) ≡ Some (voice_in given.0)) }
+    ensures front { IfSome result (λ given. (room : ℕ) (more : List ℕ) →
+        IsFront (quiet room (Some status)) (first ∷ second ∷ more) given.0 given.1) }
 {
     if second >= 0x80 {
         return None;
@@ -64,7 +70,10 @@ pub(crate) fn two_running(status: u8, first: u8, second: u8) -> Option<(VoiceByt
 pub(crate) fn one_running(status: u8, only: u8) -> (VoiceBytes, usize)
     requires sort { sort_of status ≡ voice_status one }
     requires below { only < 128 }
-    ensures { (room : ℕ) → IsFront (quiet room (Some status)) (only ∷ []) result.0 result.1 }
+    ensures message { (next : ℕ) (more : List ℕ) →
+        voice_with (sort_of status) status (only ∷ next ∷ more) ≡ Some (voice_in result.0) }
+    ensures front { (room : ℕ) (more : List ℕ) →
+        IsFront (quiet room (Some status)) (only ∷ more) result.0 result.1 }
 {
     let message = VoiceBytes {
         status,

@@ -1,7 +1,8 @@
 // What holds of all streams of bytes, which are listed newest first.
-ghost use Rattle.std.specs.Prelude.{◌≡◌, [], ◌∷◌, reverse};
+ghost use Rattle.std.specs.Prelude.{◌≡◌, [], ◌∷◌, reverse, Some, None};
 ghost use Rattle.voice_messages.specs.declared.voice1.Voice1.TheVariants as voice1;
 ghost use Rattle.voice_messages.specs.declared.voice1.System.TheVariants as system;
+ghost use Rattle.midi1_bytes.specs.Fronts.{first_voice};
 ghost use Rattle.midi1_bytes.specs.Laws.{
   CompletedMessagesAreInRange,
   ParsedBytesAreTheDefinition,
@@ -28,7 +29,7 @@ pub fn statuses_that_run_can_be_left_out()
 
 /// What is written of messages depends on the running status alone, not on the bytes before. After a voice
 /// message the running status is its status byte; a system common message or an exclusive ends it, and Real
-/// Time leaves it was.
+/// Time leaves it as it was.
 pub fn running_status_is_that_of_the_messages()
     ensures { RunningStatusIsThatOfTheMessages }
 {}
@@ -39,9 +40,9 @@ pub fn completed_messages_are_in_range()
 {}
 
 /// A parser that takes the bytes of a stream, each with its offset, answers each byte as the definition does,
-/// which looks back over all the bytes before it, whatever the limit. It begins with what is held after no
-/// bytes, and one more byte turns what is held after some bytes into what is held after them all. At the end
-/// it tells what is open there.
+/// which looks back over all the bytes before it, whatever the limit. It begins in the state after no
+/// bytes, and one more byte turns the state after some bytes into the state after all of them. At the end
+/// it says what is open there.
 pub fn parsed_bytes_are_the_definition()
     ensures { ParsedBytesAreTheDefinition }
 {}
@@ -54,4 +55,20 @@ pub fn a_clock_stands_between_data_bytes()
         ∷ real_time system.Clock
         ∷ voice (voice1.NoteOn 0 0x3e 0x64)
         ∷ [] }
+{}
+
+/// Bytes begin with a note on, with its status byte or under running status, whatever follows it; they don't
+/// if a clock comes between its bytes, or if its last byte is missing. A
+/// program change has one data byte, and another byte must follow it.
+#[tactic(auto, unfolding(crate::specs::Sorts::sort_of))]
+pub fn bytes_begin_with_whole_voice_messages()
+    ensures with_status { first_voice None (0x90 ∷ 0x3c ∷ 0x64 ∷ 0x3e ∷ []) ≡
+        Some (voice1.NoteOn 0 0x3c 0x64) }
+    ensures under_running_status { first_voice (Some 0x90) (0x3c ∷ 0x64 ∷ 0xf8 ∷ []) ≡
+        Some (voice1.NoteOn 0 0x3c 0x64) }
+    ensures without_status { first_voice None (0x3c ∷ 0x64 ∷ []) ≡ None }
+    ensures with_clock { first_voice None (0x90 ∷ 0x3c ∷ 0xf8 ∷ 0x64 ∷ []) ≡ None }
+    ensures cut { first_voice (Some 0x90) (0x3c ∷ []) ≡ None }
+    ensures program { first_voice None (0xc0 ∷ 0x05 ∷ 0x90 ∷ []) ≡ Some (voice1.Program 0 5) }
+    ensures last { first_voice None (0xc0 ∷ 0x05 ∷ []) ≡ None }
 {}

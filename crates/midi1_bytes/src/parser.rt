@@ -12,15 +12,19 @@ ghost use Rattle.std.specs.Prelude.{
   take,
   Some,
   None,
+  false,
   IfOk,
   IfSome,
+  IsTrue,
+  MatchOption,
   vec_len,
   vec_capacity,
 };
 ghost use Rattle.std.specs.Option.{option_map, ForSome};
 ghost use Rattle.midi1_bytes.specs.Answers.{step_view, LendsData, LendsFramed, cut_off_by};
-ghost use Rattle.midi1_bytes.specs.Fronts.{IsFront, after_voice, data_taken};
+ghost use Rattle.midi1_bytes.specs.Fronts.{IsFront, after_voice, data_taken, front_voice, is_held};
 ghost use Rattle.midi1_bytes.specs.Sorts.{count_of, data_byte, one, sort_of, two};
+ghost use Rattle.midi1_bytes.specs.Spoken.{voice_in};
 
 use crate::begun::{Begun, Running};
 use crate::front::{leading_data_within, one_running, two_running, with_status};
@@ -174,13 +178,14 @@ impl Parser {
 
     /// The voice message with which these bytes begin, and how many of them it has: 3, 2, or under running
     /// status 2 or 1 (MIDI 1.0 Detailed Specification: channel voice messages, running status). `byte` would
-    /// hold each of these bytes and complete this message with the last; `take_front` takes them.
-    ///
-    /// `None` says nothing more: a message can also be open, come with other bytes between its own, or not be
-    /// here whole; then take the bytes one by one.
+    /// hold each of these bytes and complete this message with the last; `take_front` takes them. `None`
+    /// exactly when something is open, when these bytes don't begin with all bytes of one, one after the
+    /// other, or when they are one of one data byte and no more (own rule): then take the bytes one by one.
     #[inline(always)]
     pub fn front(&self, bytes: &[u8]) -> Option<(VoiceBytes, usize)>
-        ensures { IfSome result (λ given. IsFront self.now bytes.now given.0 given.1) }
+        ensures message { MatchOption result (front_voice self.now bytes.now ≡ None)
+            (λ given. front_voice self.now bytes.now ≡ Some (voice_in given.0)) }
+        ensures front { IfSome result (λ given. IsFront self.now bytes.now given.0 given.1) }
     {
         if !matches!(self.begun, Begun::Nothing) {
             return None;
@@ -475,6 +480,79 @@ impl Parser {
                 append(&mut self.bytes, END_OF_EXCLUSIVE);
                 Step::Exclusive(self.bytes.as_slice())
             }
+        }
+    }
+
+    // Takes a data byte that is only held, under running status if nothing is open.
+    #[tactic(auto, using(crate::proofs::HeldLaws::held_or_not))]
+    #[inline(always)]
+    fn holds_data(&mut self, byte: u8, offset: u64) -> bool
+        requires { byte < 128 }
+        ensures class { result ≡ is_held (parse_under data_byte self.old offset byte).step }
+        ensures after { IsTrue result → self.new ≡ (parse_under data_byte self.old offset byte).after }
+        ensures unchanged { result ≡ false → self.new ≡ self.old }
+    {
+        let (start, status) = match (self.begun, self.running) {
+            (Begun::First { start, status }, _) => (start, status),
+            (Begun::Nothing, Running::Two(status)) => (offset, status),
+            (Begun::Exclusive { .. }, _) if self.bytes.len() <= self.room as usize => {
+                append(&mut self.bytes, byte);
+                return true;
+            }
+            _ => return false,
+        };
+        self.begun = Begun::Second {
+            start,
+            status,
+            first: byte,
+        };
+        true
+    }
+
+    // Takes a status byte that is only held.
+    #[tactic(auto, using(crate::proofs::HeldLaws::held_or_not), unfolding(crate::specs::Sorts::sort_of))]
+    #[inline(always)]
+    fn holds_status(&mut self, byte: u8, offset: u64) -> bool
+        requires { 128 ≤ byte }
+        ensures class { result ≡ is_held (parse self.old offset byte).step }
+        ensures after { IsTrue result → self.new ≡ (parse self.old offset byte).after }
+        ensures unchanged { result ≡ false → self.new ≡ self.old }
+    {
+        if !matches!(self.begun, Begun::Nothing) {
+            return false;
+        }
+        match byte {
+            0x80..=0xef => {
+                self.begin_voice(byte, offset);
+                true
+            }
+            0xf0 => {
+                self.begin_exclusive(offset);
+                true
+            }
+            0xf1..=0xf3 => {
+                self.begin_common(byte, offset);
+                true
+            }
+            _ => false,
+        }
+    }
+
+    /// Takes one more byte, if it is only held: it belongs to what is open, or opens it (MIDI 1.0 Detailed
+    /// Specification: summary of status bytes, running status). Then it is the whole step of `byte`, which
+    /// would answer `Held`. `false` exactly for other bytes, and then nothing changes: `byte` has their
+    /// answer. The offset is kept as in `byte`. Takes no memory.
+    #[tactic(auto, unfolding(crate::specs::Sorts::sort_of))]
+    #[inline(always)]
+    pub fn holds(&mut self, byte: u8, offset: u64) -> bool
+        ensures class { result ≡ is_held (parse self.old offset byte).step }
+        ensures after { IsTrue result → self.new ≡ (parse self.old offset byte).after }
+        ensures unchanged { result ≡ false → self.new ≡ self.old }
+    {
+        if byte < 0x80 {
+            self.holds_data(byte, offset)
+        } else {
+            self.holds_status(byte, offset)
         }
     }
 

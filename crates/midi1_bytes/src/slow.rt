@@ -140,19 +140,19 @@ fn open_kind(past: &[u8], room: usize) -> Option<CutKind>
     }
 }
 
-// Where it starts.
+// The offset at which it starts.
 #[tactic(auto, unfolding(crate::specs::Sorts::sort_of))]
 fn start(past: &[u8]) -> usize
     ensures { result ≡ start_in past.now }
 {
     let size = data_size(past);
-    let behind = match last_status(past) {
+    let after_start = match last_status(past) {
         None => return 0,
         Some(0xc0..=0xdf) if size > 1 => 0,
         Some(0x80..=0xef) if size > 2 => (size % 2).saturating_sub(1),
         Some(_) => size,
     };
-    offset_before(behind, past)
+    offset_before(after_start, past)
 }
 
 // A data byte.

@@ -34,7 +34,7 @@ none-some xs e = subst IsNone e tt
 false-true : false ≡ true → ⊥
 false-true e = cc
 
--- ---- where it starts
+-- ---- its start
 
 abbrev CannotStart : List Packet → Type 0
 CannotStart past = (newer older : List Packet) (packet : Packet) → past ≡ newer ++ packet ∷ older → can_start older packet ≡ false
@@ -102,7 +102,7 @@ started (packet ∷ past) after e = by_since (started past) (since_start past) r
           first = before.first;
         })
 
--- ---- where it ends
+-- ---- its end
 
 abbrev IsNoEnd : Packet → Type 0
 IsNoEnd packet = is_end (role_of packet) ≡ false

@@ -13,7 +13,7 @@ use Rattle.midi_clip.specs.declared.step.ClipFault.{ClipFault}
 use Rattle.midi_clip.specs.declared.step.ClipFault.TheVariants.{NoResolution, AfterEnd, NoEnd}
 use Rattle.midi_clip.specs.Roles.{role_of, is_start, is_end, is_resolution, ticks_added}
 
--- ---- where it starts
+-- ---- its start
 
 -- the ticks for a quarter note that this gives, unless they are 0
 abbrev pub ticks_given : Role → Option ℕ
@@ -46,7 +46,7 @@ pub record IsStartedBefore (past after : List Packet) : Type 0 where
   pub starts : can_start before start ≡ true
   pub first : (newer older : List Packet) (packet : Packet) → before ≡ newer ++ packet ∷ older → can_start older packet ≡ false
 
--- ---- where it ends
+-- ---- its end
 
 -- of the packets since the start, those before the first End of Clip
 abbrev pub before_end_by : Option (List Packet) → Bool → List Packet → Option (List Packet)
@@ -103,7 +103,7 @@ step_by resolution true true ticks role = Err AfterEnd
 abbrev pub is_started : List Packet → Bool
 is_started past = is_some (since_start past)
 
--- the packets of the clip, where it ended
+-- the packets of the clip, if it ended
 abbrev pub ended_clip : List Packet → Option (List Packet)
 ended_clip past = option_and_then before_end (since_start past)
 

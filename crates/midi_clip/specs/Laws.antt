@@ -8,8 +8,8 @@ use Rattle.midi_clip.specs.History.{IsEndedAfter, IsStartedBefore, before_end, e
 use Rattle.midi_clip.specs.Roles.{role_of}
 use Rattle.midi_clip.specs.Stages.{end_of, stage_after, stage_at, stage_over, step_of, ticks_of}
 
--- Where a clip started and ended is what the places of its packets say. Folding the step over any packets is the definition: what one
--- more packet is, the ticks, and where the clip ended. A fault leaves the clip as it was.
+-- At which packets a clip started and ended is what the places of its packets say. Folding the step over any packets is the definition:
+-- what one more packet is, the ticks, and at which packet the clip ended. A fault leaves the clip as it was.
 pub record ClipsAreTheDefinition : Type 0 where
   pub starts : (past after : List Packet) → IsStartedBefore past after → since_start past ≡ Some after
   pub started : (past after : List Packet) → since_start past ≡ Some after → IsStartedBefore past after

@@ -1,4 +1,4 @@
-//! The clip of a clip file: where its packets stand in ticks.
+//! The clip of a clip file: the ticks at which its packets stand.
 #![tactic(auto)]
 
 pub mod clip;

@@ -1,4 +1,4 @@
--- The last line behind what was accepted, and how a run that was done ends.
+-- The last line after what was accepted, and how a run that was done ends.
 use Rattle.std.proofs.Common.{◌≡◌, ◌≢◌, ◌≤◌, ℕ, List, Option, None, Some, refl, ap, sym, ◌∙◌, subst, arith}
 use Rattle.std.specs.Prelude.{Result, Ok, Err, IsOk, OnErr, OnOk, MatchOption}
 use Rattle.std.specs.Io.KnownBytes.{Keeps}
@@ -69,7 +69,8 @@ counts_are before now lanes output notes =
     made : ℕ → ℕ → ℕ → Counts
     made lanes output notes = record { lanes = lanes; output = output; notes = notes }
 
--- the status once the lanes and the output are written out, and its line is put, and then the one once the notes are
+-- The status after the lanes and the output are written out and its line is put, and then the one after the
+-- notes are written out.
 pub ends_as : (written status : Status) (flush : Result (Unit {0}) Failed) (before now : Counts) (mid : ℕ) (old told new : Option (List ℕ))
     → WritesBoth written before.lanes now.lanes before.output now.output → PutsLast written old told before.notes mid
     → HasCause mid now.notes flush → Keeps told new

@@ -11,7 +11,7 @@ the_only one failed [] after e = cc
 the_only one failed (first ∷ []) after e = cc
 the_only one failed (first ∷ second ∷ before) after e = cc
 
--- where it failed, the count of the faults of the output rose
+-- if it failed, the count of the faults of the output rose
 pub output_failed : (text : List ℕ) (end : RunEnd) (old new : Places) → FailsAt (in_output text ∷ []) end old new
     → Rose old.faults.output new.faults.output
 output_failed text end old new fails =

@@ -18,7 +18,7 @@ use Rattle.midi_commands.specs.declared.status.Status.TheVariants.{Done, NoMemor
 still_rose : (first before now : ℕ) → Rose before now → Rose first before → Rose first now
 still_rose first before now rose first_rose = omega (arith, rose, first_rose)
 
--- no count falls where puts are put, or one of them failed
+-- no count falls when puts are put, or one of them fails
 counts_rise : (end : RunEnd) (old new : Counts) → Fails end old new → (first : ℕ)
     → (Rose first old.lanes → Rose first new.lanes) × (Rose first old.output → Rose first new.output)
     × (Rose first old.notes → Rose first new.notes)
@@ -49,7 +49,7 @@ puts_rise puts old new (Ok done) put first =
     (subst L (sym put) (λ r. r), subst O (sym put) (λ r. r), subst N (sym put) (λ r. r))
 puts_rise puts old new (Err end) stops first = counts_rise end old.faults new.faults stops.counts first
 
--- with more puts nothing fails only where nothing failed before them
+-- with more puts nothing fails only if nothing failed before them
 fails_before : (puts : List Put) (old unended new : Seen) (answer : Result (Unit {0}) RunEnd) → unended.reads ≡ new.reads
     → Puts puts unended.places new.places answer → NothingFails old new → NothingFails old unended
 fails_before puts old unended new answer reads put well =
@@ -60,7 +60,7 @@ fails_before puts old unended new answer reads put well =
       λ rose. well.3 ((puts_rise puts unended.places new.places answer put old.places.faults.notes).2 rose),
     )
 
--- what is so where nothing failed before more puts is so where nothing failed with them
+-- what holds if nothing failed before more puts holds if nothing failed with them
 done_told : (Holds : List ℕ → Type 0) (Ends : Type 0) (puts : List Put) (old unended new : Seen) (answer : Result (Unit {0}) RunEnd)
     → unended.reads ≡ new.reads
     → Puts puts unended.places new.places answer → IfSome old.left (λ bytes. Holds bytes → NothingFails old unended → Ends)

@@ -71,7 +71,8 @@ down_pass_options options = record {
 }
 
 abbrev pub up_pass_options : UpOptions → UpPassOptions
-up_pass_options options = record { paired = options.paired; group = options.group; order = options.order; room = options.room }
+up_pass_options options =
+    record { paired = options.paired; group = options.group; order = options.order; room = options.room }
 
 abbrev pub back_pass_options : BackOptions → BackPassOptions
 back_pass_options options = record { paired = options.paired; group = options.group; room = options.room }
@@ -125,8 +126,8 @@ called_event_pass setup = record { Item = ℕ × CalledEvent; IsCut = called_cut
 abbrev pub clip_file_pass : Pass
 clip_file_pass = record { Item = Framed × Packet; IsCut = clip_cutting; work = clipping }
 
--- a pass; a pass whose pieces go into a folder; the pass for the setup that the shelf has by a name; the pass over a clip file; or a
--- line in the output, without an input
+-- a pass; a pass whose pieces go into a folder; the pass for the setup that the shelf has by a name; the pass
+-- over a clip file; or a line in the output, without an input
 pub data Plan : Type 1 where
   by_pass : Pass → Plan
   into_folder : List ℕ → Pass → Plan

@@ -11,8 +11,8 @@ use Rattle.midi_commands.specs.LastLine.{last_line_text}
 use Rattle.midi_commands.specs.declared.status.Status.{Status}
 use Rattle.midi_commands.specs.declared.status.Status.TheVariants.{Done, LaneFault, OutputFault, NoteFault}
 
--- the last line of a status is accepted behind what was, or at `Err` a front of it; if it has none, nothing fails and what was
--- accepted stays
+-- the last line of a status is accepted after what was, or at `Err` a front of it; if it has none, nothing
+-- fails and what was accepted stays
 abbrev pub AcceptsLast : Status → Option (List ℕ) → Option (List ℕ) → Result (Unit {0}) Failed → Type 0
 AcceptsLast status old new answer =
     MatchOption (last_line_text status) (IsOk answer × Keeps old new) (λ line. Accepts old new answer line)
@@ -23,10 +23,12 @@ PutsLast status old new before now =
     (answer : Result (Unit {0}) Failed) × HasCause before now answer × AcceptsLast status old new answer
 
 -- the counts of faults of the lanes, the output and the notes
-abbrev pub fault_counts : {L W N : Type 0} → lanes.Ghosts L → sink.Ghosts W → sink.Ghosts N → L → W → N → Counts
+abbrev pub fault_counts : {L W N : Type 0} → lanes.Ghosts L → sink.Ghosts W → sink.Ghosts N → L → W → N →
+    Counts
 fault_counts L W N l w n = (places L W N l w n).faults
 
--- which of the lanes, the output and the notes failed first when they were written out, in this order, or that none did
+-- which of the lanes, the output and the notes failed first when they were written out, in this order, or
+-- that none did
 abbrev pub WritesOut : Status → Counts → Counts → Type 0
 WritesOut Done old new = new ≡ old
 WritesOut LaneFault old new = Rose old.lanes new.lanes
@@ -34,8 +36,8 @@ WritesOut OutputFault old new = (new.lanes ≡ old.lanes) × Rose old.output new
 WritesOut NoteFault old new = (new ≡ record old { notes = new.notes }) × Rose old.notes new.notes
 WritesOut _ old new = ⊥
 
--- How a run that was done ends once all is written out. The last line of a fault stands in the notes behind what they had accepted,
--- or a front of it, and then the count of their faults rose.
+-- How a run that was done ends after all is written out. The last line of a fault stands in the notes after
+-- what they had accepted, or a front of it, and then the count of their faults rose.
 pub record EndsAs (status : Status) (before now : Counts) (old new : Option (List ℕ)) : Type 0 where
   pub first : WritesOut status before now
   pub answer : Result (Unit {0}) Failed

@@ -52,6 +52,11 @@ status_after end.OutputFault = OutputFault
 status_after end.NoteFault = NoteFault
 status_after end.NoMemory = NoMemory
 
+-- the status for the end of a pass, or this one if the pass has none
+abbrev pub status_in : Result RunEnd Status → Status
+status_in (Ok end) = status_after end
+status_in (Err status) = status
+
 -- the pass ran to the end that the status tells, or there was no memory and nothing changed
 abbrev pub Runs : Pass → Seen → Seen → Status → Type 0
 Runs pass old new status =
@@ -79,7 +84,8 @@ FailsToOpen folder old new NoMemory =
     new ≡ record old { places = record old.places { folder = Some (kept_bytes folder) } }
 FailsToOpen folder old new _ = ⊥
 
--- the lanes were opened and then the pass ran, or they could not be opened, or there was no memory before that
+-- the lanes were opened and then the pass ran, or they could not be opened, or there was no memory before
+-- that
 abbrev pub RunsInto : List ℕ → Pass → Seen → Seen → Status → Type 0
 RunsInto folder pass old new status =
     ((end : RunEnd) × (status ≡ status_after end) × Ends pass.IsCut pass.work (opened folder old) new end)
@@ -95,8 +101,8 @@ asked_for name old = record old { asked = Some (kept_bytes name) }
 abbrev pub IsNamed : ShelfSeen → List ℕ → List ℕ → Type 0
 IsNamed old name text = IfSome old.texts (λ texts. texts name ≡ Some text)
 
--- The shelf was asked for a name: its text is a setup; or it could not be read, and the count of the shelf's faults rose; or it is
--- no TOML, or breaks this rule first; or there was no memory for it.
+-- The shelf was asked for a name: its text is a setup; or it could not be read, and the count of the shelf's
+-- faults rose; or it is no TOML, or breaks this rule first; or there was no memory for it.
 abbrev pub FindsSetup : List ℕ → ShelfSeen → ShelfSeen → Result SetupData Status → Type 0
 FindsSetup name old new (Ok setup) =
     (text : List ℕ) × IsNamed old name text × (setup_of text ≡ Ok setup) × (new ≡ asked_for name old)
@@ -120,7 +126,8 @@ RunsWith name pass old new status =
 
 -- ---- a clip file
 
--- the clip file was shown to the end that the status tells, or there was no memory for the words and nothing changed
+-- the clip file was shown to the end that the status tells, or there was no memory for the words and nothing
+-- changed
 abbrev pub ShowsClip : Seen → Seen → Status → Type 0
 ShowsClip old new status =
     ((end : RunEnd) × (status ≡ status_after end) × ClipEnds old new end)
@@ -136,7 +143,8 @@ status_put (Err end) = status_after end
 -- the line was put in the output, or that failed; or there was no memory, and nothing changed
 abbrev pub PutsLine : List ℕ → Places → Places → Status → Type 0
 PutsLine text old new status =
-    ((answer : Result (Unit {0}) RunEnd) × (status ≡ status_put answer) × Puts (in_output text ∷ []) old new answer)
+    ((answer : Result (Unit {0}) RunEnd) × (status ≡ status_put answer)
+    × Puts (in_output text ∷ []) old new answer)
     ⊎ ((status ≡ NoMemory) × (new ≡ old))
 
 -- the same, and the input and the shelf are unchanged

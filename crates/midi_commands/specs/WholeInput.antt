@@ -16,15 +16,16 @@ use Rattle.midi_commands.specs.Run.{Does, FindsSetup, Objects, PutsLineAlone, op
 use Rattle.midi_commands.specs.SelfTest.{self_test_text}
 use Rattle.midi_commands.specs.declared.status.Status.TheVariants.{Done}
 
--- what each command leaves of an input of these bytes, in a folder once the lanes are opened there; a self test reads none, and leaves its
--- line
+-- what each command leaves of an input of these bytes, in a folder after the lanes are opened there; a self
+-- test reads none, and leaves its line
 abbrev pub LeavesAll : Asked → List ℕ → Objects → Objects → Type 0
 LeavesAll (down folder options) bytes old new =
     CarriesTheInput (down_pass_options options) bytes (opened folder old.seen) new.seen
 LeavesAll (up options) bytes old new = RaisesTheInput (up_pass_options options) bytes old.seen new.seen
 LeavesAll (back options) bytes old new = ReturnsTheInput (back_pass_options options) bytes old.seen new.seen
 LeavesAll (show options) bytes old new = ShowsTheRecording (show_pass_options options) bytes old.seen new.seen
-LeavesAll (show_bytes options) bytes old new = ShowsTheStream (show_bytes_pass_options options) bytes old.seen new.seen
+LeavesAll (show_bytes options) bytes old new =
+    ShowsTheStream (show_bytes_pass_options options) bytes old.seen new.seen
 LeavesAll (endpoint name options) bytes old new =
     (setup : SetupData) × FindsSetup name old.shelf new.shelf (Ok setup)
     × AnswersTheInput (endpoint_pass_options options setup) bytes old.seen new.seen
@@ -36,7 +37,8 @@ LeavesAll (rehearse name) bytes old new =
     (setup : SetupData) × FindsSetup name old.shelf new.shelf (Ok setup)
     × RehearsesTheInput setup bytes old.seen new.seen
 LeavesAll clip bytes old new = IsShownClip bytes old.seen.places new.seen.places
-LeavesAll (self_test options) bytes old new = PutsLineAlone (self_test_text options.seed options.packets) old new Done
+LeavesAll (self_test options) bytes old new =
+    PutsLineAlone (self_test_text options.seed options.packets) old new Done
 
 -- the bytes of the input that a command reads, if it tells them; a self test reads none
 abbrev pub input_of : Asked → Objects → Option (List ℕ)
@@ -50,4 +52,5 @@ LeavesTheWhole (Some asked) old new = IfSome (input_of asked old) (λ bytes. Lea
 
 -- a command that is done leaves it
 abbrev pub DoneLeavesTheWhole : Type 0
-DoneLeavesTheWhole = (asked : Asked) (old new : Objects) → Does (plan_of asked) old new Done → LeavesTheWhole (Some asked) old new
+DoneLeavesTheWhole =
+    (asked : Asked) (old new : Objects) → Does (plan_of asked) old new Done → LeavesTheWhole (Some asked) old new

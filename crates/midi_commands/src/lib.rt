@@ -6,7 +6,9 @@ mod commands;
 mod ending;
 mod last_line;
 pub mod laws;
+mod perform;
 mod self_test_line;
+mod setups;
 mod status;
 
 pub use crate::commands::run;

@@ -1,8 +1,9 @@
 // How a run ends.
 ghost use Rattle.std.specs.Prelude.{◌≡◌, ◌≢◌, OnOk, OnErr};
 
-use outside::Failed;
-use pass_loop::Reason;
+use outside::{Failed, OpenFault};
+use pass_loop::{Reason, RunEnd};
+use small_types::NoMemory;
 
 /// How a run ends.
 #[derive(Clone, Copy, Debug, PartialEq, Eq)]
@@ -33,8 +34,46 @@ pub enum Status {
     NoMemory,
 }
 
+impl From<NoMemory> for Status {
+    ghost use Rattle.midi_commands.specs.declared.status.Status.TheVariants.{NoMemory as no_memory};
+
+    ghost from_gives = { λ _ status. status ≡ no_memory };
+
+    fn from(_: NoMemory) -> Status {
+        Status::NoMemory
+    }
+}
+
 impl Status {
     ghost use Rattle.midi_commands.specs.ExitCode.{exit_code_of};
+    ghost use Rattle.midi_commands.specs.Run.{status_in};
+
+    /// The status for the end of a pass, or this status if the pass has none.
+    pub(crate) fn of_end(ended: Result<RunEnd, Status>) -> Status
+        ensures { result ≡ status_in ended }
+    {
+        match ended {
+            Ok(RunEnd::Done) => Status::Done,
+            Ok(RunEnd::Refused { reason, offset }) => Status::Refused { reason, offset },
+            Ok(RunEnd::ReadFault) => Status::ReadFault,
+            Ok(RunEnd::LaneFault) => Status::LaneFault,
+            Ok(RunEnd::OutputFault) => Status::OutputFault,
+            Ok(RunEnd::NoteFault) => Status::NoteFault,
+            Ok(RunEnd::NoMemory) => Status::NoMemory,
+            Err(status) => status,
+        }
+    }
+
+    /// The status if the lanes could not be opened.
+    pub(crate) fn of_opening(fault: OpenFault) -> Status
+        ensures failed { fault ≡ OpenFault.Failed → result ≡ Status.LaneFault }
+        ensures memory { fault ≡ OpenFault.NoMemory → result ≡ Status.NoMemory }
+    {
+        match fault {
+            OpenFault::Failed => Status::LaneFault,
+            OpenFault::NoMemory => Status::NoMemory,
+        }
+    }
 
     /// The exit code: 0 for `Done`, 1 for `Refused`, 2 to 6 for faults of reading, of the lanes, of the
     /// output, of the notes and of the shelf, 7 for `Usage`, 8 for `SetupSyntax`, 9 for `SetupField`, 10 for

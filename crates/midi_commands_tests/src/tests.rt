@@ -1,5 +1,5 @@
 // The worked rows. A table is a text of rows, with an empty line between two. The lines of a row say what a
-// run is given, behind a name of the row, and from `leaves` on what it leaves: its status, the pieces of the
+// run is given, after a name of the row, and from `leaves` on what it leaves: its status, the pieces of the
 // lanes, the output and the notes.
 ghost use Rattle.std.specs.Prelude.{◌<◌};
 
@@ -210,7 +210,7 @@ fn form_of(words: &str) -> Form {
     }
 }
 
-// What is left, as a row says it behind `leaves`.
+// What is left, as a row says it after `leaves`.
 fn told_of(alloc: Global, form: Form, left: &Left) -> Result<String, Fail> {
     let mut told = String::new(alloc);
     tell(&mut told, form, left)?;

@@ -1,4 +1,4 @@
--- What sinks have accepted: it is the same before and after a fault is counted, and what one sink keeps is kept of all.
+-- What sinks have accepted: a fault that is counted leaves it unchanged, and what one sink keeps is kept of all.
 use Rattle.std.proofs.Common.{◌≡◌, ℕ, zero, suc, List, [], ◌∷◌, Option, None, Some, refl, ◌∙◌, slice_index_or, slice_set}
 use Rattle.std.specs.Prelude.{Result, Ok, Err, IsErr, MatchResult}
 use Rattle.std.specs.Io.KnownBytes.{Keeps}

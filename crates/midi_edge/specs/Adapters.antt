@@ -34,7 +34,7 @@ unwritten s = s.gathered
 abbrev pub accepted : {W : Type 0} → (W → Option (List ℕ)) → WriteSink W → Option (List ℕ)
 accepted contents s = append_known (contents s.writer) (unwritten s)
 
--- the piece is accepted behind what was, or at `Err` a front of it that isn't all of it
+-- the piece is accepted after the earlier bytes, or at `Err` a front of it that isn't all of it
 abbrev pub Accepts : {T E : Type 0} → Option (List ℕ) → Option (List ℕ) → Result T E → List ℕ → Type 0
 Accepts old new result piece =
     MatchResult result (λ _. Appends old new piece) (λ _. (n : ℕ) × (n < length piece) × Appends old new (take n piece))

@@ -2,7 +2,7 @@
 use Rattle.std.specs.Prelude.{ℕ, ◌-◌, min, nat_le, Bool, true, false, if◌then◌else◌, List, [], ◌++◌, length, take, Option, None, Some}
 use Rattle.midi_edge.specs.Script.{one_more, kept_at}
 
--- what it holds, for how many bytes it has room, which calls fail and how many bytes they keep, and its counts
+-- what it holds, for how many bytes it has room, which calls fail, how many bytes they keep, and its counts
 pub record SinkState : Type 0 where
   pub held : List ℕ
   pub room : ℕ

@@ -1,5 +1,5 @@
-//! The outside in memory and over the real things: forms of its objects that a test holds, and adapters over readers,
-//! writers, folders and files. It offers the objects and the small types again.
+//! The outside in memory and over the real things: forms of its objects that a test holds, and adapters over
+//! readers, writers, folders and files. It offers the objects and the small types again.
 #![tactic(auto)]
 
 pub mod adapters;

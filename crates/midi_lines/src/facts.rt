@@ -19,7 +19,7 @@ pub fn fact_line(fact: &Fact) -> Line
     line
 }
 
-/// Replaces a line by the line of a fact, which is that of `fact_line` (own rule).
+/// Overwrites the line with that of a fact, as `fact_line` writes it (own rule).
 pub fn fill_fact_line(line: &mut Line, fact: &Fact)
     ensures text { line.new ≡ fact_text fact.now }
     ensures some { 0 < length line.new }

@@ -1,4 +1,4 @@
--- Where no exclusive in the bytes exceeds its limit, the limit doesn't matter.
+-- If no exclusive in the bytes exceeds its limit, the limit doesn't matter.
 use Rattle.std.proofs.Common.{ℕ, ◌%◌, ◌≡◌, ◌≤◌, ◌∙◌, ap, sym, refl, suc, List, [], ◌∷◌, ◌++◌, map}
 use Rattle.std.proofs.Common.{reverse, length, Option, Some, None, Bool, true, false, cond, arith}
 use Rattle.std.specs.Prelude.{◌≢◌}

@@ -68,7 +68,7 @@ started-some : (o : Option (List Part)) → is_some (option_map start_of o) ≡ 
 started-some None = refl
 started-some (Some parts) = refl
 
--- it is carried where it is the last one
+-- it is carried if it is the last one
 ends-last : (room : ℕ) (o : Option (List ℕ)) (f : Form) (bytes : List ℕ) (g : ℕ) → IsSilentPart room o f bytes
     → is_some (ended_by (Some room) f o bytes) ≡ is_last_part (packet.Exclusive g f bytes)
 ends-last room o form.Complete bytes g h = refl

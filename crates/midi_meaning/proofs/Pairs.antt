@@ -10,7 +10,7 @@ use Rattle.midi_meaning.specs.Controllers.{Role, coarse, fine, pairing, role_of}
 use Rattle.midi_meaning.specs.Roles.{registers_after}
 use Rattle.midi_meaning.specs.Refusal.{bad_role}
 
--- ---- roles that are seen where controllers are paired
+-- ---- roles that are seen if controllers are paired
 
 is_coarse : Role → Bool
 is_coarse coarse = true
@@ -102,7 +102,7 @@ pub pair_index : (paired : Bool) (i : ℕ) → pairing paired (role_of i) ≡ co
 pair_index true i h = coarse_below i (sym (pairing-true (role_of i)) ∙ h)
 pair_index false i h = absurd (unpaired_coarse (role_of i) h)
 
--- an MSB is seen only where controllers are paired
+-- an MSB is seen only if controllers are paired
 pub only_paired : (paired : Bool) (r : Role) → pairing paired r ≡ coarse → paired ≡ true
 only_paired true r h = refl
 only_paired false r h = absurd (unpaired_coarse r h)

@@ -59,8 +59,8 @@ still_tight : (p : Param) (v : ℕ) (c : Channel) → ((q : Param) → c.loose q
 still_tight p v c t q = cond_both (same_param q p) false (c.loose q) (λ l. l ≡ false) (λ e. refl) (λ e. t q)
 
 module _ (paired : Bool) where
-  -- The packets' side follows, no parameter of it is loose, and where the bytes have set no half of the bank the packets haven't
-  -- either.
+  -- The packets' side follows, no parameter of it is loose, and if the bytes have set no half of the bank,
+  -- the packets haven't either.
   pub record Raises (c1 c2 : Channel) : Type 0 where
     pub follows : Follows paired c1 c2
     pub tight : (p : Param) → c2.loose p ≡ false

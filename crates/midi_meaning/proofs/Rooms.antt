@@ -1,4 +1,4 @@
--- Where no exclusive exceeds its limit, the limit doesn't matter.
+-- If no exclusive exceeds its limit, the limit doesn't matter.
 use Rattle.std.proofs.Common.{ℕ, ◌≡◌, ◌≤◌, ◌∙◌, ap, sym, refl, subst, List, [], ◌∷◌}
 use Rattle.std.proofs.Common.{◌++◌, length, Option, Some, None, Bool, true, false, cond}
 use Rattle.std.specs.Option.{option_map, option_and_then, IfSome}

@@ -1,4 +1,4 @@
--- Parameters are the same where their kinds and numbers are.
+-- Parameters are the same if their kinds and numbers are the same.
 use Rattle.std.proofs.Common.{◌≡◌, refl, true, ◌&&◌}
 use Rattle.std.proofs.lemmas.Bool.{and_parts, eqb-true, eq-eqb}
 use lib.Dec.{eqb}

@@ -1,4 +1,5 @@
--- A recording in either style: the bytes of each lane denote the packets of its group, and the pairs are a translation.
+-- A recording in either style: the bytes of each lane denote the packets of its group, and the pairs are a
+-- translation.
 use Rattle.std.proofs.Common.{ℕ, ◌≡◌, ◌<◌, ◌∙◌, ap, sym, refl, subst, List, [], ◌∷◌, ◌++◌, reverse, length, take, drop}
 use Rattle.std.proofs.Common.{Option, Some, None, Bool, true, false, cond, arith, append_assoc, take-append-drop}
 use Rattle.std.proofs.lemmas.Bool.{eqb-true}

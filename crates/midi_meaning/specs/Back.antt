@@ -1,4 +1,5 @@
--- There and back: the MIDI 1.0 bytes of the packets to which the bytes of a stream are raised, and when they mean the same.
+-- There and back: the MIDI 1.0 bytes of the packets to which the bytes of a stream are raised, and when they
+-- mean the same.
 use Rattle.std.specs.Prelude.{◌≡◌, ℕ, Bool, true, false, List, [], ◌∷◌, ◌++◌, map, reverse, Some, None}
 use Rattle.voice_messages.specs.declared.voice2.Form.TheVariants as form
 use Rattle.voice_messages.specs.declared.voice2.Param.{Param}
@@ -58,8 +59,8 @@ module _ (paired : Bool) where
 
   -- ---- what the way down says of the raised packets
 
-  -- After others, newest first, a packet is accepted within the limit and isn't listed, it is carried unless it is a part that is
-  -- held, and its piece is the one without a limit.
+  -- After others, newest first, a packet is accepted within the limit and isn't listed, it is carried unless
+  -- it is a part that is held, and its piece is the one without a limit.
   pub record ComesBack (room : ℕ) (past : List Placed) (placed : Placed) : Type 0 where
     pub accepted : bad_step (Some room) (parts_of past) placed.packet ≡ None
     pub unlisted : line_of paired (Some room) (parts_of past) placed ≡ None

@@ -1,6 +1,6 @@
--- The compact piece of a packet: its plain piece without what a receiver of the lane's bytes has since the last System Reset, a
--- running status (MIDI 1.0 Detailed Specification), a selected parameter or a bank. Own rule: nothing is relied on across a
--- System Reset.
+-- The compact piece of a packet: its plain piece without what a receiver of the lane's bytes has since the
+-- last System Reset, a running status (MIDI 1.0 Detailed Specification), a selected parameter or a bank. Own
+-- rule: nothing is relied on across a System Reset.
 use Rattle.std.specs.Prelude.{ℕ, ◌==◌, ◌&&◌, if◌then◌else◌, Bool, false, List, [], ◌∷◌, drop, Option, Some, None}
 use Rattle.voice_messages.specs.declared.voice2.Param.{Param}
 use Rattle.voice_messages.specs.declared.voice2.Bank.{Bank}
@@ -18,8 +18,8 @@ use Rattle.midi_meaning.specs.Plain.{set_messages, program_messages, voice_messa
 
 -- ---- what a receiver has
 
--- The bytes after the last System Reset among these, or all of them if there is none. Bytes are newest first. No other message
--- has this byte in it.
+-- The bytes after the last System Reset among these, or all of them if there is none. Bytes are newest first.
+-- No other message has this byte in it.
 abbrev pub since_reset : List ℕ → List ℕ
 since_reset [] = []
 since_reset (byte ∷ past) = if byte == 0xff then [] else byte ∷ since_reset past
@@ -69,14 +69,16 @@ module _ (paired : Bool) where
       needed_program (registers channel) channel program bank
   needed_voice registers message = voice_messages paired message
 
-  -- the plain messages of a packet without what selects a parameter or a bank that the channel's registers have
+  -- the plain messages of a packet without what selects a parameter or a bank that the channel's registers
+  -- have
   abbrev pub needed_messages : (ℕ → Registers) → Option (List ℕ) → Packet → List Message
   needed_messages registers whole (packet.Voice2 group message) = needed_voice registers message
   needed_messages registers whole packet = plain_messages paired whole packet
 
   -- ---- the piece
 
-  -- after these bytes of the lane, newest first, with the bytes of the exclusive that the packet ends, if it ends one
+  -- after these bytes of the lane, newest first, with the bytes of the exclusive that the packet ends, if it
+  -- ends one
   abbrev pub compact_piece : List ℕ → Option (List ℕ) → Packet → List ℕ
   compact_piece past whole packet =
       written_behind (since_reset past) (needed_messages (registers_in (since_reset past)) whole packet)

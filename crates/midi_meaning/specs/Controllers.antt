@@ -18,8 +18,8 @@ pub data Role : Type 0 where
   fine : Role
   plain : Role
 
--- 120 to 127 are channel mode messages; 121 among them resets all controllers. Of the other controllers 1 to 31 are MSBs, and
--- 33 to 63 their LSBs.
+-- 120 to 127 are channel mode messages; 121 among them resets all controllers. Of the other controllers 1 to
+-- 31 are MSBs, and 33 to 63 their LSBs.
 unfoldable pub role_of : ℕ → Role
 role_of index =
     if index == 0 then bank_msb
@@ -44,8 +44,8 @@ pairing paired coarse = if paired then coarse else plain
 pairing paired fine = if paired then fine else plain
 pairing paired role = role
 
--- A control change that only gives a controller its value, or is a channel mode message other than the reset: nothing is selected, entered
--- or reset by it, and no other one is a half of it.
+-- A control change that only gives a controller its value, or is a channel mode message other than the reset:
+-- nothing is selected, entered or reset by it, and no other one is a half of it.
 abbrev pub is_direct : Role → Bool
 is_direct channel_mode = true
 is_direct plain = true

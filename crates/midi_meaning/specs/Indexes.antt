@@ -1,5 +1,5 @@
--- The indexes that a role may have, as far as the answers to a control change tell them apart (MIDI 1.0 Detailed Specification, the
--- table of controller numbers).
+-- The indexes that a role may have, as far as the answers to a control change tell them apart (MIDI 1.0
+-- Detailed Specification, the table of controller numbers).
 use Rattle.std.specs.Prelude.{◌≡◌, ℕ, ◌≤◌, ◌⊎◌, Bool, true, false}
 use Rattle.midi_meaning.specs.Controllers.{Role, bank_msb, bank_lsb, data_msb, data_lsb, data_increment, data_decrement}
 use Rattle.midi_meaning.specs.Controllers.{number_msb, number_lsb, reset_all, channel_mode, coarse, fine, plain}
@@ -42,7 +42,8 @@ HasIndex coarse index = IsCoarse index
 HasIndex fine index = IsFine index
 HasIndex plain index = IsOther index
 
--- The same whether controllers are paired or not: without pairs an MSB or LSB is a controller like all others (own rule).
+-- The same whether controllers are paired or not: without pairs an MSB or LSB is a controller like all others
+-- (own rule).
 abbrev pub IsUnpaired : Bool → ℕ → Type 0
 IsUnpaired paired index = IsOther index ⊎ ((paired ≡ false) × (IsCoarse index ⊎ IsFine index))
 

@@ -1,5 +1,5 @@
--- What a translator keeps of a lane for the compact style, instead of the lane's bytes: what a receiver has of those after the
--- last System Reset.
+-- What a translator keeps of a lane for the compact style, instead of the lane's bytes: what a receiver has
+-- of those after the last System Reset.
 use Rattle.std.specs.Prelude.{ℕ, if◌then◌else◌, List, [], ◌∷◌, replicate, slice_index_or, slice_set, Option, Some, None, Bool}
 use Rattle.voice_messages.specs.declared.voice1.Voice1.{Voice1}
 use Rattle.voice_messages.specs.declared.voice1.Voice1.TheVariants as voice1

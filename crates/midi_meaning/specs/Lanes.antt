@@ -42,8 +42,9 @@ module _ (paired : Bool) where
 
   -- ---- packet by packet
 
-  -- The bytes of a lane and the packets of all groups, both newest first: the bytes mean what the group's packets mean, they leave
-  -- the same registers, and nothing is open in them. Values of parameters and of controllers have at most fourteen bits.
+  -- The bytes of a lane and the packets of all groups, both newest first: the bytes mean what the group's
+  -- packets mean, they leave the same registers, and nothing is open in them. Values of parameters and of
+  -- controllers have at most fourteen bits.
   pub record Denotes (bytes : List ℕ) (past : List Packet) (group : ℕ) : Type 0 where
     pub agrees : Agrees paired (meaning1 paired bytes) (meaning2 paired past group)
     pub registers : SameRegisters (meaning1 paired bytes) (meaning2 paired past group)

@@ -1,5 +1,5 @@
--- Which packets are carried to MIDI 1.0, and how the others are listed (M2-104-UM, default translation; what it leaves out is
--- listed by own rule).
+-- Which packets are carried to MIDI 1.0, and how the others are listed (M2-104-UM, default translation; what
+-- it leaves out is listed by own rule).
 use Rattle.std.specs.Prelude.{ℕ, ◌==◌, not, if◌then◌else◌, Bool, true, false, List, [], ◌∷◌, ◌++◌, reverse, Option, Some, None, is_some}
 use Rattle.std.specs.Option.{option_map, option_to_list}
 use Rattle.voice_messages.specs.declared.voice2.Voice2.{Voice2}
@@ -28,8 +28,8 @@ is_carried_role _ = false
 
 -- ---- listed
 
--- the indexes that have packets of their own in MIDI 2.0; data increment and decrement are refused, and an LSB of a pair is
--- listed as itself (own rule)
+-- the indexes that have packets of their own in MIDI 2.0; data increment and decrement are refused, and an
+-- LSB of a pair is listed as itself (own rule)
 abbrev pub is_misplaced : Role → Bool
 is_misplaced data_increment = false
 is_misplaced data_decrement = false
@@ -78,8 +78,8 @@ module _ (paired : Bool) where
   voice_kind (voice2.NoteManagement channel note flags) = Some kinds.NoteManagement
   voice_kind _ = None
 
-  -- The kind that a packet is listed as, if it is listed. The first argument is where the exclusive that its group has open
-  -- started, if it has one open.
+  -- The kind that a packet is listed as, if it is listed. The first argument is the offset at which the
+  -- exclusive that its group has open started, if it has one open.
   abbrev pub listed_kind : Option ℕ → Packet → Option Kind
   listed_kind begun (packet.Utility status value) = Some kinds.Utility
   listed_kind begun (packet.System group message) = None

@@ -1,5 +1,5 @@
--- What a MIDI 1.0 message does to a receiver (MIDI 1.0 Detailed Specification; RP-015), at the values of MIDI 1.0 or raised
--- to those of MIDI 2.0 (M2-115-U).
+-- What a MIDI 1.0 message does to a receiver (MIDI 1.0 Detailed Specification; RP-015), at the values of MIDI
+-- 1.0 or raised to those of MIDI 2.0 (M2-115-U).
 use Rattle.std.specs.Prelude.{ℕ, ◌+◌, ◌-◌, ◌*◌, ◌/◌, ◌==◌, nat_le, ◌&&◌, List, [], reverse, Option, Some, None, Bool, false, if◌then◌else◌}
 use Rattle.std.specs.List.{fold}
 use Rattle.std.specs.Option.{unwrap_or}
@@ -17,9 +17,9 @@ use Rattle.midi_meaning.specs.State.{Act, on, off, mode, Channel, GroupState, em
 use Rattle.midi_meaning.specs.State.{with_bend, with_program, at_registers, with_value, with_param, at_channel, with_common, with_real_time}
 pub use Rattle.listing_terms.specs.Channels.{channel_of}
 
--- How values are kept, from those of MIDI 1.0: velocities; controllers by their index; pressures and mode values; values of
--- fourteen bits, and these back again. Own rule: if controllers are paired, the MSB and the LSB of a controller are one value
--- of fourteen bits; if they aren't, each controller is kept by itself.
+-- How values are kept, from those of MIDI 1.0: velocities; controllers by their index; pressures and mode
+-- values; values of fourteen bits, and these back again. Own rule: if controllers are paired, the MSB and the
+-- LSB of a controller are one value of fourteen bits; if they aren't, each controller is kept by itself.
 pub record Scale : Type 0 where
   pub paired : Bool
   pub velocity : ℕ → ℕ
@@ -64,7 +64,8 @@ of_packets paired = with_pairs paired raised
 abbrev pub greatest : Scale → ℕ → ℕ
 greatest scale index = if scale.paired then scale.wide 16383 else scale.controller index 127
 
--- reset all controllers (RP-015): expression at its greatest; modulation, hold, portamento, sostenuto and soft pedal at 0
+-- reset all controllers (RP-015): expression at its greatest; modulation, hold, portamento, sostenuto and
+-- soft pedal at 0
 abbrev pub reset_controllers : Scale → (ℕ → Option ℕ) → ℕ → Option ℕ
 reset_controllers scale map index =
     if index == 11 then Some (greatest scale index)
@@ -82,8 +83,9 @@ reset scale channel = record channel {
   registers = without_selection channel.registers;
 }
 
--- Data entry: the MSB sets the selected parameter with an LSB of 0; the LSB keeps its MSB. Values are computed at fourteen
--- bits. Own rules: an MSB ends its looseness, an LSB leaves it; without a selected parameter nothing is done.
+-- Data entry: the MSB sets the selected parameter with an LSB of 0; the LSB keeps its MSB. Values are
+-- computed at fourteen bits. Own rules: an MSB ends its looseness, an LSB leaves it; without a selected
+-- parameter nothing is done.
 abbrev pub enter_msb : Scale → Option Param → ℕ → Channel → Channel
 enter_msb scale None value channel = channel
 enter_msb scale (Some param) value channel = with_param param (scale.wide (value * 128)) channel
@@ -96,8 +98,8 @@ abbrev pub enter_lsb : Scale → Option Param → ℕ → Channel → Channel
 enter_lsb scale None value channel = channel
 enter_lsb scale (Some param) value channel = with_value param (with_new_lsb scale (channel.params param) value) channel
 
--- Own rule, if controllers are paired: an MSB clears the LSB of its controller, and an LSB, whose index is higher by 32, keeps
--- the MSB.
+-- Own rule, if controllers are paired: an MSB clears the LSB of its controller, and an LSB, whose index is
+-- higher by 32, keeps the MSB.
 abbrev pub with_coarse : Scale → ℕ → ℕ → Channel → Channel
 with_coarse scale index value channel = with_controller index (scale.wide (value * 128)) channel
 

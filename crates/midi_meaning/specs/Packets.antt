@@ -1,4 +1,5 @@
--- What packets mean (M2-104-UM, MIDI 2.0 channel voice messages; its default translation for those of MIDI 1.0).
+-- What packets mean (M2-104-UM, MIDI 2.0 channel voice messages; its default translation for those of MIDI
+-- 1.0).
 use Rattle.std.specs.Prelude.{ℕ, ◌<◌, ◌≤◌, if◌then◌else◌, true, List, [], ◌∷◌, length, reverse, Option, Some, None, Bool}
 use Rattle.voice_messages.specs.declared.voice2.Param.{Param}
 use Rattle.voice_messages.specs.declared.voice2.Bank.{Bank}
@@ -16,8 +17,8 @@ use Rattle.midi_meaning.specs.Messages.{raised, of_packets, reset, step_at, star
 use Rattle.listing_terms.specs.Parts.{group_of, is_group, whole_of}
 pub use Rattle.listing_terms.specs.Channels.{channel2}
 
--- A control change of MIDI 2.0: the indexes of banks, data entry and parameter numbers have packets of their own. Own rule: so
--- has the LSB of a controller, if controllers are paired, in the packet of its MSB.
+-- A control change of MIDI 2.0: the indexes of banks, data entry and parameter numbers have packets of their
+-- own. Own rule: so has the LSB of a controller, if controllers are paired, in the packet of its MSB.
 abbrev pub control2 : Role → ℕ → ℕ → Channel → Channel
 control2 channel_mode index value channel = with_act (mode index value) channel
 control2 reset_all index value channel = reset raised (with_act (mode index value) channel)
@@ -50,8 +51,8 @@ IsInRange _ = Unit {0}
 -- ---- with paired controllers or without
 
 module _ (paired : Bool) where
-  -- Own rules: a relative change makes its parameter loose and leaves its value; the null parameter takes nothing; what MIDI 1.0
-  -- has no message for does nothing.
+  -- Own rules: a relative change makes its parameter loose and leaves its value; the null parameter takes
+  -- nothing; what MIDI 1.0 has no message for does nothing.
   abbrev pub voice2_at : Voice2 → Channel → Channel
   voice2_at (voice2.NoteOff ch note velocity attribute_type attribute) channel = with_act (off note velocity) channel
   voice2_at (voice2.NoteOn ch note velocity attribute_type attribute) channel = with_act (on note velocity) channel

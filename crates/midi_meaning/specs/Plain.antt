@@ -1,4 +1,5 @@
--- The plain piece of a packet: its MIDI 1.0 messages, each written with its status byte (M2-104-UM, default translation).
+-- The plain piece of a packet: its MIDI 1.0 messages, each written with its status byte (M2-104-UM, default
+-- translation).
 use Rattle.std.specs.Prelude.{ℕ, ◌+◌, ◌/◌, ◌%◌, if◌then◌else◌, List, [], ◌∷◌, Option, Some, None, Bool}
 use Rattle.std.specs.List.{flat_map}
 use Rattle.voice_messages.specs.declared.voice1.Voice1.TheVariants as voice1
@@ -23,7 +24,8 @@ set_messages channel param value =
     ∷ voice (voice1.Control channel 38 (value % 128))
     ∷ []
 
--- own rule: the value of a pair has fourteen bits; its MSB comes first, and then its LSB, whose index is higher by 32
+-- own rule: the value of a pair has fourteen bits; its MSB comes first, and then its LSB, whose index is
+-- higher by 32
 abbrev pub pair_messages : ℕ → ℕ → ℕ → List Message
 pair_messages channel index value =
     voice (voice1.Control channel index (value / 128))

@@ -1,5 +1,5 @@
--- The MIDI 2.0 packets for the messages of a MIDI 1.0 stream (M2-104-UM, translation from MIDI 1.0; M2-115-U). Each message is
--- raised from the state before it.
+-- The MIDI 2.0 packets for the messages of a MIDI 1.0 stream (M2-104-UM, translation from MIDI 1.0;
+-- M2-115-U). Each message is raised from the state before it.
 use Rattle.std.specs.Prelude.{ℕ, ◌-◌, ◌*◌, ◌==◌, if◌then◌else◌, zero, suc, List, [], ◌∷◌, ◌++◌, map, reverse, Option, Some, None, Bool}
 use Rattle.std.specs.Option.{option_and_then}
 use Rattle.std.specs.Fork.{slice_chunk}
@@ -26,18 +26,19 @@ use Rattle.midi_meaning.specs.Messages.{as_they_come, with_new_lsb, channel_of, 
 abbrev pub selected_value : Channel → Option ℕ
 selected_value state = option_and_then state.params (selected state.registers)
 
--- The selected parameter with its new value of fourteen bits. Own rules: each data entry is a packet of its own, and is none
--- if no parameter is selected.
+-- The selected parameter with its new value of fourteen bits. Own rules: each data entry is a packet of its
+-- own, and is none if no parameter is selected.
 abbrev pub raised_entry : ℕ → Option Param → ℕ → List Voice2
 raised_entry channel None value = []
 raised_entry channel (Some param) value = voice2.Set channel param (up value 14 32) ∷ []
 
--- Own rule: the MSB and the LSB of a pair are one packet each of the controller with its new value of fourteen bits.
+-- Own rule: the MSB and the LSB of a pair are one packet each of the controller with its new value of
+-- fourteen bits.
 abbrev pub raised_pair : ℕ → ℕ → ℕ → List Voice2
 raised_pair channel index value = voice2.Control channel index (up value 14 32) ∷ []
 
--- Banks and parameter numbers are kept for the program change or data entry that takes them. Own rule: data increment and
--- decrement give none; they are refused before.
+-- Banks and parameter numbers are kept for the program change or data entry that takes them. Own rule: data
+-- increment and decrement give none; they are refused before.
 abbrev pub raised_control : Channel → Role → ℕ → ℕ → ℕ → List Voice2
 raised_control state data_msb channel index value = raised_entry channel (selected state.registers) (value * 128)
 raised_control state data_lsb channel index value =

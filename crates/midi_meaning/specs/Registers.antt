@@ -1,5 +1,5 @@
--- Bank select and parameter numbers (MIDI 1.0 Detailed Specification, bank select, registered and non-registered parameter
--- numbers): what a receiver keeps of them, half by half.
+-- Bank select and parameter numbers (MIDI 1.0 Detailed Specification, bank select, registered and
+-- non-registered parameter numbers): what a receiver keeps of them, half by half.
 use Rattle.std.specs.Prelude.{ℕ, ◌==◌, ◌&&◌, Bool, if◌then◌else◌, Option, Some, None}
 use Rattle.voice_messages.specs.declared.voice2.ParamKind.{ParamKind}
 use Rattle.voice_messages.specs.declared.voice2.ParamKind.TheVariants.{Registered, Assignable}

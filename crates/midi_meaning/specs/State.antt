@@ -1,5 +1,5 @@
--- What messages leave in a receiver: the state of a channel and of a group. Own rule: notes and channel mode messages are
--- kept as the list of all that came.
+-- What messages leave in a receiver: the state of a channel and of a group. Own rule: notes and channel mode
+-- messages are kept as the list of all that came.
 use Rattle.std.specs.Prelude.{ℕ, ◌==◌, ◌&&◌, List, [], ◌∷◌, ◌++◌, Option, Some, None, Bool, true, false, if◌then◌else◌}
 use Rattle.voice_messages.specs.declared.voice1.System.{System}
 use Rattle.voice_messages.specs.declared.voice2.ParamKind.{ParamKind}
@@ -70,7 +70,7 @@ with_pressure value channel = record channel { pressure = value }
 abbrev pub with_bend : ℕ → Channel → Channel
 with_bend value channel = record channel { bend = value }
 
--- a program change takes the bank as it stands
+-- a program change takes the bank that is selected, which stays selected
 abbrev pub with_program : ℕ → Channel → Channel
 with_program program channel = record channel { program = Some (record { program = program; bank = bank_of channel.registers }) }
 

@@ -77,7 +77,7 @@ kinds_up state step offset = kinds_of_step step offset ++ kinds_of_message state
 
 -- ---- of the bytes of a stream, `past` being those so far, newest first
 
--- what is open at the end, and where it starts
+-- what is open at the end, and the offset at which it starts
 abbrev pub open_pair : Room → List ℕ → Option (ℕ × CutKind)
 open_pair room past = option_map (λ begun. (begun.start, begun.kind)) (open_at_end room past)
 

@@ -60,9 +60,10 @@ module _ (paired : Bool) where
         compact_piece paired past whole (packet.Exclusive group form bytes) ≡
         plain_piece paired whole (packet.Exclusive group form bytes)
 
-  -- What is left out, and no more: each status byte that equals the running status; of a Set whose parameter is selected the two control
-  -- changes that select it, and of a Program whose bank is held the two that select the bank. A MIDI 1.0 voice message, also a control
-  -- change that selects what is selected already, loses at most its status byte; all other packets have their plain messages.
+  -- What is left out, and no more: each status byte that equals the running status; of a Set whose parameter
+  -- is selected the two control changes that select it, and of a Program whose bank is held the two that
+  -- select the bank. A MIDI 1.0 voice message, also a control change that selects what is selected already,
+  -- loses at most its status byte; all other packets have their plain messages.
   pub record CompactLeavesOutWhatIsHeld : Type 0 where
     pub midi1 : (past : List ℕ) (whole : Option (List ℕ)) (group : ℕ) (message : Voice1) →
         compact_piece paired past whole (packet.Voice1 group message) ≡
@@ -97,7 +98,8 @@ module _ (paired : Bool) where
     pub relied : (packets : List Packet) (group : ℕ) → AllByRecursion IsInRange packets →
         IsRelied paired (reverse (lane_bytes group (styled_pairs paired compact_style packets)))
 
-  -- Any bytes of a lane, newest first, in which nothing is open, and the bytes of the exclusive that the packet ends.
+  -- Any bytes of a lane, newest first, in which nothing is open, and the bytes of the exclusive that the
+  -- packet ends.
   pub record KeptLanesAreThoseOfTheBytes : Type 0 where
     pub new : IsLaneOf paired new_lane []
     pub piece : (lane : LaneState) (past : List ℕ) (whole : Option (List ℕ)) (packet : Packet) →

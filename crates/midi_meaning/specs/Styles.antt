@@ -1,4 +1,5 @@
--- A recording in either style: the pairs of lane and piece, in which a piece may depend on the bytes of its lane so far.
+-- A recording in either style: the pairs of lane and piece, in which a piece may depend on the bytes of its
+-- lane so far.
 use Rattle.std.specs.Prelude.{ℕ, List, [], ◌∷◌, ◌++◌, reverse, Option, Some, None, Bool}
 use Rattle.ump_grammar.specs.declared.packet.Packet.{Packet}
 use Rattle.listing_terms.specs.Parts.{group_of, whole_of}

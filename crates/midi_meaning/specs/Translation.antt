@@ -25,8 +25,8 @@ module _ (paired : Bool) where
   abbrev pub first_pairs : ℕ → List Packet → List (ℕ × List ℕ) → List (ℕ × List ℕ)
   first_pairs count packets pairs = take (length (carried_lanes (take count packets))) pairs
 
-  -- One pair for each packet that is carried, in the lane of its group. After each packet the bytes so far of each lane mean what
-  -- the packets so far of its group mean.
+  -- One pair for each packet that is carried, in the lane of its group. After each packet the bytes so far of
+  -- each lane mean what the packets so far of its group mean.
   pub record IsTranslation (packets : List Packet) (pairs : List (ℕ × List ℕ)) : Type 0 where
     pub lanes : map (λ pair. pair.0) pairs ≡ carried_lanes packets
     pub agrees : (count group : ℕ)

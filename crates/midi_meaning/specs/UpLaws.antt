@@ -1,4 +1,5 @@
--- What holds of all streams of bytes that are raised to packets. Bytes that are called `past` are listed newest first.
+-- What holds of all streams of bytes that are raised to packets. Bytes that are called `past` are listed
+-- newest first.
 use Rattle.std.specs.Prelude.{◌≡◌, ◌<◌, ℕ, List, [], ◌∷◌, ◌++◌, map, reverse, take, Some, None, Bool}
 use Rattle.std.specs.List.{AllByRecursion}
 use Rattle.ump_grammar.specs.declared.packet.Packet.{Packet}

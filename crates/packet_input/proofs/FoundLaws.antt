@@ -70,7 +70,7 @@ is_further words place result reads =
     λ f. IsFurther (λ at. words.limit - (words.offset + at)) (length (held_bytes words)) place f in
     subst F (sym reads.3.3) (further words place reads.1 reads.0 reads.2 reads.3.0)
 
--- what reading more brings, by the refusal where the words stop
+-- what reading more brings, by the refusal when the words stop
 abbrev pub more_at : Option (Reason × ℕ) → More
 more_at None = more.Failed
 more_at (Some refusal) = more.Refused refusal.0 refusal.1
@@ -94,3 +94,14 @@ stops laws words words' left left' (stop.Truncated at) brings order all items so
     (at_tail order 0 laws words all left items so_far words' left' (tail.Truncated at) ends)
 stops laws words words' left left' stop.TooLong brings order all items so_far =
     at_tail order 0 laws words all left items so_far words' left' tail.TooLong (brings (going order 0 laws words all left items so_far))
+
+-- the same by a refusal that is known otherwise
+pub stops_as : ItemsAreReadInOrder bytes_asked (framed_behind 0) → (words words' : Reading) (left left' : Option (List ℕ)) (why : ReadStop)
+    → (words.end ≡ None → Brings (cursor words left) (cursor words' left') (Err why))
+    → (refusal : Option (Reason × ℕ)) → refusal_of_stop 0 why ≡ refusal
+    → (order : Order) (all : Option (List ℕ)) (items : List (Framed × Packet)) → GivenSoFar order words (given all left items)
+    → GivesMore (packet_cutting order) (GivenSoFar order words') (given all left' items) (more_at refusal)
+stops_as laws words words' left left' why brings refusal same order all items so_far =
+    let G : Option (Reason × ℕ) → Type 0 =
+    λ r. GivesMore (packet_cutting order) (GivenSoFar order words') (given all left' items) (more_at r) in
+    subst G same (stops laws words words' left left' why brings order all items so_far)

@@ -1,4 +1,5 @@
 pub mod CuttingLaws
 pub mod FoundLaws
 pub mod NextLaws
+pub mod OneWord
 pub mod PacketLaws

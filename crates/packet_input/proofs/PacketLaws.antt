@@ -40,7 +40,7 @@ each (Some bytes) P Q here more = more bytes here
 
 -- ---- numbers
 
--- an offset within the limit isn't cut where it is added to the bytes before the first packet
+-- an offset within the limit isn't cut when it is added to the bytes before the first packet
 below : (at before : ℕ) → at ≤ 4294967296 - before → before ≤ 4294967296 → at + before < 2 ^ 64
 below at before fits few = omega (arith, fits, few)
 
@@ -129,7 +129,7 @@ module _ (order : Order) (before : ℕ) (laws : ItemsAreReadInOrder bytes_asked 
         let W : ℕ → Type 0 = λ n. n ≤ room_behind before in
         whole-sum framed.offset before (subst W (sym at-reader) within) few
 
-    -- the reader stands behind it
+    -- the reader stands after it
     pub size : reader'.offset ≡ reader.offset + 4 * length framed.words
     size =
         let chunk : length gives.chunk ≡ 4 * length (words_of reader.how gives.chunk) = packet-size reader.how gives.chunk gives.is_item in
@@ -231,7 +231,7 @@ module _ (order : Order) (before : ℕ) (laws : ItemsAreReadInOrder bytes_asked 
       let W : ℕ → Type 0 = λ n. n ≤ room_behind before in
       whole-sum at before (subst W (sym ends.held.0) within) few
 
-  -- where a read failed, the same packets are given, and no byte is lost
+  -- if a read failed, the same packets are given, and no byte is lost
   pub still_given : (reader' : Reading) (left' : Option (List ℕ)) → Waits (cursor reader left) (cursor reader' left')
       → GivenBehind order before reader' (given all left' items)
   still_given reader' left' waits =

@@ -129,7 +129,7 @@ abbrev pub ReadsAt : Reading → ℕ → Found Framed Packet → Type 0
 ReadsAt reader place result =
     (framed : Framed) × (next : ℕ) × IsHeldAt place next reader framed × IsReadInto framed next result
 
--- a packet stands where the reader stood, which is after it then, within the limit; when the input ends, all of it is read
+-- a packet stands at the place of the reader, which is after it then, within the limit; when the input ends, all of it is read
 abbrev pub MovesOn : ℕ → Reading → Reading → Option (List ℕ) → Next Framed Packet → Type 0
 MovesOn before old new all (next.Item at packet) =
     (at.offset ≡ old.offset + before) × (0 < length at.words) × (new.offset ≡ old.offset + 4 * length at.words)

@@ -40,10 +40,10 @@ impl EncodedReader {
     }
 }
 
-// The packet of the two words that begin at a place of those that are held, if it is known by these: most are, so
-// that what comes next rests on no table of lengths.
+// The packet of the two words that begin at a place of those that are held, or of the first of them, if it is
+// known by these: most are, so that what comes next rests on no table of lengths.
 #[inline(always)]
-fn pair_in(
+fn known_in(
     words: &WordReader,
     held: &[u8],
     offset: u64,
@@ -55,15 +55,28 @@ fn pair_in(
     ensures { IfSome result (λ found. ReadsAt words.now place found) }
 {
     let pair = words.two_in(held, place)?;
-    let packet = EncodedPacket::of_two(pair.0, pair.1)?;
-    Some(Found::Item {
-        at: Framed {
-            offset: offset + place as u64,
-            words: Words::of_two(pair.0, pair.1),
-        },
-        item: packet,
-        next: place + 8,
-    })
+    let offset = offset + place as u64;
+    match EncodedPacket::of_two(pair.0, pair.1) {
+        Some(packet) => Some(Found::Item {
+            at: Framed {
+                offset,
+                words: Words::of_two(pair.0, pair.1),
+            },
+            item: packet,
+            next: place + 8,
+        }),
+        None => {
+            let packet = EncodedPacket::of_one(pair.0)?;
+            Some(Found::Item {
+                at: Framed {
+                    offset,
+                    words: Words::from_slice(&[pair.0]),
+                },
+                item: packet,
+                next: place + 4,
+            })
+        }
+    }
 }
 
 // What the words that are held are, before the place at which the next ones begin.
@@ -117,7 +130,7 @@ impl Items<Framed, EncodedPacket> for EncodedReader {
         place: usize,
     ) -> Option<Found<Framed, EncodedPacket>> {
         items_are_read_in_order::<Packets, Framed>();
-        if let Some(found) = pair_in(&self.words, held, offset, place) {
+        if let Some(found) = known_in(&self.words, held, offset, place) {
             return Some(found);
         }
         match self.words.item_in(held, offset, place) {

@@ -1,5 +1,5 @@
-//! An input cut into the packets that its words spell, a recording from its start or a file after its first bytes;
-//! and the words of a packet in the output.
+//! An input cut into the packets that its words spell, a recording from its start or a file after its first
+//! bytes; and the words of a packet in the output.
 #![tactic(auto)]
 
 mod encoded;

@@ -266,7 +266,7 @@ pair_place_below channel index c i = omega arith
 pair_place_same : (c d i j : ℕ) → i < 32 → j < 32 → pair_place c i ≡ pair_place d j → (c ≡ d) × (i ≡ j)
 pair_place_same c d i j ib jb same = (omega arith, omega arith)
 
--- ---- what is held after a control change
+-- ---- the state after a control change
 
 kept_anywhere : {A : Type 0} (test : Bool) (x : A) → x ≡ cond test x x
 kept_anywhere true x = refl
@@ -314,7 +314,7 @@ apart : (b : Bool) → b ≡ true → b ≡ false → ⊥
 apart true e f = cc
 apart false e f = cc
 
--- the MSB of one parameter, where that of another is set
+-- the MSB of one parameter, after that of another is set
 msb_set : (msbs : List ℕ) (channel other value : ℕ) (q param : Param) → length msbs ≡ 524288 → other < 16 → IsParam param → IsParam q →
     get_or (set msbs (place_of channel q) value) (place_of other param) 0
     ≡ cond (eqb other channel) (cond (same_param param q) value (get_or msbs (place_of other param) 0))
@@ -373,7 +373,7 @@ msbs_follow fine holding channel index value other param held within known range
 msbs_follow plain holding channel index value other param held within known range =
     kept_anywhere (eqb other channel) (msb_at holding other param)
 
--- the MSB of one pair, where that of another is set
+-- the MSB of one pair, after that of another is set
 pair_set : (pairs : List ℕ) (channel other index pair msb : ℕ) → length pairs ≡ 512 → other < 16 → index < 32 → pair < 32 →
     get_or (set pairs (pair_place channel index) msb) (pair_place other pair) 0
     ≡ cond (eqb other channel) (cond (eqb pair index) msb (get_or pairs (pair_place other pair) 0)) (get_or pairs (pair_place other pair) 0)

@@ -1,4 +1,4 @@
--- What a control change gives and leaves, by what is held.
+-- What a control change gives and leaves, by the state before it.
 use Rattle.std.specs.Prelude.{◌≡◌, ℕ, ◌+◌, ◌-◌, ◌*◌, ◌<◌, Option, Some, None, IfSome, slice_set}
 use Rattle.voice_messages.specs.declared.voice2.Param.{Param}
 use Rattle.voice_messages.specs.Ranges.{IsParam}
@@ -46,7 +46,7 @@ answer_of role holding channel index value =
     (λ param. value_after role value (msb_at holding channel param))
     (λ coarse. value_after role value (pair_at holding channel coarse))
 
--- ---- what is held after it
+-- ---- the state after it
 
 abbrev pub at_registers : ℕ → (Registers → Registers) → Holding → Holding
 at_registers channel change holding =

@@ -4,14 +4,16 @@ use Rattle.voice_messages.specs.declared.voice2.Param.{Param}
 use Rattle.midi_meaning.specs.Registers.{Registers, unset_registers}
 use Rattle.param_collector.specs.Msbs.{place_of, pair_place, zeros}
 
--- the registers of the sixteen channels, the table of the MSBs, whether controllers are paired, and the table of the MSBs of pairs
+-- the registers of the sixteen channels, the table of the MSBs, whether controllers are paired, and the table
+-- of the MSBs of pairs
 pub record Holding : Type 0 where
   pub registers : List Registers
   pub msbs : List ℕ
   pub paired : Bool
   pub pairs : List ℕ
 
--- Sixteen registers, and an MSB for each channel, kind and number. If controllers are paired there are 32 MSBs for each channel.
+-- Sixteen registers, and an MSB for each channel, kind and number. If controllers are paired there are 32
+-- MSBs for each channel.
 abbrev pub IsHolding : Holding → Type 0
 IsHolding holding =
     (length holding.registers ≡ 16) × (length holding.msbs ≡ 524288) × (holding.paired ≡ true → length holding.pairs ≡ 512)

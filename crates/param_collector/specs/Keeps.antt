@@ -21,8 +21,8 @@ value_of channel param = unwrap_or (channel.params param) 0
 abbrev pub controller_of : Channel → ℕ → ℕ
 controller_of channel index = unwrap_or (channel.controllers index) 0
 
--- The registers of each channel, and the MSB of each parameter's value of fourteen bits. If controllers are paired, also the MSB
--- of each pair's value of fourteen bits.
+-- The registers of each channel, and the MSB of each parameter's value of fourteen bits. If controllers are
+-- paired, also the MSB of each pair's value of fourteen bits.
 pub record Keeps (holding : Holding) (group : GroupState) : Type 0 where
   pub registers : (channel : ℕ) → channel < 16 → registers_at holding channel ≡ (group.channels channel).registers
   pub msbs : (channel : ℕ) (param : Param) → channel < 16 → IsParam param
@@ -36,8 +36,8 @@ pub record Keeps (holding : Holding) (group : GroupState) : Type 0 where
 abbrev pub control_step : Bool → GroupState → ℕ → ℕ → ℕ → GroupState
 control_step paired group channel index value = step1 paired group (voice (voice1.Control channel index value))
 
--- Its answer, by that meaning: a data entry answers the value that the selected parameter has after it, and a half of a pair the
--- pair's.
+-- Its answer, by that meaning: a data entry answers the value that the selected parameter has after it, and a
+-- half of a pair the pair's.
 abbrev pub meant : Bool → GroupState → ℕ → ℕ → ℕ → Collected
 meant paired group channel index value =
     let after = (control_step paired group channel index value).channels channel in

@@ -8,11 +8,12 @@ abbrev pub kind_number : ParamKind → ℕ
 kind_number Registered = 0
 kind_number Assignable = 1
 
--- where the MSB of a channel's parameter is, below 524,288 for sixteen channels and numbers of seven bits a half
+-- the place of the MSB of a channel's parameter, below 524,288 for sixteen channels and numbers of seven
+-- bits a half
 abbrev pub place_of : ℕ → Param → ℕ
 place_of channel param = ((channel * 2 + kind_number param.kind) * 128 + param.bank) * 128 + param.index
 
--- where the MSB of a channel's paired controller is, below 512 for sixteen channels and indexes below 32
+-- the place of the MSB of a channel's paired controller, below 512 for sixteen channels and indexes below 32
 abbrev pub pair_place : ℕ → ℕ → ℕ
 pair_place channel index = channel * 32 + index
 

@@ -125,7 +125,7 @@ impl Collector {
     pub fn control(&mut self, channel: U4, index: U7, value: U7) -> Collected
         ensures answer { result ≡
             answer_of (pairing self.old.paired (role_of index)) self.old channel index value }
-        ensures behind { self.new ≡
+        ensures after { self.new ≡
             holding_after (pairing self.old.paired (role_of index)) self.old channel index value }
         ensures unchanged { Leaves result self.old self.new }
         ensures index { IsIndexOf self.old.paired result index }
@@ -142,7 +142,7 @@ impl Collector {
     fn act(&mut self, channel: U4, role: ControlRole, index: U7, value: U7) -> Collected
         ensures answer { result ≡
             answer_of (pairing self.old.paired (role_in role)) self.old channel index value }
-        ensures behind { self.new ≡
+        ensures after { self.new ≡
             holding_after (pairing self.old.paired (role_in role)) self.old channel index value }
         ensures unchanged { Leaves result self.old self.new }
         ensures index { HasIndex (role_in role) index → IsIndexOf self.old.paired result index }
@@ -179,7 +179,7 @@ impl Collector {
 
     // Reset all controllers (RP-015).
     fn reset_all_controllers(&mut self, channel: U4)
-        ensures behind { self.new ≡ with_reset channel self.old }
+        ensures after { self.new ≡ with_reset channel self.old }
         ensures channel_below { channel < 16 }
     {
         self.take(channel, ControlRole::ResetAll, U7::low_bits(0));
@@ -190,7 +190,7 @@ impl Collector {
     // The channel's registers take a control change that is no data entry.
     #[inline(always)]
     fn take(&mut self, channel: U4, role: ControlRole, value: U7)
-        ensures behind { self.new ≡ at_registers channel (registers_after (role_in role) value) self.old }
+        ensures after { self.new ≡ at_registers channel (registers_after (role_in role) value) self.old }
     {
         let registers = &mut self.registers[channel.get() as usize];
         registers.take(role, value);
@@ -209,7 +209,7 @@ impl Collector {
     fn enter_msb(&mut self, channel: U4, value: U7) -> Collected
         ensures answer { result ≡
             entered (selected (registers_at self.old channel)) (λ param. value * 128) }
-        ensures behind { self.new ≡
+        ensures after { self.new ≡
             with_entry (selected (registers_at self.old channel)) channel value self.old }
         ensures unchanged { Leaves result self.old self.new }
         ensures in_range { AreInRange channel (selected (registers_at self.old channel)) value }
@@ -241,7 +241,7 @@ impl Collector {
     // The MSB of a pair, after which the LSB is 0.
     fn enter_coarse(&mut self, channel: U4, index: U7, value: U7) -> Collected
         ensures answer { result ≡ answer_of coarse self.old channel index value }
-        ensures behind { self.new ≡ holding_after coarse self.old channel index value }
+        ensures after { self.new ≡ holding_after coarse self.old channel index value }
         ensures in_range { (channel < 16) × (value < 128) }
     {
         self.pairs.set(channel, index, value);

@@ -1,6 +1,6 @@
 -- Bytes that are taken at once are given out one by one, and the work on each is done.
-use Rattle.std.proofs.Common.{◌≡◌, ◌+◌, ◌-◌, ◌<◌, ◌≤◌, ℕ, List, [], ◌∷◌, ◌++◌, length, slice_index, take, drop, Option, None, Some, refl, ap, sym, ◌∙◌, subst, arith, inl, inr}
-use Rattle.std.specs.Prelude.{Ok, reverse}
+use Rattle.std.proofs.Common.{◌≡◌, ◌+◌, ◌-◌, ◌<◌, ◌≤◌, ℕ, zero, suc, List, [], ◌∷◌, ◌++◌, length, slice_index, take, drop, Option, None, Some, refl, ap, sym, ◌∙◌, subst, arith, inl, inr}
+use Rattle.std.specs.Prelude.{◌⊎◌, Ok, reverse}
 use Rattle.std.proofs.lemmas.List.{drop-drop, drop-take, append-nil, length-drop, length-take-le, take-append-drop, take_all}
 use Rattle.std.proofs.Math.Nat.{min-le_left, min-le_right}
 use Rattle.item_reader.specs.ByteReader.{one_byte}
@@ -11,7 +11,7 @@ use Rattle.item_reader.specs.declared.cutting.Tail.{Tail}
 use Rattle.item_reader.specs.ByteReader.{each_byte}
 use Rattle.outside.specs.Outside.{Loses, ahead}
 use Rattle.pass_loop.specs.Bytes.{GivenSoFar, byte_cutting, placed_at}
-use Rattle.pass_loop.specs.ForProofs.HeldLaws.{with_places}
+use Rattle.pass_loop.specs.ForProofs.HeldLaws.{TakesHeld, with_places}
 use Rattle.pass_loop.specs.ForProofs.PassLaws.{SoFar, ends_at_step, one_more, reverse-push}
 use Rattle.pass_loop.specs.ItemLaws.{ItemsAreTakenInOrder}
 use Rattle.pass_loop.specs.Pass.{AreAccepted, ArePut, Seen, Stands, StepEnds, Steps, Work}
@@ -32,7 +32,7 @@ ends_at_first work Holds past (byte ∷ bytes) at old now new end some same plac
     let O : Places → Type 0 = λ places. StepEnds work past places new (length past, byte) end in
     inl (subst O same (subst A place ends))
 
--- all of what is behind some bytes
+-- all of what comes after some bytes
 pub all_behind : (at : ℕ) (bytes : List ℕ) → take (length bytes - at) (drop at bytes) ≡ drop at bytes
 all_behind at bytes = let len = length-drop at bytes in take_all (length bytes - at) (drop at bytes) (omega (arith, len))
 
@@ -191,7 +191,7 @@ module _ {Engine : Type 0} (work : Work (ℕ × ℕ)) (Holds : Engine → List (
         reads = so_far.reads;
       }
 
-  -- the first of the bytes behind a place are taken
+  -- the first of the bytes after a place are taken
   pub goes_on : (engine after : Engine) (place count : ℕ) (now new : Seen)
       (so_far : SoFar work (HasGivenAt place) (λ past. Holds engine past) old now) → count ≤ length (drop place (held_bytes reader))
       → new.reads ≡ now.reads
@@ -205,7 +205,7 @@ module _ {Engine : Type 0} (work : Work (ℕ × ℕ)) (Holds : Engine → List (
       (run_taken after (take count bytes) (drop count bytes) place now new (by_some engine place now so_far)
       (sym (take-append-drop count bytes)) reads steps)
 
-  -- one of the bytes behind a place ends the pass
+  -- one of the bytes after a place ends the pass
   pub ends_in : (engine : Engine) (end : RunEnd) (place : ℕ) (now new : Seen)
       (so_far : SoFar work (HasGivenAt place) (λ past. Holds engine past) old now) → new.reads ≡ now.reads
       → EndsWithin work Holds (reverse so_far.items) (drop place (held_bytes reader)) now.places new.places end
@@ -221,3 +221,14 @@ pub nearer : (reader : Reading EachByte) (count : ℕ) → count ≡ length (hel
 nearer reader count all some =
     let fits = allowed-fits reader.end (length reader.pending) (reader.limit - reader.offset) in
     omega (arith, all, some, held-length reader, fits.1)
+
+-- all bytes that are held are taken
+pub all_taken : (reader : Reading EachByte) (count : ℕ) → count ≡ length (held_bytes reader)
+    → TakesHeld (λ r. r.limit - r.offset) passed (λ place r. place < length (held_bytes r)) (length (held_bytes reader)) reader (Ok count)
+all_taken reader count all = (omega (arith, all), by_count (length (held_bytes reader)) refl)
+  where
+    by_count : (n : ℕ) → length (held_bytes reader) ≡ n
+        → ((count ≡ 0) × (0 < length (held_bytes reader) → ⊥))
+        ⊎ (reader.limit - (reader.offset + count) < reader.limit - reader.offset)
+    by_count zero none = inl (omega (arith, all, none), λ some. omega (arith, none, some))
+    by_count (suc n) some = inr (nearer reader count all (omega (arith, some)))

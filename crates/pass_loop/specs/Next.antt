@@ -1,5 +1,5 @@
 -- What a reader of items gives next.
-use Rattle.std.specs.Prelude.{◌≡◌, ℕ, ◌<◌, ◌≤◌, List, [], ◌∷◌, ◌++◌, reverse, None, Some, IfSome}
+use Rattle.std.specs.Prelude.{◌≡◌, ℕ, ◌<◌, ◌≤◌, List, [], ◌∷◌, ◌++◌, reverse, Option, None, Some, IfSome}
 use Rattle.item_reader.specs.SoFar.{Given}
 use Rattle.outside.specs.Outside.{Rose}
 use Rattle.pass_loop.specs.Pass.{Cutting, IsFront, HasGivenUp}
@@ -34,7 +34,7 @@ abbrev pub ComesNearer : {A I : Type 0} → ℕ → ℕ → Next A I → Type 0
 ComesNearer before now (Item at item) = now < before
 ComesNearer before now _ = Unit {0}
 
--- ---- from what is held
+-- ---- from the state
 
 -- what begins at a place, by what was given before it: as above, in which an item is given once the reader has passed it
 abbrev pub GivesFound : {A I : Type 0} → Cutting (A × I) → (List (A × I) → A × I → Type 0) →
@@ -43,6 +43,12 @@ GivesFound IsCut Promises HasGivenAt so_far (found.Item at item next) =
     GivesNext IsCut Promises (HasGivenAt next) so_far (Item at item)
 GivesFound IsCut Promises HasGivenAt so_far (found.Refused reason offset) =
     IfSome so_far.all (λ bytes. IsCut bytes so_far.items (Some (reason, offset)))
+
+-- by what was given before a place, what begins there, if a whole item does
+abbrev pub GivesFoundAt : {Reader A I : Type 0} → Cutting (A × I) → (List (A × I) → A × I → Type 0) →
+    (Reader → Given (A × I) → Type 0) → (ℕ → Reader → Reader) → Reader → Given (A × I) → Option (Found A I) → Type 0
+GivesFoundAt IsCut Promises HasGiven passed reader so_far result =
+    IfSome result (λ found. GivesFound IsCut Promises (λ next. HasGiven (passed next reader)) so_far found)
 
 -- the item after this place is within the bytes that are held, and brings the end nearer
 abbrev pub IsFurther : {A I : Type 0} → (ℕ → ℕ) → ℕ → ℕ → Found A I → Type 0

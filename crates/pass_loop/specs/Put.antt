@@ -1,4 +1,4 @@
--- What is put, and where, in the order in which it is put.
+-- What is put, and into which place, in the order in which it is put.
 use Rattle.std.specs.Prelude.{◌≡◌, ◌⊎◌, ℕ, ◌<◌, List, [], ◌∷◌, length, take}
 use Rattle.std.specs.List.{flat_map}
 use Rattle.pass_loop.specs.declared.ends.RunEnd.{RunEnd}

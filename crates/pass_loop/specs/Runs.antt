@@ -1,5 +1,5 @@
--- Bytes that are taken at once, by what is done with them one by one. The item of a byte is the byte after its offset, which is the number
--- of bytes before it.
+-- Bytes that are taken at once, by what is done with them one by one. The item of a byte is the byte after its offset, which is the
+-- number of bytes before it.
 use Rattle.std.specs.Prelude.{◌≡◌, ◌⊎◌, ℕ, List, [], ◌∷◌, length, take, Result, Ok, Err}
 use Rattle.pass_loop.specs.Pass.{Work, StepEnds, Steps}
 use Rattle.pass_loop.specs.Places.{Places}
@@ -8,6 +8,11 @@ use Rattle.pass_loop.specs.declared.ends.RunEnd.{RunEnd}
 -- the item of a byte after these, the newest first
 abbrev pub next_item : List (ℕ × ℕ) → ℕ → ℕ × ℕ
 next_item past byte = (length past, byte)
+
+-- an engine holds what some bytes leave, and they are so many
+abbrev pub HoldsSoMany : {Engine : Type 0} → (Engine → Engine → List (ℕ × ℕ) → Type 0) → Engine → ℕ → Type 0
+HoldsSoMany {Engine} Holds engine count =
+    (first : Engine) × (past : List (ℕ × ℕ)) × Holds first engine past × (count ≡ length past)
 
 module _ {Engine : Type 0} (work : Work (ℕ × ℕ)) (Holds : Engine → List (ℕ × ℕ) → Type 0) where
   -- After these items the bytes are accepted one after the other, and the puts of each are put; an engine holds what each leaves, and at

@@ -5,7 +5,7 @@ ghost use Rattle.item_reader.specs.ByteReader.{each_byte, new_bytes, one_byte};
 ghost use Rattle.item_reader.specs.Reading.{held_bytes, passed};
 ghost use Rattle.item_reader.specs.SoFar.{Given, given};
 ghost use Rattle.pass_loop.specs.Bytes.{GivenSoFar, byte_cutting, limit, placed_at};
-ghost use Rattle.pass_loop.specs.Next.{GivesFound, GivesMore, IsFurther, MoreCause};
+ghost use Rattle.pass_loop.specs.Next.{GivesFoundAt, GivesMore, IsFurther, MoreCause};
 ghost use Rattle.pass_loop.specs.Pass.{Cutting};
 ghost use Rattle.pass_loop.specs.ForProofs.Starting.{none_given, none_passed};
 

@@ -3,8 +3,8 @@ ghost use Rattle.std.specs.Prelude.{◌≡◌, ◌<◌, ◌≤◌, ◌-◌, ℕ,
 ghost use Rattle.outside.specs.Outside.{ahead};
 ghost use Rattle.item_reader.specs.Reading.{held_bytes, new_reading, passed};
 ghost use Rattle.item_reader.specs.SoFar.{Given, ReadSoFar, given};
-ghost use Rattle.pass_loop.specs.Items.{after_offset, item_cutting, limit};
-ghost use Rattle.pass_loop.specs.Next.{GivesFound, GivesMore, IsFurther, MoreCause};
+ghost use Rattle.pass_loop.specs.Items.{HoldsItem, after_offset, item_cutting, limit};
+ghost use Rattle.pass_loop.specs.Next.{GivesFoundAt, GivesMore, IsFurther, MoreCause};
 ghost use Rattle.pass_loop.specs.Pass.{Cutting};
 ghost use Rattle.pass_loop.specs.ForProofs.Starting.{none_given, none_passed};
 
@@ -60,8 +60,7 @@ impl<I, H: Cut<Item = (I, u64)>> Items<u64, I> for EachItems<H> {
 
     ghost passed = { λ count reader. passed count reader };
 
-    ghost IsHeld = { λ place reader.
-        H.asked reader.how (drop place (held_bytes reader)) ≤ length (drop place (held_bytes reader)) };
+    ghost IsHeld = { λ place reader. HoldsItem (H.asked reader.how) place reader };
 
     #[inline(always)]
     fn held(&self) -> (&[u8], u64) {

@@ -5,6 +5,7 @@
 pub mod bytes;
 pub mod each_items;
 pub mod ends;
+pub mod held;
 pub mod laws;
 pub mod outputs;
 pub mod pass;

@@ -1,14 +1,14 @@
 // One loop for every pass.
 ghost use Rattle.std.specs.Prelude.{◌≡◌, ◌<◌, ◌≤◌, ℕ, IfOk, IfSome, List, [], ◌∷◌, None, Option, length, true};
 ghost use Rattle.item_reader.specs.SoFar.{Given, given};
-ghost use Rattle.pass_loop.specs.ForProofs.HeldLaws.{IsUnderWay, StaysUnderWay, TakesHeld};
 ghost use Rattle.pass_loop.specs.Named.{AreNamed};
-ghost use Rattle.pass_loop.specs.Next.{GivesFound, GivesMore, IsFurther, MoreCause};
+ghost use Rattle.pass_loop.specs.Next.{GivesFoundAt, GivesMore, IsFurther, MoreCause};
 ghost use Rattle.pass_loop.specs.Pass.{AreAccepted, ArePut, Closes, Cutting, CutsOnce, Ends, Steps, Work, end_of as end_after, seen, seen_with};
 ghost use Rattle.pass_loop.specs.PassEnds.{PassEnds};
 ghost use Rattle.pass_loop.specs.Put.{Put};
 
 use crate::ends::{Reason, RunEnd};
+use crate::held::{OneByOne, Taking};
 use crate::outputs::{Borrowed, Outputs};
 use outside::{Lanes, Sink, Source};
 
@@ -90,8 +90,8 @@ pub trait Items<A, I> {
         requires place { place ≤ length held.now }
         ensures answer { (first : Self) (all left : Option (List ℕ)) (items : List (A × I)) →
             HasGiven first (passed place self.now) (given all left items) →
-            IfSome result (λ found. GivesFound (IsCut first) Promises
-            (λ next. HasGiven first (passed next self.now)) (given all left items) found) }
+            GivesFoundAt (IsCut first) Promises (HasGiven first) passed self.now (given all left items)
+            result }
         ensures further { IfSome result (λ found. IsFurther (λ at. to_go (passed at self.now))
             (length held.now) place found) }
         ensures none { result ≡ None → IsHeld place self.now → ⊥ };
@@ -220,19 +220,20 @@ pub fn drive<
         output,
         notes,
     };
-    drive_into(reader, engine, input, &mut outputs)
+    drive_into(&OneByOne, reader, engine, input, &mut outputs)
 }
 
-// The same into places that are told together.
+// The same into places that are told together, the items that are held taken in this way.
 #[inline(always)]
-fn drive_into<
+pub(crate) fn drive_into<
     A: Drop,
     I: Drop,
     R: Items<A, I> + Drop,
     E: Engine<A, I> + Drop,
+    T: Taking<A, I, R, E>,
     S: Source,
     O: Outputs,
->(mut reader: R, mut engine: E, input: &mut S, outputs: &mut O) -> RunEnd
+>(taking: &T, mut reader: R, mut engine: E, input: &mut S, outputs: &mut O) -> RunEnd
     requires new { R.IsNew reader }
     requires ready { E.IsReady engine }
     requires items { (past : List (A × I)) (item : A × I) → R.Promises past item →
@@ -245,45 +246,13 @@ fn drive_into<
     loop {
         write_out(input, outputs);
         match reader.more(input) {
-            More::Held => match take_held(&reader, &mut engine, outputs) {
+            More::Held => match taking.take_held(&reader, &mut engine, outputs) {
                 Ok(count) => reader.pass(count),
                 Err(end) => return end,
             },
             More::End => return end_of(engine.close(outputs)),
             More::Refused { reason, offset } => return RunEnd::Refused { reason, offset },
             More::Failed => return RunEnd::ReadFault,
-        }
-    }
-}
-
-// Does the work on each whole item that is held, and says how many bytes they have.
-#[inline(always)]
-fn take_held<A: Drop, I: Drop, R: Items<A, I>, E: Engine<A, I>, O: Outputs>(
-    reader: &R,
-    engine: &mut E,
-    outputs: &mut O,
-) -> Result<usize, RunEnd>
-    requires items { (past : List (A × I)) (item : A × I) → R.Promises past item →
-        E.Asks item × E.AsksAfter past item }
-    requires begun { E.UsesLanes → (O.places outputs.old).begun ≡ true }
-    requires under_way { IsUnderWay E.work R.HasGiven E.Holds reader.now engine.old (O.places outputs.old) }
-    ensures taken { TakesHeld R.to_go R.passed R.IsHeld (length (R.held_bytes reader.now)) reader.now result }
-    ensures under_way { StaysUnderWay R.IsCut E.work R.HasGiven E.Holds R.passed reader.now
-        engine.old engine.new (O.places outputs.old) (O.places outputs.new) result }
-{
-    let (held, offset) = reader.held();
-    let mut place = 0;
-    loop {
-        match reader.item_in(held, offset, place) {
-            Some(Found::Item { at, item, next }) => {
-                engine.step(&at, &item, outputs)?;
-                place = next;
-            }
-            Some(Found::Refused { reason, offset }) => return Err(RunEnd::Refused {
-                reason,
-                offset,
-            }),
-            None => return Ok(place),
         }
     }
 }

@@ -27,7 +27,7 @@ after-one law setup distinct events None told new is = let e : Err fault.BadEven
 after-one law setup distinct events (Some event) told new is =
     sym (ap (stage_after (stage_of setup (course_of setup events))) is) ∙ law setup distinct (course_of setup events) event
 
--- what comes of an event by what is kept comes of it by the course
+-- an event has the same outcome by what is kept as by the course
 pub by_course : (setup : SetupData) (past : List (ℕ × CalledEvent)) (item : ℕ × CalledEvent) (stage : Stage)
     (next : Result (Told × Stage) EventFault) →
     stage ≡ stage_at setup past → next_by stage (called item.1) ≡ next → next_at setup past item ≡ next

@@ -1,4 +1,5 @@
--- A stream of the events of a rehearsal, each of three bytes: its kind, and its number with the high byte first (own rule).
+-- A stream of the events of a rehearsal. Each has three bytes: its kind, and its number with the high byte
+-- first (own rule).
 use Rattle.std.specs.Prelude.{ℕ, ◌+◌, ◌*◌, List, slice_index, refl}
 use Rattle.std.proofs.Common.{lit<, lit≤}
 use Rattle.std.proofs.Math.Nat.{le_refl}

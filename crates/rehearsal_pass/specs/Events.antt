@@ -9,7 +9,7 @@ use Rattle.rehearsal_pass.specs.declared.event.CalledEvent.{CalledEvent}
 abbrev pub placed_at : ℕ → List ℕ → ℕ × CalledEvent
 placed_at at chunk = (at, called_of chunk)
 
--- A stream is cut into its events, of three bytes each: into all of them; or into those before the end within one; or into those within
--- the limit.
+-- A stream is cut into its events, of three bytes each: into all of them; or into those before the one within
+-- which it ends; or into those within the limit.
 abbrev pub called_cutting : Cutting (ℕ × CalledEvent)
 called_cutting = item_cutting three_bytes placed_at

@@ -13,7 +13,8 @@ abbrev pub lines_of : SetupData → List (ℕ × CalledEvent) → List ℕ
 lines_of setup [] = []
 lines_of setup (item ∷ past) = lines_of setup past ++ output_in (event_puts (next_at setup past item) item.0)
 
--- The input is cut into events. The output gained their lines and those of the end; and what is held at the end was told.
+-- The input is cut into events. The output gained their lines and those of the end. The state at the end
+-- was told.
 pub record RehearsesTheInput (setup : SetupData) (bytes : List ℕ) (old new : Seen) : Type 0 where
   pub items : List (ℕ × CalledEvent)
   pub cut : called_cutting bytes items None

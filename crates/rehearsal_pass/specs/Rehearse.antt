@@ -1,4 +1,4 @@
--- A rehearsal that is run: the line of each event, and at the end what is held, and the profiles.
+-- A rehearsal that is run: the line of each event, and at the end the states of the watches, and the profiles.
 use Rattle.std.specs.Prelude.{◌≡◌, ℕ, Bool, true, false, List, [], ◌∷◌, ◌++◌, codes}
 use Rattle.std.specs.Prelude.{decimal, slice_get, Option, Some, None, Result, Ok, Err}
 use Rattle.std.specs.Option.{option_to_list}
@@ -48,14 +48,14 @@ abbrev pub held_word : Option Bool → List ℕ
 held_word None = codes "unknown"
 held_word (Some on) = state_word on
 
--- what is held of a watch, by its number
+-- the state of a watch, by its number
 abbrev pub held_text : ℕ → Option Bool → List ℕ
 held_text number held = codes "held " ++ decimal number ++ codes " " ++ held_word held ++ codes "\n"
 
 abbrev pub held_line : ℕ → Watched → List Put
 held_line number watched = in_output (held_text number watched.held) ∷ []
 
--- the lines at the end: what is held of each watch, and the responder's profiles
+-- the lines at the end: the state of each watch, and the responder's profiles
 abbrev pub closing_lines : SetupData → Stage → List Put
 closing_lines setup stage =
     for_each held_line 0 stage.initiator.watched
@@ -92,19 +92,20 @@ module _ (setup : SetupData) where
   abbrev pub stage_at : List (ℕ × CalledEvent) → Stage
   stage_at past = stage_of setup (course_at past)
 
-  -- what comes of one more event
+  -- the outcome of one more event
   abbrev pub next_at : List (ℕ × CalledEvent) → ℕ × CalledEvent → Result (Told × Stage) EventFault
   next_at past item = next_by (stage_at past) (called item.1)
 
-  -- What is held at the end was told: by a reply that was made when the responder's profile was so.
+  -- Each state at the end was reported by a reply that was made when the responder's profile was so.
   abbrev pub HeldWasTold : List (ℕ × CalledEvent) → Type 0
   HeldWasTold past =
       (number : ℕ) (watched : Watched) (on : Bool) →
       slice_get (stage_at past).initiator.watched number ≡ Some watched → watched.held ≡ Some on →
       IsTold setup (course_at past) watched.watch on
 
-  -- What is done with the events of a rehearsal: a line for each, and at the end what is held, and the profiles. An event is refused
-  -- if what it asks for isn't there, or if there are 1,024 messages already. What is held at the end was told.
+  -- What is done with the events of a rehearsal: a line for each, and at the end the state, and the
+  -- profiles. An event is refused if what it asks for isn't there, or if there are 1,024 messages already.
+  -- Each state at the end was reported.
   abbrev pub rehearsing : Work (ℕ × CalledEvent)
   rehearsing =
       record {

@@ -25,7 +25,7 @@ pub fn events_have_one_first_refusal()
 }
 
 /// When a rehearsal is done, the output gained exactly the lines of the events of the whole input, by the
-/// course of the rehearsal, and the lines of what is held at its end and of the profiles. What is held then
+/// course of the rehearsal, and the lines of the watches at its end and of the profiles. Each state then
 /// was told by a reply, and when that reply was made the responder's profile was so.
 pub fn a_rehearsal_that_is_done_is_that_of_the_input()
     ensures { DoneRehearsesTheInput }

@@ -51,7 +51,7 @@ pub(crate) fn told_line(offset: u64, told: Told) -> Line
     line
 }
 
-// What is held, as a word.
+// The state of a watch, as a word.
 fn word_of_held(held: Option<bool>) -> &'static str
     ensures word { result.now ≡ held_word held }
     ensures size { length result.now ≤ 7 }
@@ -63,7 +63,7 @@ fn word_of_held(held: Option<bool>) -> &'static str
     }
 }
 
-/// The line of what is held of a watch, by its number (own rule).
+/// The line of the state of a watch, by its number (own rule).
 pub(crate) fn held_line(number: usize, held: Option<bool>) -> Line
     ensures text { result ≡ held_text number held }
     ensures some { 0 < length result }

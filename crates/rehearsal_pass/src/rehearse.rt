@@ -69,7 +69,7 @@ impl RehearseRun {
     }
 }
 
-// Puts a line in the output for each event, and at the end the lines of what is held and of the profiles.
+// Puts a line in the output for each event, and at the end the lines of the watches and of the profiles.
 #[derive(Drop)]
 struct RehearseEngine {
     setup: Setup,
@@ -136,7 +136,7 @@ fn put_told<O: Outputs>(offset: u64, told: Told, outputs: &mut O) -> Result<(), 
     outputs.put_output(line.as_slice())
 }
 
-// Puts the line of what is held of a watch.
+// Puts the line of the state of a watch.
 fn put_held<O: Outputs>(number: usize, held: Option<bool>, outputs: &mut O) -> Result<(), RunEnd>
     ensures { Puts (in_output (held_text number held) ∷ [])
         (O.places outputs.old) (O.places outputs.new) result }
@@ -155,7 +155,7 @@ impl ProfileStates for RehearseEngine {
 }
 
 impl RehearseEngine {
-    // Puts the line of what is held of each watch.
+    // Puts the line of the state of each watch.
     fn put_watches<O: Outputs>(&self, outputs: &mut O) -> Result<(), RunEnd>
         ensures { Puts (for_each held_line_of 0 self.now.rehearsal.initiator.watched)
             (O.places outputs.old) (O.places outputs.new) result }
@@ -166,7 +166,7 @@ impl RehearseEngine {
         Ok(())
     }
 
-    // Puts the lines of what is held, and those of the profiles.
+    // Puts the lines of the watches, and those of the profiles.
     fn put_closing<O: Outputs>(&self, outputs: &mut O) -> Result<(), RunEnd>
         ensures { Puts (closing_lines self.now.setup self.now.rehearsal)
             (O.places outputs.old) (O.places outputs.new) result }
@@ -179,7 +179,7 @@ impl RehearseEngine {
 /// Runs a rehearsal over a stream of events, to its end or to the first event that is refused (M2-101-UM; the
 /// events and the lines are own rule). An event has three bytes: its kind, and its number with the high byte
 /// first, as `Rehearsal::event` takes them. Puts a line in the output for each event; at the end a line of
-/// what is held of each watch, and one of each profile. Takes no memory.
+/// the state of each watch, and one of each profile. Takes no memory.
 ///
 /// `Refused` comes for `Truncated`, `InputTooLong`, `BadEvent` and `TooManyMessages`, with the number of
 /// bytes before what is refused. `ReadFault` and `OutputFault` are returned only if the count of that object

@@ -1,4 +1,5 @@
--- What a self test counts, over the generated packets, their plain pieces, and the packets of the bytes of these.
+-- What a self test counts, over the generated packets, their plain pieces, and the packets of the bytes of
+-- these.
 use Rattle.std.specs.Prelude.{ℕ, ◌+◌, ◌*◌, ◌==◌, if◌then◌else◌, zero, suc, List, [], ◌∷◌, ◌++◌, length, reverse, None, false}
 use Rattle.std.specs.Option.{option_to_list}
 use Rattle.ump_grammar.specs.declared.packet.Packet.{Packet}
@@ -18,8 +19,9 @@ abbrev pub bytes_over : List Packet → List ℕ
 bytes_over [] = []
 bytes_over (packet ∷ past) = reverse (plain_piece false (whole_of past packet) packet) ++ bytes_over past
 
--- The counts over packets of group 0, the newest first: those that are carried, which have a pair each; their lines; the bytes of
--- their plain pieces; and the bytes of the plain pieces of the packets to which these bytes are raised in group 0.
+-- The counts over packets of group 0, the newest first: those that are carried, which have a pair each; their
+-- lines; the bytes of their plain pieces; and the bytes of the plain pieces of the packets to which these
+-- bytes are raised in group 0.
 abbrev pub counts_of : List Placed → Counts
 counts_of past =
     let bytes : List ℕ = bytes_over (packets_of past) in

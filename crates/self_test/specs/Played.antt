@@ -12,7 +12,8 @@ abbrev pub IsPlayed : Packet → Type 0
 IsPlayed (packet.Voice2 group message) = (group ≡ 0) × IsVoice2 message × (bad_voice2 message ≡ None)
 IsPlayed _ = ⊥
 
--- a byte of such messages: it is held, or completes a channel voice message other than a data increment or decrement
+-- a byte of such messages: it is held, or completes a channel voice message other than a data increment or
+-- decrement
 abbrev pub IsPlayedStep : Step → Type 0
 IsPlayedStep held = Unit {0}
 IsPlayedStep (completes (voice message)) = bad_voice1 message ≡ None

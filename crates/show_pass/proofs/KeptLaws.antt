@@ -1,4 +1,5 @@
--- A state that is kept while packets or bytes are shown stands for what they mean, and what is put of it are its facts.
+-- A state that is kept while packets or bytes are shown stands for what they mean, and what is put of it are
+-- its facts.
 use Rattle.std.proofs.Common.{◌≡◌, ◌≤◌, ◌<◌, ◌+◌, ℕ, Bool, true, false, cond, List, [], ◌∷◌, ◌++◌, length}
 use Rattle.std.proofs.Common.{take, drop, Option, None, Some, refl, ap, sym, ◌∙◌, subst, inl, inr, arith}
 use Rattle.std.specs.Prelude.{◌≢◌, IfOk, get_or, Result, Ok, Err}
@@ -36,9 +37,9 @@ use Rattle.listing_lines.specs.Refusal.{refusal_by, refusal_of}
 use Rattle.show_pass.specs.KeptState.{Kept, KeepsPacket, KeepsStep, StandsFor, after_completed}
 use Rattle.show_pass.specs.KeptState.{ended_by_answer, ended_in, fact_puts, with_ended}
 
--- ---- where memory is taken
+-- ---- steps that take memory
 
--- a step of a work that may take memory, which says what is held only where all was put
+-- a step of a work that may take memory, which says the state only if all was put
 pub steps_when_kept : {I : Type 0} (work : Work I) (past : List I) (item : I) (old new : Places) (Then : Type 0)
     (result : Result (Unit {0}) RunEnd) (puts : List Put)
     → TakesIn work.grows (work.refusal past item) puts old new result → (work.refusal past item ≡ None → work.IsPut past item puts)
@@ -61,7 +62,7 @@ steps_when_kept work past item old new Then result puts takes fine behind = by_m
 
 -- ---- what is kept
 
--- what is kept stands for other states, where each state that stands for the first ones does
+-- what is kept stands for other states, if each state that stands for the first ones does
 pub stands_too : (scale : Scale) (kept : Kept) (states others : States)
     → ((groups : List KeptGroup) → Keeps scale groups states → Keeps scale groups others) → StandsFor scale kept states
     → StandsFor scale kept others
@@ -78,7 +79,7 @@ all_facts all n fact within is =
 
 -- ---- one more packet
 
--- a part ends an exclusive exactly where the answer to it lends one
+-- a part ends an exclusive exactly if the answer to it lends one
 same_end : (room : Room) (begun : Option Begun) (f : Form) (bytes : List ℕ) (group : ℕ)
     → ended_by_answer group (answer_of room begun f bytes)
     ≡ option_map (λ joined. group) (ended_by room f (option_map (λ b. b.bytes) begun) bytes)

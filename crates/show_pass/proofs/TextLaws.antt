@@ -77,7 +77,7 @@ joined-within kind state part j is view =
     by_view (joined.Whole bytes) fits = fits
     by_view joined.Bad fits = tt
 
--- ---- what is held is the definition
+-- ---- the state equals the definition
 
 -- the texts of a kind are joined from the parts of that kind
 one_more : (kind : TextKind) (text : Option (TextKind × Part)) (texts : Texts) (past : List Part)

@@ -1,4 +1,5 @@
--- The state that is kept while an input is shown, if it is asked for, and the lines of what it tells at the end.
+-- The state that is kept while an input is shown, if it is asked for, and the lines of what it tells at the
+-- end.
 use Rattle.std.specs.Prelude.{◌≡◌, ℕ, Bool, true, false, List, [], ◌∷◌, map, Option, None, Some, is_some, IfSome}
 use Rattle.ump_grammar.specs.declared.packet.Packet.{Packet}
 use Rattle.ump_grammar.specs.declared.packet.Packet.TheVariants as packets

@@ -11,7 +11,8 @@ use Rattle.show_pass.specs.ShowBytes.{showing_bytes}
 use Rattle.show_pass.specs.ShowPackets.{showing}
 use Rattle.show_pass.specs.ShownLines.{shown_recording, shown_stream}
 
--- The input is cut into these packets. The output gained their lines, and those of what they mean, if they are asked for.
+-- The input is cut into these packets. The output gained their lines, and those of what they mean, if they
+-- are asked for.
 pub record ShowsTheRecording (options : PacketLineOptions) (bytes : List ℕ) (old new : Seen) : Type 0 where
   pub items : List (Framed × Packet)
   pub cut : packet_cutting options.order bytes items None

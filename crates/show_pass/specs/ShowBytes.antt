@@ -1,5 +1,5 @@
--- A stream of bytes that is shown: the lines of each byte, and at the end that of what is open and, if the state is asked for,
--- those of what the bytes mean.
+-- A stream of bytes that is shown: the lines of each byte, and at the end that of what is open and, if the
+-- state is asked for, those of what the bytes mean.
 use Rattle.std.specs.Prelude.{ℕ, true, false, map, Option, None, Some, is_some}
 use Rattle.std.proofs.Common.{◌≡◌, List, [], ◌∷◌, ◌++◌, refl, sym, subst}
 use Rattle.std.specs.Option.{option_map, option_to_list}
@@ -28,7 +28,8 @@ use Rattle.pass_loop.specs.Put.{Put, in_output, output_in}
 abbrev pub listing_puts : List (Kind × ℕ) → List Put
 listing_puts kinds = map (λ line. in_output (byte_listing_text line.0 line.1)) kinds
 
--- the lines of a step at this offset: what it cuts off or fails to belong to, and then the message that it completes
+-- the lines of a step at this offset: what it cuts off or fails to belong to, and then the message that it
+-- completes
 abbrev pub shown_puts : Step → ℕ → List Put
 shown_puts step offset =
     listing_puts (kinds_of_step step offset) ++ option_to_list (option_map in_output (step_text step offset))
@@ -47,8 +48,8 @@ open_puts begun = listing_puts (kinds_at_end (option_map (λ b. (b.start, b.kind
 abbrev pub byte_line_options : Parsing → Kept → ByteLineOptions
 byte_line_options parsing kept = record { state = is_some kept; room = parsing.room }
 
--- What is done with a stream that is shown. Keeping a state takes memory; what is told of it are the facts of what all bytes mean, in
--- group 0. What is put is the lines of all bytes.
+-- What is done with a stream that is shown. Keeping a state takes memory; what is told of it are the facts of
+-- what all bytes mean, in group 0. What is put is the lines of all bytes.
 abbrev pub showing_bytes : ByteLineOptions → Work (ℕ × ℕ)
 showing_bytes options =
     record {
@@ -93,14 +94,15 @@ shows_last_named options past puts put =
     (state_named (showing_bytes options).names refl options.state
     (facts_of as_they_come (states_of_stream (meaning1 false (bytes_read past))))))
 
--- ---- what is held
+-- ---- the state
 
 -- nothing is open, and what is kept stands for the meaning of no bytes
 pub record IsReadyBytes (first : Parsing) (kept : Kept) : Type 0 where
   pub empty : first ≡ idle first.room
   pub stands : StandsFor as_they_come kept (states_of_stream (meaning1 false []))
 
--- The parser holds what these bytes leave, and what is kept stands for what they mean. No byte passed the room.
+-- The parser holds what these bytes leave, and what is kept stands for what they mean. No byte passed the
+-- room.
 pub record HoldsBytes (first now : Parsing) (started kept : Kept) (past : List (ℕ × ℕ)) : Type 0 where
   pub within : AreStepsWithinRoom first.room (bytes_read past)
   pub parsing_is : now ≡ held_over first.room (bytes_read past)

@@ -1,5 +1,5 @@
--- A recording that is shown: the line of each packet, and after that of a packet that ends a text the line of the text; at the end,
--- if the state is asked for, the lines of what the packets mean.
+-- A recording that is shown: the line of each packet, and after that of a packet that ends a text the line of
+-- the text; at the end, if the state is asked for, the lines of what the packets mean.
 use Rattle.std.specs.Prelude.{ℕ, true, false, ◌≤◌, Option, None, Some, is_some, option_and_then}
 use Rattle.std.proofs.Common.{◌≡◌, List, [], ◌∷◌, refl, sym, subst}
 use Rattle.packet_words.specs.declared.words.Framed.{Framed}
@@ -32,8 +32,9 @@ abbrev pub packet_puts : List Packet → Framed × Packet → List Put
 packet_puts past item =
     in_output (packet_text item.1 item.0.words item.0.offset) ∷ text_puts (text_line past item.1)
 
--- What is done with a recording that is shown: a packet is refused only if it passes the room for its exclusive. Keeping a state
--- takes memory; what is told of it are the facts of what all packets mean, in each group. What is put is the lines of all packets.
+-- What is done with a recording that is shown: a packet is refused only if it passes the room for its
+-- exclusive. Keeping a state takes memory; what is told of it are the facts of what all packets mean, in each
+-- group. What is put is the lines of all packets.
 abbrev pub showing : PacketLineOptions → Work (Framed × Packet)
 showing options =
     record {
@@ -79,7 +80,8 @@ pub record IsReadyShow (first : Table) (texts : Texts) (kept : Kept) : Type 0 wh
   pub least : 6 ≤ first.room
   pub stands : StandsFor raised kept (meaning2 false [])
 
--- The groups hold what these packets leave, and so do the texts; what is kept stands for what they mean. No packet passed the room.
+-- The groups hold what these packets leave, and so do the texts; what is kept stands for what they mean. No
+-- packet passed the room.
 pub record HoldsShow (first now : Table) (texts : Texts) (started kept : Kept) (past : List (Framed × Packet)) : Type 0 where
   pub least : 6 ≤ first.room
   pub range : AreInRange (all_placed past)

@@ -1,4 +1,5 @@
--- The lines of all packets, or of all bytes, of an input that is shown, and those of what it leaves in a receiver.
+-- The lines of all packets, or of all bytes, of an input that is shown, and those of what it leaves in a
+-- receiver.
 use Rattle.std.specs.Prelude.{ℕ, Bool, true, false, List, [], ◌∷◌, ◌++◌, length, Option, Some}
 use Rattle.std.specs.List.{concat, flat_map}
 use Rattle.std.specs.Option.{option_map, option_to_list}
@@ -53,7 +54,8 @@ shown_recording state past =
 abbrev pub shown_listing : List (Kind × ℕ) → List ℕ
 shown_listing kinds = flat_map (λ line. byte_listing_text line.0 line.1) kinds
 
--- the lines of a byte at this offset: what it cuts off or fails to belong to, and then the message that it completes
+-- the lines of a byte at this offset: what it cuts off or fails to belong to, and then the message that it
+-- completes
 abbrev pub shown_step : Step → ℕ → List ℕ
 shown_step step offset = shown_listing (kinds_of_step step offset) ++ if_any (step_text step offset)
 
@@ -72,7 +74,8 @@ shown_items room (item ∷ past) =
 abbrev pub shown_open : Option Open → List ℕ
 shown_open begun = shown_listing (kinds_at_end (option_map (λ b. (b.start, b.kind)) begun))
 
--- the lines of a whole stream: those of its bytes, that of what is open, and those of what the bytes mean, if they are asked for
+-- the lines of a whole stream: those of its bytes, that of what is open, and those of what the bytes mean, if
+-- they are asked for
 abbrev pub shown_stream : ℕ → Bool → List ℕ → List ℕ
 shown_stream room state past =
     shown_bytes room past

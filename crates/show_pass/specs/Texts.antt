@@ -1,4 +1,5 @@
--- The texts that the stream packets of a recording carry, and the lines of those that end (M2-104-UM, UMP stream messages).
+-- The texts that the stream packets of a recording carry, and the lines of those that end (M2-104-UM, UMP
+-- stream messages).
 use Rattle.std.specs.Prelude.{◌≡◌, ℕ, Bool, true, false, if◌then◌else◌, List, [], ◌∷◌, Option, Some, None}
 use Rattle.std.specs.List.{flat_map}
 use Rattle.std.specs.Option.{option_map, option_and_then, option_to_list}
@@ -51,7 +52,7 @@ text_line past packet =
 abbrev pub text_puts : Option (List ℕ) → List Put
 text_puts line = option_to_list (option_map in_output line)
 
--- ---- by what is held: the texts of each kind, joined
+-- ---- by the state: the texts of each kind, joined
 
 abbrev pub part_view : TextPart → TextKind × Part
 part_view part = (part.kind, record { form = part.form; block = part.block; bytes = part.bytes.now })
@@ -75,7 +76,7 @@ texts_with kinds.EndpointName part texts = record texts { names = after_part tex
 texts_with kinds.ProductId part texts = record texts { products = after_part texts.products part }
 texts_with kinds.BlockName part texts = record texts { blocks = after_part texts.blocks part }
 
--- what is held after a packet
+-- the state after a packet
 abbrev pub texts_after : Option (TextKind × Part) → Texts → Texts
 texts_after None texts = texts
 texts_after (Some text) texts = texts_with text.0 text.1 texts

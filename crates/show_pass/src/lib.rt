@@ -1,5 +1,5 @@
-//! The pass that shows an input, for other programs too: lines of a recording, or of a stream of bytes, and of the
-//! state that it leaves.
+//! The pass that shows an input, for other programs too: lines of a recording, or of a stream of bytes, and
+//! of the state that it leaves.
 #![tactic(auto)]
 
 mod kept_state;

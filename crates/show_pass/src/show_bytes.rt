@@ -86,7 +86,7 @@ impl Engine<u64, u8> for ShowBytes {
 
 impl ShowBytes {
     // Feeds one more byte to the parser, keeps what it does, if a state is kept, and puts the lines of it,
-    // which are made in the place of earlier ones. Most bytes are held, and of those the step is not copied.
+    // which overwrite earlier ones. Most bytes are held, and of those the step is not copied.
     #[inline(always)]
     fn take_byte<O: Outputs>(
         &mut self,
@@ -141,7 +141,7 @@ pub(crate) fn show_bytes<S: Source, L: Lanes, W: Sink, N: Sink>(
     drive(ByteReader::new(LIMIT), engine, input, lanes, output, notes)
 }
 
-// Puts a line of the listing, which is made in the place of another one.
+// Puts a line of the listing, which overwrites another one.
 fn put_kind<O: Outputs>(
     line: &mut Line,
     kind: Kind,
@@ -189,7 +189,7 @@ fn put_step<O: Outputs>(
     }
 }
 
-// A message or an exclusive that a byte cut off: where it began, what it is, and what the byte does itself.
+// A message or an exclusive that a byte cut off: its offset, what it is, and what the byte does itself.
 #[derive(Clone, Copy)]
 struct CutOff {
     start: u64,

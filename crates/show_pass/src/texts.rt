@@ -111,7 +111,7 @@ fn put_part<O: Outputs>(
 }
 
 /// Takes one more packet, and puts the line of the text that it ends, if it ends one, in the output. The line
-/// is made in the place of another one.
+/// is overwritten.
 pub(crate) fn put_text<O: Outputs>(
     texts: &mut Texts,
     line: &mut Line,

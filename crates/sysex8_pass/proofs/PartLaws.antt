@@ -1,4 +1,4 @@
--- The part in a packet, and where exclusives began.
+-- The part in a packet, and the offsets at which exclusives began.
 use Rattle.std.proofs.Common.{ℕ, ◌≡◌, ◌-◌, ◌∙◌, ap, sym, refl, List, [], ◌∷◌, ◌++◌, take, map}
 use Rattle.std.proofs.Common.{Option, None, Some, Bool, true, false, cond, arith, length-take}
 use Rattle.std.specs.Option.{option_map, option_to_list}
@@ -80,7 +80,7 @@ after-packet slots room offset (packet.Flex group words) past = refl
 after-packet slots room offset (packet.Stream format status low second third fourth) past = refl
 after-packet slots room offset (packet.Reserved words) past = refl
 
--- where what is begun began
+-- the offset at which an exclusive that is begun began
 pub begun-started : (room key : ℕ) (past : List Part)
     → option_map (λ begun. begun.start) (begun_over (Some room) key past) ≡ started (Some room) key past
 begun-started room key past = go (opened (Some room) key past)

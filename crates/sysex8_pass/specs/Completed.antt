@@ -28,6 +28,6 @@ completed8 slots room (part ∷ past) =
 abbrev pub of_stream : ℕ → List (ℕ × List ℕ) → List (ℕ × List ℕ)
 of_stream key exclusives = filter (λ exclusive. exclusive.0 == key) exclusives
 
--- what an exclusive is in the lanes: its bytes in the lane of the group that its key has, unless there are none
+-- an exclusive in the lanes: its bytes in the lane of the group that its key has, unless there are none
 abbrev pub piece_of : ℕ × List ℕ → List (ℕ × List ℕ)
 piece_of exclusive = if length exclusive.1 == 0 then [] else (exclusive.0 / 256, exclusive.1) ∷ []

@@ -10,7 +10,7 @@ use Rattle.sysex8_streams.specs.Laws.{FedStreamsAreTheDefinition}
 use Rattle.sysex8_streams.specs.Table.{Table8, AreParts8, empty_table8, begun8_in, with_part8, table8_over}
 use Rattle.sysex8_pass.specs.Parts.{part_in, parts_at}
 
--- where the exclusive of each stream began
+-- the offset at which the exclusive of each stream began
 abbrev pub starts_in : Table8 → ℕ → Option ℕ
 starts_in table key = option_map (λ begun. begun.start) (begun8_in table key)
 

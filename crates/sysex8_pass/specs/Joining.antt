@@ -1,5 +1,5 @@
--- A recording whose 8-bit exclusives are joined: the bytes and the line of each, the lines of what gives none, and at the end those of
--- the exclusives that are still open, by group, then stream.
+-- A recording whose 8-bit exclusives are joined: the bytes and the line of each, the lines of packets that give none,
+-- and at the end those of the exclusives that are still open, by group, then stream.
 use Rattle.std.specs.Prelude.{◌≡◌, ℕ, ◌==◌, true, false, if◌then◌else◌, List, [], ◌∷◌, ◌++◌, length, Option, None, Some}
 use Rattle.std.specs.List.{flat_map}
 use Rattle.packet_words.specs.declared.words.Framed.{Framed}
@@ -32,7 +32,7 @@ piece_puts group bytes = if length bytes == 0 then [] else in_lane group bytes �
 abbrev pub whole_puts : ℕ → ℕ → ℕ → List ℕ → List Put
 whole_puts offset group stream bytes = piece_puts group bytes ++ listed (whole_text offset group stream (length bytes))
 
--- one that cuts off an exclusive that began at the first offset: its bytes, and then the line of that one and its own
+-- one that cuts off an exclusive that began at the first offset: its bytes, then the line of that one, then its own
 abbrev pub cut_lines : ℕ → ℕ → ℕ → ℕ → ℕ → List Put
 cut_lines at offset group stream size = listed (kind_text kinds.Cut at group) ++ listed (whole_text offset group stream size)
 
@@ -81,12 +81,12 @@ module _ (answer : Part → Answer8) (offset : ℕ) where
 
 -- ---- at the end
 
--- the line of an exclusive that is open, by where it began
+-- the line of an exclusive that is open, by the offset at which it began
 abbrev pub open_put : ℕ → Option ℕ → List Put
 open_put group None = []
 open_put group (Some start) = listed (kind_text kinds.Open start group)
 
--- those of a group, by the place where each stream's began, and those of all groups
+-- those of a group, by the offset at which each stream's began, and those of all groups
 abbrev pub group_puts : (ℕ → Option ℕ) → ℕ → List Put
 group_puts starts group = flat_map (λ stream. open_put group (starts (key_of group stream))) (below 256)
 
@@ -95,20 +95,22 @@ open_puts starts = flat_map (group_puts starts) (below 16)
 
 -- ---- the work
 
--- If none of these parts found all slots taken, the exclusives of each stream are those that its own parts alone complete.
+-- If none of these parts found all slots taken, the exclusives of each stream are those that its own parts alone
+-- complete.
 abbrev pub CompleteAlone : ℕ → ℕ → List Part → Type 0
 CompleteAlone slots room parts =
     IsNeverFull slots room parts → (key : ℕ) →
     of_stream key (completed8 slots room parts) ≡ completed8 slots room (of_group key parts)
 
--- What is put in the lanes for these packets, the newest first, is the bytes of the exclusives that they complete, each in the lane of
--- its group and in their order, and what is put in the notes is their lines.
+-- For these packets, the newest first, the lanes gain the bytes of the exclusives that they complete, each in the lane
+-- of its group and in their order, and the notes gain their lines.
 pub record JoinsThem (slots room : ℕ) (past : List (Framed × Packet)) (puts : List Put) : Type 0 where
   pub pieces : pairs_in puts ≡ flat_map piece_of (completed8 slots room (parts_at past))
   pub alone : CompleteAlone slots room (parts_at past)
   pub lines : notes_in puts ≡ lines_of slots room past
 
--- What is done with a recording whose 8-bit exclusives are joined. A packet that makes its stream's exclusive too long is refused.
+-- The work on a recording whose 8-bit exclusives are joined. A packet that makes its stream's exclusive too long is
+-- refused.
 abbrev pub joining : Sysex8Options → Work (Framed × Packet)
 joining options =
     record {

@@ -12,8 +12,9 @@ use Rattle.sysex8_pass.specs.Listing.{lines_of, open_lines}
 use Rattle.sysex8_pass.specs.Options.{Sysex8Options}
 use Rattle.sysex8_pass.specs.Parts.{open_since, parts_at}
 
--- The input is cut into packets, and `past` is these, the newest first. The lanes gained the bytes of the exclusives that they complete,
--- and the notes their lines, and after these one for each exclusive that is open after the last packet, by group, then stream.
+-- The input is cut into packets, and `past` is these, the newest first. The lanes gained the bytes of the exclusives
+-- that they complete, and the notes their lines, and after these one for each exclusive that is open after the last
+-- packet, by group, then stream.
 pub record JoinsTheInput (options : Sysex8Options) (bytes : List ℕ) (old new : Seen) : Type 0 where
   pub past : List (Framed × Packet)
   pub cut : packet_cutting options.order bytes (reverse past) None

@@ -15,7 +15,8 @@ word8 kinds.Open = codes "open-sysex8"
 abbrev pub kind_text : Kind8 → ℕ → ℕ → List ℕ
 kind_text kind offset group = decimal offset ++ codes " " ++ decimal group ++ codes " " ++ word8 kind ++ codes "\n"
 
--- the line of an exclusive that is whole: the offset of its last packet, the group, the stream id, and how many bytes it has
+-- the line of an exclusive that is whole: the offset of its last packet, the group, the stream id, and the number of
+-- its bytes
 abbrev pub whole_text : ℕ → ℕ → ℕ → ℕ → List ℕ
 whole_text offset group stream size =
     decimal offset ++ codes " " ++ decimal group ++ codes " sysex8 " ++ decimal stream ++ codes " " ++ decimal size ++ codes "\n"

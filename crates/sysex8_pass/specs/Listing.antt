@@ -12,7 +12,8 @@ use Rattle.sysex8_pass.specs.declared.lines.Kind8.TheVariants as kinds
 use Rattle.sysex8_pass.specs.Lines.{kind_text, whole_text}
 use Rattle.sysex8_pass.specs.Parts.{part_in, parts_at}
 
--- the lines of the answer to a part of a stream in the packet at an offset; one that is cut off comes before one that is whole
+-- the lines of the answer to a part of a stream in the packet at an offset; one that is cut off comes before one that
+-- is whole
 abbrev pub answer_lines : ℕ → ℕ → ℕ → Answer8 → List ℕ
 answer_lines offset group stream held8 = []
 answer_lines offset group stream (whole8 bytes) = whole_text offset group stream (length bytes)
@@ -46,12 +47,12 @@ unfoldable pub below : ℕ → List ℕ
 below zero = []
 below (suc n) = below n ++ n ∷ []
 
--- the line of an exclusive that is open, by where it began
+-- the line of an exclusive that is open, by the offset at which it began
 abbrev pub open_line : ℕ → Option ℕ → List ℕ
 open_line group None = []
 open_line group (Some start) = kind_text kinds.Open start group
 
--- the lines of those that are open, by the place where each stream's began: by group, then stream
+-- the lines of those that are open, by the offset at which each stream's began: by group, then stream
 abbrev pub open_lines : (ℕ → Option ℕ) → List ℕ
 open_lines starts =
     flat_map (λ group. flat_map (λ stream. open_line group (starts (key_of group stream))) (below 256)) (below 16)

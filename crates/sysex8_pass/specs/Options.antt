@@ -4,8 +4,8 @@ use Rattle.packet_words.specs.declared.words.Order.{Order}
 use Rattle.packet_words.specs.declared.words.Order.TheVariants.{Big}
 use Rattle.sysex8_streams.specs.Table.{Table8}
 
--- A recording whose words have this order. `slots` is the most streams that are begun at once, and `room` the most bytes that an
--- exclusive may have.
+-- A recording whose words have this order. `slots` is the most streams that are begun at once, and `room` the most
+-- bytes that an exclusive may have.
 pub record Sysex8Options : Type 0 where
   pub slots : ℕ
   pub order : Order

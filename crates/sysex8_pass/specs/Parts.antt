@@ -42,6 +42,6 @@ parts_of offset _ = []
 abbrev pub parts_at : List (Framed × Packet) → List Part
 parts_at items = flat_map (λ item. parts_of item.0.offset item.1) items
 
--- where the exclusive began that a stream has open after these parts
+-- the offset at which the exclusive began that a stream has open after these parts
 abbrev pub open_since : ℕ → ℕ → List Part → ℕ → Option ℕ
 open_since slots room past key = option_map start_of (opened8 slots room past key)

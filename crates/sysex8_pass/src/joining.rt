@@ -10,7 +10,8 @@ ghost use Rattle.packet_input.specs.Packets.{packet_cutting};
 ghost use Rattle.sysex8_streams.specs.Fed8.{fed8_view};
 ghost use Rattle.sysex8_streams.specs.History.{key_of};
 ghost use Rattle.sysex8_streams.specs.Table.{answer8_to};
-ghost use Rattle.sysex8_pass.specs.Held.{IsReady8, Holds8, data8_after, nothing_held, packet_after, starts_in};
+ghost use Rattle.sysex8_pass.specs.Held.{IsReady8, Holds8, data8_after, nothing_held, packet_after};
+ghost use Rattle.sysex8_pass.specs.Held.{starts_in};
 ghost use Rattle.sysex8_pass.specs.Joining.{
   answer_puts,
   answer_refusal,
@@ -243,7 +244,7 @@ fn put_cut<O: Outputs>(
     put_cut_lines(cut_at, place, bytes.len(), outputs)
 }
 
-// Puts what comes of an answer to a part of a stream.
+// Puts the result of an answer to a part of a stream.
 fn put_answer<O: Outputs>(fed: &Fed8<'_>, place: PartPlace, outputs: &mut O) -> Result<(), RunEnd>
     requires begun { (O.places outputs.old).begun ≡ true }
     ensures { Takes (answer_refusal place.offset (fed8_view fed.now))
@@ -261,7 +262,7 @@ fn put_answer<O: Outputs>(fed: &Fed8<'_>, place: PartPlace, outputs: &mut O) -> 
     }
 }
 
-// Takes one packet of type 5: puts what comes of the part in it, or the line of one that has none.
+// Takes one packet of type 5: puts the result of the part in it, or the line of one that has none.
 fn take_data8<O: Outputs>(
     streams: &mut Streams,
     group: U4,
@@ -272,7 +273,7 @@ fn take_data8<O: Outputs>(
     requires whole { IsWhole words.now }
     requires kind { type_of words.now ≡ 0x5 }
     requires begun { (O.places outputs.old).begun ≡ true }
-    ensures behind { streams.new ≡ data8_after offset (part_in words.now) streams.old }
+    ensures after { streams.new ≡ data8_after offset (part_in words.now) streams.old }
     ensures takes { Takes (data8_refusal (answer8_to streams.old) offset (part_in words.now))
         (data8_puts (answer8_to streams.old) offset group (part_in words.now))
         (O.places outputs.old) (O.places outputs.new) result }
@@ -300,7 +301,7 @@ fn take_packet<O: Outputs>(
 ) -> Result<(), RunEnd>
     requires packet { IsPacket packet.now }
     requires begun { (O.places outputs.old).begun ≡ true }
-    ensures behind { streams.new ≡ packet_after offset packet.now streams.old }
+    ensures after { streams.new ≡ packet_after offset packet.now streams.old }
     ensures takes { Takes (packet_refusal (answer8_to streams.old) offset packet.now)
         (packet_puts (answer8_to streams.old) offset packet.now)
         (O.places outputs.old) (O.places outputs.new) result }

@@ -210,7 +210,7 @@ begun-count room part past others =
           omega (arith, whole, agree, parts, ap one not_held, cond-false (before key) (count_by (λ x. x == key) (keys past)) 0 not_held)
     ]
 
--- where all parts are of one stream and it isn't begun, none is
+-- if all parts are of one stream and it isn't begun, none is
 pub none-begun : (p : ℕ → Bool) (key : ℕ) (past : List Part) → p key ≡ false → count_by p (keys (of_group key past)) ≡ 0
 none-begun p key [] not_held = refl
 none-begun p key (part ∷ past) not_held =

@@ -108,7 +108,7 @@ accepted slots room past part never =
     (λ refused. never
     (refused-full room part.form part.bytes (opened (Some room) part.group past) (nat_lt (begun_count room past) slots) refused))
 
--- where none is answered by Full, all are taken
+-- if none is answered by Full, all are taken
 pub all-taken : (slots room : ℕ) (past : List Part) → IsNeverFull slots room past → taken slots room past ≡ past
 all-taken slots room [] never = refl
 all-taken slots room (part ∷ past) never =
@@ -143,7 +143,7 @@ alone-taken slots room key (part ∷ past) some =
     (alone-accepted slots room key past part some (eqb-true part.group key same)))
     (λ other. rest)
 
--- where none is answered by Full, the answer is that of the stream's own parts
+-- if none is answered by Full, the answer is that of the stream's own parts
 pub answers-alone : (groups : PartsOfOneGroup) (slots room : ℕ) (past : List Part) (part : Part) → 1 ≤ slots
     → IsNeverFull slots room (part ∷ past) → answer8 slots room past part ≡ answer8 slots room (of_group part.group past) part
 answers-alone groups slots room past part some never =

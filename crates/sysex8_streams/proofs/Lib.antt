@@ -6,3 +6,4 @@ pub mod ReadLaws
 pub mod SlotLaws
 pub mod TableLaws
 pub mod ViewLaws
+mod WordLaws

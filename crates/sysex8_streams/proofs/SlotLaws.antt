@@ -46,7 +46,7 @@ some-and-none (slot ∷ slots) = omega (arith, slots-cons is_some slot slots, sl
     go None = refl
     go (Some stream) = refl
 
--- a slot is idle exactly where fewer streams are begun than there are slots
+-- a slot is idle exactly if fewer streams are begun than there are slots
 pub idle-fewer : (slots : List Slot8) → is_some (idle_slot slots) ≡ nat_lt (count_by is_some slots) (length slots)
 idle-fewer slots = go (idle_slot slots) refl
   where

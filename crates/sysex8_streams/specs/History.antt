@@ -1,7 +1,7 @@
--- 8-bit exclusives of many streams (M2-104-UM, system exclusive 8-bit messages), looking back over the parts that came. A stream
--- is a group and a stream id. What is joined, cut and stray, and which limit holds, is what `Exclusives` of `sysex_groups` says of
--- groups, with the key of a stream in the place of a group's number, over the parts that were taken. Lists of parts are newest
--- first.
+-- 8-bit exclusives of many streams (M2-104-UM, system exclusive 8-bit messages), looking back over the parts that
+-- came. A stream is a group and a stream id. What is joined, cut and stray, and which limit holds, is what `Exclusives`
+-- of `sysex_groups` says of groups, with a stream's key as a group's number, over the parts that were taken. Lists of
+-- parts are newest first.
 use Rattle.std.specs.Prelude.{ℕ, ◌≡◌, ◌≤◌, ◌+◌, ◌*◌, ◌==◌, nat_lt, not, ◌||◌, Bool, true, false, if◌then◌else◌}
 use Rattle.std.specs.Prelude.{List, [], ◌∷◌, ◌++◌, length, filter, count_by, Option, Some, None, is_some}
 use Rattle.std.specs.List.{AllByRecursion}
@@ -31,8 +31,8 @@ is_begun room past key = is_some (opened (Some room) key past)
 abbrev pub begun_count : ℕ → List Part → ℕ
 begun_count room past = count_by (is_begun room past) (keys past)
 
--- Whether a part is taken, by whether its stream is begun and whether fewer streams are begun than there are slots: a Start is
--- if one of the two holds, and a part of another form always is.
+-- Whether a part is taken, by whether its stream is begun and whether fewer streams are begun than there are slots: a
+-- Start is if one of the two holds, and a part of another form always is.
 abbrev pub is_taken_by : Form → Bool → Bool → Bool
 is_taken_by form.Start begun fewer = begun || fewer
 is_taken_by form.Complete begun fewer = true
@@ -56,8 +56,8 @@ taken slots room (part ∷ past) = with_taken slots room (taken slots room past)
 abbrev pub opened8 : ℕ → ℕ → List Part → ℕ → Option (List Part)
 opened8 slots room past key = opened (Some room) key (taken slots room past)
 
--- These are the parts of the exclusive that a stream has begun after the others, by their places: it began with a Start of the
--- stream that was taken, every part of the stream since then is a Continue, and their bytes are within the limit.
+-- These are the parts of the exclusive that a stream has begun after the others, by their places: it began with a Start
+-- of the stream that was taken, every part of the stream since then is a Continue, and their bytes are within the limit.
 pub record IsOpenedBy (slots room : ℕ) (past : List Part) (key : ℕ) (parts : List Part) : Type 0 where
   pub before : List Part
   pub start : Part
@@ -80,7 +80,8 @@ pub data Answer8 : Type 0 where
   too_long8 : Answer8
   full8 : Answer8
 
--- the answer of a part that cuts an exclusive, ends one, exceeds the limit, is stray, isn't taken, or none of these
+-- the answer of a part that cuts an exclusive, ends one, exceeds the limit, is stray, isn't taken, or does none of
+-- these
 abbrev pub answer8_from : Option ℕ → Option (List ℕ) → Bool → Bool → Bool → Answer8
 answer8_from (Some at) (Some bytes) passes stray accepted = restarted_whole8 at bytes
 answer8_from (Some at) None passes stray accepted = restarted8 at

@@ -1,3 +1,4 @@
+pub mod Cut8
 pub mod Fed8
 pub mod History
 pub mod Laws

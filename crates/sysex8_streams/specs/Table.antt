@@ -71,8 +71,8 @@ answer8_to table part = answer8_of table.room (begun8_in table part.group) (is_s
 abbrev pub slot_with : ℕ → Option Begun → Slot8
 slot_with key begun = option_map (λ b. record { key = key; begun = b }) begun
 
--- The slots once a stream has begun this, by its slot and one that is idle. A stream without a slot takes the idle one if it has
--- begun anything, and nothing changes if none is idle.
+-- The slots once a stream has begun this, by its slot and one that is idle. A stream without a slot takes the idle one
+-- if it has begun anything, and nothing changes if none is idle.
 abbrev pub slots_with : ℕ → Option Begun → Option ℕ → Option ℕ → List Slot8 → List Slot8
 slots_with key begun (Some own) idle slots = slice_set slots own (slot_with key begun)
 slots_with key None None idle slots = slots

@@ -1,2 +1,2 @@
--- Worked rows: the definitions, computed. They define nothing that a contract of a public call other than a law cites.
+-- Worked rows: the definitions, computed. No contract of a public call cites them, except a law.
 pub mod Rows

@@ -47,7 +47,8 @@ fn is_same(group: U4, stream: u8, other_group: U4, other_stream: u8) -> bool
 }
 
 impl Slot {
-    ghost use Rattle.sysex8_streams.specs.Slots.{state8_of, slot8_of, idle8, slot_answer, slot_after, IsFor, KeepsSlot};
+    ghost use Rattle.sysex8_streams.specs.Slots.{state8_of, slot8_of, idle8, slot_answer, slot_after};
+    ghost use Rattle.sysex8_streams.specs.Slots.{IsFor, KeepsSlot};
     ghost use Rattle.sysex8_streams.specs.Table.{is_of as is_slot_of, slot_with};
     ghost use Rattle.sysex8_streams.specs.Fed8.{fed8_view};
     ghost use Rattle.std.specs.Option.{option_map};

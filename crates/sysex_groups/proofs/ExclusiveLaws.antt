@@ -41,7 +41,7 @@ bytes_of-more part parts =
     ∙ flat_map-append (λ p. p.bytes) (reverse parts) (part ∷ [])
     ∙ ap (λ bs. bytes_of parts ++ bs) (append-nil part.bytes)
 
--- more bytes don't fit where fewer don't
+-- more bytes don't fit if fewer don't
 pub fits-more : (room : Room) (before bytes : List ℕ) → fits room (length before) ≡ false → fits room (length (before ++ bytes)) ≡ false
 fits-more None before bytes passed = absurd (true≢false passed)
 fits-more (Some room) before bytes passed =
@@ -121,7 +121,7 @@ joined-begun room group past = go (opened room group past)
     go None = refl
     go (Some parts) = refl
 
--- What is joined after one more part of the group, where the limit isn't reached.
+-- What is joined after one more part of the group, if the limit isn't reached.
 abbrev pub joined_with : Form → Option (List ℕ) → List ℕ → Option (List ℕ)
 joined_with form.Start before bytes = Some bytes
 joined_with form.Continue before bytes = option_map (λ joined. joined ++ bytes) before

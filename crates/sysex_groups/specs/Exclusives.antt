@@ -1,4 +1,5 @@
--- Exclusives in the packets of groups (M2-104-UM, system exclusive 7-bit messages), looking back over the parts that came.
+-- Exclusives in the packets of groups (M2-104-UM, system exclusive 7-bit messages), looking back over the parts that
+-- came.
 use Rattle.std.specs.Prelude.{ℕ, ◌≡◌, ◌<◌, ◌==◌, nat_le, All, Bool, true, false, if◌then◌else◌, List}
 use Rattle.std.specs.Prelude.{[], ◌∷◌, ◌++◌, length, filter, reverse, Option, Some, None, is_some}
 use Rattle.std.specs.List.{AllByRecursion, flat_map}
@@ -17,8 +18,8 @@ pub record Part : Type 0 where
 abbrev pub of_group : ℕ → List Part → List Part
 of_group group past = filter (λ part. part.group == group) past
 
--- Parts of one group, newest first: those of the exclusive that is open after them, which are Continue parts and before them a
--- Start.
+-- Parts of one group, newest first: those of the exclusive that is open after them, which are Continue parts and
+-- before them a Start.
 abbrev pub since_start_by : Form → Part → Option (List Part) → Option (List Part)
 since_start_by form.Start part before = Some (part ∷ [])
 since_start_by form.Continue part before = option_map (λ parts. part ∷ parts) before
@@ -54,8 +55,8 @@ within room parts = if fits room (length (bytes_of parts)) then Some parts else 
 abbrev pub opened : Room → ℕ → List Part → Option (List Part)
 opened room group past = option_and_then (within room) (since_start (of_group group past))
 
--- These are the parts of the exclusive that a group has open after the others, by their places: it began with a Start of the group,
--- every part of the group since then is a Continue, and their bytes are within the limit.
+-- These are the parts of the exclusive that a group has open after the others, by their places: it began with a Start
+-- of the group, every part of the group since then is a Continue, and their bytes are within the limit.
 pub record IsOpenedBy (room : Room) (group : ℕ) (past parts : List Part) : Type 0 where
   pub before : List Part
   pub start : Part
@@ -75,8 +76,8 @@ joined room group past = option_map bytes_of (opened room group past)
 abbrev pub started : Room → ℕ → List Part → Option ℕ
 started room group past = option_map start_of (opened room group past)
 
--- The bytes of the exclusive that a part ends, after these parts: its own if it is Complete; if it is an End, those that
--- were joined and its own, if they are within the limit.
+-- The bytes of the exclusive that a part ends, after these parts: its own if it is Complete; if it is an End, those
+-- that were joined and its own, if they are within the limit.
 abbrev pub ended_by : Room → Form → Option (List ℕ) → List ℕ → Option (List ℕ)
 ended_by room form.Complete before bytes = Some bytes
 ended_by room form.End (Some before) bytes = if fits room (length (before ++ bytes)) then Some (before ++ bytes) else None

@@ -1,12 +1,12 @@
 -- What holds of all exclusives.
 use Rattle.std.specs.Prelude.{◌≡◌, ◌≢◌, ◌<◌, ◌≤◌, ◌+◌, ◌==◌, ◌∷◌, ◌++◌, if◌then◌else◌, ℕ, List, Some, None, IsTrue, length}
-use Rattle.sysex_groups.specs.Cut.{part_count, sent_part, sent}
+use Rattle.sysex_groups.specs.Cut.{cut_count, cut_part, cut_parts}
 use Rattle.sysex_groups.specs.Exclusives.{Part, Room, of_group, bytes_of, fits, opened, IsOpenedBy, ended, answer_at}
 use Rattle.sysex_groups.specs.Table.{Table, AreParts, begun_in, begun_after, begun_over, answer_to, with_part, table_over}
 
--- What one more part does, whatever the limit. A part of another group is none of a group's parts, and leaves open what the group
--- has open. One of its own is the newest of its parts, its bytes come last, and what is then open is what the table's step says.
--- A group's parts among its own parts are all of them.
+-- What one more part does, whatever the limit. A part of another group is none of a group's parts, and leaves open
+-- what the group has open. One of its own is the newest of its parts, its bytes come last, and what is then open is
+-- what the table's step says. A group's parts among its own parts are all of them.
 pub record PartsOfOneGroup : Type 0 where
   pub of_another : (group : ℕ) (part : Part) (past : List Part) → part.group ≢ group → of_group group (part ∷ past) ≡ of_group group past
   pub of_its_own : (group : ℕ) (part : Part) (past : List Part) → part.group ≡ group
@@ -36,10 +36,19 @@ pub record FedPartsAreTheDefinition : Type 0 where
   pub others : (table : Table) (part : Part) (group : ℕ) → group ≢ part.group →
       begun_in (with_part part table) group ≡ begun_in table group
 
-abbrev pub CutPayloadIsJoined : Type 0
-CutPayloadIsJoined =
+-- The packets of a payload that is cut every `size` bytes are joined: if the parts of a group are the first packets
+-- after others, the next packet ends the payload if it is the last one, and ends nothing otherwise.
+abbrev pub IsJoinedBySize : ℕ → Type 0
+IsJoinedBySize size =
     (room : Room) (payload : List ℕ) → IsTrue (fits room (length payload)) →
     (group : ℕ) (offsets : ℕ → ℕ) (past all : List Part) (k : ℕ) →
-    k < part_count payload → of_group group all ≡ sent group offsets payload past k →
-    ended room all (sent_part group offsets payload k) ≡
-    (if k + 1 == part_count payload then Some payload else None)
+    k < cut_count size payload → of_group group all ≡ cut_parts size group offsets payload past k →
+    ended room all (cut_part size group offsets payload k) ≡
+    (if k + 1 == cut_count size payload then Some payload else None)
+
+abbrev pub PayloadOfAnySizeIsJoined : Type 0
+PayloadOfAnySizeIsJoined = (size : ℕ) → 0 < size → IsJoinedBySize size
+
+-- at six bytes
+abbrev pub CutPayloadIsJoined : Type 0
+CutPayloadIsJoined = IsJoinedBySize 6

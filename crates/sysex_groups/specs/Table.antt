@@ -1,4 +1,4 @@
--- The table of the sixteen groups: what each has open, the answer to one more part, and what is open after it.
+-- The table of the sixteen groups: what each has open, the answer to one more part, and what is open then.
 use Rattle.std.specs.Prelude.{ℕ, ◌<◌, ◌≤◌, if◌then◌else◌, List, [], ◌∷◌, ◌++◌, length}
 use Rattle.std.specs.Prelude.{Option, Some, None, slice_index_or, slice_set, replicate}
 use Rattle.std.specs.List.{AllByRecursion}

@@ -1,5 +1,6 @@
 // Laws over the definitions alone.
-ghost use Rattle.sysex_groups.specs.Laws.{CutPayloadIsJoined, FedPartsAreTheDefinition, OpenedByPlaces, PartsOfOneGroup};
+ghost use Rattle.sysex_groups.specs.Laws.{CutPayloadIsJoined, FedPartsAreTheDefinition, OpenedByPlaces};
+ghost use Rattle.sysex_groups.specs.Laws.{PartsOfOneGroup, PayloadOfAnySizeIsJoined};
 
 /// What one more part does to the parts of a group, to their bytes and to what the group has open, with any
 /// limit or none: a part of another group changes nothing, and one of the group's own comes last.
@@ -21,9 +22,16 @@ pub fn fed_parts_are_the_definition()
     ensures { FedPartsAreTheDefinition }
 {}
 
-/// The packets into which a payload is cut are joined back into it, with a limit of at least its length: the
-/// last one ends it, and none before ends anything, whatever came before them and whatever other groups send
-/// between them.
+/// The packets into which a payload is cut, with any number of bytes in each but the last, are joined back
+/// into it, with a limit of at least its length: the last one ends it, and none before ends anything,
+/// whatever came before them and whatever other groups send between them.
+pub fn payload_of_any_size_is_joined()
+    ensures { PayloadOfAnySizeIsJoined }
+{}
+
+/// The packets into which a payload is cut every six bytes are joined back into it, in the same way.
 pub fn cut_payload_is_joined()
     ensures { CutPayloadIsJoined }
-{}
+{
+    payload_of_any_size_is_joined();
+}

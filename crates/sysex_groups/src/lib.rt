@@ -8,7 +8,10 @@ pub mod groups;
 pub mod laws;
 pub mod reserved;
 
-pub use crate::cutting::part;
+pub use crate::cutting::{cut, part};
 pub use crate::fed::Fed;
 pub use crate::groups::Groups;
-pub use crate::laws::{cut_payload_is_joined, fed_parts_are_the_definition, parts_of_one_group};
+pub use crate::laws::{
+    cut_payload_is_joined, fed_parts_are_the_definition, parts_of_one_group,
+    payload_of_any_size_is_joined,
+};

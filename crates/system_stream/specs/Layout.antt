@@ -1,5 +1,6 @@
--- How stream messages are laid out in their packets (M2-104-UM, UMP stream messages): a row for each status. Bytes are counted
--- from 1 and bits from 0. Bytes 3 and 4 are the low half of word 1, and the fields are read from it and from words 2 to 4.
+-- How stream messages are laid out in their packets (M2-104-UM, UMP stream messages): a row for each status.
+-- Bytes are counted from 1 and bits from 0. Bytes 3 and 4 are the low half of word 1, and the fields are read
+-- from it and from words 2 to 4.
 use Rattle.std.specs.Prelude.{ℕ, ◌≡◌, ◌+◌, ◌*◌, ◌^◌, ◌<◌, ◌==◌, Bool, true, false, ◌||◌, ◌&&◌, not}
 use Rattle.std.specs.Prelude.{if◌then◌else◌, List, [], ◌∷◌, ◌++◌, length, slice_index, Result, MatchResult}
 use Rattle.std.specs.List.{All}

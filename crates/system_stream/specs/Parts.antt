@@ -32,12 +32,13 @@ abbrev pub goes_on : Part → List Part → Option (List Part)
 goes_on part [] = None
 goes_on part (latest ∷ parts) = if latest.block == part.block then Some (part ∷ latest ∷ parts) else None
 
--- the parts of the text that a part belongs to, itself among them, by the parts of the text that was open before it
+-- the parts of the text that a part belongs to, itself among them, by the parts of the text that was open
+-- before it
 abbrev pub parts_with : Part → Option (List Part) → Option (List Part)
 parts_with part before = if begins part.form then Some (part ∷ []) else option_and_then (goes_on part) before
 
--- Parts of one kind, newest first: those of the text that is open after them, which are one that begins it, and after it none
--- that ends it or names another block.
+-- Parts of one kind, newest first: those of the text that is open after them, which are one that begins it,
+-- and after it none that ends it or names another block.
 abbrev pub since_start : List Part → Option (List Part)
 since_start [] = None
 since_start (part ∷ past) = if ends part.form then None else parts_with part (since_start past)

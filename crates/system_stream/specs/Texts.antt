@@ -1,4 +1,5 @@
--- The texts of stream messages (M2-104-UM, UMP stream messages: endpoint name, product instance id, function block name).
+-- The texts of stream messages (M2-104-UM, UMP stream messages: endpoint name, product instance id, function
+-- block name).
 use Rattle.std.specs.Prelude.{ℕ, ◌==◌, nat_le, Bool, ◌&&◌, if◌then◌else◌, List, [], ◌∷◌, reverse}
 use Rattle.std.specs.List.{list_all}
 use Rattle.std.specs.Str.{is_utf8}

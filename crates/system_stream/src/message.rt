@@ -62,7 +62,7 @@ pub enum StreamMessage {
         filter: u8,
     },
     /// Function Block Info of the block of this number, 0 to 127. `hint`, 0 to 3, is what it mainly does: 0
-    /// undeclared, 1 receives, 2 sends, 3 both. `midi1`, 0 to 3, is the MIDI 1.0 port behind it: 0 none, 1
+    /// undeclared, 1 receives, 2 sends, 3 both. `midi1`, 0 to 3, is its MIDI 1.0 port: 0 none, 1
     /// one without a limit of speed, 2 one at 31.25 kbit/s. `direction`, 0 to 3, is which way its messages
     /// go: 1 it only receives, 2 it only sends, 3 both. `first` is its first group, counted from 0, `count`
     /// the number of its groups, `ci` the version of MIDI-CI, 0 for none, and `sysex8` how many System

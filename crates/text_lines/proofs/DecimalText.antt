@@ -59,7 +59,7 @@ decimal_four n least most =
     ∙ ap (λ m. decimal (n / 10000) ++ (two_digits m ++ two_digits (n % 100))) hundreds
     ∙ ap (λ m. decimal (n / 10000) ++ (two_digits (n % 10000 / 100) ++ two_digits m)) ones
 
--- ---- digits behind a line
+-- ---- digits after a line
 
 pub pair_behind : (n : ℕ) (line : List ℕ) → 100 ≤ n → n < 2 ^ 64 → (line ++ decimal (n / 100)) ++ two_digits (n % 100) ≡ line ++ decimal n
 pair_behind n line least most =

@@ -1,7 +1,7 @@
--- Pieces that are put one behind the other.
+-- Pieces that are put one after the other.
 use Rattle.std.proofs.Common.{◌≡◌, ℕ, List, ◌++◌, ap, ◌∙◌, append_assoc}
 
--- two labels, each with what stands behind it
+-- two labels, each with what stands after it
 pub two_fields : (line first one second two : List ℕ)
     → (((line ++ first) ++ one) ++ second) ++ two ≡ line ++ ((first ++ one) ++ (second ++ two))
 two_fields line first one second two =

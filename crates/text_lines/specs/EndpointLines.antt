@@ -1,4 +1,5 @@
--- The lines of the command `endpoint`: what became of a whole exclusive or a stream packet, and what stands at the end.
+-- The lines of the command `endpoint`: what became of a whole exclusive or a stream packet, and what stands
+-- at the end.
 use Rattle.std.specs.Prelude.{ℕ, Bool, true, false, List, ◌++◌, codes, decimal, Option, Some, None}
 use Rattle.function_blocks.specs.declared.setup.Place.{Place}
 use Rattle.function_blocks.specs.declared.setup.Place.TheVariants as place
@@ -28,7 +29,7 @@ name_word names.Nak = codes "nak"
 name_word names.NoAnswer = codes "no-answer"
 name_word names.BadFormat = codes "bad-format"
 
--- the line of an exclusive or a stream packet; a hyphen stands where there is no group
+-- the line of an exclusive or a stream packet; a hyphen stands for no group
 abbrev pub endpoint_text : ℕ → Option ℕ → OutcomeName → List ℕ
 endpoint_text offset group name =
     decimal offset ++ codes " " ++ group_text group ++ codes " " ++ name_word name ++ codes "\n"

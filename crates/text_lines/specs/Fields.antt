@@ -31,7 +31,7 @@ word_field name word = codes " " ++ name ++ codes "=" ++ word
 abbrev pub hex_field : List ℕ → ℕ → ℕ → List ℕ
 hex_field name width value = codes " " ++ name ++ codes "=" ++ hex width value
 
--- ` group=GROUP`, or nothing where there is no group
+-- ` group=GROUP`, or nothing if there is no group
 unfoldable pub group_field : Option ℕ → List ℕ
 group_field None = []
 group_field (Some group) = field (codes "group") group

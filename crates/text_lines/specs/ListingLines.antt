@@ -28,7 +28,7 @@ listed_word kinds.CutMessage = codes "cut-message"
 listed_word kinds.OpenMessage = codes "open-message"
 listed_word kinds.IgnoredDataEntry = codes "ignored-data-entry"
 
--- a hyphen where there is no group
+-- a hyphen if there is no group
 abbrev pub group_text : Option ℕ → List ℕ
 group_text None = codes "-"
 group_text (Some group) = decimal group

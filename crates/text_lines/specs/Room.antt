@@ -24,7 +24,8 @@ longest_label = 11
 abbrev pub longest_field : ℕ
 longest_field = longest_label + longest_value
 
--- a word other than the kind of a message, as `misplaced-controller`, or a label with one, as ` kind=registered`
+-- a word other than the kind of a message, as `misplaced-controller`, or a label with one, as `
+-- kind=registered`
 abbrev pub longest_word : ℕ
 longest_word = 20
 

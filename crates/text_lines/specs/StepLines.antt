@@ -1,5 +1,5 @@
--- The lines of a stream of MIDI 1.0 bytes, each at the offset of the byte that completes a message: as those of packets, with no
--- group. An exclusive is told by its length.
+-- The lines of a stream of MIDI 1.0 bytes, each at the offset of the byte that completes a message: as those
+-- of packets, with no group. An exclusive is told by its length.
 use Rattle.std.specs.Prelude.{ℕ, ◌≤◌, List, ◌++◌, codes, decimal, length, Option, None, Some}
 use Rattle.voice_messages.specs.declared.voice1.System.TheVariants as system
 use Rattle.midi1_bytes.specs.declared.step.AfterCut.TheVariants as after
@@ -22,7 +22,8 @@ message_fields (exclusive bytes) = codes "exclusive" ++ field (codes "length") (
 abbrev pub message_text : Message → ℕ → List ℕ
 message_text message offset = decimal offset ++ codes " " ++ message_fields message ++ codes "\n"
 
--- the line of a byte's step, where the byte completes a message; a tune request is one also where it cuts something off
+-- the line of a byte's step, if the byte completes a message; a tune request is one also if it cuts
+-- something off
 abbrev pub step_text : Step → ℕ → Option (List ℕ)
 step_text (completes message) offset = Some (message_text message offset)
 step_text (cut start what after.Tune) offset = Some (message_text (common system.Tune) offset)

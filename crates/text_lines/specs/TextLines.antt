@@ -13,7 +13,7 @@ text_kind_word kinds.EndpointName = codes "endpoint-name"
 text_kind_word kinds.ProductId = codes "product-id"
 text_kind_word kinds.BlockName = codes "block-name"
 
--- the bytes with a space before them, or nothing where there are none
+-- the bytes with a space before them, or nothing if there are none
 abbrev pub spaced_bytes : List ℕ → List ℕ
 spaced_bytes [] = []
 spaced_bytes (byte ∷ bytes) = codes " " ++ hex_bytes (byte ∷ bytes)

@@ -1,5 +1,5 @@
--- The lines of channel voice and system messages of the MIDI 1.0 protocol, from their kind on. A message of a stream of bytes has
--- no group.
+-- The lines of channel voice and system messages of the MIDI 1.0 protocol, from their kind on. A message of a
+-- stream of bytes has no group.
 use Rattle.std.specs.Prelude.{ℕ, List, ◌++◌, codes, Option}
 use Rattle.text_lines.specs.Fields.{group_field, group_and_channel, field, hex_field}
 use Rattle.text_lines.specs.VoiceLines.{channel_value, controller_value, note_value}

@@ -6,7 +6,7 @@ ghost use Rattle.text_lines.specs.Room.{AddsAtMost, HasRoom, longest_front, long
 use crate::line::Line;
 use itoa::Buffer;
 
-// The decimal digits of each number below 256, with blanks behind them up to three bytes, and then how many
+// The decimal digits of each number below 256, with blanks after them up to three bytes, and then how many
 // digits they are.
 #[rattlefmt::skip]
 static SMALL_NUMBERS: [u8; 1024] =

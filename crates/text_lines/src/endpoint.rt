@@ -61,7 +61,7 @@ pub enum OutcomeName {
 }
 
 /// The line of a whole exclusive or of a stream packet: the offset, in decimal digits, of the packet that
-/// ended it, its group, or a hyphen where it has none, and what became of it (own rule).
+/// ended it, its group, or a hyphen if it has none, and what became of it (own rule).
 pub fn endpoint_line(offset: u64, group: Option<U4>, name: OutcomeName) -> Line
     ensures text { result ≡ endpoint_text offset group name }
     ensures some { 0 < length result }
@@ -71,8 +71,7 @@ pub fn endpoint_line(offset: u64, group: Option<U4>, name: OutcomeName) -> Line
     line
 }
 
-/// Makes the line that of an exclusive or a stream packet, as
-/// `endpoint_line` does, in the place of another one (own rule).
+/// Overwrites the line with that of an exclusive or a stream packet, as `endpoint_line` writes it (own rule).
 pub fn fill_endpoint_line(line: &mut Line, offset: u64, group: Option<U4>, name: OutcomeName)
     ensures text { line.new ≡ endpoint_text offset group name }
     ensures some { 0 < length line.new }
@@ -99,7 +98,7 @@ pub fn protocol_line(protocol: u8) -> Line
 }
 
 /// The line of a function block: its number, and its MUID in decimal
-/// digits, or `silent` where it has none (own rule).
+/// digits, or `silent` if it has none (own rule).
 pub fn block_line(number: u8, muid: Option<u32>) -> Line
     ensures text { result ≡ block_text number muid }
     ensures some { 0 < length result }

@@ -1,4 +1,4 @@
-//! The lines of text that the program writes, but for those of what is told of a state.
+//! The lines of text that the program writes, except those of the facts of a state.
 #![tactic(auto)]
 
 mod decimal;

@@ -81,7 +81,7 @@ impl Line {
 }
 
 // Writes bytes over those from a place on. Written one by one they need no test whether both places overlap,
-// as a copy of all makes, and the compiler joins them where it knows the text.
+// as a copy of all makes, and the compiler joins them if it knows the text.
 #[inline(always)]
 fn write_at(cells: &mut [u8; CAPACITY], start: usize, bytes: &[u8])
     requires { start + length bytes.now ≤ CAPACITY }

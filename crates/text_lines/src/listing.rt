@@ -11,7 +11,7 @@ use listing_terms::{Kind, Listed};
 use voice_messages::U4;
 
 /// The line of what is listed: its offset in decimal digits, its group,
-/// or a hyphen where it has none, and its kind (own rule).
+/// or a hyphen if it has none, and its kind (own rule).
 pub fn listing_line(listed: &Listed) -> Line
     ensures text { result ≡ listing_text listed.now }
     ensures some { 0 < length result }
@@ -21,7 +21,7 @@ pub fn listing_line(listed: &Listed) -> Line
     line
 }
 
-/// Makes the line that of what is listed, as `listing_line` does, in the place of another one (own rule).
+/// Overwrites the line with that of what is listed, as `listing_line` writes it (own rule).
 #[inline(always)]
 pub fn fill_listing_line(line: &mut Line, listed: &Listed)
     ensures text { line.new ≡ listing_text listed.now }
@@ -45,8 +45,7 @@ pub fn byte_listing(kind: Kind, offset: u64) -> Line
     line
 }
 
-/// Makes the line that of what is listed of a stream, as
-/// `byte_listing` does, in the place of another one (own rule).
+/// Overwrites the line with that of what is listed of a stream, as `byte_listing` writes it (own rule).
 pub fn fill_byte_listing(line: &mut Line, kind: Kind, offset: u64)
     ensures text { line.new ≡ byte_listing_text kind offset }
     ensures some { 0 < length line.new }

@@ -25,7 +25,7 @@ pub fn packet_line(packet: &Packet, words: &[u32], offset: u64) -> Line
     line
 }
 
-/// Makes the line that of a packet, as `packet_line` does, in the place of another one (own rule).
+/// Overwrites the line with that of a packet, as `packet_line` writes it (own rule).
 #[inline(always)]
 pub fn fill_packet_line(line: &mut Line, packet: &Packet, words: &[u32], offset: u64)
     requires { length words.now ≤ most_words }
@@ -36,7 +36,7 @@ pub fn fill_packet_line(line: &mut Line, packet: &Packet, words: &[u32], offset:
     put_packet_line(line, packet, words, offset);
 }
 
-/// Adds the line of a packet, as `packet_line` makes it, behind what the line has: nothing, or the ticks at
+/// Adds the line of a packet, as `packet_line` writes it, to what the line has: nothing, or the ticks at
 /// which the packet stands and a space, at most 21 bytes (own rule). A packet has 1 to 4 words.
 #[inline(always)]
 pub fn put_packet_line(line: &mut Line, packet: &Packet, words: &[u32], offset: u64)

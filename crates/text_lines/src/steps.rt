@@ -13,9 +13,9 @@ use crate::put::put_text;
 use crate::voice1::{put_system, put_voice1};
 use midi1_bytes::{AfterCut, Step, System, VoiceBytes};
 
-/// The line of what a byte at this offset does, in a stream of MIDI 1.0 bytes, where it completes a message:
+/// The line of what a byte at this offset does, in a stream of MIDI 1.0 bytes, if it completes a message:
 /// the offset in decimal digits, the kind of the message and its fields; of an exclusive its length between
-/// F0 and F7. `None` exactly where it completes none; a tune request is one also where it cuts something off
+/// F0 and F7. `None` exactly if it completes none; a tune request is one also if it cuts something off
 /// (own rule).
 pub fn step_line(step: &Step<'_>, offset: u64) -> Option<Line>
     requires { HasBothEnds step.now }
@@ -30,8 +30,8 @@ pub fn step_line(step: &Step<'_>, offset: u64) -> Option<Line>
     }
 }
 
-/// Makes the line that of what a byte does, as `step_line` does, in the place of another one, and tells
-/// whether it completes a message (own rule). Where it completes none the line stays as it was.
+/// Overwrites the line with that of what a byte does, as `step_line` writes it, and returns whether the byte
+/// completes a message (own rule). If it completes none, the line is unchanged.
 #[inline(always)]
 pub fn fill_step_line(line: &mut Line, step: &Step<'_>, offset: u64) -> bool
     requires { HasBothEnds step.now }
@@ -83,7 +83,7 @@ fn fill_exclusive_line(line: &mut Line, size: usize, offset: u64)
     put_text(line, "\n");
 }
 
-// Makes the line its offset, in the place of another one.
+// Overwrites the line with the offset.
 fn begin(line: &mut Line, offset: u64)
     ensures text { line.new ≡ decimal offset ++ codes " " }
     ensures room { length line.new ≤ before_kind }

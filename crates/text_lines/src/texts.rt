@@ -9,7 +9,7 @@ use crate::put::{put_hex_bytes, put_text};
 use system_stream::{Joined, TextKind};
 
 /// The line of a text of this kind that has ended: `text`, the kind, and the bytes in two hexadecimal digits
-/// each, or `bad` (own rule). `None` exactly where the text is held. A whole text has at most as many bytes
+/// each, or `bad` (own rule). `None` exactly if the text is held. A whole text has at most as many bytes
 /// as its kind allows: 98, 42 or 91.
 pub fn text_line(kind: TextKind, joined: &Joined<'_>) -> Option<Line>
     requires { IsWithinLimit kind joined.now }
@@ -24,8 +24,8 @@ pub fn text_line(kind: TextKind, joined: &Joined<'_>) -> Option<Line>
     }
 }
 
-/// Makes the line that of a text that has ended, as `text_line` does, in the place of another one, and tells
-/// whether it has ended (own rule). Where it is held the line stays as it was.
+/// Overwrites the line with that of a text that has ended, as `text_line` writes it, and returns whether it
+/// has ended (own rule). If the text is held, the line is unchanged.
 pub fn fill_text_line(line: &mut Line, kind: TextKind, joined: &Joined<'_>) -> bool
     requires { IsWithinLimit kind joined.now }
     ensures text { joined_text kind (joined_view joined.now) ≡ (if result then Some line.new else None) }
@@ -58,7 +58,7 @@ fn fill_bad_text(line: &mut Line, kind: TextKind)
     put_text(line, " bad\n");
 }
 
-// Makes the line the kind of a text, in the place of another one.
+// Overwrites the line with the kind of a text.
 fn begin(line: &mut Line, kind: TextKind)
     ensures text { line.new ≡ codes "text " ++ text_kind_word kind }
     ensures room { length line.new ≤ before_text }
@@ -68,7 +68,7 @@ fn begin(line: &mut Line, kind: TextKind)
     put_text(line, kind_name(kind));
 }
 
-// Adds bytes with a space before them, or nothing where there are none.
+// Adds bytes with a space before them, or nothing if there are none.
 fn put_spaced_bytes(line: &mut Line, bytes: &[u8])
     requires { HasRoom (1 + 2 * length bytes.now) line.old }
     ensures text { line.new ≡ line.old ++ spaced_bytes bytes.now }

@@ -1,8 +1,9 @@
 -- The packets of a byte, which come down again.
-use Rattle.std.proofs.Common.{◌≡◌, ◌<◌, ◌≤◌, ℕ, Bool, List, [], ◌∷◌, ◌++◌, length, take, refl, ap, sym, ◌∙◌, subst}
-use Rattle.std.specs.Prelude.{Some, reverse}
+use Rattle.std.proofs.Common.{◌≡◌, ◌<◌, ◌≤◌, ℕ, Bool, true, false, List, [], ◌∷◌, ◌++◌, length, take, refl, ap, sym, ◌∙◌, subst}
+use Rattle.std.specs.Prelude.{◌&&◌, Some, reverse, Result, Ok, Err}
 use Rattle.std.specs.List.{AllByRecursion}
 use Rattle.std.proofs.lemmas.List.{append_assoc, append-nil, reverse-append}
+use Rattle.encoded_packets.specs.DirectMessages.{has_direct_kind}
 use Rattle.ump_grammar.specs.declared.packet.Packet.{Packet}
 use Rattle.ump_grammar.specs.Ranges.{IsPacket}
 use Rattle.midi_meaning.specs.Back.{SameState}
@@ -22,13 +23,15 @@ use Rattle.up_translator.specs.Fronts.{RaisesAlone}
 use Rattle.up_translator.specs.Held.{UpState, up_after}
 use Rattle.up_translator.specs.Laws.{RaisedBytesAreTheDefinition}
 use Rattle.pass_loop.specs.Bytes.{bytes_read}
+use Rattle.pass_loop.specs.Places.{Places, Puts}
 use Rattle.pass_loop.specs.Put.{Put, in_output}
+use Rattle.pass_loop.specs.declared.ends.RunEnd.{RunEnd}
 use Rattle.pass_loop.specs.Runs.{next_item}
 use Rattle.translation_passes.specs.Options.{BackOptions}
-use Rattle.down_translator.specs.Lowered.{IsDirectStep, lowered_bytes}
+use Rattle.down_translator.specs.Lowered.{IsDirectStep, goes_direct, lowered_bytes}
 use Rattle.down_translator.specs.declared.lowered.LoweredMessage.{LoweredMessage}
-use Rattle.translation_passes.specs.Back.{HoldsBack, HoldsReturned, returning, ReturnedBytesMean, byte_pieces, ComesDown, piece_puts, plain_puts, PutsDown}
-use Rattle.translation_passes.specs.Raised.{AreDone, AreTaken, CanBeDone, byte_packets}
+use Rattle.translation_passes.specs.Back.{HoldsBack, HoldsReturned, returning, ReturnedBytesMean, byte_pieces, ComesDown, comes_alone, piece_puts, plain_puts, PutsDown}
+use Rattle.translation_passes.specs.Raised.{AreDone, AreTaken, CanBeDone, CarriesOut, byte_packets}
 use Rattle.translation_passes.proofs.LoweredLaws.{carried_as, is_carried_as}
 use Rattle.translation_passes.proofs.FrontLaws.{ByteIsPut}
 use Rattle.translation_passes.proofs.StreamLaws.{IsAloneAt, alone_at, front_accepted}
@@ -45,7 +48,24 @@ lowered_comes_down offset from packet m whole =
     let step = whole.step offset carried (is_carried_as offset m.lane bytes m.has_attribute whole.lane) in
     (sym (whole.after offset), ap piece_puts step.piece)
 
--- what comes of packets that come after others
+-- so is what is put when its bytes are
+pub lowered_is_put : (offset : ℕ) (from : DownState) (packet : Packet) (m : LoweredMessage) → IsDirectStep from packet m
+    → (old new : Places) (result : Result (Unit {0}) RunEnd) → Puts (in_output (lowered_bytes m) ∷ []) old new result
+    → CarriesOut (PutsDown offset from packet) from old new result
+lowered_is_put offset from packet m whole old new (Ok done) puts =
+    (in_output (lowered_bytes m) ∷ [], lowered_comes_down offset from packet m whole, puts)
+lowered_is_put offset from packet m whole old new (Err end) fails =
+    (from, in_output (lowered_bytes m) ∷ [], lowered_comes_down offset from packet m whole, fails)
+
+-- what one message doesn't carry doesn't come alone
+pub comes_with_others : (down : DownState) (packet : Packet) → goes_direct down packet ≡ false → comes_alone down packet ≡ false
+comes_with_others down packet none = ap (λ goes. has_direct_kind packet && goes) none ∙ by_kind (has_direct_kind packet)
+  where
+    by_kind : (b : Bool) → b && false ≡ false
+    by_kind true = refl
+    by_kind false = refl
+
+-- the outcome of packets that come after others
 record ComesDownAfter (paired : Bool) (room offset : ℕ) (earlier ps : List Packet) (placed : List Placed) : Type 0 where
   taken : AreTaken ComesDown (PutsDown offset) (state_of paired plain_style room placed) ps
   now : List Placed
@@ -100,7 +120,7 @@ module _ (paired : Bool) (silence : RaisedPacketsComeBackInSilence paired) (held
             );
       }
 
--- what comes of the packets of one more byte
+-- the outcome of the packets of one more byte
 pub record ByteComesDown (paired : Bool) (room group : ℕ) (past : List (ℕ × ℕ)) (item : ℕ × ℕ) (from : DownState) : Type 0 where
   pub taken : AreTaken ComesDown (PutsDown item.0) from (byte_packets paired room group past item)
   pub done : (to : DownState) (puts : List Put) → AreDone (PutsDown item.0) from (byte_packets paired room group past item) to puts
@@ -142,7 +162,7 @@ module _ (options : BackOptions) (law : RaisedBytesAreTheDefinition options.pair
   back_alone packets raises =
       alone_at options.paired law options.room options.group past up held.accepted held.holds_up byte packets raises
 
-  -- what comes of the packets rests on no offset
+  -- the outcome of the packets rests on no offset
   comes_at : (offset : ℕ) → ByteComesDown options.paired options.room options.group past (offset, byte) down
   comes_at offset =
       byte_comes_down options.paired silence laws in_range options.room options.group held.least held.few past (offset, byte) down

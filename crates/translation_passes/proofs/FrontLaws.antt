@@ -1,11 +1,12 @@
 -- Bytes that are taken up at once are stepped over one by one.
-use Rattle.std.proofs.Common.{◌≡◌, ◌+◌, ◌≤◌, ℕ, List, [], ◌∷◌, ◌++◌, length, take, drop, None, refl, sym, subst, arith, inl, inr}
+use Rattle.std.proofs.Common.{◌≡◌, ◌+◌, ◌≤◌, ℕ, List, [], ◌∷◌, ◌++◌, length, take, drop, None, refl, ap, sym, ◌∙◌, subst, arith, inl, inr}
 use Rattle.std.specs.Prelude.{IfOk, Result, Ok, Err}
 use Rattle.std.proofs.lemmas.List.{take-append-drop}
 use Rattle.ump_grammar.specs.declared.packet.Packet.{Packet}
 use Rattle.encoded_packets.specs.declared.direct_message.DirectMessage.{DirectMessage}
 use Rattle.up_translator.specs.DirectWords.{packet_of}
-use Rattle.up_translator.specs.Fronts.{IsDirectFront, RaiseNothing, RaiseOne, RaisesAlone}
+use Rattle.midi1_bytes.specs.Fronts.{data_taken}
+use Rattle.up_translator.specs.Fronts.{HasNoDirectFront, IsDirectFront, RaiseNothing, RaiseOne, RaisesAlone}
 use Rattle.up_translator.specs.Held.{UpState, up_after}
 use Rattle.pass_loop.specs.Pass.{StepEnds, Steps, Tail, Takes, Work}
 use Rattle.pass_loop.specs.Places.{Places}
@@ -15,9 +16,9 @@ use Rattle.pass_loop.specs.declared.ends.RunEnd.{RunEnd}
 use Rattle.pass_loop.specs.ForProofs.PutLaws.{over_puts-none}
 use Rattle.pass_loop.specs.ForProofs.StepLaws.{takes_steps}
 use Rattle.translation_passes.specs.ForProofs.Fronts.{FrontIsTaken}
-use Rattle.translation_passes.specs.Raised.{Doing}
+use Rattle.translation_passes.specs.Raised.{Doing, TakesNothing}
 
--- what comes of one byte: it is accepted, this is put for it, and what is held then
+-- the outcome of one byte: it is accepted, this is put for it, and the state then
 pub record ByteIsPut (work : Work (ℕ × ℕ)) (HoldsNow : List (ℕ × ℕ) → Type 0) (past : List (ℕ × ℕ)) (byte : ℕ) (puts : List Put) : Type 0
   where
     pub accepted : work.refusal past (next_item past byte) ≡ None
@@ -146,3 +147,14 @@ pub front_count : {Held : Type 0} (IsDone : Doing Held) (before after : UpState)
     → IfOk result (λ count. count ≤ length bytes)
 front_count IsDone before after bytes from to old new (Ok count) taken = taken.0
 front_count IsDone before after bytes from to old new (Err end) taken = tt
+
+-- a message at the front has some bytes
+pub some_taken : (up new : UpState) (bytes : List ℕ) (message : DirectMessage) (count : ℕ) → IsDirectFront up bytes message count new
+    → count ≡ 0 → TakesNothing up bytes
+some_taken up new bytes message count front none = absurd (omega (arith, front.some, none))
+
+-- without one, data are taken
+pub none_taken : (up new : UpState) (bytes : List ℕ) (count : ℕ) → HasNoDirectFront up bytes × (new ≡ up)
+    → count ≡ data_taken new.parsing bytes → count ≡ 0 → TakesNothing up bytes
+none_taken up new bytes count front taken none =
+    (front.0, ap (λ (u : UpState). data_taken u.parsing bytes) (sym front.1) ∙ sym taken ∙ none)

@@ -1,17 +1,29 @@
--- What is put for a message that alone carries a packet is what is put for an answer with its bytes.
-use Rattle.std.proofs.Common.{◌≡◌, ◌<◌, ℕ, Bool, true, false, List, [], ◌∷◌, ◌++◌, length, refl, ap, ◌∙◌, arith, Option, Some, None}
-use Rattle.std.specs.Prelude.{◌==◌, if◌then◌else◌}
+-- What is put for a message that alone carries a packet is what is put for an answer with its bytes; so is nothing for a packet that is
+-- only held.
+use Rattle.std.proofs.Common.{◌≡◌, ◌<◌, ℕ, Bool, true, false, List, [], ◌∷◌, ◌++◌, length, refl, ap, sym, ◌∙◌, subst, arith, Option, Some, None}
+use Rattle.std.specs.Prelude.{◌==◌, if◌then◌else◌, Result, Ok}
 use Rattle.std.specs.Option.{option_map, option_to_list}
 use Rattle.std.proofs.lemmas.Bool.{cond_both, eqb-true}
+use Rattle.midi_meaning.specs.declared.listed.BadStep.{BadStep}
 use Rattle.midi_meaning.specs.declared.listed.Kind.TheVariants as kinds
+use Rattle.ump_grammar.specs.declared.packet.Packet.{Packet}
 use Rattle.down_translator.specs.declared.carried.Carried.{Carried}
 use Rattle.down_translator.specs.declared.carried.LentLine.{LentLine}
 use Rattle.down_translator.specs.declared.lowered.LoweredMessage.{LoweredMessage}
 use Rattle.down_translator.specs.declared.shortened.ShortenedMessage.{ShortenedMessage}
 use Rattle.down_translator.specs.Carried.{line_in, listed_by}
+use Rattle.down_translator.specs.Held.{DownState}
+use Rattle.down_translator.specs.HeldStep.{IsNothing}
 use Rattle.down_translator.specs.Lowered.{IsAnsweredAs, attribute_line, lowered_bytes, shortened_bytes}
+use Rattle.down_translator.specs.Step.{IsStep}
 use Rattle.listing_lines.specs.Lines.{line_puts}
-use Rattle.translation_passes.specs.Down.{message_puts, pair_puts, puts_for}
+use Rattle.listing_lines.specs.Refusal.{refusal_by}
+use Rattle.pass_loop.specs.ForProofs.PutLaws.{over_puts-none}
+use Rattle.pass_loop.specs.Pass.{Takes}
+use Rattle.pass_loop.specs.Places.{Places, Puts}
+use Rattle.pass_loop.specs.Put.{Put}
+use Rattle.pass_loop.specs.declared.ends.RunEnd.{RunEnd}
+use Rattle.translation_passes.specs.Down.{Carries, message_puts, pair_puts, puts_for}
 
 module _ (offset lane : ℕ) (bytes : List ℕ) (left_out : Bool) (below : lane < 16) where
   abbrev line_at : Bool → Option LentLine
@@ -48,6 +60,35 @@ module _ (offset lane : ℕ) (bytes : List ℕ) (left_out : Bool) (below : lane 
   puts_are some =
       ap (λ pairs. pair_puts pairs ++ line_puts (option_to_list (line_in carried_as))) (pair_is some)
       ∙ ap (λ line. pair_puts one ++ line_puts (option_to_list line)) (line_told left_out)
+
+-- a step whose answer has these bytes carries the packet when they are put
+pub carries_message : (state : DownState) (offset lane : ℕ) (bytes : List ℕ) (left_out : Bool) → lane < 16 → (packet : Packet)
+    → 0 < length bytes
+    → ((carried : Carried) → IsAnsweredAs offset lane bytes left_out carried → IsStep state offset packet carried)
+    → (old new : Places) (result : Result (Unit {0}) RunEnd) → Puts (message_puts offset lane bytes left_out) old new result
+    → Carries state offset packet old new result
+carries_message state offset lane bytes left_out below packet some step old new result puts =
+    let carried = carried_as offset lane bytes left_out below in
+    let is = step carried (is_carried_as offset lane bytes left_out below) in
+    let T : Option BadStep → Type 0 = λ bad. Takes (refusal_by bad offset) (puts_for carried) old new result in
+    let S : List Put → Type 0 = λ p. Puts p old new result in (
+      puts_for carried,
+      λ fine. (carried, is, refl),
+      subst T (sym is.accepted) (subst S (sym (puts_are offset lane bytes left_out below some)) puts),
+    )
+
+first_lane : 0 < 16
+first_lane = omega arith
+
+-- a step whose answer has neither bytes nor a line carries the packet when nothing is put
+pub carries_nothing : (state : DownState) (offset : ℕ) (packet : Packet)
+    → ((carried : Carried) → IsNothing carried → IsStep state offset packet carried)
+    → (places : Places) → Carries state offset packet places places (Ok tt)
+carries_nothing state offset packet step places =
+    let carried = carried_as offset 0 [] false first_lane in
+    let is = step carried (record { piece = refl; lane = refl; line = refl }) in
+    let T : Option BadStep → Type 0 = λ bad. Takes (refusal_by bad offset) (puts_for carried) places places (Ok tt) in
+    (puts_for carried, λ fine. (carried, is, refl), subst T (sym is.accepted) (sym (over_puts-none places)))
 
 -- a message has a status byte
 some_whole : (status : ℕ) (others : List ℕ) → 0 < length (status ∷ others)

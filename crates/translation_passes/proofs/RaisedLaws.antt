@@ -93,7 +93,7 @@ first-split group payload (suc count) k below = elim (cases_eq k count) [
       )
 ]
 
--- the part that `part` answers is the packet, and there is one exactly where the count isn't reached
+-- the part that `part` answers is the packet, and there is one exactly if the count isn't reached
 pub record IsPacketPart (group : ℕ) (payload : List ℕ) (k : ℕ) (form : Form) (bytes : List ℕ) : Type 0 where
   pub below : k < part_count payload
   pub packet : Exclusive group form bytes ≡ exclusive_packet group payload k

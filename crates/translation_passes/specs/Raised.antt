@@ -4,12 +4,14 @@ use Rattle.std.specs.Option.{option_map}
 use Rattle.voice_messages.specs.declared.voice2.Form.{Form}
 use Rattle.ump_grammar.specs.declared.packet.Packet.{Packet}
 use Rattle.ump_grammar.specs.declared.packet.Packet.TheVariants.{Exclusive}
+use Rattle.midi1_bytes.specs.Fronts.{data_taken}
 use Rattle.midi1_bytes.specs.Parsing.{open_of}
 use Rattle.midi_meaning.specs.Raising.{packets_at}
 use Rattle.midi_meaning.specs.StepListing.{kinds_at_end, line_up, lines_at, open_pair}
 use Rattle.midi_meaning.specs.UpRefusal.{refusal_of_step, refusal_up}
 use Rattle.up_translator.specs.declared.raised.Raised.{Raised}
 use Rattle.up_translator.specs.ByteLines.{lines_in}
+use Rattle.up_translator.specs.Fronts.{HasNoDirectFront}
 use Rattle.up_translator.specs.Held.{UpState, step_in}
 use Rattle.up_translator.specs.Raised.{packets_in}
 use Rattle.up_translator.specs.Step.{Raises}
@@ -50,7 +52,7 @@ last_lines room group past =
 
 -- ---- one packet after the other
 
--- What is done with a packet is a relation of what is held before it, the packet, what is held after it, and what is put for it.
+-- What is done with a packet is a relation of the state before it, the packet, the state after it, and what is put for it.
 abbrev pub Doing : Type 0 → Type 1
 Doing Held = Held → Packet → Held → List Put → Type 0
 
@@ -61,7 +63,7 @@ AreDone {Held = Held} IsDone from (packet ∷ packets) to puts =
     (between : Held) × (first : List Put) × (rest : List Put) × IsDone from packet between first
     × AreDone IsDone between packets to rest × (puts ≡ first ++ rest)
 
--- each of these packets is accepted by what is held once those before it are done
+-- each of these packets is accepted in the state after those before it
 abbrev pub AreTaken : {Held : Type 0} → (Held → Packet → Type 0) → Doing Held → Held → List Packet → Type 0
 AreTaken Accepts IsDone from [] = Unit {0}
 AreTaken {Held = Held} Accepts IsDone from (packet ∷ packets) =
@@ -81,14 +83,14 @@ ByteIsDone IsDone from raised to puts =
     (written : List Put) × AreDone IsDone from (packets_in raised) to written
     × (puts ≡ written ++ line_puts (lines_in raised.lines))
 
--- what is to be done, which ends with what is held and with what is put, is done, or one of these puts failed
+-- what is to be done, which ends with a state and with what is put, is done, or one of these puts failed
 abbrev pub CarriesOut : {Held : Type 0} → (Held → List Put → Type 0) → Held → Places → Places →
     Result (Unit {0}) RunEnd → Type 0
 CarriesOut Does to old new (Ok done) = (puts : List Put) × Does to puts × (new ≡ over_puts puts old)
 CarriesOut {Held = Held} Does to old new (Err end) =
     (meant : Held) × (puts : List Put) × Does meant puts × FailsAt puts end old new
 
--- What a byte or a packet asks for: why it is refused, or else what is done, which ends with what is held and with what is put.
+-- What a byte or a packet asks for: why it is refused, or else what is done, which ends with a state and with what is put.
 pub record Task (Held : Type 0) : Type 1 where
   pub refusal : Tail
   pub Does : Held → List Put → Type 0
@@ -104,6 +106,11 @@ Answers task to old new result =
 -- why a byte is refused, by what the translator up holds
 abbrev pub byte_refusal : UpState → ℕ → ℕ → Tail
 byte_refusal up offset byte = refusal_by (refusal_of_step (step_in up offset byte)) offset
+
+-- None of these bytes are taken up at once: they begin neither with a voice message that is raised to a direct one, nor with data of an
+-- exclusive that is open.
+abbrev pub TakesNothing : UpState → List ℕ → Type 0
+TakesNothing up bytes = HasNoDirectFront up bytes × (data_taken up.parsing bytes ≡ 0)
 
 -- a byte after its offset: the translator up refuses it, or else its packets are done, and its lines put
 abbrev pub byte_task : {Held : Type 0} → Doing Held → UpState → ℕ × ℕ → Held → Task Held

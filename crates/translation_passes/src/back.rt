@@ -1,13 +1,14 @@
 // From a stream of MIDI 1.0 bytes to packets, and from these to MIDI 1.0 bytes again.
 ghost use Rattle.std.specs.Prelude.{◌≡◌, ◌<◌, ◌≤◌, [], ◌∷◌, false, IfOk, MatchOption, length};
-ghost use Rattle.down_translator.specs.Lowered.{IsDirectStep, lowered_bytes, goes_direct};
+ghost use Rattle.down_translator.specs.Lowered.{IsDirectStep, lowered_bytes};
 ghost use Rattle.pass_loop.specs.Put.{in_output};
 ghost use Rattle.pass_loop.specs.Bytes.{byte_cutting};
 ghost use Rattle.pass_loop.specs.PassEnds.{PassEnds};
 ghost use Rattle.pass_loop.specs.Pass.{seen};
 ghost use Rattle.pass_loop.specs.Places.{Puts};
-ghost use Rattle.translation_passes.specs.Back.{HoldsBack, ComesDown, back_options, piece_puts, PutsDown, returning};
-ghost use Rattle.translation_passes.specs.Raised.{CarriesOut};
+ghost use Rattle.translation_passes.specs.Back.{HoldsBack, ComesDown, back_options, comes_alone};
+ghost use Rattle.translation_passes.specs.Back.{piece_puts, PutsDown, returning};
+ghost use Rattle.translation_passes.specs.Raised.{CarriesOut, TakesNothing};
 ghost use Rattle.translation_passes.specs.ForProofs.BackMeans.{returned_means, returns_named};
 ghost use Rattle.translation_passes.specs.ForProofs.RaisedMeans.{last_named};
 
@@ -99,10 +100,11 @@ fn put_message<O: Outputs>(message: &LoweredMessage, outputs: &mut O) -> Result<
     }
 }
 
-// The message that alone carries a packet, if one does.
+// The message that alone carries a direct message, if one does.
+#[tactic(auto, using(crate::proofs::BackLaws::comes_with_others))]
 #[inline(always)]
 fn lowered_in(down: &Down, packet: &RaisedPacket) -> Option<LoweredMessage>
-    ensures { MatchOption result (goes_direct down.now packet.now ≡ false)
+    ensures { MatchOption result (comes_alone down.now packet.now ≡ false)
         (λ message. IsDirectStep down.now packet.now message) }
 {
     let message = packet.direct_message()?;
@@ -115,7 +117,6 @@ impl PacketWork for Down {
 
     ghost IsDone = { λ offset. PutsDown offset };
 
-    #[tactic(auto, using(crate::proofs::BackLaws::lowered_comes_down))]
     #[inline(always)]
     fn put<O: Outputs>(
         &mut self,
@@ -183,6 +184,8 @@ impl Engine<u64, u8> for BackEngine {
 }
 
 impl Runs for BackEngine {
+    ghost TakesNone = { λ engine bytes. TakesNothing engine.up bytes };
+
     #[inline(always)]
     fn take_run<O: Outputs>(&mut self, bytes: &[u8], outputs: &mut O) -> Result<usize, RunEnd> {
         raised_bytes_are_the_definition();

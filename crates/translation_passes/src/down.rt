@@ -198,7 +198,7 @@ fn carry_encoded<O: Outputs>(
 ) -> Result<(), RunEnd>
     requires packet { IsPacket packet.now }
     requires begun { (O.places outputs.old).begun ≡ true }
-    ensures behind { down.new ≡ down_after offset packet.now down.old }
+    ensures after { down.new ≡ down_after offset packet.now down.old }
     ensures carries { Carries down.old offset packet.now
         (O.places outputs.old) (O.places outputs.new) result }
 {
@@ -209,7 +209,7 @@ fn carry_encoded<O: Outputs>(
 }
 
 // Puts a message of one byte. Each of these arrays has a function of
-// its own, since it is cleared where its function begins.
+// its own, since it is cleared when its function begins.
 #[inline(always)]
 fn put_one<O: Outputs>(lane: U4, first: u8, outputs: &mut O) -> Result<(), RunEnd>
     requires begun { (O.places outputs.old).begun ≡ true }
@@ -372,50 +372,9 @@ fn put_shortened<O: Outputs>(
     }
 }
 
-// Takes one packet down that isn't carried by one message with all its bytes: puts its piece into the lane of
-// its group, and its line into the notes.
-#[inline(always)]
-fn carry_shortened<O: Outputs>(
-    down: &mut Down,
-    packet: &EncodedPacket,
-    offset: u64,
-    outputs: &mut O,
-) -> Result<(), RunEnd>
-    requires packet { IsPacket packet.now }
-    requires begun { (O.places outputs.old).begun ≡ true }
-    ensures behind { down.new ≡ down_after offset packet.now down.old }
-    ensures carries { Carries down.old offset packet.now
-        (O.places outputs.old) (O.places outputs.new) result }
-{
-    match down.shortened(packet) {
-        Some(message) => put_shortened(&message, offset, outputs),
-        None => carry_encoded(down, packet, offset, outputs),
-    }
-}
-
-// Takes one packet down that isn't carried by one message with all its bytes, or that only adds six bytes to
-// an exclusive: then nothing is put.
-#[inline(always)]
-fn carry_held<O: Outputs>(
-    down: &mut Down,
-    packet: &EncodedPacket,
-    offset: u64,
-    outputs: &mut O,
-) -> Result<(), RunEnd>
-    requires packet { IsPacket packet.now }
-    requires begun { (O.places outputs.old).begun ≡ true }
-    ensures behind { down.new ≡ down_after offset packet.now down.old }
-    ensures carries { Carries down.old offset packet.now
-        (O.places outputs.old) (O.places outputs.new) result }
-{
-    if down.holds(packet) {
-        Ok(())
-    } else {
-        carry_shortened(down, packet, offset, outputs)
-    }
-}
-
-// Takes one packet down: puts its piece into the lane of its group, and its line into the notes.
+// Takes one packet down: puts its piece into the lane of its group, and its line into the notes. What most
+// packets are is asked first: one that a message alone carries, in plain or in compact style, and one that only
+// adds six bytes to an exclusive, of which nothing is put.
 fn carry<O: Outputs>(
     down: &mut Down,
     packet: &EncodedPacket,
@@ -424,12 +383,18 @@ fn carry<O: Outputs>(
 ) -> Result<(), RunEnd>
     requires packet { IsPacket packet.now }
     requires begun { (O.places outputs.old).begun ≡ true }
-    ensures behind { down.new ≡ down_after offset packet.now down.old }
+    ensures after { down.new ≡ down_after offset packet.now down.old }
     ensures carries { Carries down.old offset packet.now
         (O.places outputs.old) (O.places outputs.new) result }
 {
-    match down.lowered(packet) {
-        Some(message) => put_lowered(&message, offset, outputs),
-        None => carry_held(down, packet, offset, outputs),
+    if let Some(message) = down.lowered(packet) {
+        return put_lowered(&message, offset, outputs);
     }
+    if let Some(message) = down.shortened(packet) {
+        return put_shortened(&message, offset, outputs);
+    }
+    if down.holds(packet) {
+        return Ok(());
+    }
+    carry_encoded(down, packet, offset, outputs)
 }

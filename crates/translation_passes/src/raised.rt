@@ -1,5 +1,5 @@
 // What is done with the packets to which a byte is raised, and with its lines.
-ghost use Rattle.std.specs.Prelude.{◌≡◌, ◌++◌, ℕ, List, Ok};
+ghost use Rattle.std.specs.Prelude.{◌≡◌, ◌++◌, ℕ, IfOk, List, Ok};
 ghost use Rattle.ump_grammar.specs.declared.packet.Packet.{Packet};
 ghost use Rattle.midi_meaning.specs.Raising.{exclusive_packets};
 ghost use Rattle.up_translator.specs.declared.raised.Raised.{Raised};
@@ -11,7 +11,8 @@ ghost use Rattle.up_translator.specs.Raised.{IsApart, packets_in};
 ghost use Rattle.up_translator.specs.Step.{Raises};
 ghost use Rattle.pass_loop.specs.Places.{Puts};
 ghost use Rattle.translation_passes.specs.ForProofs.Fronts.{FrontIsTaken};
-ghost use Rattle.translation_passes.specs.Raised.{Answers, AreDone, AreTaken, ByteIsDone, CanBeDone, CarriesOut, Doing, byte_task, open_puts};
+ghost use Rattle.translation_passes.specs.Raised.{Answers, AreDone, AreTaken, ByteIsDone, CanBeDone, CarriesOut};
+ghost use Rattle.translation_passes.specs.Raised.{Doing, TakesNothing, byte_task, open_puts};
 
 use listing_lines::{put_lines, put_listed, refused};
 use pass_loop::{Outputs, RunEnd};
@@ -130,7 +131,9 @@ pub(crate) fn put_byte<P: PacketWork, O: Outputs>(
 }
 
 /// Takes bytes at the front of these up at once, if nothing or one direct packet is raised of them, does
-/// the work on that, and says how many they are. The work rests on no offset, so that it is told 0.
+/// the work on that, and says how many they are: 0 only if they begin with neither. The work rests on no
+/// offset, so that it is told 0.
+#[tactic(auto, using(crate::proofs::FrontLaws::some_taken, crate::proofs::FrontLaws::none_taken))]
 #[inline(always)]
 pub(crate) fn put_front<P: PacketWork, O: Outputs>(
     up: &mut Up,
@@ -140,8 +143,9 @@ pub(crate) fn put_front<P: PacketWork, O: Outputs>(
 ) -> Result<usize, RunEnd>
     requires taken { (message : DirectMessage) (count : ℕ) (new : UpState) →
         IsDirectFront up.old bytes.now message count new → P.Accepts work.old (packet_of message) }
-    ensures { FrontIsTaken (P.IsDone 0) up.old up.new bytes.now work.old work.new
+    ensures front { FrontIsTaken (P.IsDone 0) up.old up.new bytes.now work.old work.new
         (O.places outputs.old) (O.places outputs.new) result }
+    ensures none { IfOk result (λ count. count ≡ 0 → TakesNothing up.old bytes.now) }
 {
     match up.front(bytes) {
         Some((message, count)) => {

@@ -8,6 +8,7 @@ ghost use Rattle.pass_loop.specs.Put.{in_output};
 ghost use Rattle.ump_grammar.specs.Ranges.{IsPacket};
 ghost use Rattle.pass_loop.specs.Bytes.{byte_cutting};
 ghost use Rattle.pass_loop.specs.Pass.{seen};
+ghost use Rattle.translation_passes.specs.Raised.{TakesNothing};
 ghost use Rattle.translation_passes.specs.Up.{HoldsRaised, up_options, raising};
 ghost use Rattle.packet_input.specs.Written.{IsWritten};
 ghost use Rattle.translation_passes.specs.ForProofs.RaisedMeans.{last_named};
@@ -159,6 +160,8 @@ impl Engine<u64, u8> for UpEngine {
 }
 
 impl Runs for UpEngine {
+    ghost TakesNone = { λ engine bytes. TakesNothing engine.up bytes };
+
     #[inline(always)]
     fn take_run<O: Outputs>(&mut self, bytes: &[u8], outputs: &mut O) -> Result<usize, RunEnd> {
         raised_bytes_are_the_definition();

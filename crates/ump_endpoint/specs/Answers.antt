@@ -80,7 +80,8 @@ abbrev pub said_outcome : SetupData → List Received → SaidOrFault → Outcom
 said_outcome setup past (Ok received) = outcomes.Heard (heard_at setup past received)
 said_outcome setup past (Err fault) = outcomes.Unread fault
 
--- what becomes of the message that a packet ends: a stream packet ends its own, and of the others only one of an exclusive ends one
+-- what becomes of the message that a packet ends: a stream packet ends its own, and of the others only one of
+-- an exclusive ends one
 abbrev pub outcome_by : SetupData → ℕ → List Received → Option SaidOrFault → Packet → Option Outcome
 outcome_by setup protocol past said (packets.Stream format status low second third fourth) =
     Some (stream_outcome setup protocol (packets.Stream format status low second third fourth))

@@ -148,7 +148,7 @@ abbrev pub with_part_of : Option Part → Table → Table
 with_part_of None table = table
 with_part_of (Some part) table = with_part part table
 
--- what is held after a packet at this offset, whether it is refused or not
+-- the state after a packet at this offset, whether it is refused or not
 abbrev pub after_packet : ℕ → Packet → EndpointState → EndpointState
 after_packet offset packet held =
     record {
@@ -160,7 +160,7 @@ after_packet offset packet held =
 
 -- ---- packets, the newest first
 
--- what is held after them
+-- the state after them
 abbrev pub held_over : SetupData → ℕ → List Placed → EndpointState
 held_over setup room past =
     record {

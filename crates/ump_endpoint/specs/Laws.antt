@@ -21,27 +21,35 @@ use Rattle.ump_endpoint.specs.Held.{after_packet, held_over, listed_in, new_endp
 abbrev pub ArePackets : List Placed → Type 0
 ArePackets past = AllByRecursion (λ placed. IsPacket placed.packet) past
 
--- What is held after packets answers to one more what the definitions answer that look back over them. The room is at least 6, as an
--- exclusive packet may have that many bytes.
+-- The state after packets answers one more as the definitions do that look back over them. The
+-- room is at least 6, as an exclusive packet may have that many bytes.
 pub record AnswersAreThoseOfTheHistory : Type 0 where
   pub begins : (setup : SetupData) (room : ℕ) → new_endpoint setup room ≡ held_over setup room []
   pub reset : (setup : SetupData) (room : ℕ) (past : List Placed) →
       reset_endpoint (held_over setup room past) ≡ new_endpoint setup room
-  pub refusal : (setup : SetupData) (room : ℕ) (past : List Placed) → 6 ≤ room → ArePackets past → (packet : Packet) →
+  pub refusal : (setup : SetupData) (room : ℕ) (past : List Placed) → 6 ≤ room → ArePackets past →
+      (packet : Packet) →
       refusal_in (held_over setup room past) packet ≡ bad_part (Some room) (parts_of past) (part_of 0 packet)
-  pub replies : (setup : SetupData) (room : ℕ) (past : List Placed) → 6 ≤ room → ArePackets past → (placed : Placed) →
+  pub replies : (setup : SetupData) (room : ℕ) (past : List Placed) → 6 ≤ room → ArePackets past →
+      (placed : Placed) →
       replies_in (held_over setup room past) placed.packet ≡ packet_replies setup room past placed
-  pub outcome : (setup : SetupData) (room : ℕ) (past : List Placed) → 6 ≤ room → ArePackets past → (placed : Placed) →
+  pub outcome : (setup : SetupData) (room : ℕ) (past : List Placed) → 6 ≤ room → ArePackets past →
+      (placed : Placed) →
       outcome_in (held_over setup room past) placed.packet ≡ packet_outcome setup room past placed
-  pub listed : (setup : SetupData) (room : ℕ) (past : List Placed) → 6 ≤ room → ArePackets past → (placed : Placed) →
+  pub listed : (setup : SetupData) (room : ℕ) (past : List Placed) → 6 ≤ room → ArePackets past →
+      (placed : Placed) →
       listed_in (held_over setup room past) placed.offset placed.packet ≡ packet_listed room past placed
   pub after : (setup : SetupData) (room : ℕ) (past : List Placed) → 6 ≤ room → ArePackets past →
       profiles_are_distinct setup.profiles ≡ true → (placed : Placed) →
-      after_packet placed.offset placed.packet (held_over setup room past) ≡ held_over setup room (placed ∷ past)
-  pub begun : (setup : SetupData) (room : ℕ) (past : List Placed) → 6 ≤ room → ArePackets past → (group : ℕ) →
+      after_packet placed.offset placed.packet (held_over setup room past)
+      ≡ held_over setup room (placed ∷ past)
+  pub begun : (setup : SetupData) (room : ℕ) (past : List Placed) → 6 ≤ room → ArePackets past →
+      (group : ℕ) →
       option_map (λ begun. begun.start) (begun_in (held_over setup room past).exclusives group)
       ≡ started (Some room) group (parts_of past)
   pub muid : (setup : SetupData) (room : ℕ) (past : List Placed) (block : ℕ) →
-      muid_in (held_over setup room past).responder.blocks block ≡ muid_at setup (received_in_packets room past) block
+      muid_in (held_over setup room past).responder.blocks block
+      ≡ muid_at setup (received_in_packets room past) block
   pub on : (setup : SetupData) (room : ℕ) (past : List Placed) (key : Key) →
-      state_in (held_over setup room past).responder.states key ≡ on_at setup (received_in_packets room past) key
+      state_in (held_over setup room past).responder.states key
+      ≡ on_at setup (received_in_packets room past) key

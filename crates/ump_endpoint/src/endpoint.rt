@@ -95,9 +95,9 @@ fn answer(setup: &Setup, config: &mut Config, replies: &mut Replies, packet: &Pa
 }
 
 impl Endpoint {
-    /// An endpoint of this setup that has received nothing. `room` is the most bytes of an exclusive between
-    /// F0 and F7, 6 to 1,048,576, for which each group reserves memory. Returns `NoMemory` if there isn't
-    /// enough memory. No other call takes any.
+    /// Makes an endpoint of this setup that has received nothing (own rule). `room` is the most bytes of an
+    /// exclusive between F0 and F7, 6 to 1,048,576, for which each group reserves memory. No other call takes
+    /// memory. `NoMemory` is returned if there isn't enough.
     pub fn new(alloc: Global, setup: Setup, room: u32) -> Result<Endpoint, NoMemory>
         requires least { 6 ≤ room }
         requires most { room ≤ 1048576 }
@@ -120,7 +120,7 @@ impl Endpoint {
 
     /// Returns the endpoint to the state in which `new` makes it with the same setup and room (own rule): no
     /// exclusive is open, no MUID is used up, the protocol and the profiles are those of the setup, and there
-    /// are no replies. Takes no memory.
+    /// are no replies. The call takes no memory.
     pub fn reset(&mut self)
         ensures { self.new ≡ record { held = reset_endpoint self.old.held; replies = [] } }
     {
@@ -177,7 +177,8 @@ impl Endpoint {
         }
     }
 
-    /// The replies to the last packet, one packet at a time, until `packet` or `reset` is called.
+    /// Returns the replies to the last packet, one packet at a time, until `packet` or `reset` is called (own
+    /// rule).
     pub fn replies(&self) -> ReplyPackets<'_>
         ensures packets { result ≡ self.now.replies }
         ensures few { length self.now.replies ≤ MOST_REPLY_WORDS }
@@ -185,36 +186,38 @@ impl Endpoint {
         ReplyPackets::new(self.replies.words())
     }
 
-    /// The setup of which the endpoint was made.
+    /// Returns the setup of which the endpoint was made (own rule).
     pub fn setup(&self) -> &Setup
         ensures { result.now ≡ self.now.held.setup }
     {
         &self.setup
     }
 
-    /// The protocol in force: 1 for MIDI 1.0, 2 for MIDI 2.0 (M2-104-UM, Stream Configuration).
+    /// Returns the protocol in force: 1 for MIDI 1.0, 2 for MIDI 2.0 (M2-104-UM, Stream Configuration).
     pub fn protocol(&self) -> u8
         ensures { result ≡ self.now.held.protocol }
     {
         self.config.protocol
     }
 
-    /// The MUID in force of a function block, counted from 0. `None` exactly when the block has no MIDI-CI or
-    /// has used up its MUIDs, or when there is no such block (M2-101-UM).
+    /// Returns the MUID in force of a function block, counted from 0 (M2-101-UM, MUID), or `None` exactly
+    /// when the block has no MIDI-CI or has used up its MUIDs, or when there is no such block.
     pub fn muid(&self, block: u8) -> Option<u32>
         ensures { result ≡ muid_in self.now.held.responder.blocks block }
     {
         self.responder.muid(block)
     }
 
-    /// Whether a profile is on; `None` exactly when the setup doesn't name it (M2-101-UM).
+    /// Returns whether a profile is on (M2-101-UM, profile configuration), or `None` exactly when the setup
+    /// doesn't name it.
     pub fn profile_is_on(&self, key: &Key) -> Option<bool>
         ensures { result ≡ state_in self.now.held.responder.states key.now }
     {
         self.responder.profile_is_on(key)
     }
 
-    /// The offset of the packet that began the group's exclusive; `None` exactly when nothing is open.
+    /// Returns the offset of the packet that began the group's exclusive (M2-104-UM, system exclusive 7-bit
+    /// messages), or `None` exactly when none is open.
     pub fn begun_at(&self, group: U4) -> Option<u64>
         ensures { result ≡ option_map (λ begun. begun.start) (begun_in self.now.held.exclusives group) }
     {

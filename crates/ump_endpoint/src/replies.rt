@@ -28,22 +28,22 @@ impl<'a> ReplyPackets<'a> {
         ReplyPackets { words }
     }
 
-    /// Whether no packet is left.
+    /// Tests whether no packet is left (own rule).
     pub fn is_empty(&self) -> bool
         ensures { result ≡ (length self.now == 0) }
     {
         self.words.is_empty()
     }
 
-    /// The words of all packets that are left, one packet after the other.
+    /// Returns the words of all packets that are left, one packet after the other (own rule).
     pub fn words(&self) -> &'a [u32]
         ensures { result.now ≡ self.now }
     {
         self.words
     }
 
-    /// The words of the next packet, as many as its first word asks for, 1 to 4 (M2-104-UM, message types);
-    /// `None` exactly when none is left.
+    /// Takes the next packet. Returns its words, 1 to 4 as its first word says (M2-104-UM, message types), or
+    /// `None` exactly when no packet is left.
     pub fn next(&mut self) -> Option<&'a [u32]>
         ensures none { is_none result ≡ (length self.old == 0) }
         ensures words { IfSome result (λ words.

@@ -1,4 +1,4 @@
--- The places that a packet's row doesn't name, in which it is written with zeros (M2-104-UM, reserved fields).
+-- The places that a packet's row doesn't name: zeros are written there (M2-104-UM, reserved fields).
 use Rattle.std.specs.Prelude.{◌≡◌, ℕ, ◌-◌, List, ◌++◌, length, replicate, Option, None, Some}
 use Rattle.voice_messages.specs.declared.voice1.Voice1.{Voice1}
 use Rattle.voice_messages.specs.declared.voice1.Voice1.TheVariants as voice1

@@ -21,7 +21,7 @@ words_of_eight order bytes enough =
     ∙ ap (λ front. number_of order front ∷ word_at order (take 8 bytes) 1 ∷ []) first
     ∙ ap (λ behind. word_at order bytes 0 ∷ number_of order behind ∷ []) second
 
--- where two words are whole, they are the packet that is held there
+-- if two words are whole, they are the packet that is held there
 pub pair_held : (at : ℕ) (reader : Reading Order) (bytes : List ℕ) (first second : ℕ) → 8 ≤ length bytes
     → first ≡ word_at reader.how bytes 0 → second ≡ word_at reader.how bytes 1 → IsWhole (first ∷ second ∷ [])
     → BeginsItemAt (bytes_asked reader.how) (framed_at reader.how) at reader bytes

@@ -6,7 +6,8 @@ use Rattle.item_reader.specs.declared.cutting.Tail.TheVariants.{End}
 use Rattle.ump_words.specs.Cut.{Cuts, bytes_asked, framed_at}
 use Rattle.packet_words.specs.declared.words.Order.{Order}
 
--- What a reader has given of a recording are the packets at its front, with each one more; at the end they are all of its packets.
+-- The packets that a reader has given of a recording are those at its front, one more after each call; at the end
+-- they are all of its packets.
 abbrev pub PacketsAreReadInOrder : Type 0
 PacketsAreReadInOrder = ItemsAreReadInOrder bytes_asked framed_at
 

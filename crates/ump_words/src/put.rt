@@ -4,7 +4,7 @@ ghost use Rattle.outside.specs.Outside.{HasCause, PutsPiece};
 ghost use Rattle.packet_words.specs.Words.{word_bytes};
 
 use outside::{Failed, Sink};
-use packet_words::{Order, pair_bytes, write_words};
+use packet_words::{Order, write_words};
 
 /// Puts the bytes of these words, one to four, one word after the other, in a single put. At an `Err`,
 /// which comes only if the count of the output's faults rose, a front of them that isn't all of them may
@@ -16,8 +16,5 @@ pub fn put_words<W: Sink>(words: &[u32], order: Order, output: &mut W) -> Result
         (flat_map (word_bytes order) words.now) }
     ensures cause { HasCause (W.faults output.old) (W.faults output.new) result }
 {
-    match *words {
-        [first, second] => output.put(&pair_bytes(first, second, order)),
-        _ => output.put(write_words(words, order).as_slice()),
-    }
+    output.put(write_words(words, order).as_slice())
 }

@@ -14,7 +14,8 @@ use packet_words::words::{word_in, words_in, words_in_packet};
 use packet_words::{Framed, Order};
 use std::marker::Model;
 
-/// How packets are cut: by the order of the bytes, which is all of it to a contract.
+/// How a stream is cut into packets: each has the number of words that the message type of its first word
+/// requires (M2-104-UM, message types), and their bytes have this order. A contract sees the order alone.
 #[derive(Drop)]
 pub struct Packets {
     order: Order,

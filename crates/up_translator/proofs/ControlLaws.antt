@@ -1,4 +1,4 @@
--- What comes of a control change is what the meaning of MIDI 1.0 says.
+-- The outcome of a control change is what the meaning of MIDI 1.0 says.
 use Rattle.std.proofs.Common.{◌≡◌, ℕ, Bool, true, false, ◌-◌, ◌∙◌, ap, sym, refl, [], ◌∷◌}
 use Rattle.std.proofs.Common.{Option, Some, None, cond, not, ◌&&◌, is_some, eq-eqb, ◌*◌}
 use Rattle.std.specs.Option.{unwrap_or, option_and_then}

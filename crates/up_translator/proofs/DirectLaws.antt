@@ -323,7 +323,7 @@ module _ (status first second : ℕ) (least : 128 ≤ status) (most : status < 2
       raised-two opcode no_program no_pressure by e =
           subst (λ (m : Voice1). RaisesTo m (direct_voice (raised opcode))) (sym (of-two opcode e no_program no_pressure)) (by e)
 
-      -- where it keeps its status byte
+      -- if it keeps its status byte
       kept-status : (opcode : ℕ) → status / 16 ≡ opcode → (m : Voice1) → (raised opcode).status ≡ status
           → RaisesTo m (message_by opcode (raised opcode)) → RaisesTo m (direct_voice (raised opcode))
       kept-status opcode e m same by = subst (λ n. RaisesTo m (message_by n (raised opcode))) (sym (ap (λ n. n / 16) same ∙ e)) by

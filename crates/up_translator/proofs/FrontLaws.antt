@@ -1,12 +1,13 @@
 -- What is raised of bytes that are taken at once is what is raised of them one after the other.
-use Rattle.std.proofs.Common.{ℕ, ◌+◌, ◌∙◌, ap, sym, subst, refl, List, [], ◌∷◌, map}
+use Rattle.std.proofs.Common.{ℕ, ◌≡◌, ◌+◌, ◌∙◌, ap, sym, subst, refl, true, List, [], ◌∷◌, map}
 use Rattle.ump_grammar.specs.declared.packet.Packet.TheVariants as packet
 use Rattle.voice_messages.specs.declared.voice1.Voice1.{Voice1}
 use Rattle.encoded_packets.specs.declared.direct_message.DirectMessage.{DirectMessage}
 use Rattle.encoded_packets.specs.DirectMessages.{direct_voice}
 use Rattle.midi1_bytes.specs.Messages.{voice}
 use Rattle.midi1_bytes.specs.Parsing.{Parsing, AreHeld, AreMessage, parse}
-use Rattle.midi1_bytes.specs.Steps.{Step, completes, held}
+use Rattle.midi1_bytes.specs.Fronts.{is_held}
+use Rattle.midi1_bytes.specs.Steps.{Step, completes, cut, held, stray, too_long, undefined}
 use Rattle.midi_meaning.specs.Messages.{channel_of, step1}
 use Rattle.param_collector.specs.Holding.{Holding}
 use Rattle.param_collector.specs.Keeps.{Keeps}
@@ -25,6 +26,24 @@ nothing_of_held holding group offset = record {
   unlisted = λ state keeps. refl;
   kept = λ state keeps. keeps;
 }
+
+pub held_raises : (holding : Holding) (group offset : ℕ) (step : Step) → is_held step ≡ true
+    → RaisesStepAlone holding group offset step []
+held_raises holding group offset held is = nothing_of_held holding group offset
+held_raises holding group offset (completes message) is = cc
+held_raises holding group offset stray is = cc
+held_raises holding group offset undefined is = cc
+held_raises holding group offset (cut start what after) is = cc
+held_raises holding group offset too_long is = cc
+
+-- and what control changes have set stays
+pub held_keeps : (holding : Holding) (step : Step) → is_held step ≡ true → holding_after_step holding step ≡ holding
+held_keeps holding held is = refl
+held_keeps holding (completes message) is = cc
+held_keeps holding stray is = cc
+held_keeps holding undefined is = cc
+held_keeps holding (cut start what after) is = cc
+held_keeps holding too_long is = cc
 
 -- the packet of the direct message comes of the byte that completes it
 one_of_direct : OthersKeep → (holding : Holding) (group offset : ℕ) (message : Voice1) (to : DirectMessage)

@@ -1,12 +1,12 @@
 -- What the translator holds is the definition that looks back over the bytes.
-use Rattle.std.proofs.Common.{ℕ, Bool, false, ◌≡◌, ◌∙◌, ap, sym, subst, refl, List, [], ◌∷◌, length, map, replicate, Option, Some, None}
+use Rattle.std.proofs.Common.{ℕ, Bool, false, ◌≡◌, ◌∙◌, ap, sym, subst, refl, List, [], ◌∷◌, length, map, Option, Some, None}
 use Rattle.std.proofs.lemmas.Grind.{fold-append}
 use Rattle.std.specs.Prelude.{Result, Ok, Err, IfSome}
 use Rattle.std.specs.List.{fold}
 use Rattle.std.specs.Option.{option_map, option_to_list}
 use Rattle.midi1_bytes.specs.Messages.{Message, voice, common, exclusive, real_time, IsMessage, AreData}
 use Rattle.midi1_bytes.specs.Steps.{Step, completed, completed_by, step_of}
-use Rattle.midi1_bytes.specs.Parsing.{Parsing, held_over, idle, parse, open_of}
+use Rattle.midi1_bytes.specs.Parsing.{Parsing, parse, open_of}
 use Rattle.midi1_bytes.specs.Laws.{CompletedMessagesAreInRange, ParsedBytesAreTheDefinition}
 use Rattle.voice_messages.specs.declared.voice1.Voice1.TheVariants as voice1
 use Rattle.voice_messages.specs.Ranges.{IsParam}

@@ -1,4 +1,5 @@
--- What the translator answers to one more byte of a stream, by all the bytes before, which are listed newest first.
+-- What the translator answers to one more byte of a stream, by all the bytes before, which are listed newest
+-- first.
 use Rattle.std.specs.Prelude.{◌≡◌, ℕ, Bool, List, [], Some, None, IfSome, Result, Ok, Err}
 use Rattle.midi1_bytes.specs.Messages.{AreData}
 use Rattle.ump_grammar.specs.declared.packet.Packet.{Packet}

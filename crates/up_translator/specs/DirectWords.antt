@@ -16,7 +16,7 @@ message_in first value = record {
   value = value;
 }
 
--- A message whose packet has a zero where its row names nothing, and which has no attribute.
+-- A message whose packet has zeros in the places that its row does not name, and which has no attribute.
 pub record IsRaisedDirect (m : DirectMessage) : Type 0 where
   pub is_message : IsDirectMessage m
   pub attribute : m.attribute_type ≡ 0

@@ -20,8 +20,8 @@ pub record UpState : Type 0 where
   pub parsing : Parsing
   pub holding : Holding
 
--- a new translator into a group, with this limit for the bytes of an exclusive, with paired controllers or without: nothing is
--- open, and control changes have set nothing
+-- a new translator into a group, with this limit for the bytes of an exclusive, with paired controllers or
+-- without: nothing is open, and control changes have set nothing
 abbrev pub new_up : Bool → ℕ → ℕ → UpState
 new_up paired room group = record { group = group; parsing = idle room; holding = fresh paired }
 

@@ -1,4 +1,4 @@
--- What comes of a voice message, by what a collector holds before it.
+-- The outcome of a voice message, by the state of the collector before it.
 use Rattle.std.specs.Prelude.{◌≡◌, ℕ, Bool, true, false, List, [], ◌∷◌, Option, Some, None}
 use Rattle.voice_messages.specs.declared.voice1.Voice1.{Voice1}
 use Rattle.voice_messages.specs.declared.voice1.Voice1.TheVariants as voice1
@@ -66,7 +66,7 @@ outcome_by collected.Ignored channel index value = outcome.Ignored
 outcome_by (collected.Pair coarse entered) channel index value = outcome.Control channel coarse (up entered 14 32)
 outcome_by collected.Plain channel index value = outcome.Control channel index (up value 7 32)
 
--- ---- what is held after a voice message: a control change is collected
+-- ---- the state after a voice message: a control change is collected
 
 abbrev pub holding_with : Holding → Voice1 → Holding
 holding_with holding (voice1.Control channel index value) =

@@ -15,7 +15,8 @@ use Rattle.listing_terms.specs.ByteLines.{lines_in, IsInOrder}
 use Rattle.up_translator.specs.Raised.{group_in, packet_in, payload_in, packets_in, IsApart}
 use Rattle.up_translator.specs.Held.{UpState, step_in}
 
--- the packets and the lines of a step, from the state of the group before it, with paired controllers or without
+-- the packets and the lines of a step, from the state of the group before it, with paired controllers or
+-- without
 pub record IsRaised (paired : Bool) (state : GroupState) (group offset : ℕ) (step : Step) (raised : Raised) : Type 0 where
   pub packets : packets_in raised ≡ raised_step paired state group step
   pub lines : lines_in raised.lines ≡ map (line_up group) (kinds_up state step offset)
@@ -25,8 +26,8 @@ abbrev pub payload_by : Option Message → Option (List ℕ)
 payload_by (Some (exclusive bytes)) = Some bytes
 payload_by _ = None
 
--- A step is accepted in the group, with the payload of its exclusive, which has data bytes alone, and with what is raised of it
--- from each state that is kept; its packet is one that some words spell.
+-- A step is accepted in the group, with the payload of its exclusive, which has data bytes alone, and with
+-- what is raised of it from each state that is kept; its packet is one that some words spell.
 pub record Accepts (holding : Holding) (group offset : ℕ) (step : Step) (raised : Raised) : Type 0 where
   pub accepted : refusal_of_step step ≡ None
   pub grouped : group_in raised ≡ group

@@ -13,7 +13,7 @@ use param_collector::laws::{control_changes_are_kept, other_messages_change_noth
 /// then holds what all of them leave, as long as no exclusive has exceeded the limit; so a new one, which
 /// holds what no bytes leave, does after the bytes of each such stream. So it is with each of
 /// several bytes that are taken at once, of which packets alone or nothing is raised, as long as no byte has
-/// been refused. At the end it tells what is open there.
+/// been refused. At the end it says what is open there.
 pub fn raised_bytes_are_the_definition()
     ensures { (paired : Bool) → RaisedBytesAreTheDefinition paired }
 {

@@ -1,4 +1,4 @@
-// What comes of a voice message, by the banks and parameters that control changes have set before it.
+// The outcome of a voice message, by the banks and parameters that control changes have set before it.
 ghost use Rattle.std.specs.Prelude.{◌≡◌, Some, false};
 ghost use Rattle.midi1_bytes.specs.Messages.{voice};
 ghost use Rattle.voice_messages.specs.declared.voice1.Voice1.TheVariants as voice1;
@@ -26,7 +26,7 @@ use param_collector::laws::other_messages_change_nothing_kept;
 use param_collector::{Collected, Collector};
 use voice_messages::{U4, U7, Voice2};
 
-/// A voice message that isn't raised alone: what comes of it depends on the banks and parameters that are
+/// A voice message that isn't raised alone: its outcome depends on the banks and parameters that are
 /// selected, or it selects one (MIDI 1.0 Detailed Specification, bank select, registered and non-registered
 /// parameter numbers).
 #[derive(Clone, Copy)]
@@ -66,7 +66,7 @@ impl SelectingMessage {
     }
 }
 
-/// What comes of a voice message.
+/// The outcome of a voice message.
 #[derive(Debug, Drop)]
 pub enum Outcome {
     /// Nothing now: what it selects is kept for the messages that use it.
@@ -81,7 +81,7 @@ pub enum Outcome {
     Refused(BadStep),
 }
 
-// What comes of a control change that the collector has answered.
+// The outcome of a control change that the collector has answered.
 #[inline(always)]
 fn outcome_of(collected: Collected, channel: U4, index: U7, value: U7) -> Outcome
     ensures outcome { result ≡ outcome_by collected channel index value }
@@ -108,14 +108,14 @@ fn outcome_of(collected: Collected, channel: U4, index: U7, value: U7) -> Outcom
     }
 }
 
-// What comes of a control change.
+// The outcome of a control change.
 #[inline(always)]
 fn raise_control_change(collector: &mut Collector, channel: U4, index: U7, value: U7) -> Outcome
     ensures refused { refusal_in result ≡ bad_control index }
     ensures raised { (state : GroupState) → Keeps collector.old state →
         IsRaisedVoice collector.old.paired state (voice1.Control channel index value) result }
     ensures fits { FitsVoice2 result }
-    ensures behind { collector.new ≡
+    ensures after { collector.new ≡
         holding_after (pairing collector.old.paired (role_of index)) collector.old channel index value }
     ensures kept { (state : GroupState) → Keeps collector.old state →
         Keeps collector.new
@@ -125,7 +125,7 @@ fn raise_control_change(collector: &mut Collector, channel: U4, index: U7, value
     outcome_of(collected, channel, index, value)
 }
 
-/// What comes of a message that isn't raised alone (M2-104-UM, translation from MIDI 1.0). A control change
+/// The outcome of a message that isn't raised alone (M2-104-UM, translation from MIDI 1.0). A control change
 /// is collected; a program change takes the bank that is selected.
 #[inline(always)]
 pub fn raise_selecting(collector: &mut Collector, message: SelectingMessage) -> Outcome
@@ -133,7 +133,7 @@ pub fn raise_selecting(collector: &mut Collector, message: SelectingMessage) -> 
     ensures raised { (state : GroupState) → Keeps collector.old state →
         IsRaisedVoice collector.old.paired state (selecting_in message) result }
     ensures fits { FitsVoice2 result }
-    ensures behind { collector.new ≡ holding_with collector.old (selecting_in message) }
+    ensures after { collector.new ≡ holding_with collector.old (selecting_in message) }
     ensures kept { (state : GroupState) → Keeps collector.old state →
         Keeps collector.new (step1 collector.old.paired state (voice (selecting_in message))) }
 {

@@ -1,15 +1,15 @@
-// What comes of a byte.
+// The outcome of a byte.
 use crate::raised_packet::RaisedPacket;
 use listing_terms::byte_lines::{ByteLine, ByteLines};
 use small_types::U4;
 
-/// What comes of a byte.
+/// The outcome of a byte.
 #[derive(Clone, Copy, Debug)]
 pub struct Raised<'a> {
     /// The packet of the voice or system message that the byte completes.
     pub packet: Option<&'a RaisedPacket>,
     /// The bytes between F0 and F7 of the exclusive that the byte ends. Its packets are those of
-    /// `sysex_groups::part`. Where there is a payload, there is no packet.
+    /// `sysex_groups::part`. If there is a payload, there is no packet.
     pub payload: Option<&'a [u8]>,
     /// Its lines of the listing, in the group of the packets.
     pub lines: ByteLines,

@@ -124,7 +124,7 @@ impl RaisedPacket {
         }
     }
 
-    /// The message, where it is a direct one; `None` exactly for all other packets.
+    /// The message, if it is a direct one; `None` exactly for all other packets.
     #[inline(always)]
     pub fn direct_message(&self) -> Option<DirectMessage>
         ensures { MatchOption result (has_direct_kind self.now ≡ false)

@@ -1,8 +1,8 @@
 // The translator up.
-ghost use Rattle.std.specs.Prelude.{◌≡◌, ◌≢◌, ◌≤◌, ℕ, [], length, map, take, IfOk, MatchOption, Option};
+ghost use Rattle.std.specs.Prelude.{◌≡◌, ◌≢◌, ◌≤◌, ℕ, [], false, length, map, take, IfOk, IsTrue, MatchOption, Option};
 ghost use Rattle.std.specs.Option.{option_map, option_to_list};
 ghost use Rattle.midi1_bytes.specs.Answers.{step_view, LendsData, LendsFramed};
-ghost use Rattle.midi1_bytes.specs.Fronts.{data_taken};
+ghost use Rattle.midi1_bytes.specs.Fronts.{data_taken, is_held};
 ghost use Rattle.midi1_bytes.specs.Parsing.{ended_by, Begun};
 ghost use Rattle.midi_meaning.specs.StepListing.{kinds_at_end, line_up};
 ghost use Rattle.param_collector.specs.Holding.{Holding};
@@ -64,7 +64,7 @@ impl Up {
     ghost use Rattle.std.specs.Borrow.{sem};
     ghost use Rattle.midi1_bytes.specs.Parsing.{idle, open_of};
     ghost use Rattle.param_collector.specs.Holding.{fresh};
-    ghost use Rattle.up_translator.specs.Fronts.{IsDirectFront, RaiseNothing};
+    ghost use Rattle.up_translator.specs.Fronts.{HasNoDirectFront, IsDirectFront, RaiseNothing, RaisesAlone};
     ghost use Rattle.up_translator.specs.Held.{KeepsAfter, step_in, up_after};
     ghost use Rattle.up_translator.specs.Lend.{KeepsUp};
     ghost use Rattle.up_translator.specs.Recording.{HoldsUp};
@@ -190,15 +190,16 @@ impl Up {
         self.take(byte, offset)
     }
 
-    /// Takes the voice message with which these bytes begin, where it neither takes nor changes what control
+    /// Takes the voice message with which these bytes begin, if it neither takes nor changes what control
     /// changes set, and returns the message to which it is raised (M2-104-UM, translation from MIDI 1.0) and
     /// how many bytes it has here, 1 to 3. `byte` would raise the packet of this message of the last of them,
     /// nothing of the others, and no line of any; the translator is then as after all of them by `byte`.
-    ///
-    /// `None` says nothing more, and nothing changes: then take the bytes one by one.
+    /// `None` exactly when `Parser::front` has none here, or one that takes or changes what control changes
+    /// set (own rule), and then nothing changes: take the bytes one by one.
     #[inline(always)]
     pub fn front(&mut self, bytes: &[u8]) -> Option<(DirectMessage, usize)>
-        ensures { MatchOption result (self.new ≡ self.old)
+        ensures { MatchOption result
+            (HasNoDirectFront self.old bytes.now × (self.new ≡ self.old))
             (λ given. IsDirectFront self.old bytes.now given.0 given.1 self.new) }
     {
         other_messages_change_nothing_kept();
@@ -209,7 +210,7 @@ impl Up {
     }
 
     /// Takes the data bytes of the open exclusive with which these bytes begin, as far as its limit goes (own
-    /// rule), and returns how many they are; 0 where no exclusive is open. `byte` would raise nothing of any
+    /// rule), and returns how many they are; 0 if no exclusive is open. `byte` would raise nothing of any
     /// of them and no line, and the translator is then as after the last of them by `byte`. Takes no memory.
     #[inline(always)]
     pub fn take_data(&mut self, bytes: &[u8]) -> usize
@@ -218,6 +219,20 @@ impl Up {
         ensures after { (offset : ℕ) → RaiseNothing (take result bytes.now) self.old offset self.new }
     {
         self.parser.take_data(bytes)
+    }
+
+    /// Takes one more byte, if it is only held: it belongs to a message or an exclusive that is open, or opens
+    /// one (MIDI 1.0 Detailed Specification: summary of status bytes, running status). Then it is the whole
+    /// step of `byte`, which would raise nothing and no line. `false` exactly for other bytes, and then
+    /// nothing changes: `byte` has their answer. Takes no memory.
+    #[inline(always)]
+    pub fn holds(&mut self, byte: u8, offset: u64) -> bool
+        ensures class { result ≡ is_held (step_in self.old offset byte) }
+        ensures held { IsTrue result → RaisesAlone self.old offset byte [] }
+        ensures after { IsTrue result → self.new ≡ up_after self.old offset byte }
+        ensures unchanged { result ≡ false → self.new ≡ self.old }
+    {
+        self.parser.holds(byte, offset)
     }
 
     /// The line of what is open at the end of the stream, with the offset at which it starts; `None` exactly

@@ -1,5 +1,5 @@
--- A stream of USB-MIDI 1.0 events, each of four bytes: the cable in the high half of the first, the code in its low half, then three
--- places for bytes (USB Device Class Definition for MIDI Devices 1.0, event packets).
+-- A stream of USB-MIDI 1.0 events (USB Device Class Definition for MIDI Devices 1.0, event packets), each of
+-- four bytes: the cable in the high half of the first, the code in its low half, then three places for bytes.
 use Rattle.std.specs.Prelude.{ℕ, ◌/◌, ◌%◌, List, [], ◌∷◌, slice_index, take, refl}
 use Rattle.std.proofs.Common.{lit<, lit≤}
 use Rattle.std.proofs.Math.Nat.{le_refl}

@@ -18,7 +18,8 @@ use Rattle.usb_midi1.specs.declared.event.Event.{Event}
 use Rattle.usb_midi1.specs.declared.packed.Packed.{Packed}
 use Rattle.usb_midi1.specs.declared.packed.TooLong as refused
 
--- A packer answers each byte by the definition that looks back over all the bytes before it, and holds what they leave.
+-- A packer answers each byte by the definition that looks back over all the bytes before it, and holds what
+-- they leave.
 pub record PackedBytesAreTheDefinition : Type 0 where
   pub new : (room cable : ℕ) → packer_over room cable [] ≡ record { cable = cable; parsing = idle room }
   pub answer : (room cable : ℕ) (past : List ℕ) (byte : ℕ) (result : Result Packed refused.TooLong) →
@@ -28,26 +29,32 @@ pub record PackedBytesAreTheDefinition : Type 0 where
       packer_after (packer_over room cable past) (length past) byte ≡ packer_over room cable (byte ∷ past)
   pub end : (room cable : ℕ) (past : List ℕ) →
       map (line_up cable)
-      (kinds_at_end (option_map (λ begun. (begun.start, begun.kind)) (open_of (packer_over room cable past).parsing))) ≡
+      (kinds_at_end (option_map (λ begun. (begun.start, begun.kind))
+      (open_of (packer_over room cable past).parsing))) ≡
       map (line_up cable) (kinds_at_end (open_pair (Some room) past))
 
--- The events of an exclusive are, from each place on, the one that is cut there and then those of the bytes behind it.
+-- The events of an exclusive are, from each place on, the one that is cut there and then those of the bytes
+-- after it.
 pub record ExclusiveEventsComeInOrder : Type 0 where
   pub last : (cable : ℕ) (whole : List ℕ) (k : ℕ) → first_event cable (drop (3 * k) whole) ≡ None →
       exclusive_events cable (drop (3 * k) whole) ≡ []
-  pub next : (cable : ℕ) (whole : List ℕ) (k : ℕ) (event : List ℕ) → first_event cable (drop (3 * k) whole) ≡ Some event →
+  pub next : (cable : ℕ) (whole : List ℕ) (k : ℕ) (event : List ℕ) →
+      first_event cable (drop (3 * k) whole) ≡ Some event →
       exclusive_events cable (drop (3 * k) whole) ≡ event ∷ exclusive_events cable (drop (3 * (k + 1)) whole)
 
--- The events that a stream within the limit is cut into are those of its bytes, four by four; what is left at its end is no event.
+-- The events that a stream within the limit is cut into are those of its bytes, four by four; what is left at
+-- its end is no event.
 abbrev pub EventsAreThoseOfTheBytes : Type 0
 EventsAreThoseOfTheBytes =
     (limit : ℕ) (bytes : List ℕ) (items : List (Event × ℕ)) (tail : Tail) →
-    IsCutInto four_bytes event_at limit bytes items tail → tail ≢ TooLong → events_in bytes ≡ map (λ item. item.0) items
+    IsCutInto four_bytes event_at limit bytes items tail → tail ≢ TooLong →
+    events_in bytes ≡ map (λ item. item.0) items
 
--- What the events of a stream carry is all on their cable. Where no exclusive passes the room, it completes the messages that the stream
--- completes, in the same order.
+-- All bytes that the events of a stream carry are on its cable. If no exclusive passes the room, these bytes
+-- complete the messages that the stream completes, in the same order.
 pub record SplitEventsMeanTheBytes : Type 0 where
   pub cable : (room cable : ℕ) (past : List ℕ) → cable < 16 →
       AllByRecursion (λ piece. piece.0 ≡ cable) (split (concat (stream_events (Some room) cable past)))
   pub messages : (room cable : ℕ) (past : List ℕ) → cable < 16 → AreStepsWithinRoom room past →
-      completed (reverse (on_cable cable (split (concat (stream_events (Some room) cable past))))) ≡ completed past
+      completed (reverse (on_cable cable (split (concat (stream_events (Some room) cable past)))))
+      ≡ completed past

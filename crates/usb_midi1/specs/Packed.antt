@@ -1,4 +1,4 @@
--- What comes of a byte: its events, beside its lines of the listing.
+-- The outcome of a byte: its events, beside its lines of the listing.
 use Rattle.std.specs.Prelude.{◌≡◌, ◌≢◌, ℕ, List, [], ◌∷◌, map, Option, Some, None, Result, Ok, Err}
 use Rattle.std.specs.Option.{option_map}
 use Rattle.midi1_bytes.specs.Answers.{framed}
@@ -32,7 +32,7 @@ abbrev pub AreApart : Option (List ℕ) → Option (List ℕ) → Type 0
 AreApart (Some event) (Some whole) = ⊥
 AreApart _ _ = Unit {0}
 
--- the exclusive from F0 to F7, where the message is one
+-- the exclusive from F0 to F7, if the message is one
 abbrev pub whole_of : Option Message → Option (List ℕ)
 whole_of (Some (exclusive bytes)) = Some (framed bytes)
 whole_of _ = None
@@ -43,8 +43,8 @@ IsApart packed = AreApart packed.event (whole_in packed)
 
 -- ---- of a step
 
--- a step within the limit, with the packer's cable, the events of the message that it completes, a whole exclusive by itself, and its
--- lines in order
+-- a step within the limit, with the packer's cable, the events of the message that it completes, a whole
+-- exclusive by itself, and its lines in order
 pub record IsPacked (cable offset : ℕ) (step : Step) (packed : Packed) : Type 0 where
   pub within : step ≢ too_long
   pub cabled : cable_in packed ≡ cable
@@ -54,7 +54,7 @@ pub record IsPacked (cable offset : ℕ) (step : Step) (packed : Packed) : Type 
   pub events : events_in packed ≡ events_by cable (completed_by step)
   pub lines : lines_in packed.lines ≡ map (line_up cable) (kinds_of_step step offset)
 
--- it is refused exactly where an exclusive exceeds the limit
+-- it is refused exactly if an exclusive exceeds the limit
 abbrev pub PacksStep : ℕ → ℕ → Step → Result Packed TooLong → Type 0
 PacksStep cable offset step (Ok packed) = IsPacked cable offset step packed
 PacksStep cable offset step (Err refused) = step ≡ too_long

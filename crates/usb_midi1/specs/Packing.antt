@@ -1,4 +1,5 @@
--- The events of the messages of a MIDI 1.0 stream, each with its status byte written. `past` is the bytes so far, newest first.
+-- The events of the messages of a MIDI 1.0 stream, each with its status byte written. `past` is the bytes so
+-- far, newest first.
 use Rattle.std.specs.Prelude.{ℕ, ◌+◌, ◌*◌, ◌/◌, List, [], ◌∷◌, ◌++◌, slice_index, Option, Some, None}
 use Rattle.voice_messages.specs.declared.voice1.System.{System}
 use Rattle.voice_messages.specs.declared.voice1.System.TheVariants as system
@@ -7,7 +8,7 @@ use Rattle.midi1_bytes.specs.Messages.{Message, voice, common, exclusive, real_t
 use Rattle.midi1_bytes.specs.Steps.{completed_by, step_of}
 use Rattle.midi1_bytes.specs.Stream.{Room}
 
--- the four bytes of an event that carries these, at most three; the places behind them are 0
+-- the four bytes of an event that carries these, at most three; the places after them are 0
 abbrev pub event : ℕ → ℕ → List ℕ → List ℕ
 event cable code bytes = (cable * 16 + code) ∷ slice_index bytes 0 ∷ slice_index bytes 1 ∷ slice_index bytes 2 ∷ []
 
@@ -43,7 +44,7 @@ system_code (system.Song value) = 2
 system_code system.Tune = 5
 system_code _ = 15
 
--- a message but an exclusive is one event
+-- each message is one event, except that an exclusive has several
 abbrev pub message_events : ℕ → Message → List (List ℕ)
 message_events cable (voice message) = event cable (slice_index (spelled_voice message) 0 / 16) (spelled_voice message) ∷ []
 message_events cable (common message) = event cable (system_code message) (spelled_system message) ∷ []

@@ -65,7 +65,7 @@ impl Model for EventReader {
 }
 
 impl EventReader {
-    /// A reader that gives out at most `limit` bytes, which is at most 2^62 (own rule).
+    /// Makes a reader that takes at most `limit` bytes, which is at most 2^62 (own rule).
     pub fn new(limit: u64) -> EventReader
         requires { limit ≤ 2 ^ 62 }
         ensures { result ≡ new_events limit }
@@ -75,14 +75,15 @@ impl EventReader {
         }
     }
 
-    /// The next event and its offset, the number of bytes before it;
-    /// `None` when the source ends with the last event.
+    /// Reads the next event (USB Device Class Definition for MIDI Devices 1.0, event packets). Returns the
+    /// event and its offset, the number of bytes before it, or `None` when the source ends with the last
+    /// event.
     ///
     /// `Truncated` is returned when the source ends within the limit, one to three bytes after the last
     /// event, with the offset of the first of them. `TooLong` is returned when the source gave more bytes
     /// than the limit, and fewer than four of them are left within it (own rule). `Read` is returned only
     /// when the source's count of faults rose; no byte is lost, and a later call goes on from there. Any
-    /// other answer without an event is returned again by every later call. The source is asked only where no
+    /// other answer without an event is returned again by every later call. The source is asked only if no
     /// whole event is held.
     #[inline(always)]
     pub fn next<S: Source>(&mut self, src: &mut S) -> Result<Option<(Event, u64)>, ReadStop>
@@ -97,7 +98,8 @@ impl EventReader {
     }
 }
 
-/// Whether an event's code is reserved, 0 or 1: it carries nothing.
+/// Tests whether an event's code is reserved, 0 or 1 (USB Device Class Definition for MIDI Devices 1.0, code
+/// index numbers): such an event carries nothing.
 pub fn is_reserved(event: &Event) -> bool
     ensures { result ≡ is_reserved_code event.now.code }
 {
@@ -117,9 +119,9 @@ fn carried_count(code: U4) -> usize
     CARRIED_COUNTS[usize::from(code.get())]
 }
 
-/// The bytes that an event carries, as many of its three as its code says (USB Device Class Definition for
-/// MIDI Devices 1.0, code index numbers): none for the reserved codes 0 and 1; two for 2, 6, C and D; one for
-/// 5 and F; three for any other.
+/// Returns the bytes that an event carries (USB Device Class Definition for MIDI Devices 1.0, code index
+/// numbers). The code says how many of its three bytes these are: none for the reserved codes 0 and 1; two
+/// for 2, 6, C and D; one for 5 and F; three for any other.
 pub fn carried(event: &Event) -> ShortList<u8, 3>
     ensures bytes { result ≡ carried_by event.now }
     ensures some { is_reserved_code event.now.code ≡ false → 0 < length result }

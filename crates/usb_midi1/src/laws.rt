@@ -17,8 +17,8 @@ use midi1_bytes::laws::{
 };
 
 /// A packer that takes the bytes of a stream, each with its offset, answers each byte as the definition does,
-/// which looks back over all the bytes before it. One more byte turns what is held after some bytes into what
-/// is held after them all. At the end it tells what is open there.
+/// which looks back over all the bytes before it. One more byte turns the state after some bytes into the
+/// is held after them all. At the end it says what is open there.
 pub fn packed_bytes_are_the_definition()
     ensures { PackedBytesAreTheDefinition }
 {
@@ -26,7 +26,7 @@ pub fn packed_bytes_are_the_definition()
 }
 
 /// The events of an exclusive are, from each place on, the one that `exclusive_event` cuts there and then
-/// those of the bytes behind it; past the last there are none.
+/// those of the bytes after it; past the last there are none.
 pub fn exclusive_events_come_in_order()
     ensures { ExclusiveEventsComeInOrder }
 {}
@@ -37,8 +37,8 @@ pub fn events_are_those_of_the_bytes()
     ensures { EventsAreThoseOfTheBytes }
 {}
 
-/// What the events of a stream carry is all on their cable. Where no exclusive of the stream is longer than
-/// the limit, it completes the messages that the stream completes, in the same order.
+/// All bytes that the events of a stream carry are on its cable. If no exclusive of the stream is longer than
+/// the limit, these bytes complete the messages that the stream completes, in the same order.
 pub fn split_events_mean_the_bytes()
     ensures { SplitEventsMeanTheBytes }
 {

@@ -1,4 +1,4 @@
-// What comes of a byte.
+// The outcome of a byte.
 use listing_terms::{ByteLine, ByteLines};
 use small_types::U4;
 use thiserror::Error;
@@ -8,14 +8,14 @@ use thiserror::Error;
 #[error("an exclusive is longer than the limit")]
 pub struct TooLong;
 
-/// What comes of a byte.
+/// The outcome of a byte.
 #[derive(Clone, Copy, Debug)]
 pub struct Packed<'a> {
-    /// The event of the voice or system message that the byte
-    /// completes, its cable and code in the first byte.
+    /// The event of the voice or system message that the byte completes, its cable and code in the first
+    /// byte.
     pub event: Option<[u8; 4]>,
     /// The exclusive that the byte ends, from its F0 to its F7. Its events are those of `exclusive_event`.
-    /// Where it is there, there is no event.
+    /// If it is there, there is no event.
     pub whole: Option<&'a [u8]>,
     /// Its lines of the listing, with the cable as their group.
     pub lines: ByteLines,
@@ -83,7 +83,7 @@ impl<'a> Packed<'a> {
         }
     }
 
-    /// The cable of its events.
+    /// Returns the cable of its events (own rule).
     pub fn cable(&self) -> U4
         ensures { result ≡ cable_in self.now }
     {

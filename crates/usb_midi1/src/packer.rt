@@ -14,7 +14,7 @@ use small_types::{NoMemory, U4};
 use std::alloc::Global;
 use std::marker::Model;
 
-// What comes of a byte that cuts off what started at an offset.
+// The outcome of a byte that cuts off what started at an offset.
 fn cut<'a>(cable: U4, start: u64, what: CutKind, after: AfterCut, offset: u64) -> Packed<'a>
     ensures { IsPacked cable offset (steps.cut start what after) result }
 {
@@ -53,8 +53,9 @@ impl Packer {
     ghost use Rattle.usb_midi1.specs.Lend.{KeepsPacker};
     ghost use Rattle.usb_midi1.specs.Packed.{Packs};
 
-    /// A packer for a stream that has had no byte yet. Takes all memory that it ever needs: for exclusives of
-    /// `room` bytes between F0 and F7, 6 to 1,048,576 (own rule). `NoMemory` when there isn't that much.
+    /// Makes a packer for a stream that has had no byte yet. It takes all memory that it ever needs: for
+    /// exclusives of `room` bytes between F0 and F7, 6 to 1,048,576 (own rule). `NoMemory` is returned when
+    /// there isn't that much.
     pub fn new(alloc: Global, cable: U4, room: u32) -> Result<Packer, NoMemory>
         requires least { 6 ≤ room }
         requires most { room ≤ 1048576 }
@@ -64,17 +65,17 @@ impl Packer {
         Ok(Packer { parser, cable })
     }
 
-    /// Drops what is open, and the running status: the packer is as a new one for the same cable and of the
-    /// same limit (own rule). Takes no memory.
+    /// Drops what is open, and the running status (own rule): the packer equals a new one for the same cable
+    /// and of the same limit. It takes no memory.
     pub fn reset(&mut self)
         ensures { self.new ≡ record { cable = self.old.cable; parsing = idle self.old.parsing.room } }
     {
         self.parser.reset();
     }
 
-    /// The events of one more byte (USB Device Class Definition for MIDI Devices 1.0, code index numbers),
-    /// each with its status byte, and its lines of the listing (own rules). The offset is the number of bytes
-    /// before it. The call takes no memory.
+    /// Takes one more byte, whose offset is the number of bytes before it. Returns its events (USB Device
+    /// Class Definition for MIDI Devices 1.0, code index numbers), each with its status byte, and its lines
+    /// of the listing (own rules). The call takes no memory.
     ///
     /// `TooLong` is returned exactly at the data byte that makes the bytes of an exclusive between F0 and F7
     /// more than the limit; the exclusive is dropped (own rule).
@@ -108,8 +109,8 @@ impl Packer {
         }
     }
 
-    /// The line of what is open at the end of the stream, with the offset at which it starts and the cable as
-    /// its group; `None` exactly when nothing is open.
+    /// Returns the line of what is open at the end of the stream (own rule), with the offset at which it
+    /// starts and the cable as its group. Returns `None` exactly when nothing is open.
     pub fn end(&self) -> Option<Listed>
         ensures { option_to_list result ≡ map (line_up self.now.cable) (kinds_at_end
             (option_map (λ begun. (begun.start, begun.kind)) (open_of self.now.parsing))) }

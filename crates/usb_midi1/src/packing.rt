@@ -14,7 +14,7 @@ use small_types::U4;
 // The code of an exclusive's three bytes that aren't its last.
 const EXCLUSIVE_GOES_ON: u8 = 4;
 
-// The event that carries these bytes, with zeros in the places behind them.
+// The event that carries these bytes, with zeros in the places after them.
 #[inline(always)]
 fn event(cable: U4, code: u8, bytes: &[u8]) -> [u8; 4]
     requires { code < 16 }
@@ -70,9 +70,10 @@ pub(crate) fn system_event(cable: U4, message: &System) -> [u8; 4]
     )
 }
 
-/// Event `k`, counted from 0, of an exclusive that is given from its F0 to its F7, cut every three bytes: its
-/// code is 4, but for the last event 5, 6 or 7 by the number of its bytes. `None` exactly where `k` is past
-/// the last (USB Device Class Definition for MIDI Devices 1.0, code index numbers).
+/// Cuts event `k`, counted from 0, out of an exclusive from its F0 to its F7 (USB Device Class Definition for
+/// MIDI Devices 1.0, code index numbers). Each event carries three bytes, and the last one to three. The code
+/// of the last is 5, 6 or 7 by the number of its bytes, and that of the others is 4. Returns `None` exactly
+/// if `k` is past the last.
 pub fn exclusive_event(cable: U4, whole: &[u8], k: usize) -> Option<[u8; 4]>
     requires { 2 ≤ length whole.now }
     ensures { result ≡ first_event cable (drop (3 * k) whole.now) }

@@ -50,7 +50,7 @@ has_both_ends packed cable offset step is =
     let F : Option (List ℕ) → Type 0 = λ whole. IfSome whole (λ w. 2 ≤ length w) in
     subst F (sym is.whole) (both_ends (completed_by step))
 
--- where there is no other event, the events are those of the exclusive
+-- if there is no other event, the events are those of the exclusive
 pub only_whole : (packed : Packed) (whole : List ℕ) → packed.event ≡ None → whole_in packed ≡ Some whole
     → events_in packed ≡ exclusive_events (cable_in packed) whole
 only_whole packed whole none is =
@@ -77,7 +77,7 @@ refuses cable offset step old is =
 
 -- ---- the events of an exclusive
 
--- the first k events of an exclusive are put, and those of the bytes behind them are not
+-- the first k events of an exclusive are put, and those of the bytes after them are not
 pub record AreFirst (cable : ℕ) (whole : List ℕ) (k : ℕ) (old now : Places) : Type 0 where
   pub first : List (List ℕ)
   pub parts : exclusive_events cable whole ≡ first ++ exclusive_events cable (drop (3 * k) whole)
@@ -86,7 +86,7 @@ pub record AreFirst (cable : ℕ) (whole : List ℕ) (k : ℕ) (old now : Places
 pub none_yet : (cable : ℕ) (whole : List ℕ) (s : Places) → AreFirst cable whole 0 s s
 none_yet cable whole s = record { first = []; parts = refl; stands = sym (over_puts-none s) }
 
--- there is an event where there are bytes
+-- there is an event if there are bytes
 some_bytes : (cable : ℕ) (bytes event : List ℕ) → Some event ≡ first_event cable bytes → 0 < length bytes
 some_bytes cable [] event is = let e : Some event ≡ None = is in cc
 some_bytes cable (byte ∷ bytes) event is = omega arith

@@ -1,4 +1,4 @@
--- A count is one more where a list is.
+-- A count is one more if its list has one more.
 use Rattle.std.proofs.Common.{◌≡◌, ◌∙◌, ap, ℕ, ◌+◌, ◌-◌, ◌^◌, min, List, [], ◌∷◌, ◌++◌, length, length-append, arith}
 use Rattle.voice_state.specs.Facts.{count_of}
 

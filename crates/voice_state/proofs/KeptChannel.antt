@@ -1,4 +1,4 @@
--- What is kept of a channel behind a change of its parameters.
+-- What is kept of a channel after a change of its parameters.
 use Rattle.std.proofs.Common.{◌≡◌, ◌∙◌, ap, sym, subst, ℕ, ◌*◌, Bool, true, false, if◌then◌else◌, Option, Some}
 use Rattle.voice_messages.specs.declared.voice2.Param.{Param}
 use Rattle.midi_meaning.specs.Messages.{Scale, raised, enter_msb, enter_lsb, with_new_lsb}

@@ -1,4 +1,4 @@
--- What is kept of a group and of all groups behind a change of one channel, or of one group.
+-- What is kept of a group and of all groups after a change of one channel, or of one group.
 use Rattle.std.proofs.Common.{◌≡◌, sym, subst, ℕ, ◌<◌, ◌==◌, Bool, true, false, if◌then◌else◌}
 use Rattle.std.proofs.Common.{List, length, slice_index_or, slice_set, None, ⊎_elim}
 use Rattle.std.proofs.lemmas.Bool.{cases_eq, eq-eqb, ne_eqb}

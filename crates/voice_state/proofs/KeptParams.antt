@@ -127,7 +127,7 @@ alike params channel other values looseness keeps = record {
       ∙ λ i. param_state (values (param_of Assignable number) i) (looseness (param_of Assignable number) i);
 }
 
--- where a parameter gets what it has
+-- if a parameter gets what it has
 same_kept : {A : Type 0} (param other : Param) (f : Param → A) (x : A) → x ≡ f param → cond (same_param other param) x (f other) ≡ f other
 same_kept param other f x is =
     cond_both (same_param other param) x (f other) (λ y. y ≡ f other) (λ e. is ∙ ap f (sym (same_param-true other param e))) (λ e. refl)

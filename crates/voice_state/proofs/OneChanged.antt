@@ -1,4 +1,5 @@
--- A message changes one channel of a group, and one group of a state: what is then kept, which list is full, and the rooms.
+-- A message changes one channel of a group, and one group of a state: what is then kept, which list is full,
+-- and the rooms.
 use Rattle.std.proofs.Common.{◌≡◌, ℕ, ◌<◌, refl, sym, subst, arith, List, length, slice_index_or, slice_set, Result, OnOk}
 use Rattle.std.proofs.lemmas.Result.{on_ok_weaker}
 use Rattle.midi_meaning.specs.Messages.{Scale}

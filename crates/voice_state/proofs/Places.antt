@@ -165,7 +165,7 @@ module _ (entries : Entries) (number place : ℕ) (gap : IsGapFor entries number
       All-append AreBelow (take place entries) ((number, state) ∷ drop place entries) (All-take AreBelow place entries all)
       (All-cons AreBelow (number, state) (drop place entries) is_below (All-drop AreBelow place entries all))
 
-  -- where it is added, and where it isn't
+  -- if it is added, and if it isn't
   pub added_or_not : (state : ParamState) (is_added : Bool) (new : Entries) → new ≡ cond is_added (insert entries place (number, state)) entries
       → number < 16384 → IsInOrder entries → All AreBelow entries → IsInOrder new × All AreBelow new
   added_or_not state true new is is_below sorted all =

@@ -91,7 +91,7 @@ none_first f = refl
 pub more : {A : Type 0} (f : ℕ → List A) (n : ℕ) → flat_map f (first (n + 1)) ≡ flat_map f (first n) ++ f n
 more f n = ap (λ m. flat_map f (first m)) (add-one n) ∙ one_more f n
 
--- ---- facts that are added one behind the other
+-- ---- facts that are added one after the other
 
 pub added : {A : Type 0} (before so_far new told next : List A) → so_far ≡ before ++ told → new ≡ so_far ++ next
     → new ≡ before ++ (told ++ next)

@@ -44,7 +44,7 @@ value_facts scale group channel state =
 
 -- ---- parameters
 
--- a parameter is told where it has a value or is loose
+-- a parameter is told if it has a value or is loose
 abbrev pub is_told : Option ℕ → Bool → Bool
 is_told None is_loose = is_loose
 is_told (Some value) is_loose = true

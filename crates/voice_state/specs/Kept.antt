@@ -12,7 +12,7 @@ use Rattle.voice_state.specs.Tables.{at}
 abbrev pub change_of : kept_program.ProgramChange → ProgramChange
 change_of change = record { program = change.program; bank = change.bank }
 
--- a bend isn't kept where it is at its centre
+-- a bend isn't kept if it is at its centre
 abbrev pub kept_bend : ℕ → ℕ → Option ℕ
 kept_bend centre value = if value == centre then None else Some value
 
@@ -31,7 +31,7 @@ pub record KeepsChannel (scale : Scale) (kept : kept_channel.Channel) (channel :
 abbrev pub with_controllers_reset : Scale → Channel → Channel
 with_controllers_reset scale channel = record channel { controllers = reset_controllers scale channel.controllers }
 
--- sixteen channels, and counts in place of the lists of system messages
+-- sixteen channels, and counts instead of the lists of system messages
 pub record KeptGroup : Type 0 where
   pub channels : List kept_channel.Channel
   pub commons : ℕ

@@ -41,7 +41,7 @@ pub record IsGapFor (entries : List (ℕ × ParamState)) (number place : ℕ) : 
   pub lesser_before : (j : ℕ) → j < place → number_at entries j < number
   pub greater_after : (j : ℕ) → place ≤ j → j < length entries → number < number_at entries j
 
--- what is known of a parameter, where it is told
+-- what is known of a parameter, if it is told
 abbrev pub param_state : Option ℕ → Bool → Option ParamState
 param_state value is_loose = if is_told value is_loose then Some (record { value = value; loose = is_loose }) else None
 

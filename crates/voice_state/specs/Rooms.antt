@@ -1,4 +1,4 @@
--- Where a message adds to a list of a channel that is full.
+-- When a message would add to a list of a channel that is full.
 use Rattle.std.specs.Prelude.{ℕ, ◌≡◌, ◌≤◌, ◌<◌, ◌-◌, ◌^◌, false, List, length, slice_index_or, Option, MatchOption, Result, Err}
 use Rattle.voice_messages.specs.declared.voice1.Voice1.{Voice1}
 use Rattle.voice_messages.specs.declared.voice1.Voice1.TheVariants as voice1
@@ -18,7 +18,7 @@ use Rattle.voice_state.specs.declared.not_kept.Room.{Room}
 use Rattle.voice_state.specs.Kept.{KeptGroup}
 use Rattle.voice_state.specs.KeptParams.{AreFull}
 
--- the answer is that a list is full exactly where this is so
+-- the answer is that a list is full exactly if this is so
 abbrev pub IsFullWhere : {A : Type 0} → Result A NotKept → Type 0 → Type 0
 IsFullWhere (Err not_kept.Full) IsSo = IsSo
 IsFullWhere _ IsSo = IsSo → ⊥
@@ -89,7 +89,7 @@ IsPacketFull _ kept = ⊥
 
 -- ---- the room itself
 
--- the room where there is no limit: no list of values in memory is as long
+-- the room if there is no limit: no list of values in memory is as long
 abbrev pub no_limit : ℕ
 no_limit = 2 ^ 64 - 1
 

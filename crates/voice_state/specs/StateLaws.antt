@@ -1,5 +1,5 @@
--- What holds of a state that is kept while packets or bytes come. Packets and bytes that are called `past` are listed the newest
--- first.
+-- What holds of a state that is kept while packets or bytes come. Packets and bytes that are called `past`
+-- are listed the newest first.
 use Rattle.std.specs.Prelude.{◌≡◌, ℕ, false, List, [], ◌∷◌, Some, None}
 use Rattle.voice_messages.specs.declared.voice2.Form.{Form}
 use Rattle.ump_grammar.specs.declared.packet.Packet.{Packet}

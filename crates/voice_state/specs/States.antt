@@ -1,5 +1,5 @@
--- The states of the groups of a stream, and what is left of them behind one more message or packet. Own rule: controllers aren't
--- paired.
+-- The states of the groups of a stream, and what is left of them after one more message or packet. Own rule:
+-- controllers aren't paired.
 use Rattle.std.specs.Prelude.{ℕ, ◌==◌, if◌then◌else◌, Bool, true, false, List, Option}
 use Rattle.voice_messages.specs.declared.voice1.Voice1.{Voice1}
 use Rattle.voice_messages.specs.declared.voice2.Voice2.{Voice2}
@@ -20,18 +20,18 @@ first_states scale = λ group. start scale
 abbrev pub at_group : ℕ → (GroupState → GroupState) → States → States
 at_group group change states = λ other. if group == other then change (states other) else states other
 
--- behind a channel voice message of either protocol
+-- after a channel voice message of either protocol
 abbrev pub after_voice1 : Scale → Voice1 → GroupState → GroupState
 after_voice1 scale message state = at_channel (channel_of message) (voice_at scale message) state
 
 abbrev pub after_voice2 : Voice2 → GroupState → GroupState
 after_voice2 message state = at_channel (channel2 message) (voice2_at false message) state
 
--- behind a message of MIDI 1.0 in a group
+-- after a message of MIDI 1.0 in a group
 abbrev pub after_message : ℕ → Message → States → States
 after_message group message states = at_group group (λ state. step1 false state message) states
 
--- behind a packet, with the bytes of the exclusive that it ends, if it ends one
+-- after a packet, with the bytes of the exclusive that it ends, if it ends one
 abbrev pub after_packet : Packet → Option (List ℕ) → States → States
 after_packet packet whole states =
     λ group. if is_group (group_of packet) group then step2 false (states group) packet whole else states group

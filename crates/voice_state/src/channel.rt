@@ -68,7 +68,8 @@ impl Channel {
         })
     }
 
-    /// Empties the channel: it is as before its first message, with the same room. Its lists keep their memory.
+    /// Empties the channel: it is as before its first message, with the same room. Its lists keep their
+    /// memory.
     pub(crate) fn clear(&mut self)
         ensures midi1 { KeepsChannel as_they_come self.new (start_channel as_they_come) }
         ensures packets { KeepsChannel raised self.new (start_channel raised) }

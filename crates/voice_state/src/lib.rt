@@ -21,7 +21,7 @@ mod width;
 pub use crate::channel_facts::ChannelFacts;
 pub use crate::fact::{Fact, FactAddress};
 pub use crate::not_kept::NotKept;
-pub use crate::running::{VoiceState, most_facts};
+pub use crate::running::VoiceState;
 pub use midi_meaning::{
     BadStep, ControlRole, DirectControls, Kind, Listed, Registers, is_null_param,
 };

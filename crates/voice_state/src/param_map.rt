@@ -95,7 +95,7 @@ impl ParamMap {
         self.entries.clear();
     }
 
-    // The place of the parameter of a number, or else the place where it would go.
+    // The place of the parameter of a number, or else the place at which it would be added.
     fn place(&self, number: u16) -> Result<usize, usize>
         ensures found { IfOk result (IsAt self.now number) }
         ensures absent { IfErr result (IsGapFor self.now number) }

@@ -76,8 +76,8 @@ impl Params {
         self.put(param, state, room)
     }
 
-    /// Sets the value of a parameter, which stays as loose as it was. If it would be one more than `room` of its
-    /// kind, or there is no memory for it, nothing changes.
+    /// Sets the value of a parameter, which stays as loose as it was. If it would be one more than `room` of
+    /// its kind, or there is no memory for it, nothing changes.
     pub(crate) fn set_value(
         &mut self,
         param: &Param,
@@ -97,8 +97,8 @@ impl Params {
         self.put(param, state, room)
     }
 
-    /// Makes a parameter loose; its value stays. If it would be one more than `room` of its kind, or there is no
-    /// memory for it, nothing changes.
+    /// Makes a parameter loose; its value stays. If it would be one more than `room` of its kind, or there is
+    /// no memory for it, nothing changes.
     pub(crate) fn loosen(&mut self, param: &Param, room: usize) -> Result<(), NotKept>
         ensures loosened { OnOk result ((state : definition.Channel) → KeepsParams self.old state
             → KeepsParams self.new (definition.with_looseness true param.now state)) }

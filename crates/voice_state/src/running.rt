@@ -1,5 +1,5 @@
 // What messages or packets have left in a receiver, kept as they come.
-ghost use Rattle.std.specs.Prelude.{◌≡◌, ◌+◌, ◌*◌, ◌++◌, true, false, None, IfOk, OnOk, OnErr};
+ghost use Rattle.std.specs.Prelude.{◌≡◌, ◌++◌, true, false, None, IfOk, OnOk, OnErr};
 ghost use Rattle.std.specs.Option.{option_to_list};
 ghost use Rattle.voice_messages.specs.declared.voice1.System as system;
 ghost use Rattle.midi1_bytes.specs.Messages.{Message, system_message, voice};
@@ -107,8 +107,8 @@ impl VoiceState {
         Ok(VoiceState { groups })
     }
 
-    /// Empties the state: it is as `new`, `with_room` or `of_stream` made it, with the same room. No memory is
-    /// taken or given back.
+    /// Empties the state: it is as `new`, `with_room` or `of_stream` made it, with the same room. No memory
+    /// is taken or given back.
     pub fn reset(&mut self)
         ensures messages { Keeps as_they_come self.new (first_states as_they_come) }
         ensures packets { Keeps raised self.new (first_states raised) }
@@ -133,8 +133,8 @@ impl VoiceState {
         }
     }
 
-    /// Takes a packet, as `take_packet` does. `NoMemory` if it isn't kept, for want of memory or of room; then
-    /// nothing changes.
+    /// Takes a packet, as `take_packet` does. `NoMemory` if it isn't kept, for want of memory or of room;
+    /// then nothing changes.
     pub fn apply2(&mut self, p: &Packet) -> Result<(), NoMemory>
         ensures step { OnOk result ((states : States) → Keeps raised self.old states
             → Keeps raised self.new (after_packet p.now None states)) }
@@ -286,8 +286,7 @@ impl VoiceState {
         Ok(facts)
     }
 
-    /// Adds the facts to a list. `NoMemory` if the list has to grow and there isn't enough memory; an empty list
-    /// with a capacity of `most_facts` never has to grow.
+    /// Adds the facts to a list. `NoMemory` if the list has to grow and there isn't enough memory.
     pub fn put_facts(&self, facts: &mut Vec<Fact>) -> Result<(), NoMemory>
         ensures { OnOk result ((scale : Scale) (states : States) → Keeps scale self.now states
             → facts.new.items ≡ facts.old.items ++ facts_of scale states) }
@@ -297,16 +296,6 @@ impl VoiceState {
         }
         Ok(())
     }
-}
-
-/// The most facts that a state has of so many groups, with room for so many notes and mode messages of each
-/// channel, and so many parameters of each kind and channel. A channel has 128 key pressures and 128
-/// controllers, a pressure, a bend and a program besides, and a group two counts.
-pub fn most_facts(groups: u8, notes: u32, params: u32) -> usize
-    ensures { result ≡ groups * (16 * (notes + 2 * params + 259) + 2) }
-{
-    let of_channel = notes as usize + 2 * params as usize + 259;
-    groups as usize * (16 * of_channel + 2)
 }
 
 // Whether a system message is a Real Time message.

@@ -4,7 +4,7 @@ use std::alloc::Global;
 use std::process::Abort;
 use ump_grammar::Packet;
 use voice_messages::{ParamKind, Voice1, Voice2};
-use voice_state::{Fact, FactAddress, NotKept, VoiceState, most_facts};
+use voice_state::{Fact, FactAddress, NotKept, VoiceState};
 
 fn on2(channel: u32) -> Packet {
     midi2(Voice2::NoteOn {
@@ -197,11 +197,4 @@ fn addresses_of_facts(rt: HostRuntime) {
     };
     assert_eq!(rt; count.address(), whole_group);
     assert_eq!(rt; on_in(9).address(), one_channel);
-}
-
-// By hand: of a channel 128 and 128, a pressure, a bend and a program.
-#[test]
-fn the_most_facts(rt: HostRuntime) {
-    assert_eq!(rt; most_facts(1, 0, 0), 16 * 259 + 2);
-    assert_eq!(rt; most_facts(16, 100, 10), 256 * (259 + 120) + 32);
 }

@@ -1,4 +1,4 @@
--- Where the lines of profiles go, and on what they depend.
+-- The place in which the lines of profiles are put, and on what they depend.
 use Rattle.std.proofs.Common.{◌≡◌, ℕ, ◌+◌, Bool, true, List, [], ◌∷◌, ◌++◌, Option, refl, ap, ◌∙◌}
 use Rattle.std.specs.Prelude.{unwrap_or}
 use Rattle.function_blocks.specs.declared.setup.Profile.{Profile}

@@ -76,7 +76,7 @@ fn came<'a>(
     }
 }
 
-// What is noted of a message on this group; `None` where it isn't one.
+// What is noted of a message on this group; `None` if it isn't one.
 fn noted_on(initiator: &mut Initiator, group: u32, came: &CiMessage<'_>) -> Option<Noted> {
     let message = came.exclusive()?;
     views_that_are_read_fit();

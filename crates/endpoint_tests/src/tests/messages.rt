@@ -10,8 +10,8 @@ use small_types::ShortList;
 use std::test::Fail;
 use voice_messages::{U4, U7};
 
-// The bytes between F0 and F7 of a message with a body, from MUID 5 to 19088743 at channel 2; `None` where
-// there are more than 510.
+// The bytes between F0 and F7 of a message with a body, from MUID 5 to 19088743 at channel 2; `None` if there
+// are more than 510.
 fn payload(sub: u8, version: u8, body: &[u8]) -> Option<ShortList<u8, 510>> {
     let message = CiMessage {
         address: 0x02,
@@ -399,7 +399,7 @@ fn short_profile_messages(rt: HostRuntime) {
     assert!(rt; is_row(&bytes, &view_of!(0x25, 1, disabled)));
 }
 
-// The fault of the exclusive with these bytes between F0 and F7; `None` where it is read.
+// The fault of the exclusive with these bytes between F0 and F7; `None` if it is read.
 fn fault_of(payload: &[u8]) -> Option<CiFault> {
     let message = framed(payload)?;
     match read(message.as_slice()) {

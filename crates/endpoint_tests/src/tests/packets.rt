@@ -1,5 +1,5 @@
-// Packets by hand from the tables of M2-104-UM and M2-101-UM, taken by an endpoint of one block with two MUIDs
-// and one profile. The rows of `midi_commands_tests` tell of the rest.
+// Packets by hand from the tables of M2-104-UM and M2-101-UM, taken by an endpoint of one block with two
+// MUIDs and one profile. The rows of `midi_commands_tests` tell of the rest.
 ghost use Rattle.std.specs.Prelude.{◌≤◌};
 ghost use Rattle.std.specs.Option.{IfSome};
 ghost use Rattle.ump_grammar.specs.Ranges.{IsPacket};
@@ -38,7 +38,7 @@ fn opened(alloc: Global, room: u32) -> Result<Endpoint, Fail>
     Ok(Endpoint::new(alloc, setup, room)?)
 }
 
-// The packet of the words; `None` where there is none.
+// The packet of the words; `None` if there is none.
 fn packet_of(words: &[u32]) -> Option<Packet>
     ensures { IfSome result IsPacket }
 {
@@ -52,7 +52,7 @@ fn packet_of(words: &[u32]) -> Option<Packet>
     decode(&framed).ok()
 }
 
-// What the endpoint did with a packet at an offset; `None` where the words are no packet.
+// What the endpoint did with a packet at an offset; `None` if the words are no packet.
 fn taken(endpoint: &mut Endpoint, words: &[u32], offset: u64) -> Option<Result<Taken, BadStep>> {
     let packet = packet_of(words)?;
     Some(endpoint.packet(&packet, offset))

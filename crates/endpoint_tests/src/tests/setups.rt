@@ -51,7 +51,7 @@ fn front(alloc: Global, count: usize) -> Result<(), SetupFault> {
     fault_of(setup_of(alloc, text_of(alloc, count, LINES, "")))
 }
 
-// What the whole setup is read as, where one line is replaced.
+// What the whole setup is read as, if one line is replaced.
 fn with_line(alloc: Global, index: usize, line: &str) -> Result<(), SetupFault> {
     fault_of(setup_of(alloc, text_of(alloc, LINES, index, line)))
 }
@@ -74,7 +74,7 @@ fn the_first_missing_key_is_told(rt: HostRuntime) {
     is_same(&rt, &front(rt.alloc(), 29), &Ok(()));
 }
 
-// Each row of a table has the index of a line of `DEMO_SETUP`, the number of the rule that is broken where
+// Each row of a table has the index of a line of `DEMO_SETUP`, the number of the rule that is broken if
 // the line is replaced, or `kept`, or `syntax`, and the lines in its place, which a slash parts.
 fn lines_break(rt: &impl Abort, alloc: Global, table: &str) -> Result<(), Fail> {
     for row in table.lines() {
@@ -210,7 +210,7 @@ fn profiles_past_each_border(rt: HostRuntime) -> Result<(), Fail> {
     lines_break(&rt, rt.alloc(), PROFILE_LINES)
 }
 
-// More tables behind the last line: blocks, and profiles, of which the last is of an inactive block.
+// More tables after the last line: blocks, and profiles, of which the last is of an inactive block.
 const MORE_TABLES: &str = "\
 28 22 on = false / [[block]] / active = true / first = 0 / count = 16 / ci = 1 / muids = [5] / name = \"More\" / hint = 0 / midi1 = 0 / direction = 1 / sysex8 = 0
 28 kept on = false / [[block]] / active = true / first = 1 / count = 15 / ci = 1 / muids = [5] / name = \"More\" / hint = 0 / midi1 = 0 / direction = 1 / sysex8 = 0

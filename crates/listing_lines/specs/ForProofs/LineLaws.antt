@@ -1,4 +1,4 @@
--- What the puts of lines of the listing leave, and where they go; a byte without lines.
+-- What the puts of lines of the listing leave, and into which place they go; a byte without lines.
 use Rattle.std.proofs.Common.{◌≡◌, true, List, [], ◌∷◌, ◌++◌, Option, None, Some, refl, ap}
 use Rattle.std.specs.Prelude.{is_none, ◌&&◌}
 use Rattle.std.specs.List.{flat_map}

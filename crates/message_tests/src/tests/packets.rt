@@ -19,7 +19,7 @@ fn u7(value: u32) -> U7 {
     U7::low_bits(value)
 }
 
-// What the words are read as; `None` where they are no whole packet.
+// What the words are read as; `None` if they are no whole packet.
 fn read(words: &[u32]) -> Option<Result<Packet, Bad>>
     ensures { IfSome result (λ read. IfOk read IsPacket) }
 {
@@ -545,7 +545,7 @@ fn refused_words(rt: HostRuntime) {
     }
 }
 
-// A ConfigNotice and a Note On, as they stand in worked rows of the stream messages and of a recording.
+// A ConfigNotice and a Note On, from the worked rows of the stream messages and of a recording.
 #[test]
 fn replies_stand_one_after_the_other(rt: HostRuntime) {
     let mut replies = Replies::new();

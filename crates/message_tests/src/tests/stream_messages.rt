@@ -275,7 +275,8 @@ fn a_block_name_is_cut(rt: HostRuntime) {
     }
 }
 
-// What the parts of a text answer, one after the other: each has its place in the text, its block and its bytes.
+// What the parts of a text answer, one after the other: each has its place in the text, its block and its
+// bytes.
 fn parts_answer(rt: &impl Abort, kind: TextKind, parts: &[(Form, u8, &[u8], Joined<'_>)]) {
     let mut join = TextJoin::new(kind);
     for (k, (form, block, bytes, answer)) in parts.iter().enumerate() {
@@ -348,7 +349,7 @@ fn a_block_name_stays_with_its_block(rt: HostRuntime) {
 }
 
 // What a number of full packets answer, one after the other, the last of them as an end; `None` before the
-// last where one before it isn't held.
+// last if one before it isn't held.
 fn joins_packets(kind: TextKind, count: usize) -> Option<bool> {
     let mut join = TextJoin::new(kind);
     for k in 1..count {

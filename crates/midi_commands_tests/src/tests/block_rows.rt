@@ -1,5 +1,5 @@
-// Several function blocks with MIDI-CI, the profiles of a function block, of a group and of a channel, and the
-// largest reply. The replies are those of a slow model in Python of the tables of M2-101-UM.
+// Several function blocks with MIDI-CI, the profiles of a function block, of a group and of a channel, and
+// the largest reply. The replies are those of a slow model in Python of the tables of M2-101-UM.
 use super::rows_hold;
 use std::test::Fail;
 

@@ -102,7 +102,7 @@ output 19 m1-program channel=0 program=1
 output 22 system status=F2 value=515
 output 23 stray
 
-# two ends of an exclusive behind a message that is begun
+# two ends of an exclusive after a message that is begun
 run show --bytes
 input 90 01 F7 F7
 leaves Done
@@ -110,7 +110,7 @@ output 0 cut-message
 output 2 stray
 output 3 stray
 
-# an exclusive goes on behind Real Time and an undefined status of that kind
+# an exclusive goes on after Real Time and an undefined status of that kind
 run show --bytes
 input F0 01 F8 FD
 leaves Done

@@ -32,7 +32,7 @@ fn headers(rt: HostRuntime) -> Result<(), Fail> {
     let rows: [(&str, &[u8], &[usize], &[u64], Result<bool, Failed>, usize); 9] = [
         ("a header", b"SMF2CLIP", &[], &[], Ok(true), 0),
         (
-            "three bytes behind it",
+            "three bytes after it",
             b"SMF2CLIPabc",
             &[],
             &[],

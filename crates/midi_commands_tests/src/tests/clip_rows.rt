@@ -33,7 +33,7 @@ input 00000000 00000000
 leaves Refused { reason: NoResolution, offset: 8 }
 note refused NoResolution at 8
 
-# a word behind the end
+# a word after the end
 run clip
 input 534D4632 434C4950 00400000 00300060
 input 00400005 F0200000 00000000 00000000
@@ -77,7 +77,7 @@ input 4D546864 00000006 0000
 leaves Refused { reason: NotClip, offset: 0 }
 note refused NotClip at 0
 
-# a clip that ends behind its event
+# a clip that ends after its event
 run clip
 input 534D4632 434C4950 00400000 00300060
 input 00400005 F0200000 00000000 00000000
@@ -147,7 +147,7 @@ input F0200000 00000000 00000000 00000000
 leaves Refused { reason: NoResolution, offset: 16 }
 note refused NoResolution at 16
 
-# a utility behind the end of a clip of no ticks
+# a utility after the end of a clip of no ticks
 run clip
 input 534D4632 434C4950 00300001 F0200000
 input 00000000 00000000 00000000 F0210000
@@ -157,7 +157,7 @@ output resolution 1
 output end 0
 note refused AfterEnd at 44
 
-# a data byte with its high bit set behind the end
+# a data byte with its high bit set after the end
 run clip
 input 534D4632 434C4950 00300001 F0200000
 input 00000000 00000000 00000000 F0210000
@@ -167,7 +167,7 @@ output resolution 1
 output end 0
 note refused HighBit at 44
 
-# half a packet behind the end
+# half a packet after the end
 run clip
 input 534D4632 434C4950 00300001 F0200000
 input 00000000 00000000 00000000 F0210000

@@ -101,14 +101,14 @@ input 40B06100 00000000
 leaves Refused { reason: DataDecrement, offset: 0 }
 note refused DataDecrement at 0
 
-# a high bit behind a note
+# a high bit after a note
 run translate down --folder F
 input 40903C00 C9240000 20903C80
 leaves Refused { reason: HighBit, offset: 8 }
 lane 0 90 3C 64
 note refused HighBit at 8
 
-# half a packet behind a note
+# half a packet after a note
 run translate down --folder F
 input 40903C00 C9240000 40903C00
 leaves Refused { reason: Truncated, offset: 8 }

@@ -97,7 +97,7 @@ note protocol 1
 note block 0 muid 19088743
 note profile 0 channel 0 2 7E00010100 off
 
-# an exclusive packet of seven bytes is refused behind a request
+# an exclusive packet of seven bytes is refused after a request
 run endpoint a.toml
 input F0050100 00000000 00000000 00000000
 input 30170102 03040506
@@ -107,7 +107,7 @@ output F0060100 00000000 00000000 00000000
 note 0 - answered
 note refused BadCount at 16
 
-# a high bit is refused behind a request
+# a high bit is refused after a request
 run endpoint a.toml
 input F0050100 00000000 00000000 00000000
 input 30168102 03040506
@@ -117,7 +117,7 @@ output F0060100 00000000 00000000 00000000
 note 0 - answered
 note refused HighBit at 16
 
-# three words of four are refused behind a request
+# three words of four are refused after a request
 run endpoint a.toml
 input F0050100 00000000 00000000 00000000
 input F0050200 00000000 00000000

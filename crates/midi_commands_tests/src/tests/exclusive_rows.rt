@@ -1,5 +1,5 @@
-// How the parts of exclusives are joined, of seven bits by group and of eight bits by stream, and how an exclusive
-// is cut into packets. The expected values are those of a slow model in Python of M2-104-UM.
+// How the parts of exclusives are joined, of seven bits by group and of eight bits by stream, and how an
+// exclusive is cut into packets. The expected values are those of a slow model in Python of M2-104-UM.
 use super::rows_hold;
 use std::test::Fail;
 

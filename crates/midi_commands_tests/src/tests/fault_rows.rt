@@ -73,7 +73,7 @@ fn said_of(alloc: Global, steps: &[Step<'_>], part: &str) -> Result<String, Fail
     Ok(said)
 }
 
-// Adds a put in this place: in a line of its own, or behind `+` in the line that is begun. What comes behind `|`
+// Adds a put in this place: in a line of its own, or after `+` in the line that is begun. The text after `|`
 // there is in the next line.
 fn push_put(said: &mut String, place: &FaultPlace, put: &str) -> Result<(), Fail> {
     let Some(rest) = put.strip_prefix(place.kind) else {

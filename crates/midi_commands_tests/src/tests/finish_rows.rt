@@ -160,7 +160,7 @@ fn is_told(
     Ok(())
 }
 
-// Whether the notes are the one that was put, and this line behind it.
+// Whether the notes are the one that was put, and this line after it.
 fn notes_end_with(
     rt: &impl Abort,
     files: &HostRuntime,

@@ -1,5 +1,5 @@
-// How each MIDI-CI message is heard, by the table of docs/rules.md, and its reply. The words are those of a slow
-// model in Python of the tables of M2-101-UM.
+// How each MIDI-CI message is heard, by the table of docs/rules.md, and its reply. The words are those of a
+// slow model in Python of the tables of M2-101-UM.
 use super::rows_hold;
 use std::test::Fail;
 

@@ -1,5 +1,5 @@
-// Parameters, banks and paired controllers that control changes select and set on the way up, worked by hand; the
-// values are raised as a slow model in Python of M2-115-U has it.
+// Parameters, banks and paired controllers that control changes select and set on the way up, worked by hand;
+// the values are raised as a slow model in Python of M2-115-U has it.
 use super::rows_hold;
 use std::test::Fail;
 

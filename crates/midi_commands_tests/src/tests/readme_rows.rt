@@ -222,7 +222,7 @@ input F0 01 02 03 04 05 06 F7
 leaves Done
 output 30060102 03040506
 
-# a data entry behind the null parameter
+# a data entry after the null parameter
 run translate up
 input B0 65 00 64 00 65 7F 64 7F 06 02
 leaves Done

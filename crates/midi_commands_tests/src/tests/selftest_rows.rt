@@ -15,7 +15,7 @@ read-fails 0
 leaves Done
 output selftest 0 packets 1 carried 1 listed 0 bytes 3 again 3
 
-# the line where no number of packets is given
+# the line if no number of packets is given
 run selftest 7
 input 40903C00 C9240000
 read-fails 0

@@ -1,5 +1,5 @@
-// What the setups of an endpoint answer to stream messages. The words are those of a slow model in Python of the
-// tables of M2-104-UM.
+// What the setups of an endpoint answer to stream messages. The words are those of a slow model in Python of
+// the tables of M2-104-UM.
 use super::rows_hold;
 use std::test::Fail;
 

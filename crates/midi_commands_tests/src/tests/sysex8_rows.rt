@@ -51,7 +51,7 @@ lane 0 AA BB
 note 0 0 sysex8 7 2
 note refused ExclusiveTooLong at 32
 
-# half a packet behind an exclusive
+# half a packet after an exclusive
 run sysex8 --folder F
 input 500307AA BB000000 00000000 00000000
 input 520307CC DD000000
@@ -169,7 +169,7 @@ lane-fails 0 0
 leaves LaneFault
 note lane write failed
 
-# the line of the one that was cut off fails, behind the bytes
+# the line of the one that was cut off fails, after the bytes
 run sysex8 --folder F --streams 1 --room 13
 input 501207AA 00000000 00000000 00000000
 input 500207BB 00000000 00000000 00000000

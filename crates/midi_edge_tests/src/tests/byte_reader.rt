@@ -67,7 +67,7 @@ fn bytes_are_read(rt: HostRuntime) -> Result<(), Fail> {
     Ok(())
 }
 
-// Whether ten thousand bytes are read, which are 7 but for the first behind the window, and then the end.
+// Whether ten thousand bytes are read, and then the end. Each is 7, except the first one after the window.
 fn gives_all(reader: &mut ByteReader, source: &mut PlainSource) -> bool {
     for offset in 0..10000 {
         let byte = if offset == 4096 { 8 } else { 7 };

@@ -1,4 +1,4 @@
-// What a shelf fetches behind two bytes that stand already.
+// The bytes that a shelf fetches after two bytes that are there already.
 ghost use Rattle.std.specs.Prelude.{◌≡◌, None};
 
 use outside::{OpenFault, Shelf};

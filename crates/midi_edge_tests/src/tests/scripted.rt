@@ -37,7 +37,7 @@ impl Log {
     }
 }
 
-// Moves at most so many bytes at each call, and all of them behind the last step. A write of other bytes than
+// Moves at most so many bytes at each call, and all of them after the last step. A write of other bytes than
 // those that are awaited next fails.
 #[derive(Clone, Copy)]
 pub(super) struct Scripted<'a> {

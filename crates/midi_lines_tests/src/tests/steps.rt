@@ -7,7 +7,7 @@ use std::test::Fail;
 use system_stream::{Joined, TextKind};
 
 // Gives the bytes to a parser with a room of six bytes, and compares
-// the lines of what they do, one behind the other.
+// the lines of what they do, one after the other.
 fn check_steps(rt: &impl Abort, alloc: Global, bytes: &[u8], text: &str) -> Result<(), AllocError> {
     let mut parser = Parser::new(alloc, 6).expect(rt, "memory is ample");
     let mut told = Vec::new(alloc);

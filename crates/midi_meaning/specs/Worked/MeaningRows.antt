@@ -36,8 +36,8 @@ whole_pair msb lsb = record { msb = Some msb; lsb = Some lsb }
 
 -- ---- reset all controllers
 
--- controllers 11, 1, 64 to 67, 63 and 68, a bank, registered parameter 0/0 with a data entry, a bend, both pressures; and then
--- control change 121
+-- controllers 11, 1, 64 to 67, 63 and 68, a bank, registered parameter 0/0 with a data entry, a bend, both
+-- pressures; and then control change 121
 abbrev pub bytes_with_reset : List ℕ
 bytes_with_reset =
     0xb0 ∷ 11 ∷ 32 ∷ 1 ∷ 64 ∷ 64 ∷ 127 ∷ 65 ∷ 127 ∷ 66 ∷ 127 ∷ 67 ∷ 127 ∷ 63 ∷ 17 ∷ 68 ∷ 18
@@ -129,7 +129,8 @@ packets_without_meaning =
 
 -- ---- parameters
 
--- assignable parameter 1/2 takes an MSB, and registered 0/1 an LSB alone; then the null number is selected, and an MSB comes
+-- assignable parameter 1/2 takes an MSB, and registered 0/1 an LSB alone; then the null number is selected,
+-- and an MSB comes
 abbrev pub bytes_with_parameters : List ℕ
 bytes_with_parameters =
     0xb0 ∷ 99 ∷ 1 ∷ 98 ∷ 2 ∷ 6 ∷ 3

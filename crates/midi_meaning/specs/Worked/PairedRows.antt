@@ -1,4 +1,5 @@
--- Worked rows of paired controllers: packets and bytes whose pieces, packets and meaning are computed from the definitions alone.
+-- Worked rows of paired controllers: packets and bytes whose pieces, packets and meaning are computed from
+-- the definitions alone.
 use Rattle.std.specs.Prelude.{ℕ, List, [], ◌∷◌}
 use Rattle.voice_messages.specs.declared.voice1.Voice1.TheVariants as voice1
 use Rattle.voice_messages.specs.declared.voice2.Voice2.TheVariants as voice2

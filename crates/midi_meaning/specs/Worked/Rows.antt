@@ -29,7 +29,8 @@ cut_stray_and_open =
 abbrev pub registered : ℕ → ℕ → Param
 registered bank index = record { kind = Registered; bank = bank; index = index }
 
--- registered parameter 0/1 is selected by MIDI 1.0 packets, 0/0 is set by a MIDI 2.0 packet, and a data entry comes
+-- registered parameter 0/1 is selected by MIDI 1.0 packets, 0/0 is set by a MIDI 2.0 packet, and a data entry
+-- comes
 abbrev pub mixed_protocols : List Packet
 mixed_protocols =
     packet.Voice1 0 (voice1.Control 0 0x65 0)
@@ -81,8 +82,8 @@ entries_of_two_parameters =
     ∷ 0x65 ∷ 0 ∷ 0x64 ∷ 1 ∷ 6 ∷ 0x40
     ∷ 0x65 ∷ 0 ∷ 0x64 ∷ 0 ∷ 0x26 ∷ 7 ∷ []
 
--- an end cuts a note and an undefined byte an exclusive, another undefined byte comes, and a note is open at the end; an exclusive
--- that is open at the end
+-- an end cuts a note and an undefined byte an exclusive, another undefined byte comes, and a note is open at
+-- the end; an exclusive that is open at the end
 abbrev pub cuts_by_stray_bytes : List ℕ
 cuts_by_stray_bytes = 0x90 ∷ 0x3c ∷ 0xf7 ∷ 0xf0 ∷ 1 ∷ 0xf4 ∷ 0xf9 ∷ 0x90 ∷ []
 

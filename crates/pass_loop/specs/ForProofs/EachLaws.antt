@@ -15,7 +15,7 @@ each-then put number (x ∷ xs) ys =
     {y = number + length (x ∷ xs)} (omega arith)
     ∙ sym (append_assoc (put number x) (for_each put (number + 1) xs) (for_each put (number + length (x ∷ xs)) ys))
 
--- where an item stands in a list
+-- the place of an item in a list
 pub record At {X : Type 0} (n : ℕ) (xs : List X) (x : X) : Type 0 where
   pub all : xs ≡ take n xs ++ x ∷ drop (suc n) xs
   pub more : take (suc n) xs ≡ take n xs ++ x ∷ []

@@ -91,7 +91,7 @@ module _ {Item : Type 0} (IsCut : Cutting Item) (work : Work Item) (cuts : CutsO
         ]
 
   module _ (items others : List Item) (refusal other : Reason × ℕ) (accepted : AreAccepted work (reverse items)) where
-    -- the input is refused where it ends, so no item of it is
+    -- the input is refused at its end, so no item of it is
     refused_end : (bytes : List ℕ) (item : Item) → IsCut bytes items None → IsFront IsCut bytes (others ++ item ∷ [])
         → work.refusal (reverse others) item ≡ Some other → ⊥
     refused_end bytes item cut front refused =

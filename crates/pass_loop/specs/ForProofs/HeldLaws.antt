@@ -1,10 +1,13 @@
 -- A pass under way: what it has done so far, and what the work on the items that are held makes of that.
-use Rattle.std.specs.Prelude.{◌≡◌, ◌⊎◌, ◌<◌, ◌≤◌, ℕ, List, Result, Ok, Err}
+use Rattle.std.specs.Prelude.{◌≡◌, ◌⊎◌, ◌<◌, ◌≤◌, ℕ, List, Some, Result, Ok, Err}
+use Rattle.std.proofs.Common.{subst}
 use Rattle.item_reader.specs.SoFar.{Given, given}
 use Rattle.pass_loop.specs.ForProofs.PassLaws.{SoFar}
+use Rattle.pass_loop.specs.Next.{GivesFound, GivesFoundAt}
 use Rattle.pass_loop.specs.Pass.{Cutting, Ends, Seen, Work}
 use Rattle.pass_loop.specs.Places.{Places}
 use Rattle.pass_loop.specs.declared.ends.RunEnd.{RunEnd}
+use Rattle.pass_loop.specs.declared.pass.Found.{Found}
 
 -- what is seen, with these places
 abbrev pub with_places : Seen → Places → Seen
@@ -41,3 +44,13 @@ abbrev pub TakesHeld : {Reader : Type 0} → (Reader → ℕ) → (ℕ → Reade
 TakesHeld to_go passed IsHeld held reader (Ok count) =
     (count ≤ held) × (((count ≡ 0) × (IsHeld 0 reader → ⊥)) ⊎ (to_go (passed count reader) < to_go reader))
 TakesHeld to_go passed IsHeld held reader (Err end) = Unit {0}
+
+-- what begins at a place, once it is known what that is
+pub found_at : {Reader A I : Type 0} (IsCut : Reader → Cutting (A × I)) (Promises : List (A × I) → A × I → Type 0)
+    (HasGiven : Reader → Reader → Given (A × I) → Type 0) (passed : ℕ → Reader → Reader) (first reader : Reader) (so_far : Given (A × I))
+    (found other : Found A I) → found ≡ other
+    → GivesFoundAt (IsCut first) Promises (HasGiven first) passed reader so_far (Some found)
+    → GivesFound (IsCut first) Promises (λ next. HasGiven first (passed next reader)) so_far other
+found_at {A = A} {I = I} IsCut Promises HasGiven passed first reader so_far found other same gives =
+    let F : Found A I → Type 0 = λ f. GivesFound (IsCut first) Promises (λ next. HasGiven first (passed next reader)) so_far f in
+    subst F same gives

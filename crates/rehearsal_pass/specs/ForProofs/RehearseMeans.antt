@@ -1,4 +1,4 @@
--- What is put for the events of a rehearsal goes to the output, and what is held at the end was told.
+-- What is put for the events of a rehearsal goes to the output, and each state at the end was reported.
 use Rattle.std.proofs.Common.{◌≡◌, ℕ, ◌+◌, Bool, List, [], ◌∷◌, Option, Some, None, refl}
 use Rattle.std.proofs.Common.{ap, sym, ◌∙◌, subst, zero, suc, slice_get, map, true}
 use Rattle.std.specs.Prelude.{Result, Ok, Err}
@@ -79,9 +79,9 @@ module _ (setup : SetupData) where
       (held-named 0 stage.initiator.watched)
       (profiles_named (rehearsing setup).names Output (λ text. refl) (state_in stage.responder.states) setup.profiles))
 
--- ---- what is held was told
+-- ---- each state was reported
 
--- a watch, and what is held of it
+-- a watch, and its state
 abbrev held-with : (Watch → Option Bool) → Watch → Watched
 held-with hold watch = record { watch = watch; held = hold watch }
 

@@ -12,7 +12,7 @@ use Rattle.self_test.specs.declared.course.Course.{Course}
 use Rattle.self_test.specs.Counts.{bytes_over, counts_of}
 use Rattle.self_test.specs.Played.{ArePlayed}
 
--- the translator up and the one behind it have taken these bytes, the newest first
+-- the translator up and the one that takes its packets down have taken these bytes, the newest first
 pub record HasReturned (past : List ℕ) (up : UpState) (down : DownState) : Type 0 where
   pub played : ArePlayed past
   pub up_holds : HoldsUp false 6 0 past up
@@ -23,7 +23,8 @@ pub record ComesBack (past now : List ℕ) (again : ℕ) (up : UpState) (down : 
   pub returned : HasReturned now up down
   pub count : again + length (back false (Some 6) 0 past) ≡ length (back false (Some 6) 0 now)
 
--- All three have taken these packets, the newest first, and nothing is open in any. A piece has at most twelve bytes.
+-- All three have taken these packets, the newest first, and nothing is open in any. A piece has at most
+-- twelve bytes.
 pub record HasTaken (past : List Placed) (course : Course) : Type 0 where
   pub down_is : course.down ≡ new_down false plain_style 6
   pub returned : HasReturned (bytes_over (packets_of past)) course.up course.again

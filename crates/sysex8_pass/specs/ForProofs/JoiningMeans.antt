@@ -1,4 +1,4 @@
--- What is put for 8-bit exclusives goes to the lanes and the notes, and is the bytes of those that the packets complete and their lines.
+-- For 8-bit exclusives the lanes and the notes gain the bytes of those that the packets complete, and their lines.
 use Rattle.std.proofs.Common.{◌≡◌, ◌<◌, ◌≤◌, ℕ, Bool, true, false, cond, ◌==◌, length, List, []}
 use Rattle.std.proofs.Common.{◌∷◌, ◌++◌, map, Option, None, Some, refl, ap, sym, ◌∙◌, subst, arith}
 use Rattle.std.specs.Prelude.{◌/◌, IfSome}

@@ -1,5 +1,5 @@
-// Worked rows: the packets of recordings, and what comes of each. A row has the offset of a packet, its
-// words, and behind an arrow the lane, the piece and the line of the listing, or why the packet is refused.
+// Worked rows: the packets of recordings, and the outcome of each. A row has the offset of a packet, its
+// words, and after an arrow the lane, the piece and the line of the listing, or why the packet is refused.
 ghost use Rattle.std.specs.Prelude.{IfSome};
 ghost use Rattle.ump_grammar.specs.Ranges.{IsPacket};
 
@@ -47,7 +47,7 @@ fn words_of(alloc: Global, text: &str) -> Result<Vec<u32>, Fail> {
     Ok(words)
 }
 
-// What comes of a packet, as a row says it.
+// The outcome of a packet, as a row says it.
 fn told_of(alloc: Global, down: &mut Down, offset: u64, words: &[u32]) -> Result<String, Fail> {
     let mut told = String::new(alloc);
     let Some(packet) = packet_of(words) else {

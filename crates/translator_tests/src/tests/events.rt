@@ -1,4 +1,5 @@
-// Reading on after a failed read, and what is told to people. The rows of `midi_commands_tests` tell of the rest.
+// Reading on after a failed read, and what is told to people. The rows of `midi_commands_tests` tell of the
+// rest.
 use super::is_same;
 use midi_edge::MemSource;
 use outside::{Failed, ReadStop};

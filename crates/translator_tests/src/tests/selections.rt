@@ -1,4 +1,5 @@
-// What ends a selection, and what leaves it. The rows of `midi_commands_tests` tell of the other control changes.
+// What ends a selection, and what leaves it. The rows of `midi_commands_tests` tell of the other control
+// changes.
 use super::is_same_in;
 use param_collector::*;
 use small_types::U4;

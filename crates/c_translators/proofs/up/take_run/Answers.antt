@@ -22,7 +22,7 @@ returns-in-None c =
       words = [];
       items = [];
       takes = nothing_run c.exclusives_stay_within_their_limit.ensures run c.args.up.now c.args.next c.take_data.new.self c.requires.sound
-          (subst N c.in-None.ensures (c.take_data.ensures.after c.args.next));
+          (subst N c.in-None.ensures.1 (c.take_data.ensures.after c.args.next));
       within = c.take_data.ensures.within;
       written_is = refl;
       items_is = refl;

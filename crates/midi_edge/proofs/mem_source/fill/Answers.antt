@@ -2,7 +2,7 @@ use Rattle.std.proofs.Common.{◌≡◌, ◌≤◌, ◌++◌, ℕ, List, length,
 use Rattle.std.proofs.lemmas.List.{take_at, take-append-drop, length-take-le, nil_from_length}
 use Rattle.midi_edge.proofs.mem_source.fill.Goals as goal
 
--- a front that was copied, with what is behind it in the source
+-- a front that was copied, and the bytes after it in the source
 front_of : (n : ℕ) (left piece after : List ℕ) → n ≤ length left → piece ≡ take n left → left ≡ take n (piece ++ after) ++ drop n left
 front_of n left piece after fits p =
     let len : length piece ≡ n = ap length p ∙ length-take-le n left fits in

@@ -25,7 +25,7 @@ returns-in-Some g c =
     λ o. Takes (data8_refusal (answer8_to table) offset o) (data8_puts (answer8_to table) offset c.args.group o) old new
     c.put_answer.result in
     record {
-      behind = subst B read c.feed8.follows.holds-at-none;
+      after = subst B read c.feed8.follows.holds-at-none;
       takes = subst T read (subst A c.feed8.ensures.answer c.put_answer.ensures);
     }
 
@@ -40,4 +40,4 @@ returns-in-None g c =
     let T : Option Part8 → Type 0 =
     λ o. Takes (data8_refusal (answer8_to table) offset o) (data8_puts (answer8_to table) offset c.args.group o) old new
     c.put_kind.result in
-    record { behind = subst B read refl; takes = subst T read c.put_kind.ensures }
+    record { after = subst B read refl; takes = subst T read c.put_kind.ensures }

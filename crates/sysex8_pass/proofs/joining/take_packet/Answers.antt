@@ -6,10 +6,10 @@ use Rattle.sysex8_pass.specs.Held.{packet_after}
 use Rattle.sysex8_pass.specs.Joining.{packet_puts, packet_refusal}
 use Rattle.sysex8_pass.proofs.joining.take_packet.Goals as goal
 
-pub returns-in-Data8-clause-behind : goal.returns-in-Data8-clause-behind
-returns-in-Data8-clause-behind g c =
+pub returns-in-Data8-clause-after : goal.returns-in-Data8-clause-after
+returns-in-Data8-clause-after g c =
     let P : Packet → Type 0 = λ packet. c.take_data8.new.streams ≡ packet_after c.args.offset packet c.args.streams.now in
-    subst P (sym c.in-Data8.is) c.take_data8.ensures.behind
+    subst P (sym c.in-Data8.is) c.take_data8.ensures.after
 
 pub returns-in-Data8-clause-takes : goal.returns-in-Data8-clause-takes
 returns-in-Data8-clause-takes g c =

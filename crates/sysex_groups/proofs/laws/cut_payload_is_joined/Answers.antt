@@ -1,5 +1,5 @@
-use Rattle.sysex_groups.proofs.CutLaws.{cut-joined}
+use Rattle.std.proofs.Common.{lit<}
 use Rattle.sysex_groups.proofs.laws.cut_payload_is_joined.Goals as goal
 
 pub returns : goal.returns
-returns c = λ room payload fitting group offsets past all k within own. cut-joined room group offsets payload past all fitting k within own
+returns c = c.payload_of_any_size_is_joined.ensures 6 (lit< tt)

@@ -1,8 +1,11 @@
-use Rattle.std.proofs.Common.{◌∙◌, sym}
-use Rattle.down_translator.proofs.LoweredLaws.{direct_step}
+use Rattle.std.proofs.Common.{◌≡◌, false, subst, sym}
+use Rattle.std.specs.Prelude.{MatchOption}
+use Rattle.ump_grammar.specs.declared.packet.Packet.{Packet}
+use Rattle.down_translator.specs.Lowered.{IsDirectStep, goes_direct}
 use Rattle.down_translator.proofs.down.Down.lowered.Goals as goal
 
 pub returns-in-Some : goal.returns-in-Some
 returns-in-Some c =
-    direct_step c.args.self.now c.args.packet.now c.in-Some.message c.lowered.result c.in-Some.ensures.0 c.in-Some.ensures.1
-    (sym c.is_lowered.ensures ∙ c.if-is_lowered.true) c.lowered.ensures.lane c.lowered.ensures.bytes c.lowered.ensures.attribute
+    let Told : Packet → Type 0 =
+    λ p. MatchOption c.lowered_message.result (goes_direct c.args.self.now p ≡ false) (λ m. IsDirectStep c.args.self.now p m) in
+    subst Told (sym c.in-Some.ensures.1) c.lowered_message.ensures

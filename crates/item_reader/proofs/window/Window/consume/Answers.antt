@@ -3,7 +3,7 @@ use Rattle.std.proofs.lemmas.List.{drop-take, drop-drop}
 use Rattle.item_reader.specs.ForProofs.Window.{Held}
 use Rattle.item_reader.proofs.window.Window.consume.Goals as goal
 
--- what is left of a part of the buffer behind its first n bytes
+-- what is left of a part of the buffer after its first n bytes
 part_behind : (start n end : ℕ) (bytes : List ℕ) → start + n ≤ end
     → take (end - (start + n)) (drop (start + n) bytes) ≡ drop n (take (end - start) (drop start bytes))
 part_behind start n end bytes fits =

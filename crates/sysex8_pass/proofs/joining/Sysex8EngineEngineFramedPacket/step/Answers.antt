@@ -40,6 +40,6 @@ returns g c = λ first past holds given.
         least = holds.least;
         parts = parts-then (parts_of offset packet) parts (parts-few offset packet) holds.parts;
         table_is =
-            c.take_packet.ensures.behind ∙ ap (packet_after offset packet) holds.table_is ∙ after-packet slots room offset packet parts;
+            c.take_packet.ensures.after ∙ ap (packet_after offset packet) holds.table_is ∙ after-packet slots room offset packet parts;
       },
     ))

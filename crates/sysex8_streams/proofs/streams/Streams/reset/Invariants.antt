@@ -1,4 +1,4 @@
-use Rattle.std.proofs.Common.{◌≡◌, All, length}
+use Rattle.std.proofs.Common.{◌≡◌, All}
 use Rattle.std.specs.List.{AllWithin}
 use Rattle.sysex8_streams.specs.Slots.{state8_of, idle8}
 use Rattle.sysex8_streams.proofs.streams.Streams.reset.Given as goal

@@ -26,7 +26,7 @@ put_front-requires g c =
 pub returns-clause-count : goal.returns-clause-count
 returns-clause-count g c =
     front_count (PutsDown 0) c.args.self.now.up c.put_front.new.up c.args.bytes.now c.args.self.now.down c.put_front.new.work _ _
-    c.put_front.result c.put_front.ensures
+    c.put_front.result c.put_front.ensures.front
 
 pub returns-clause-run : goal.returns-clause-run
 returns-clause-run g c = λ first past holds.
@@ -40,4 +40,7 @@ returns-clause-run g c = λ first past holds.
     (λ up past byte holds raises. silent_back first law silence laws in_range down up past byte holds raises) (PutsDown 0)
     (λ up past byte packet to puts holds raises done.
     last_back first law silence laws in_range down up past byte holds packet to puts raises done) past
-    c.args.bytes.now c.args.self.now.up c.put_front.new.up c.put_front.new.work _ _ c.put_front.result holds c.put_front.ensures
+    c.args.bytes.now c.args.self.now.up c.put_front.new.up c.put_front.new.work _ _ c.put_front.result holds c.put_front.ensures.front
+
+pub returns-clause-none : goal.returns-clause-none
+returns-clause-none g c = c.put_front.ensures.none

@@ -63,7 +63,7 @@ returns g c = λ first past holds given.
         translates = holds.translates;
         range = (in_range, holds.range);
         accepted = (accepted, holds.accepted);
-        state_is = c.carry.ensures.behind ∙ ap (down_after offset packet) holds.state_is ∙ laws.behind style room before placed;
+        state_is = c.carry.ensures.after ∙ ap (down_after offset packet) holds.state_is ∙ laws.behind style room before placed;
       },
     )
     )

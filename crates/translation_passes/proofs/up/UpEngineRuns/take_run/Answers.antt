@@ -23,7 +23,7 @@ put_front-requires g c =
 pub returns-clause-count : goal.returns-clause-count
 returns-clause-count g c =
     front_count WritesWords c.args.self.now.up c.put_front.new.up c.args.bytes.now c.args.self.now.words c.put_front.new.work _ _
-    c.put_front.result c.put_front.ensures
+    c.put_front.result c.put_front.ensures.front
 
 pub returns-clause-run : goal.returns-clause-run
 returns-clause-run g c = λ first past holds.
@@ -32,4 +32,7 @@ returns-clause-run g c = λ first past holds.
     takes_run (raising (options_of first)) (HoldsUpFrom first) engine_of words
     (λ up past byte holds raises. silent_up first law words up past byte holds raises) WritesWords
     (λ up past byte packet to puts holds raises done. last_up first law words up past byte holds packet to puts raises done) past
-    c.args.bytes.now c.args.self.now.up c.put_front.new.up c.put_front.new.work _ _ c.put_front.result holds c.put_front.ensures
+    c.args.bytes.now c.args.self.now.up c.put_front.new.up c.put_front.new.work _ _ c.put_front.result holds c.put_front.ensures.front
+
+pub returns-clause-none : goal.returns-clause-none
+returns-clause-none g c = c.put_front.ensures.none

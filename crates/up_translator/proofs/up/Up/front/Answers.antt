@@ -20,7 +20,7 @@ returns c =
     let message : Voice1 = voice_in c.in_ok-spoken.spoken in
     let to : DirectMessage = c.in_ok-message.message in
     let bytes : List ℕ = take c.in_ok-spoken.count c.args.bytes.now in
-    let front : IsFront parser c.args.bytes.now c.in_ok-spoken.spoken c.in_ok-spoken.count = c.in_ok-spoken.ensures in
+    let front : IsFront parser c.args.bytes.now c.in_ok-spoken.spoken c.in_ok-spoken.count = c.in_ok-spoken.ensures.front in
     let direct_of : IsDirectOf raiser message to = c.in_ok-message.ensures in
     let new : UpState = record { group = raiser.group; parsing = after; holding = raiser.holding } in
     record {

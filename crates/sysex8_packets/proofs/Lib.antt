@@ -1,2 +1,0 @@
-mod CutLaws
-mod WordLaws

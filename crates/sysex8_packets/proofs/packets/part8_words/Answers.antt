@@ -1,9 +1,0 @@
-use Rattle.sysex8_packets.proofs.WordLaws.{encodes-seen}
-use Rattle.sysex8_packets.proofs.packets.part8_words.Goals as goal
-
-pub returns : goal.returns
-returns c =
-    let made = c.packet_words.ensures in
-    let seen = c.as_slice.ensures in
-    encodes-seen c.args.part.now c.packet_words.result c.as_slice.result.now seen.value seen.fits made.four made.kind made.group made.form
-    made.count made.stream made.places

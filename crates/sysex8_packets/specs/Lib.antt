@@ -1,2 +1,0 @@
-pub mod Cut8
-pub mod Laws
