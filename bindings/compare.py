@@ -86,7 +86,7 @@ def compare_rust(header):
         for name, body in re.findall(r"#\[repr\(C\)\]\s*#\[derive[^\n]*\s*pub struct (\w+) \{(.*?)\n\}", text, re.S)
     }
     wanted = {capital(name): [(it, in_rust(kind)) for it, kind in fields] for name, fields in header.structs.items()}
-    wanted["Handle"] = [("memory", "*mut c_void"), ("is_open", "bool")]
+    wanted["Handle"] = [("memory", "*mut c_void"), ("is_open", "usize")]
     yield from differences("sys.rs", structs, wanted)
     calls = {
         name: (result or "void", pairs_of_rust(arguments))
@@ -122,7 +122,7 @@ def compare_python(header):
     yield from differences("_numbers.py", {name: it for name, it in numbers.items() if not name.startswith("__")}, header.numbers)
     structs = {name: it._fields_ for name, it in vars(interface).items() if isinstance(it, type(ctypes.Structure)) and hasattr(it, "_fields_")}
     wanted = {capital(name): [(it, in_python(kind, interface)) for it, kind in fields] for name, fields in header.structs.items()}
-    wanted["Handle"] = [("memory", ctypes.c_void_p), ("is_open", ctypes.c_bool)]
+    wanted["Handle"] = [("memory", ctypes.c_void_p), ("is_open", ctypes.c_size_t)]
     yield from differences("_interface.py", structs, wanted)
     results = {name: "size_t" if name in interface.SIZES else "void" if name.endswith("_close") else "uint32_t" for name in interface.PROTOTYPES}
     calls = {name: (results[name], list(arguments)) for name, arguments in interface.PROTOTYPES.items()}

@@ -103,9 +103,9 @@ enum larboardyuzu_flag {
 
 /* A handle of any kind, closed. */
 #ifdef __cplusplus
-#define LARBOARDYUZU_CLOSED { nullptr, false }
+#define LARBOARDYUZU_CLOSED { nullptr, 0 }
 #else
-#define LARBOARDYUZU_CLOSED { NULL, false }
+#define LARBOARDYUZU_CLOSED { NULL, 0 }
 #endif
 
 /* The range of room, the most bytes of an exclusive between F0 and F7 (own rule). A longer exclusive is
@@ -177,8 +177,8 @@ typedef struct larboardyuzu_block {
 /* ---- Down: packets to MIDI 1.0 bytes ---- */
 
 typedef struct larboardyuzu_down {
-    void *memory; /* private */
-    bool is_open; /* private */
+    void *memory;   /* private */
+    size_t is_open; /* private */
 } larboardyuzu_down;
 
 /* What one packet led to. */
@@ -223,8 +223,8 @@ void larboardyuzu_down_close(larboardyuzu_down *down);
 /* ---- Up: MIDI 1.0 bytes to packets ---- */
 
 typedef struct larboardyuzu_up {
-    void *memory; /* private */
-    bool is_open; /* private */
+    void *memory;   /* private */
+    size_t is_open; /* private */
 } larboardyuzu_up;
 
 /* The size, in words, of a buffer for what one byte completes. A smaller one is refused, whatever the byte
@@ -259,8 +259,8 @@ void larboardyuzu_up_close(larboardyuzu_up *up);
 /* ---- The parser of MIDI 1.0 bytes ---- */
 
 typedef struct larboardyuzu_parser {
-    void *memory; /* private */
-    bool is_open; /* private */
+    void *memory;   /* private */
+    size_t is_open; /* private */
 } larboardyuzu_parser;
 
 /* The size of a buffer for one message. A smaller one is refused, whatever the byte is. */
@@ -292,8 +292,8 @@ void larboardyuzu_parser_close(larboardyuzu_parser *parser);
 /* ---- The endpoint: replies to a peer's stream messages and MIDI-CI messages ---- */
 
 typedef struct larboardyuzu_endpoint {
-    void *memory; /* private */
-    bool is_open; /* private */
+    void *memory;   /* private */
+    size_t is_open; /* private */
 } larboardyuzu_endpoint;
 
 /* What was done with a stream message or a whole exclusive. docs/setup.md and docs/rules.md have the
@@ -384,8 +384,8 @@ void larboardyuzu_endpoint_close(larboardyuzu_endpoint *endpoint);
 /* ---- The running state: what the messages so far leave in a receiver ---- */
 
 typedef struct larboardyuzu_state {
-    void *memory; /* private */
-    bool is_open; /* private */
+    void *memory;   /* private */
+    size_t is_open; /* private */
 } larboardyuzu_state;
 
 enum larboardyuzu_fact_kind {
@@ -462,8 +462,8 @@ void larboardyuzu_state_close(larboardyuzu_state *state);
 /* ---- 8-bit exclusives (SysEx8) of many streams, joined ---- */
 
 typedef struct larboardyuzu_sysex8 {
-    void *memory; /* private */
-    bool is_open; /* private */
+    void *memory;   /* private */
+    size_t is_open; /* private */
 } larboardyuzu_sysex8;
 
 enum larboardyuzu_joined {
@@ -519,8 +519,8 @@ uint32_t larboardyuzu_sysex8_cut(uint8_t group, uint8_t stream, const uint8_t *p
 /* ---- USB-MIDI 1.0 events ---- */
 
 typedef struct larboardyuzu_usb {
-    void *memory; /* private */
-    bool is_open; /* private */
+    void *memory;   /* private */
+    size_t is_open; /* private */
 } larboardyuzu_usb;
 
 /* The size of a buffer for the events of one message. A smaller one is refused, whatever the byte is. */

@@ -266,7 +266,7 @@ template <class Raw, void (*Close)(Raw *)> class Handle
     ~Handle() { close(); }
 
     void close() noexcept { Close(&held); }
-    [[nodiscard]] bool is_open() const noexcept { return held.is_open; }
+    [[nodiscard]] bool is_open() const noexcept { return held.is_open != 0; }
 
     // The handle of C, for its calls. Nobody copies it.
     [[nodiscard]] Raw *raw() const noexcept { return &held; }

@@ -158,12 +158,15 @@ def check_errors(program):
         print(f"{page}: the row of 127 is left out, since rt is in /usr/bin here", flush=True)
         rows = [it for it in rows if it.get("Code") != "127"]
     with Room(program) as room:
-        results = room.run([prelude, *[f"( {input_in(row)} )" for row in rows]])[1:]
-    for row, result in zip(rows, results):
+        # (one row reads 4 GiB, which takes minutes if the machine has other work)
+        results = room.run([prelude, *[f"( {input_in(row)} )" for row in rows]], wait=1200)[1:]
+    reached = [it for it in results if it is not None]
+    if len(reached) < len(rows):
+        yield f"{page}: the shell or its time ended before this row did: {input_in(rows[len(reached)])}"
+    for row, (said, status, _) in zip(rows, reached):
         rule = row.get("N")
         last = f"setup field {rule}" if rule else code_in(row.get("Last line", ""))
         code = 9 if rule else int(row.get("Code", 0 if "First line" in row else 1))
-        said, status, _ = result or ("", None, None)
         lines = said.splitlines() or [""]
         # Where there is no last line, the row is about the exit code alone.
         is_last = lines[-1] == last or not last

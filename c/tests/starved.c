@@ -97,7 +97,7 @@ static uint32_t open_usb(void)
 }
 
 /* Opens with one more request granted each time, until there is enough. */
-static void starve(const char *name, uint32_t (*open)(void), const bool *is_open)
+static void starve(const char *name, uint32_t (*open)(void), const size_t *is_open)
 {
     long requests = 0;
 

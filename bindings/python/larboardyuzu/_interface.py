@@ -6,7 +6,7 @@ from ctypes import POINTER, Structure, c_bool, c_char_p, c_size_t, c_uint8, c_ui
 class Handle(Structure):
     """larboardyuzu_down to larboardyuzu_usb."""
 
-    _fields_ = [("memory", c_void_p), ("is_open", c_bool)]
+    _fields_ = [("memory", c_void_p), ("is_open", c_size_t)]
 
 
 class Line(Structure):

@@ -124,12 +124,13 @@ pub const NO_CHANNEL: u8 = 255;
 #[derive(Debug)]
 pub struct Handle {
     pub memory: *mut c_void,
-    pub is_open: bool,
+    /// 1 if it is open, and 0 if it is closed.
+    pub is_open: usize,
 }
 
 impl Handle {
     /// `LARBOARDYUZU_CLOSED`.
-    pub const CLOSED: Handle = Handle { memory: null_mut(), is_open: false };
+    pub const CLOSED: Handle = Handle { memory: null_mut(), is_open: 0 };
 }
 
 /// A line of the listing as C has it.

@@ -1,3 +1,4 @@
 pub mod BlockLaws
 pub mod FrontLaws
+pub mod ItemLaws
 pub mod WithinLaws

@@ -1,5 +1,5 @@
 -- What an endpoint did with a packet, by what it answered.
-use Rattle.std.proofs.Common.{◌≡◌, ℕ, List, [], ◌∷◌, length, Bool, true, false, Option, Some, None, Ok, Err, refl, sym, subst, ap, ◌∙◌}
+use Rattle.std.proofs.Common.{◌≡◌, ℕ, List, [], length, Bool, true, false, Option, Some, None, Ok, Err, refl, sym, subst, ap, ◌∙◌}
 use Rattle.ump_grammar.specs.Reason.{reason}
 use Rattle.ump_grammar.specs.Replies.{AddsPackets}
 use Rattle.ump_grammar.specs.declared.packet.Bad.{Bad}
@@ -7,11 +7,10 @@ use Rattle.ump_grammar.specs.declared.packet.Packet.{Packet}
 use Rattle.listing_terms.specs.declared.listed.BadStep.{BadStep}
 use Rattle.ump_endpoint.specs.Held.{EndpointState, after_packet, refusal_in, replies_in, taken_by, taken_in}
 use Rattle.ump_endpoint.specs.declared.taken.Taken.{Taken}
-use Rattle.c_answers.specs.Blocks.{is_one}
 use Rattle.c_answers.specs.Refusals.{status_of_step}
 use Rattle.c_answers.specs.Whole.{is_whole}
 use Rattle.c_answers.specs.declared.status.Status.{Status}
-use Rattle.c_endpoint.specs.Packets.{IsUntaken, Reads, RefusesPacket, TakesPacket, Unread, packets_in, refuses, replies_of}
+use Rattle.c_endpoint.specs.Packets.{IsUntaken, Reads, RefusesPacket, TakesPacket, Unread, refuses, replies_of}
 use Rattle.c_endpoint.specs.declared.replies.PacketReplies.{PacketReplies}
 
 accepted_of : (bad : Option BadStep) (taken answer : Taken) → Ok answer ≡ taken_by bad taken → bad ≡ None
@@ -67,8 +66,3 @@ pub unread : (whole : Bool) (bad : Option Bad) (held : EndpointState) (offset : 
 unread false bad held offset words why is = (is, refl)
 unread true (Some bad) held offset words why is = (is, refl)
 unread true None held offset words why is = absurd is
-
--- the words of a packet are one item of a block
-pub one_of_whole : (own : List ℕ) → is_whole own ≡ true → is_one packets_in own ≡ true
-one_of_whole [] whole = whole
-one_of_whole (first ∷ more) whole = whole

@@ -2,7 +2,6 @@
 ghost use Rattle.std.specs.Prelude.{◌≡◌, ◌≤◌, length};
 ghost use Rattle.function_blocks.specs.Setups.{setup_of, MeetsRead};
 ghost use Rattle.ump_endpoint.specs.Held.{reset_endpoint};
-ghost use Rattle.c_answers.specs.Blocks.{nothing_taken};
 ghost use Rattle.c_answers.specs.Numbers.{number_of};
 ghost use Rattle.c_endpoint.specs.Asked.{IsBegun, IsMuid, IsProfile, is_on_in};
 ghost use Rattle.c_endpoint.specs.Opening.{OpensBy};
@@ -81,7 +80,7 @@ fn take(
     }
 }
 
-// Takes packets as `packets` does, and counts them in the block, in which nothing is taken yet.
+// Takes packets as `packets` does.
 fn take_all(
     endpoint: &mut Endpoint,
     words: &[u32],
@@ -90,10 +89,10 @@ fn take_all(
     replies: &mut [PacketReplies],
     block: &mut Block,
 ) -> Status
-    requires { block.old ≡ nothing_taken }
     ensures { AreAnswered endpoint.old.held words.now offset buffer.old replies.old
         (number_of result) block.new buffer.new replies.new endpoint.new.held }
 {
+    *block = Block::nothing();
     let mut next = offset;
     while block.taken < words.len() {
         if block.is_full(buffer.len(), MOST_REPLY_WORDS, replies.len(), 1) {
@@ -212,17 +211,7 @@ impl CEndpoint {
         ensures { AreAnswered self.old words.now offset buffer.old replies.old
             (number_of result) block.new buffer.new replies.new self.new }
     {
-        let mut so_far = Block::nothing();
-        let status = take_all(
-            &mut self.endpoint,
-            words,
-            offset,
-            buffer,
-            replies,
-            &mut so_far,
-        );
-        *block = so_far;
-        status
+        take_all(&mut self.endpoint, words, offset, buffer, replies, block)
     }
 
     /// Begins again: the endpoint is as it was made of its setup, with the MUIDs, the profiles and the

@@ -17,7 +17,9 @@ use std::marker::Model;
 #[repr(C)]
 pub struct Handle {
     at: *mut u8,
-    is_open: bool,
+    // 1 if the handle is open and 0 if it is closed. It is as wide as the pointer, so that no byte of the struct
+    // is padding: else a call would copy that too.
+    is_open: usize,
     pub ghost holds: { Option Engine } by { coded_option the_row.coded },
 }
 
@@ -39,7 +41,7 @@ impl Handle {
     {
         Handle {
             at: std::ptr::null_mut(),
-            is_open: false,
+            is_open: 0,
         }
     }
 
@@ -51,7 +53,7 @@ impl Handle {
         let Parted { alloc: _, address } = parted;
         Handle {
             at: address as *mut u8,
-            is_open: true,
+            is_open: 1,
         }
     }
 
@@ -61,7 +63,7 @@ impl Handle {
         ensures { option_map (λ l. l.value) result ≡ self.holds }
     {
         let Handle { at, is_open } = self;
-        if is_open {
+        if is_open != 0 {
             Some(Parted {
                 alloc,
                 address: at as *mut Engine,
@@ -71,9 +73,9 @@ impl Handle {
         }
     }
 
-    // Lets go of a handle, which frees nothing, and tells whether it was open.
+    // Lets go of a handle, which frees nothing, and tells by its flag whether it was open.
     #[inline(always)]
-    fn let_go(self) -> bool
+    fn let_go(self) -> usize
         ensures { result ≡ self.is_open }
     {
         let Handle { at: _, is_open } = self;
@@ -89,6 +91,15 @@ impl Handle {
             None => None,
             Some(parted) => Some(parted.into_box()),
         }
+    }
+
+    /// Takes out what it holds as a box that was taken apart, and leaves it closed.
+    #[inline(always)]
+    pub fn take_parted(&mut self, alloc: Global) -> Option<Parted<Engine, Global>>
+        ensures closed { self.new.holds ≡ None }
+        ensures value { option_map (λ l. l.value) result ≡ self.old.holds }
+    {
+        std::mem::replace(self, Handle::closed()).into_parted(alloc)
     }
 
     /// Takes out what it holds, and leaves it closed.

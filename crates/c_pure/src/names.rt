@@ -129,8 +129,8 @@ pub fn words_have_at_most_32_bytes()
     ensures heard { AreShort heard_names }
 {}
 
-/// The word at the number of each status is that status's own, and there are no other words. So it is with the
-/// kinds of lines, of which 0 is none, and with what an endpoint did with a message.
+/// The word at the number of each status is that status's own, and there are no other words. So it is with
+/// the kinds of lines, of which 0 is none, and with what an endpoint did with a message.
 pub fn words_are_those_of_the_numbers()
     ensures statuses { AreWordsOf number_of status_word status_names }
     ensures kinds { AreWordsOf line_number kind_word kind_names }

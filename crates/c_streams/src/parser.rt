@@ -137,13 +137,9 @@ impl CParser {
         Ok(CParser { parser, room })
     }
 
-    /// Takes one more byte (MIDI 1.0 Detailed Specification). The message that it completes is written to the
-    /// front of the buffer, its status byte first, also when that was running; an exclusive from F0 to F7.
-    /// The outcome has the number of bytes written, and the lines of the byte (own rules).
-    ///
-    /// The status is `SmallBuffer` exactly when the buffer has fewer than two bytes more than the limit of an
-    /// exclusive; nothing is taken then, and `need` is that size. It is `ExclusiveTooLong` at the byte that
-    /// makes an exclusive longer than the limit, which is dropped.
+    /// Takes one more byte (MIDI 1.0 Detailed Specification), as `take_byte` does. A message is written with
+    /// its status byte first, also when that was running; an exclusive from F0 to F7. Any byte may need two
+    /// places more than the limit of an exclusive.
     #[inline]
     pub fn byte(
         &mut self,
@@ -158,13 +154,7 @@ impl CParser {
         take_byte(self, byte, offset, buffer, outcome)
     }
 
-    /// Takes bytes from the front of these, each as `byte` does. Their messages follow each other in the
-    /// buffer, and `outcomes` has an outcome for each byte that completes a message or has a line. The offset
-    /// is that of the first byte; each byte adds 1 to it, modulo 2^64. The block tells how far the call came.
-    ///
-    /// The status is `Done` when all bytes are taken. It is `SmallBuffer` before a byte for which no outcome
-    /// is left, or fewer places in the rest of the buffer than the longest message needs. `ExclusiveTooLong`
-    /// ends the call after the byte that is refused, which counts as taken (own rules).
+    /// Takes bytes from the front of these as `take_bytes` does, each as `byte` does.
     pub fn bytes(
         &mut self,
         bytes: &[u8],

@@ -24,7 +24,12 @@ pub trait ByteReader {
         ensures most { reader.most self.new ≡ reader.most self.old };
 }
 
-/// Takes one more byte, if the buffer has the places that any byte may need.
+/// Takes one more byte, and writes what it completes to the front of the buffer. The outcome has the number
+/// of places written, and the lines of the byte (own rules).
+///
+/// The status is `SmallBuffer` exactly when the buffer has fewer places than any byte may need; nothing is
+/// taken then, and `need` is the size that does. It is `ExclusiveTooLong` at the byte that makes an exclusive
+/// longer than the limit, which is dropped.
 #[inline(always)]
 pub fn take_byte<R: ByteReader>(
     reader: &mut R,
@@ -67,40 +72,14 @@ fn put_outcome(outcome: ByteOutcome, outcomes: &mut [ByteOutcome]) -> usize
     1
 }
 
-// Takes bytes from the front of these, each as `take_byte` does, and returns how far that came.
-fn take_all<R: ByteReader>(
-    reader: &mut R,
-    bytes: &[u8],
-    offset: u64,
-    buffer: &mut [u8],
-    outcomes: &mut [ByteOutcome],
-) -> (Status, Block)
-    ensures { AreBytesTaken R.reader reader.old offset bytes.now buffer.old outcomes.old
-        (number_of result.0) result.1 buffer.new outcomes.new reader.new }
-{
-    let most = reader.most_written();
-    let mut block = Block::nothing();
-    let mut next = offset;
-    while block.taken < bytes.len() {
-        if block.is_full(buffer.len(), most, outcomes.len(), 1) {
-            return (Status::SmallBuffer, block);
-        }
-        match reader.take(bytes[block.taken], next, &mut buffer[block.written..]) {
-            Ok(outcome) => {
-                let count = put_outcome(outcome, &mut outcomes[block.items..]);
-                block.add(1, outcome.written, count);
-                next = next.wrapping_add(1);
-            }
-            Err(why) => {
-                block.refuse(1);
-                return (why, block);
-            }
-        }
-    }
-    (Status::Done, block)
-}
-
-/// Takes bytes from the front of these, each as `take_byte` does. The block tells how far that came.
+/// Takes bytes from the front of these, each as `take_byte` does. All that they complete is written to the
+/// buffer in order, and `outcomes` has an outcome for each byte that completes something or has a line. The
+/// offset is that of the first byte; each byte adds 1 to it, modulo 2^64. The block tells how far the call
+/// came.
+///
+/// The status is `Done` when all bytes are taken. It is `SmallBuffer` before a byte for which no outcome is
+/// left, or fewer places in the rest of the buffer than any byte may need. `ExclusiveTooLong` ends the call
+/// after the byte that is refused, which counts as taken (own rules).
 pub fn take_bytes<R: ByteReader>(
     reader: &mut R,
     bytes: &[u8],
@@ -112,7 +91,24 @@ pub fn take_bytes<R: ByteReader>(
     ensures { AreBytesTaken R.reader reader.old offset bytes.now buffer.old outcomes.old
         (number_of result) block.new buffer.new outcomes.new reader.new }
 {
-    let (status, taken) = take_all(reader, bytes, offset, buffer, outcomes);
-    *block = taken;
-    status
+    let most = reader.most_written();
+    *block = Block::nothing();
+    let mut next = offset;
+    while block.taken < bytes.len() {
+        if block.is_full(buffer.len(), most, outcomes.len(), 1) {
+            return Status::SmallBuffer;
+        }
+        match reader.take(bytes[block.taken], next, &mut buffer[block.written..]) {
+            Ok(outcome) => {
+                let count = put_outcome(outcome, &mut outcomes[block.items..]);
+                block.add(1, outcome.written, count);
+                next = next.wrapping_add(1);
+            }
+            Err(why) => {
+                block.refuse(1);
+                return why;
+            }
+        }
+    }
+    Status::Done
 }

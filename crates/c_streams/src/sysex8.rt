@@ -166,8 +166,7 @@ fn take(
     }
 }
 
-// Takes packets from the front of these words, if an exclusive has at most so many bytes, and returns how
-// far that came.
+// Takes packets as `packets` does, if an exclusive has at most so many bytes.
 fn take_all(
     streams: &mut Streams,
     most: usize,
@@ -175,24 +174,26 @@ fn take_all(
     offset: u64,
     buffer: &mut [u8],
     parts: &mut [JoinedPart],
-) -> (Status, Block)
+    block: &mut Block,
+) -> Status
     requires most { most ≡ streams.old.room }
     requires limit { 13 ≤ streams.old.room }
     ensures answer { ArePacketsJoined streams.old offset words.now buffer.old parts.old
-        (number_of result.0) result.1 buffer.new parts.new streams.new }
+        (number_of result) block.new buffer.new parts.new streams.new }
     ensures room { streams.new.room ≡ streams.old.room }
 {
-    let mut block = Block::nothing();
+    *block = Block::nothing();
     let mut next = offset;
     while block.taken < words.len() {
         if block.is_full(buffer.len(), most, parts.len(), 1) {
-            return (Status::SmallBuffer, block);
+            return Status::SmallBuffer;
         }
-        let count = words_in_packet(words[block.taken]);
-        if words.len() - block.taken < count {
-            return (Status::BadWordCount, block);
+        let rest = &words[block.taken..];
+        let count = words_in_packet(rest[0]);
+        if rest.len() < count {
+            return Status::BadWordCount;
         }
-        let own = Words::from_slice(&words[block.taken..block.taken + count]);
+        let own = Words::from_slice(&rest[..count]);
         match take(streams, &own, next, &mut buffer[block.written..]) {
             Ok(part) => {
                 parts[block.items] = part;
@@ -201,11 +202,11 @@ fn take_all(
             }
             Err(_) => {
                 block.refuse(count);
-                return (Status::ExclusiveTooLong, block);
+                return Status::ExclusiveTooLong;
             }
         }
     }
-    (Status::Done, block)
+    Status::Done
 }
 
 /// The exclusives that streams have begun, with their limit. A contract sees what each slot holds.
@@ -298,9 +299,7 @@ impl CSysex8 {
             (number_of result) block.new buffer.new parts.new self.new }
     {
         let most = self.room as usize;
-        let (status, taken) = take_all(&mut self.streams, most, words, offset, buffer, parts);
-        *block = taken;
-        status
+        take_all(&mut self.streams, most, words, offset, buffer, parts, block)
     }
 
     /// Makes the join as if it were new, with as many slots of the same size: all of them are idle (own

@@ -127,14 +127,9 @@ impl CUsb {
         Ok(CUsb { packer, room })
     }
 
-    /// Takes one more byte (USB Device Class Definition for MIDI Devices 1.0, code index numbers). The events
-    /// of the message that it completes are written to the front of the buffer, four bytes each, those of an
-    /// exclusive all at once. The outcome has the number of bytes written, and the lines of the byte (own
-    /// rules).
-    ///
-    /// The status is `SmallBuffer` exactly when the buffer has no room for the events of an exclusive of the
-    /// limit; nothing is taken then, and `need` is the size that does. It is `ExclusiveTooLong` at the byte
-    /// that makes an exclusive longer than the limit, which is dropped.
+    /// Takes one more byte (USB Device Class Definition for MIDI Devices 1.0, code index numbers), as
+    /// `take_byte` does. A message is written as its events, four bytes each; those of an exclusive all at
+    /// once. Any byte may need the places for the events of an exclusive of the limit.
     pub fn byte(
         &mut self,
         byte: u8,
@@ -148,13 +143,7 @@ impl CUsb {
         take_byte(self, byte, offset, buffer, outcome)
     }
 
-    /// Takes bytes from the front of these, each as `byte` does. Their events follow each other in the
-    /// buffer, and `outcomes` has an outcome for each byte that completes a message or has a line. The offset
-    /// is that of the first byte; each byte adds 1 to it, modulo 2^64. The block tells how far the call came.
-    ///
-    /// The status is `Done` when all bytes are taken. It is `SmallBuffer` before a byte for which no outcome
-    /// is left, or fewer places in the rest of the buffer than the events of the longest message need.
-    /// `ExclusiveTooLong` ends the call after the byte that is refused, which counts as taken (own rules).
+    /// Takes bytes from the front of these as `take_bytes` does, each as `byte` does.
     pub fn bytes(
         &mut self,
         bytes: &[u8],

@@ -6,4 +6,5 @@ pub mod DirectLaws
 pub mod PieceFits
 pub mod UpLaws
 pub mod RunLaws
+pub mod DirectByteLaws
 pub mod ByteBlockLaws

@@ -64,7 +64,7 @@ items_if outcome is_none = if not is_none || not (outcome.first.kind == 0) then 
 
 module _ (up : UpState) (offset byte : ℕ) (sound : IsSound up) where
   -- what is raised: this packet, if there is one, and no line
-  abbrev raised_as : Option Packet → Raised
+  abbrev pub raised_as : Option Packet → Raised
   raised_as None = record {
     packet = None;
     payload = None;
@@ -76,7 +76,7 @@ module _ (up : UpState) (offset byte : ℕ) (sound : IsSound up) where
     lines = record { group = record { number = up.group; below = sound.below }; first = None; second = None };
   }
 
-  nothing_accepted : RaisesAlone up offset byte [] → Accepts up.holding up.group offset (step_in up offset byte) (raised_as None)
+  pub nothing_accepted : RaisesAlone up offset byte [] → Accepts up.holding up.group offset (step_in up offset byte) (raised_as None)
   nothing_accepted alone =
       record {
         accepted = alone.accepted;
@@ -93,7 +93,7 @@ module _ (up : UpState) (offset byte : ℕ) (sound : IsSound up) where
         };
       }
 
-  one_accepted : (one : Packet) → is_exclusive one ≡ false → IsPacket one → RaisesAlone up offset byte (one ∷ [])
+  pub one_accepted : (one : Packet) → is_exclusive one ≡ false → IsPacket one → RaisesAlone up offset byte (one ∷ [])
       → Accepts up.holding up.group offset (step_in up offset byte) (raised_as (Some one))
   one_accepted one other fits alone =
       record {

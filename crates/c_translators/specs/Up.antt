@@ -1,5 +1,5 @@
 -- What the translator up answers a caller with a buffer of its own.
-use Rattle.std.specs.Prelude.{◌≡◌, ◌<◌, ◌≤◌, ◌*◌, nat_lt, max, ℕ, Bool, true, false, List, length, Option, Some, None, Result, Ok, Err}
+use Rattle.std.specs.Prelude.{◌≡◌, ◌<◌, ◌≤◌, ◌*◌, ◌&&◌, not, nat_lt, max, ℕ, Bool, true, false, List, length, Option, Some, None, Result, Ok, Err}
 use Rattle.std.specs.Int.{div_ceil}
 use Rattle.midi1_bytes.specs.Parsing.{open_of, parse}
 use Rattle.midi1_bytes.specs.Stream.{Open}
@@ -10,6 +10,7 @@ use Rattle.midi_meaning.specs.StepListing.{open_kind}
 use Rattle.midi_meaning.specs.UpRefusal.{refusal_of_step}
 use Rattle.midi_meaning.specs.declared.listed.BadStep.{BadStep}
 use Rattle.up_translator.specs.ByteLines.{first_in, second_in}
+use Rattle.up_translator.specs.Fronts.{is_direct}
 use Rattle.up_translator.specs.Held.{KeepsAfter, UpState, step_in, up_after}
 use Rattle.up_translator.specs.Raised.{packets_in, payload_in}
 use Rattle.up_translator.specs.Step.{Accepts}
@@ -104,6 +105,24 @@ answers false up byte offset old status outcome new after =
 abbrev pub IsAnswered : UpState → ℕ → ℕ → List ℕ → ℕ → ByteOutcome → List ℕ → UpState → Type 0
 IsAnswered up byte offset old status outcome new after =
     answers (nat_lt (length old) (most_words up)) up byte offset old status outcome new after
+
+-- ---- one byte, if nothing is raised of it or a direct message alone
+
+-- by whether it is taken; if it isn't, only the outcome changes
+abbrev pub IsAcceptedOrLeft : Bool → UpState → ℕ → ℕ → List ℕ → ByteOutcome → List ℕ → UpState → Type 0
+IsAcceptedOrLeft true up byte offset old outcome new after =
+    IsAccepted up byte offset old outcome new × (after ≡ up_after up offset byte)
+IsAcceptedOrLeft false up byte offset old outcome new after = (new ≡ old) × (after ≡ up)
+
+-- the same of the call
+abbrev pub IsDoneOrLeft : Bool → UpState → ℕ → ℕ → List ℕ → ByteOutcome → List ℕ → UpState → Type 0
+IsDoneOrLeft true up byte offset old outcome new after = IsAnswered up byte offset old (number_of statuses.Done) outcome new after
+IsDoneOrLeft false up byte offset old outcome new after = (new ≡ old) × (after ≡ up)
+
+-- which bytes the call takes, with a buffer of this size
+abbrev pub takes_direct : UpState → ℕ → ℕ → ℕ → Bool
+takes_direct up byte offset size =
+    not (nat_lt size (most_words up)) && is_direct up.holding.paired (step_in up offset byte)
 
 -- ---- the end
 

@@ -146,8 +146,9 @@ fn write_shortened(message: &ShortenedMessage, offset: u64, buffer: &mut [u8], p
 {
     let (lane, has_attribute) = (message.lane, message.has_attribute);
     let first = message.first.get();
-    match (message.status, message.second) {
-        (Some(status), Some(second)) => write_message(
+    let status = message.status;
+    match (message.is_running, message.second) {
+        (false, Some(second)) => write_message(
             &[status, first, second.get()],
             lane,
             has_attribute,
@@ -155,10 +156,10 @@ fn write_shortened(message: &ShortenedMessage, offset: u64, buffer: &mut [u8], p
             buffer,
             piece,
         ),
-        (Some(status), None) => {
+        (false, None) => {
             write_message(&[status, first], lane, has_attribute, offset, buffer, piece);
         }
-        (None, Some(second)) => {
+        (true, Some(second)) => {
             write_message(
                 &[first, second.get()],
                 lane,
@@ -168,7 +169,7 @@ fn write_shortened(message: &ShortenedMessage, offset: u64, buffer: &mut [u8], p
                 piece,
             );
         }
-        (None, None) => write_message(&[first], lane, has_attribute, offset, buffer, piece),
+        (true, None) => write_message(&[first], lane, has_attribute, offset, buffer, piece),
     }
 }
 

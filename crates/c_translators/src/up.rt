@@ -5,7 +5,8 @@ ghost use Rattle.midi1_bytes.specs.Parsing.{idle};
 ghost use Rattle.param_collector.specs.Holding.{fresh};
 ghost use Rattle.sysex_groups.specs.Cut.{part_count};
 ghost use Rattle.ump_grammar.specs.Ranges.{IsPacket};
-ghost use Rattle.up_translator.specs.Held.{up_after};
+ghost use Rattle.up_translator.specs.Fronts.{is_direct};
+ghost use Rattle.up_translator.specs.Held.{step_in, up_after};
 ghost use Rattle.up_translator.specs.Raised.{packet_in, packets_in, payload_in, IsApart};
 ghost use Rattle.midi_meaning.specs.Raising.{exclusive_packets};
 ghost use Rattle.c_answers.specs.Lines.{listed_line, no_line};
@@ -15,7 +16,19 @@ ghost use Rattle.c_answers.specs.Fronts.{with_front};
 ghost use Rattle.c_translators.specs.ByteBlocks.{AreTaken, IsFrontTaken, IsRun};
 ghost use Rattle.c_translators.specs.Encoded.{AreEncoded, IsEncoded};
 ghost use Rattle.c_answers.specs.Outcomes.{empty_outcome, items_of};
-ghost use Rattle.c_translators.specs.Up.{HasEnd, HasRaised, IsAnswered, IsSound, IsTakenOrRefused, RaisesWithin, most_words, most_words_of};
+ghost use Rattle.c_translators.specs.Up.{
+  HasEnd,
+  HasRaised,
+  IsAcceptedOrLeft,
+  IsAnswered,
+  IsDoneOrLeft,
+  IsSound,
+  IsTakenOrRefused,
+  RaisesWithin,
+  most_words,
+  most_words_of,
+  takes_direct,
+};
 
 use crate::exclusive::exclusive_words;
 use c_answers::laws::exclusives_stay_within_their_limit;
@@ -24,7 +37,7 @@ use small_types::{NoMemory, U4};
 use std::alloc::Global;
 use std::marker::Model;
 use sysex_groups::part;
-use up_translator::{BadStep, Listed, Raised, RaisedPacket, Up};
+use up_translator::{BadStep, DirectStep, Listed, Raised, RaisedPacket, Up};
 
 /// The size of a buffer that takes the words of any packet.
 const LEAST_SIZE: usize = 4;
@@ -153,6 +166,32 @@ fn take(
             return Ok(());
         }
         Err(bad) => return Err(bad),
+    }
+}
+
+// Takes one more byte, and writes its outcome, if nothing is raised of it or a direct message alone. Otherwise
+// the outcome says nothing. It is written first, while little else is kept.
+#[inline(always)]
+fn take_direct(
+    up: &mut Up,
+    byte: u8,
+    offset: u64,
+    words: &mut [u32],
+    outcome: &mut ByteOutcome,
+) -> bool
+    requires sound { IsSound up.old }
+    requires room { most_words up.old ≤ length words.old }
+    ensures class { result ≡ is_direct up.old.holding.paired (step_in up.old offset byte) }
+    ensures answer { IsAcceptedOrLeft result up.old byte offset words.old outcome.new words.new up.new }
+{
+    *outcome = ByteOutcome::empty(offset);
+    match up.direct(byte, offset) {
+        DirectStep::Held => return true,
+        DirectStep::Message(voice) => {
+            outcome.written = put_pair(voice.pair(), words);
+            return true;
+        }
+        DirectStep::Other => return false,
     }
 }
 
@@ -404,6 +443,28 @@ impl CUp {
             Ok(()) => return Status::Done,
             Err(bad) => return Status::of_step(bad),
         }
+    }
+
+    /// Takes one more byte as `byte` does, with `Done`, if the buffer is large enough and the byte is only held or
+    /// completes a message that is raised alone. `false` exactly otherwise: then nothing is taken or written but
+    /// the outcome, which says nothing, and `byte` has the answer. It takes most bytes of a performance, in less
+    /// time than `byte`.
+    #[inline(always)]
+    pub fn direct(
+        &mut self,
+        byte: u8,
+        offset: u64,
+        words: &mut [u32],
+        outcome: &mut ByteOutcome,
+    ) -> bool
+        ensures class { result ≡ takes_direct self.old byte offset (length words.old) }
+        ensures answer { IsDoneOrLeft result self.old byte offset words.old outcome.new words.new self.new }
+    {
+        exclusives_stay_within_their_limit();
+        if words.len() < self.most_written {
+            return false;
+        }
+        take_direct(&mut self.up, byte, offset, words, outcome)
     }
 
     /// Takes bytes that follow one another, each as `byte` does. Their words follow one another in the

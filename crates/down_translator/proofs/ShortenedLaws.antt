@@ -1,6 +1,6 @@
 -- In compact style the bytes of one message, without a status byte that is the running status, are the step of a packet that leaves the
 -- registers as they are.
-use Rattle.std.proofs.Common.{◌≡◌, ◌∙◌, ◌++◌, ◌∷◌, ap, sym, refl, arith, cond, ℕ, Bool, List, true, false, Option, Some, None}
+use Rattle.std.proofs.Common.{◌≡◌, ◌∙◌, ◌∷◌, ap, sym, refl, arith, ℕ, Bool, true, false, Option, Some, None}
 use Rattle.std.specs.Prelude.{◌&&◌, not, slice_index}
 use Rattle.std.specs.Option.{option_to_list}
 use Rattle.encoded_packets.specs.declared.direct_message.DirectMessage.{DirectMessage}
@@ -20,7 +20,7 @@ use Rattle.down_translator.specs.declared.statuses.Statuses.TheVariants.{Changes
 use Rattle.down_translator.specs.Held.{DownState, lanes_after_packet, paired_of, unless_refused}
 use Rattle.down_translator.specs.KeptLanes.{is_plain, kept_by, lane_at, lanes_after, piece_by, with_lane}
 use Rattle.down_translator.specs.Lowered.{IsShortenedStep, attribute_line, goes_shortened, lowered_bytes, has_attribute}
-use Rattle.down_translator.specs.Lowered.{message_goes_direct, shortened_bytes, voice_of}
+use Rattle.down_translator.specs.Lowered.{message_goes_direct, shortened_bytes, unless_running, voice_of}
 use Rattle.down_translator.specs.Step.{IsStep, lane_of}
 use Rattle.down_translator.proofs.LoweredLaws.{IsSingle, direct_packet, is_single_of}
 use Rattle.down_translator.proofs.PieceLaws.{piece1, single_piece}
@@ -94,21 +94,15 @@ pub both_shortened : (plain direct : Bool) → (not plain && direct) ≡ true �
 both_shortened true direct e = cc
 both_shortened false direct e = (refl, e)
 
-left_out : (running : Bool) (status : ℕ) (rest : List ℕ)
-    → option_to_list (cond running None (Some status)) ++ rest ≡ cond running rest (status ∷ rest)
-left_out true status rest = refl
-left_out false status rest = refl
-
 -- the bytes of a message, by whether its status byte is the running status
-pub shortened_is : (running : Option ℕ) (l : LoweredMessage) (s : ShortenedMessage) (is : Bool) → is ≡ is_running running l.status →
-    s.status ≡ cond is None (Some l.status) → s.first ≡ l.first → s.second ≡ l.second
+pub shortened_is : (running : Option ℕ) (l : LoweredMessage) (s : ShortenedMessage) → s.is_running ≡ is_running running l.status
+    → s.status ≡ l.status → s.first ≡ l.first → s.second ≡ l.second
     → shortened_bytes s ≡ without_status running (lowered_bytes l)
-shortened_is running l s is same status first second =
-    ap (λ status. option_to_list status ++ (s.first ∷ option_to_list s.second)) status
-    ∙ ap (λ first. option_to_list (cond is None (Some l.status)) ++ (first ∷ option_to_list s.second)) first
-    ∙ ap (λ second. option_to_list (cond is None (Some l.status)) ++ (l.first ∷ option_to_list second)) second
-    ∙ left_out is l.status (l.first ∷ option_to_list l.second)
-    ∙ ap (λ is. cond is (l.first ∷ option_to_list l.second) (lowered_bytes l)) same
+shortened_is running l s same status first second =
+    ap (λ is. unless_running is s.status (s.first ∷ option_to_list s.second)) same
+    ∙ ap (λ status. unless_running (is_running running l.status) status (s.first ∷ option_to_list s.second)) status
+    ∙ ap (λ first. unless_running (is_running running l.status) l.status (first ∷ option_to_list s.second)) first
+    ∙ ap (λ second. unless_running (is_running running l.status) l.status (l.first ∷ option_to_list second)) second
 
 pub taken_shortened : (state : DownState) (m : DirectMessage) (l : LoweredMessage) (s : ShortenedMessage) → IsDirectMessage m
     → (not (is_plain state.lanes.style) && message_goes_direct state.lanes.paired m) ≡ true

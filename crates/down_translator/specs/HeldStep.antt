@@ -14,7 +14,7 @@ abbrev pub is_held : Answer → Bool
 is_held held = true
 is_held _ = false
 
--- a part is held: it continues an exclusive that its group has open, and that stays within the limit
+-- the bytes of a part are only kept: it continues an exclusive that its group has open, and that stays within the limit
 abbrev pub holds_part : Table → Option Part → Bool
 holds_part table None = false
 holds_part table (Some part) = is_held (answer_to table part)
@@ -29,7 +29,8 @@ pub record IsNothing (carried : Carried) : Type 0 where
   pub lane : lane_in carried ≡ 0
   pub line : line_in carried ≡ None
 
--- It is the whole step of a packet at any offset: an answer without bytes and without a line is the packet's, and this is held after it.
+-- It is the whole step of a packet at any offset: an answer without bytes and without a line is the packet's, and this is the state
+-- after it.
 pub record IsHeldStep (state : DownState) (packet : Packet) (behind : DownState) : Type 0 where
   pub whole : goes_held state packet ≡ true
   pub step : (offset : ℕ) (carried : Carried) → IsNothing carried → IsStep state offset packet carried

@@ -19,7 +19,7 @@ use Rattle.down_translator.specs.Held.{DownState, down_after, paired_of, style_o
 use Rattle.down_translator.specs.KeptLanes.{is_plain, kept_by}
 use Rattle.down_translator.specs.declared.statuses.Statuses.TheVariants.{Changes}
 use Rattle.down_translator.specs.Step.{IsStep}
-pub use Rattle.down_translator.specs.LoweredBytes.{lowered_bytes, shortened_bytes}
+pub use Rattle.down_translator.specs.LoweredBytes.{lowered_bytes, shortened_bytes, unless_running}
 use Rattle.down_translator.specs.Midi1.{midi1_goes_direct}
 use Rattle.down_translator.specs.declared.lowered.LoweredMessage.{LoweredMessage}
 use Rattle.down_translator.specs.declared.shortened.ShortenedMessage.{ShortenedMessage}
@@ -111,8 +111,8 @@ pub record IsDirectStep (state : DownState) (packet : Packet) (m : LoweredMessag
 abbrev pub goes_shortened : DownState → Packet → Bool
 goes_shortened state packet = not (is_plain (style_of state)) && packet_goes_direct (paired_of state) packet
 
--- It is the whole step of a packet at any offset: an answer with its bytes is the packet's, in one of sixteen lanes, and this is held
--- after it.
+-- It is the whole step of a packet at any offset: an answer with its bytes is the packet's, in one of sixteen lanes, and this is the
+-- state after it.
 pub record IsShortenedStep (state : DownState) (packet : Packet) (m : ShortenedMessage) (behind : DownState) : Type 0 where
   pub whole : goes_shortened state packet ≡ true
   pub lane : m.lane < 16

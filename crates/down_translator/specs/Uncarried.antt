@@ -1,4 +1,4 @@
--- Packets that no message of MIDI 1.0 carries, whatever is held (M2-104-UM, default translation; own rules).
+-- Packets that no message of MIDI 1.0 carries in any state of a translator (M2-104-UM, default translation; own rules).
 use Rattle.std.specs.Prelude.{◌≡◌, ◌==◌, ◌&&◌, ◌||◌, if◌then◌else◌, ℕ, Bool, true, false, List, Option, Some, None}
 use Rattle.voice_messages.specs.declared.voice2.Voice2.{Voice2}
 use Rattle.voice_messages.specs.declared.voice2.Voice2.TheVariants as voice2

@@ -29,7 +29,7 @@ use crate::lowered::{LoweredMessage, lowered};
 use crate::midi1_message::{message_index, midi1_message};
 use crate::pieces::{Piece, write_paired, write_system, write_voice1, write_voice2};
 use crate::refusals::{bad_voice1, bad_voice2};
-use crate::shortened::{ShortenedMessage, control_index, unless_running};
+use crate::shortened::{ShortenedMessage, control_index};
 use crate::style::Style;
 use crate::uncarried::read_uncarried;
 use encoded_packets::{DirectMessage, EncodedPacket, ExclusivePart};
@@ -42,8 +42,8 @@ use sysex_groups::{Fed, Groups};
 use ump_grammar::Packet;
 use voice_messages::{Form, System, U7, Voice1, Voice2};
 
-/// Translates packets to the MIDI 1.0 bytes of sixteen lanes, a lane for each group. A contract sees what it
-/// holds: the exclusives that the groups have open, and in compact style what is kept of each lane.
+/// Translates packets to the MIDI 1.0 bytes of sixteen lanes, a lane for each group. A contract sees its
+/// state: the exclusives that the groups have open, and in compact style what is kept of each lane.
 #[derive(Drop)]
 pub struct Down {
     groups: Groups,
@@ -326,8 +326,8 @@ impl Down {
         self.lanes.is_shortened(control_index(message))
     }
 
-    /// Answers a packet that is held as its words as `packet` does. It is taken apart only if its words don't
-    /// tell its answer: those of a part of an exclusive do, and those of a packet that nothing carries.
+    /// Answers a packet that is given as its words, as `packet` does. It is taken apart only if its words
+    /// don't tell its answer: those of a part of an exclusive do, and those of a packet that nothing carries.
     #[inline(always)]
     pub fn encoded(&mut self, packet: &EncodedPacket, offset: u64) -> Result<Carried<'_>, BadStep>
         ensures answer { Translates self.old offset packet.now result }
@@ -370,10 +370,10 @@ impl Down {
             second,
             has_attribute,
         } = message;
-        let is_running = self.lanes.take_status(lane, status);
         ShortenedMessage {
             lane,
-            status: unless_running(is_running, status),
+            status,
+            is_running: self.lanes.take_status(lane, status),
             first,
             second,
             has_attribute,
@@ -412,10 +412,10 @@ impl Down {
     }
 
     /// Takes the packet if in compact style one MIDI 1.0 message carries it and leaves the registers as they
-    /// are, and returns the message, without its status byte if that is the running status of its lane (MIDI
-    /// 1.0 Detailed Specification, running status). These are the packets of which `lowered` speaks. It is
-    /// the answer of `packet`, and what `packet` would leave is kept. `None` exactly for other packets and in
-    /// plain style, and then the translator stays as it is: `packet` has their answer.
+    /// are, and returns the message, whose status byte is left out if it is the running status of its lane
+    /// (MIDI 1.0 Detailed Specification, running status). These are the packets of which `lowered` speaks. It
+    /// is the answer of `packet`, and what `packet` would leave is kept. `None` exactly for other packets and
+    /// in plain style, and then the translator stays as it is: `packet` has their answer.
     #[inline(always)]
     pub fn shortened(&mut self, packet: &EncodedPacket) -> Option<ShortenedMessage>
         ensures { MatchOption result

@@ -5,6 +5,7 @@ ghost use Rattle.midi_meaning.specs.declared.listed.Kind.TheVariants as kinds;
 ghost use Rattle.midi_meaning.specs.Registers.{is_null};
 ghost use Rattle.midi_meaning.specs.Controllers.{pairing, role_of};
 ghost use Rattle.midi_meaning.specs.Listing.{attribute_kind, control_kind, voice_kind};
+ghost use Rattle.down_translator.specs.Uncarried.{shift_kind};
 
 use midi_meaning::{ControlRole, Kind, Listed, is_null_param};
 use small_types::U4;
@@ -57,10 +58,12 @@ fn set_kind(param: &Param) -> Option<Kind>
     }
 }
 
-fn shift_kind(param: &Param) -> Kind
-    ensures { result ≡ (if is_null param.now then kinds.NullParameter else kinds.RelativeParameter) }
+/// The kind of a relative parameter, which may be the null parameter.
+#[inline(always)]
+pub fn shift_kind(is_null: bool) -> Kind
+    ensures { result ≡ shift_kind is_null }
 {
-    if is_null_param(param) {
+    if is_null {
         Kind::NullParameter
     } else {
         Kind::RelativeParameter
@@ -79,7 +82,7 @@ pub fn voice_kind(message: &Voice2) -> Option<Kind>
         }
         Voice2::Control { index, .. } => control_kind(*index),
         Voice2::Set { param, .. } => set_kind(param),
-        Voice2::Shift { param, .. } => Some(shift_kind(param)),
+        Voice2::Shift { param, .. } => Some(shift_kind(is_null_param(param))),
         Voice2::NoteController { .. } => Some(Kind::NoteController),
         Voice2::NoteBend { .. } => Some(Kind::NoteBend),
         Voice2::NoteManagement { .. } => Some(Kind::NoteManagement),

@@ -74,9 +74,7 @@ impl RunningStatus {
         ensures after { self.new ≡ Some status }
     {
         let is_running = self.number == u16::from(status);
-        if !is_running {
-            self.number = u16::from(status);
-        }
+        self.number = u16::from(status);
         is_running
     }
 }

@@ -1,5 +1,5 @@
 // Messages that compact style writes without their packets being taken apart.
-ghost use Rattle.std.specs.Prelude.{◌≡◌, ◌/◌, if◌then◌else◌, Some, None};
+ghost use Rattle.std.specs.Prelude.{◌≡◌, ◌/◌};
 ghost use Rattle.encoded_packets.specs.DirectMessages.{kind_by};
 ghost use Rattle.down_translator.specs.Lowered.{index_by};
 
@@ -11,9 +11,10 @@ use voice_messages::{U4, U7};
 pub struct ShortenedMessage {
     /// The lane, which is the packet's group.
     pub lane: U4,
-    /// The status byte, 80 to EF; none if it is left out, since it is the running status of
-    /// the lane.
-    pub status: Option<u8>,
+    /// The status byte, 80 to EF.
+    pub status: u8,
+    /// Whether the status byte is left out, since it is the running status of the lane.
+    pub is_running: bool,
     /// The first data byte.
     pub first: U7,
     /// The second data byte; none exactly in a channel pressure or a program change.
@@ -33,12 +34,4 @@ pub fn control_index(message: &DirectMessage) -> U7
     } else {
         U7::low_bits(64)
     }
-}
-
-/// The status byte of a message, unless it is left out.
-#[inline(always)]
-pub fn unless_running(is_running: bool, status: u8) -> Option<u8>
-    ensures { result ≡ if is_running then None else Some status }
-{
-    if is_running { None } else { Some(status) }
 }

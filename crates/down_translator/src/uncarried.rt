@@ -6,11 +6,11 @@ ghost use Rattle.down_translator.specs.Uncarried.{
   IsUncarried,
   has_group,
   kind_in,
-  shift_kind,
   uncarried_kind,
   voice_kind_in,
 };
 
+use crate::listing::shift_kind;
 use encoded_packets::EncodedPacket;
 use midi_meaning::Kind;
 use small_types::U4;
@@ -26,8 +26,8 @@ pub struct Uncarried {
     pub kind: Kind,
 }
 
-/// What the packet is listed as, if no message of MIDI 1.0 carries it, whatever is held (M2-104-UM, default
-/// translation; own rules); `None` exactly for other packets.
+/// What the packet is listed as, if no message of MIDI 1.0 carries it in any state of a translator (M2-104-UM,
+/// default translation; own rules); `None` exactly for other packets.
 #[inline(always)]
 pub fn read_uncarried(packet: &EncodedPacket) -> Option<Uncarried>
     ensures { MatchOption result (uncarried_kind packet.now ≡ None)
@@ -111,22 +111,18 @@ fn voice_kind_in(words: &[u32]) -> Option<Kind>
 {
     match bits(words[0], 20, 4) {
         0x0 | 0x1 => Some(Kind::NoteController),
-        0x4 | 0x5 => Some(shift_kind_in(words)),
+        0x4 | 0x5 => Some(shift_kind(has_null_parameter(words))),
         0x6 => Some(Kind::NoteBend),
         0xF => Some(Kind::NoteManagement),
         _ => None,
     }
 }
 
-// The kind of the words of a relative parameter.
+// Whether the parameter in the words of a relative parameter is the null parameter.
 #[inline(always)]
-fn shift_kind_in(words: &[u32]) -> Kind
+fn has_null_parameter(words: &[u32]) -> bool
     requires { 0 < length words.now }
-    ensures { result ≡ shift_kind (place words.now 3 == 127 && place words.now 4 == 127) }
+    ensures { result ≡ (place words.now 3 == 127 && place words.now 4 == 127) }
 {
-    if (byte(words[0], 8) == 127) & (byte(words[0], 0) == 127) {
-        Kind::NullParameter
-    } else {
-        Kind::RelativeParameter
-    }
+    (byte(words[0], 8) == 127) & (byte(words[0], 0) == 127)
 }

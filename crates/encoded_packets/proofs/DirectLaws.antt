@@ -1,9 +1,9 @@
 -- A type 4 packet with the opcode of a direct message is that message.
 use Rattle.std.proofs.Common.{◌≡◌, ◌<◌, ◌/◌, ◌%◌, ◌^◌, ℕ, Bool, true, false, ◌||◌, ◌&&◌}
-use Rattle.std.proofs.Common.{leb, List, [], ◌∷◌, length, refl, sym, ap, ◌∙◌, subst, arith}
+use Rattle.std.proofs.Common.{leb, List, length, refl, sym, ap, ◌∙◌, subst, arith}
 use Rattle.std.specs.Prelude.{◌==◌, slice_index, if◌then◌else◌, Some, None}
 use Rattle.std.specs.Coded.{Coded-set, coded_bool}
-use Rattle.std.proofs.lemmas.Bool.{and_parts, eqb-true, leb-false, lt-leb, true≢false}
+use Rattle.std.proofs.lemmas.Bool.{leb-false, true≢false}
 use mathlib.Core.Logic.{∥∥₁_elim}
 use Rattle.voice_messages.specs.declared.voice2.Voice2.{Voice2}
 use Rattle.voice_messages.specs.declared.voice2.Voice2.TheVariants as voice2
@@ -24,14 +24,6 @@ pub two_words : (words : List ℕ) → IsWhole words → slice_index words 0 < 2
 two_words words whole small kind =
     let type : slice_index words 0 / 2 ^ 28 ≡ 4 = omega arith in
     whole ∙ rw type refl
-
--- two words of which the first begins such a message are a whole packet
-pub value_whole : (first second : ℕ) → first < 2 ^ 32 → (field first 28 4 == 4 && is_direct_opcode (field first 20 4)) ≡ true
-    → IsWhole (first ∷ second ∷ [])
-value_whole first second small e =
-    let kind : field first 28 4 ≡ 4 = eqb-true (field first 28 4) 4 (and_parts (field first 28 4 == 4) _ e).0 in
-    let type : first / 2 ^ 28 ≡ 4 = omega arith in
-    rw type refl
 
 not-opcode : (words : List ℕ) (n : ℕ) → opcode_of words ≡ n → is_direct_opcode n ≡ true → is_direct_opcode (opcode_of words) ≡ false → ⊥
 not-opcode words n e it other = true≢false (sym it ∙ ap is_direct_opcode (sym e) ∙ other)
@@ -139,63 +131,6 @@ is_message m words t places type it =
           (record { whole = is_whole words t; row = (type, places.group, spelled m words places type fine it) }),
     )
 
--- The other way round: words with the places of such a message encode it.
-abbrev message_at : List ℕ → DirectMessage
-message_at words =
-    record {
-      group = group_of words;
-      status = byte words 2;
-      index = byte words 3;
-      attribute_type = byte words 4;
-      value = field (word words 2) 0 32;
-    }
-
-places_at : (words : List ℕ) → byte words 3 < 128 → HasPlaces (message_at words) words
-places_at words low = record { group = refl; status = refl; index = omega arith; attribute_type = refl; value = refl }
-
-not-high : (words : List ℕ) → byte words 3 < 128 → leb 128 (byte words 3) ≡ false
-not-high words low = lt-leb 128 (byte words 3) low
-
-module _ (words : List ℕ) (type : type_of words ≡ 4) (low : byte words 3 < 128) where
-  abbrev IsFine : ℕ → Type 0
-  IsFine opcode = opcode_of words ≡ opcode → reason words ≡ None
-
-  pub fine_at : is_direct_opcode (opcode_of words) ≡ true → reason words ≡ None
-  fine_at it =
-      one_of_six IsFine
-      (λ e. rw (type, e, not-high words low) refl)
-      (λ e. rw (type, e, not-high words low) refl)
-      (λ e. rw (type, e, not-high words low) refl)
-      (λ e. rw (type, e, not-high words low) refl)
-      (λ e. rw (type, e) refl)
-      (λ e. rw (type, e) refl)
-      (opcode_of words) it refl
-
+-- words spell at most one packet
 abbrev pub SpellsOne : Type 0
 SpellsOne = (p q : Packet) (words : List ℕ) → Spells p words → Spells q words → p ≡ q
-
-abbrev BeginsValue : List ℕ → Type 0
-BeginsValue words = (type_of words == 4 && is_direct_opcode (opcode_of words)) ≡ true
-
-abbrev pub packet_at : List ℕ → Packet
-packet_at words = packet.Voice2 (group_of words) (direct_voice (message_at words))
-
-module _ (words : List ℕ) (whole : IsWhole words) (begins : BeginsValue words) (low : byte words 3 < 128) where
-  abbrev both : (type_of words == 4 ≡ true) × (is_direct_opcode (opcode_of words) ≡ true)
-  both = and_parts (type_of words == 4) (is_direct_opcode (opcode_of words)) begins
-
-  type : type_of words ≡ 4
-  type = eqb-true (type_of words) 4 both.0
-
-  pub fine_value : reason words ≡ None
-  fine_value = fine_at words type low both.1
-
-  pub spells_value : Spells (packet_at words) words
-  spells_value =
-      record { whole = whole; row = (type, refl, spelled (message_at words) words (places_at words low) type fine_value both.1) }
-
-  pub the_value : SpellsOne → ThePacket words
-  the_value one = (
-    packet_at words,
-    ∣ record { fine = fine_value; spelled = spells_value; only = λ q s. one q (packet_at words) words s spells_value } ∣₁,
-  )

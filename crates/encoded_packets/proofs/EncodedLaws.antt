@@ -23,7 +23,7 @@ is_fine words t = ∥∥₁_elim t.1 (Coded-set reason-code (reason words) None)
 pub is_whole : (words : List ℕ) → ThePacket words → IsWhole words
 is_whole words t = ∥∥₁_elim t.1 (Coded-set coded_ℕ _ _) (λ a. a.spelled.whole)
 
--- the same where they are a copy
+-- the same if they are a copy
 pub spelled_by : (words given : List ℕ) (t : ThePacket words) (p : Packet) → words ≡ given → Spells p given → Spells t.0 given
 spelled_by words given t p e spelled =
     subst (λ q. Spells q given) (sym (the_one words t p (subst (Spells p) (sym e) spelled))) spelled

@@ -1,4 +1,5 @@
 pub mod EncodedLaws
 pub mod PartLaws
 pub mod DirectLaws
+pub mod LowLaws
 mod RowLaws

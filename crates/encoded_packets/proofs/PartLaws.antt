@@ -18,9 +18,7 @@ use Rattle.ump_grammar.specs.Reason.{has_high, reason}
 use Rattle.ump_grammar.specs.Spelling.{Spells, exclusive_places, form_number}
 use Rattle.encoded_packets.specs.Encoded.{ThePacket}
 use Rattle.encoded_packets.specs.Parts.{begins_part, continues_by_six, has_low_bytes, is_full_part, is_low_part, is_six_more}
-use Rattle.encoded_packets.specs.DirectMessages.{is_direct_opcode}
 use Rattle.encoded_packets.proofs.EncodedLaws.{is_whole, the_one}
-use Rattle.encoded_packets.proofs.DirectLaws.{SpellsOne}
 
 -- the form with a number
 abbrev pub form_at : ℕ → Form
@@ -36,7 +34,7 @@ form-at-is (suc (suc zero)) small = refl
 form-at-is (suc (suc (suc zero))) small = refl
 form-at-is (suc (suc (suc (suc n)))) small = absurd (omega (arith, small))
 
--- no byte of a front is high where none is
+-- no byte of a front is high if none is
 none-high : (bytes : List ℕ) (n : ℕ) → has_high bytes ≡ false → has_high (take n bytes) ≡ false
 none-high bytes zero e = refl
 none-high [] (suc n) e = refl
@@ -92,13 +90,6 @@ two_words words whole small kind =
     let type : slice_index words 0 / 2 ^ 28 ≡ 3 = omega arith in
     whole ∙ rw type refl
 
--- a packet of another type is none
-pub no_part : (words : List ℕ) → type_of words ≡ 4 → is_low_part words ≡ false
-no_part words type = rw type refl
-
-pub no_value : (words : List ℕ) → IsLow words → (type_of words == 4 && is_direct_opcode (opcode_of words)) ≡ false
-no_value words low = rw low.type refl
-
 pub data_in : (words : List ℕ) → IsLow words → All (λ b. b < 128) (exclusive_places words)
 data_in words low = at
   where
@@ -130,19 +121,6 @@ fine_part words low =
     let high : has_high (take (count_of words) (exclusive_places words)) ≡ false =
     none-high (exclusive_places words) (count_of words) (none-high-in words low) in
     rw (low.type, opcode, count, high) refl
-
-abbrev pub part_at : List ℕ → Packet
-part_at words = packet.Exclusive (group_of words) (form_at (opcode_of words)) (take (count_of words) (exclusive_places words))
-
-module _ (words : List ℕ) (whole : IsWhole words) (low : IsLow words) where
-  pub spells_part : Spells (part_at words) words
-  spells_part = record { whole = whole; row = (low.type, refl, (form-at-is (opcode_of words) low.opcode, refl)) }
-
-  pub the_part : SpellsOne → ThePacket words
-  the_part one = (
-    part_at words,
-    ∣ record { fine = fine_part words low; spelled = spells_part; only = λ q s. one q (part_at words) words s spells_part } ∣₁,
-  )
 
 -- it is the packet with the fields of the words
 pub is_part : (words : List ℕ) (t : ThePacket words) (group count : ℕ) (f : Form) (bytes : List ℕ) → IsLow words → group ≡ group_of words
@@ -241,15 +219,6 @@ not_full words t none = ∥∥₁_elim t.1 (Coded-set bool-code (is_full_part t.
     by_packet _ spells fine = refl
 
 -- ---- six more bytes
-
--- two words of which the first begins a 7-bit exclusive are a whole packet
-pub part_whole : (first second : ℕ) → first < 2 ^ 32 → begins_part first ≡ true → IsWhole (first ∷ second ∷ [])
-part_whole first second small e =
-    let b = and_parts (field first 28 4 == 3 && nat_le (field first 20 4) 3) (nat_le (field first 16 4) 6) e in
-    let c = and_parts (field first 28 4 == 3) (nat_le (field first 20 4) 3) b.0 in
-    let kind : field first 28 4 ≡ 3 = eqb-true (field first 28 4) 3 c.0 in
-    let type : first / 2 ^ 28 ≡ 3 = omega arith in
-    rw type refl
 
 -- the opcode and the count are the two halves of a byte
 six_fields : (words : List ℕ) → field (slice_index words 0) 16 8 ≡ 0x26 → (opcode_of words ≡ 2) × (count_of words ≡ 6)

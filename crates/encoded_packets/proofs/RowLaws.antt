@@ -18,9 +18,7 @@ use Rattle.ump_grammar.specs.WordFields.{field, word, byte, type_of, group_of, o
 use Rattle.ump_grammar.specs.Reason.{reason}
 use Rattle.ump_grammar.specs.Spelling.{both, HasRow, Spells, SpellsSystem, SpellsVoice1, SpellsVoice2}
 use Rattle.ump_grammar.specs.Spelling.{bank_of, exclusive_places, has_row, is_system_status}
-use Rattle.encoded_packets.specs.DirectMessages.{is_direct_opcode}
 use Rattle.encoded_packets.specs.Encoded.{ThePacket}
-use Rattle.encoded_packets.specs.Parts.{is_low_part}
 use Rattle.encoded_packets.proofs.EncodedLaws.{is_whole, the_one}
 use Rattle.encoded_packets.proofs.DirectLaws.{SpellsOne}
 use Rattle.encoded_packets.proofs.PartLaws.{form_at, form-at-is}
@@ -230,10 +228,3 @@ pub spelled : (words : List ℕ) (t : ThePacket words) → Spells t.0 words
 spelled words t =
     let spells : Spells (packet_of words) words = spells_packet words (is_whole words t) in
     subst (λ p. Spells p words) (sym (the_one words t (packet_of words) spells)) spells
-
--- a voice message of MIDI 1.0 is no direct message, and no part of an exclusive
-pub no_direct_voice1 : (words : List ℕ) → type_of words ≡ 2 → (type_of words == 4 && is_direct_opcode (opcode_of words)) ≡ false
-no_direct_voice1 words type = rw type refl
-
-pub no_part_voice1 : (words : List ℕ) → type_of words ≡ 2 → is_low_part words ≡ false
-no_part_voice1 words type = rw type refl

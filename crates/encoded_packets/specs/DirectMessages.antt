@@ -1,4 +1,5 @@
--- Channel voice messages of the MIDI 2.0 protocol whose MIDI 1.0 counterpart has their status byte (M2-104-UM, opcodes 8 to B, D and E).
+-- Channel voice messages of the MIDI 2.0 protocol whose MIDI 1.0 counterpart has their status byte (M2-104-UM,
+-- opcodes 8 to B, D and E).
 use Rattle.std.specs.Prelude.{◌≡◌, ◌==◌, ◌<◌, ◌/◌, ◌%◌, ◌^◌, ℕ, Bool, true, false, if◌then◌else◌}
 use Rattle.std.proofs.Common.{eqb, sym, refl, subst, ◌∙◌}
 use Rattle.std.proofs.lemmas.Bool.{eqb-true, true≢false}

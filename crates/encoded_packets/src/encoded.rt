@@ -16,10 +16,9 @@ ghost use Rattle.encoded_packets.specs.DirectMessages.{IsDirectMessage, has_dire
 
 use crate::direct_message::{DirectKind, DirectMessage};
 use crate::exclusive_part::ExclusivePart;
-use crate::refusal::{exclusive_bytes, refusal};
 use packet_words::{Framed, Words};
 use std::marker::Model;
-use ump_grammar::decoding::form_of;
+use ump_grammar::decoding::{exclusive_bytes, form_of};
 use ump_grammar::fields::{bits, byte, nibble};
 use ump_grammar::laws::{spelled_packets_fit, words_spell_one_packet};
 use ump_grammar::{Bad, Packet, decode};
@@ -51,6 +50,7 @@ impl EncodedPacket {
     /// and `Err(HighBit)` exactly when another packet has a byte of 128 or more that carries seven bits: of
     /// an exclusive those that it counts, of a program's bank those of a bank that is there.
     #[inline(always)]
+    #[tactic(auto, using(crate::proofs::LowLaws::fine_low_part))]
     pub fn new(framed: &Framed) -> Result<EncodedPacket, Bad>
         requires { IsWhole framed.now.words }
         ensures answer { Decodes framed.now.words result }
@@ -59,15 +59,13 @@ impl EncodedPacket {
         let first = framed.words.as_slice()[0];
         // Most packets are such messages, so that others alone are taken apart.
         if begins_direct(first) && byte(first, 8) < 128 {
-            return Ok(direct_packet(&framed.words));
+            return Ok(packet_of(&framed.words, true, false));
         }
         if is_low_part(&framed.words) {
-            return Ok(part_packet(&framed.words));
+            return Ok(packet_of(&framed.words, false, true));
         }
-        match refusal(framed.words.as_slice()) {
-            None => Ok(fine_packet(&framed.words)),
-            Some(bad) => Err(bad),
-        }
+        decode(framed)?;
+        Ok(packet_of(&framed.words, begins_direct(first), false))
     }
 
     /// The packet that these two words encode (M2-104-UM), if it is a direct message whose byte 3 is below
@@ -75,6 +73,7 @@ impl EncodedPacket {
     /// without a program whose bytes 3 and 4 are below 128. `None` comes exactly for other words: `new` has
     /// their answer.
     #[inline(always)]
+    #[tactic(auto, using(crate::proofs::LowLaws::fine_low_part, crate::proofs::LowLaws::fine_voice2))]
     pub fn of_two(first: u32, second: u32) -> Option<EncodedPacket>
         ensures whole { IfSome result (λ _. IsWhole (first ∷ second ∷ [])) }
         ensures answer { MatchOption result (is_low_pair (first ∷ second ∷ []) ≡ false)
@@ -83,20 +82,20 @@ impl EncodedPacket {
     {
         let words = Words::of_two(first, second);
         if byte(first, 8) < 128 && begins_direct(first) {
-            return Some(direct_packet(&words));
+            return Some(packet_of(&words, true, false));
         }
         if begins_part(first) && has_low_bytes(words.as_slice()) {
-            return Some(part_packet(&words));
+            return Some(packet_of(&words, false, true));
         }
         if is_low_voice2(first) {
-            return Some(fine_packet(&words));
+            return Some(packet_of(&words, false, false));
         }
         None
     }
 
-    /// The packet that this word encodes, if it is a channel voice message of MIDI 1.0 whose bytes 3 and 4 are
-    /// below 128 (M2-104-UM, MIDI 1.0 channel voice messages). `None` comes exactly for other words: `new`
-    /// has their answer.
+    /// The packet that this word encodes, if it is a channel voice message of MIDI 1.0 whose bytes 3 and 4
+    /// are below 128 (M2-104-UM, MIDI 1.0 channel voice messages). `None` comes exactly for other words:
+    /// `new` has their answer.
     #[inline(always)]
     pub fn of_one(first: u32) -> Option<EncodedPacket>
         ensures whole { IfSome result (λ _. IsWhole (first ∷ [])) }
@@ -105,7 +104,7 @@ impl EncodedPacket {
         ensures fits { IfSome result IsPacket }
     {
         if is_low_voice1(first) {
-            Some(voice1_packet(&Words::from_slice(&[first])))
+            Some(packet_of(&Words::from_slice(&[first]), false, false))
         } else {
             None
         }
@@ -183,12 +182,13 @@ impl EncodedPacket {
     }
 }
 
-// The packet, which is a channel voice message of MIDI 1.0.
+// The packet that the words encode, with the answers to what is asked when it is read.
 #[inline(always)]
-fn voice1_packet(words: &Words) -> EncodedPacket
+fn packet_of(words: &Words, has_direct_kind: bool, is_part: bool) -> EncodedPacket
     requires whole { IsWhole words.now }
     requires fine { reason words.now ≡ None }
-    requires kind { type_of words.now ≡ 2 }
+    requires asked { has_direct_kind ≡ (type_of words.now == 4 && is_direct_opcode (opcode_of words.now)) }
+    requires part_asked { is_part ≡ is_low_part words.now }
     ensures answer { Decodes words.now (Ok result) }
     ensures fits { IsPacket result }
 {
@@ -196,61 +196,8 @@ fn voice1_packet(words: &Words) -> EncodedPacket
     spelled_packets_fit();
     EncodedPacket {
         words: words.copied(),
-        has_direct_kind: false,
-        is_part: false,
-    }
-}
-
-// The packet, which is neither refused nor a 7-bit exclusive in which no byte is high, counted or not.
-#[inline(always)]
-fn fine_packet(words: &Words) -> EncodedPacket
-    requires whole { IsWhole words.now }
-    requires fine { reason words.now ≡ None }
-    requires part { is_low_part words.now ≡ false }
-    ensures answer { Decodes words.now (Ok result) }
-    ensures fits { IsPacket result }
-{
-    words_spell_one_packet();
-    spelled_packets_fit();
-    EncodedPacket {
-        words: words.copied(),
-        has_direct_kind: begins_direct(words.as_slice()[0]),
-        is_part: false,
-    }
-}
-
-// The packet, if it is a 7-bit exclusive in which no byte is high, counted or not.
-#[inline(always)]
-fn part_packet(words: &Words) -> EncodedPacket
-    requires whole { IsWhole words.now }
-    requires low { is_low_part words.now ≡ true }
-    ensures answer { Decodes words.now (Ok result) }
-    ensures fits { IsPacket result }
-{
-    words_spell_one_packet();
-    spelled_packets_fit();
-    EncodedPacket {
-        words: words.copied(),
-        has_direct_kind: false,
-        is_part: true,
-    }
-}
-
-// The packet, if it is a direct message and no byte of seven bits is high.
-#[inline(always)]
-fn direct_packet(words: &Words) -> EncodedPacket
-    requires whole { IsWhole words.now }
-    requires begins { (type_of words.now == 4 && is_direct_opcode (opcode_of words.now)) ≡ true }
-    requires low { place words.now 3 < 128 }
-    ensures answer { Decodes words.now (Ok result) }
-    ensures fits { IsPacket result }
-{
-    words_spell_one_packet();
-    spelled_packets_fit();
-    EncodedPacket {
-        words: words.copied(),
-        has_direct_kind: true,
-        is_part: false,
+        has_direct_kind,
+        is_part,
     }
 }
 
@@ -349,7 +296,8 @@ fn begins_direct(first: u32) -> bool
     bits(first, 28, 4) == 4 && DirectKind::of(bits(first, 20, 4) as u8).is_direct()
 }
 
-// Whether this is the first word of a voice message of MIDI 2.0 without a program whose bytes 3 and 4 are low.
+// Whether this is the first word of a voice message of MIDI 2.0 without a program, of which bytes 3 and 4
+// are low.
 #[inline(always)]
 fn is_low_voice2(first: u32) -> bool
     ensures { result ≡ begins_low_voice2 first }

@@ -5,7 +5,6 @@
 pub mod direct_message;
 pub mod encoded;
 pub mod exclusive_part;
-mod refusal;
 
 pub use crate::direct_message::{DirectKind, DirectMessage};
 pub use crate::encoded::EncodedPacket;

@@ -38,6 +38,12 @@ IsAnswered (Some (engine.Up state)) byte offset old status outcome new after =
 IsAnswered (Some other) byte offset old status outcome new after =
     IsUntaken statuses.OtherKind old status outcome new × (after ≡ Some other)
 
+-- by whether the byte is taken at once; if it isn't, only the outcome changes
+abbrev pub IsDirect : Bool → Engine → ℕ → ℕ → List ℕ → ByteOutcome → List ℕ → Engine → Type 0
+IsDirect true old_engine byte offset old outcome new after =
+    IsAnswered (Some old_engine) byte offset old (number_of statuses.Done) outcome new (Some after)
+IsDirect false old_engine byte offset old outcome new after = (new ≡ old) × (after ≡ old_engine)
+
 -- no byte is taken
 abbrev pub AreUntaken : Status → List ℕ → List ByteOutcome → ℕ → Block → List ℕ → List ByteOutcome → Type 0
 AreUntaken why old old_outcomes status block new outcomes =

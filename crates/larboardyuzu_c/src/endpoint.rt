@@ -1,7 +1,6 @@
 // The calls of the endpoint.
 ghost use Rattle.std.specs.Prelude.{◌≡◌, ◌≤◌, None, Ok};
-ghost use Rattle.function_blocks.specs.Laws.{IsConsistent};
-ghost use Rattle.function_blocks.specs.Setups.{SetupData, setup_of};
+ghost use Rattle.function_blocks.specs.Setups.{IsSetup, SetupData, setup_of};
 ghost use Rattle.c_answers.specs.Numbers.{number_of};
 ghost use Rattle.larboardyuzu_c.specs.EndpointCalls.{AreTaken, HasBegun, HasMuid, HasProfile, HasProtocol, IsOpened, IsReset, IsTaken, Makes};
 
@@ -43,7 +42,7 @@ pub extern "C" fn larboardyuzu_endpoint_open(
     rule: &mut u8,
 ) -> u32
     ensures answer { IsOpened endpoint.old.holds text.now room result rule.old rule.new endpoint.new.holds }
-    ensures consistent { (setup : SetupData) → setup_of text.now ≡ Ok setup → IsConsistent setup }
+    ensures consistent { (setup : SetupData) → setup_of text.now ≡ Ok setup → IsSetup setup }
 {
     setups_are_consistent();
     if room < 6 || room > 1_048_576 {

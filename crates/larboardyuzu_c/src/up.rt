@@ -1,7 +1,7 @@
 // The calls of the translator up.
 ghost use Rattle.std.specs.Prelude.{◌≡◌, None};
 ghost use Rattle.c_translators.specs.Up.{most_words_of};
-ghost use Rattle.larboardyuzu_c.specs.UpCalls.{AreAnswered, HasEnd, IsOpened, IsAnswered, IsReset};
+ghost use Rattle.larboardyuzu_c.specs.UpCalls.{AreAnswered, HasEnd, IsDirect, IsOpened, IsAnswered, IsReset};
 
 use crate::flags::{PAIRED, has_paired};
 use c_answers::{Block, ByteOutcome, ListingLine, Status};
@@ -42,9 +42,26 @@ pub extern "C" fn larboardyuzu_up_open(
     }
 }
 
-/// Takes one byte up.
-#[unsafe(no_mangle)]
-pub extern "C" fn larboardyuzu_up_byte(
+// Takes one byte, if it can be taken at once: few registers are needed for such a byte.
+#[inline(always)]
+fn take_direct(
+    held: &mut Engine,
+    byte: u8,
+    offset: u64,
+    words: &mut [u32],
+    outcome: &mut ByteOutcome,
+) -> bool
+    ensures { IsDirect result held.old byte offset words.old outcome.new words.new held.new }
+{
+    match held {
+        Engine::Up(engine) => engine.direct(byte, offset, words, outcome),
+        _ => false,
+    }
+}
+
+// Takes any byte.
+#[inline(never)]
+fn take_any(
     alloc: Global,
     up: &mut Handle,
     byte: u8,
@@ -67,6 +84,29 @@ pub extern "C" fn larboardyuzu_up_byte(
     };
     up.put(held);
     status.number()
+}
+
+/// Takes one byte up.
+#[unsafe(no_mangle)]
+pub extern "C" fn larboardyuzu_up_byte(
+    alloc: Global,
+    up: &mut Handle,
+    byte: u8,
+    offset: u64,
+    words: &mut [u32],
+    outcome: &mut ByteOutcome,
+) -> u32
+    ensures { IsAnswered up.old.holds byte offset words.old result outcome.new words.new up.new.holds }
+{
+    if let Some(parted) = up.take_parted(alloc) {
+        let mut held = parted.into_box();
+        let is_taken = take_direct(&mut held, byte, offset, words, outcome);
+        up.put(held);
+        if is_taken {
+            return Status::Done.number();
+        }
+    }
+    take_any(alloc, up, byte, offset, words, outcome)
 }
 
 /// Takes bytes that follow one another up.

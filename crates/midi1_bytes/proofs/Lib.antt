@@ -1,9 +1,9 @@
 pub mod CountLaws
 pub mod DataLaws
 pub mod FrontLaws
-pub mod HeldLaws
 pub mod OpenLaws
 pub mod ParserLaws
+pub mod PlainLaws
 pub mod Ranges
 pub mod Rows
 pub mod RunningStatus

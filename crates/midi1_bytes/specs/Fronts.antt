@@ -1,5 +1,5 @@
 -- What some bytes, listed oldest first, begin with, if a parser takes it at once.
-use Rattle.std.specs.Prelude.{◌≡◌, ℕ, ◌-◌, ◌<◌, ◌≤◌, nat_lt, Bool, true, false, ◌&&◌, if◌then◌else◌, List, [], ◌∷◌, length, suc}
+use Rattle.std.specs.Prelude.{◌≡◌, ℕ, ◌-◌, ◌<◌, ◌≤◌, nat_lt, ◌&&◌, if◌then◌else◌, List, [], ◌∷◌, length, suc}
 use Rattle.std.specs.Prelude.{take, Option, Some, None, is_none}
 use Rattle.voice_messages.specs.declared.voice1.Voice1.{Voice1}
 use Rattle.midi1_bytes.specs.declared.spoken.VoiceBytes.{VoiceBytes}
@@ -7,12 +7,6 @@ use Rattle.midi1_bytes.specs.Messages.{voice, voice_of}
 use Rattle.midi1_bytes.specs.Parsing.{Begun, begun_message, begun_exclusive, Parsing, quiet, AreMessage}
 use Rattle.midi1_bytes.specs.Sorts.{one, two, Sort, data_byte, voice_status, sort_of}
 use Rattle.midi1_bytes.specs.Spoken.{voice_in}
-use Rattle.midi1_bytes.specs.Steps.{Step, held}
-
--- a byte belongs to what is open, or opens it
-abbrev pub is_held : Step → Bool
-is_held held = true
-is_held _ = false
 
 -- ---- a voice message
 

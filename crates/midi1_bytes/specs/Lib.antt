@@ -5,6 +5,7 @@ pub mod Laws
 pub mod Lend
 pub mod Messages
 pub mod Parsing
+pub mod Plain
 pub mod RunningStatus
 pub mod Slow
 pub mod Sorts

@@ -13,6 +13,6 @@ pub mod writers;
 
 pub use crate::parser::Parser;
 pub use crate::spoken::{CommonBytes, RealTimeByte, VoiceBytes};
-pub use crate::step::{AfterCut, CutKind, Step};
+pub use crate::step::{AfterCut, CutKind, PlainStep, Step};
 pub use crate::writers::{write_system, write_voice};
 pub use voice_messages::{System, U4, U7, U14, Voice1};

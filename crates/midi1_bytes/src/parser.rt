@@ -12,41 +12,27 @@ ghost use Rattle.std.specs.Prelude.{
   take,
   Some,
   None,
-  false,
   IfOk,
   IfSome,
-  IsTrue,
   MatchOption,
   vec_len,
   vec_capacity,
 };
 ghost use Rattle.std.specs.Option.{option_map, ForSome};
 ghost use Rattle.midi1_bytes.specs.Answers.{step_view, LendsData, LendsFramed, cut_off_by};
-ghost use Rattle.midi1_bytes.specs.Fronts.{IsFront, after_voice, data_taken, front_voice, is_held};
+ghost use Rattle.midi1_bytes.specs.Fronts.{IsFront, after_voice, data_taken, front_voice};
+ghost use Rattle.midi1_bytes.specs.Plain.{IsPlain};
 ghost use Rattle.midi1_bytes.specs.Sorts.{count_of, data_byte, one, sort_of, two};
 ghost use Rattle.midi1_bytes.specs.Spoken.{voice_in};
 
 use crate::begun::{Begun, Running};
 use crate::front::{leading_data_within, one_running, two_running, with_status};
 use crate::spoken::{CommonBytes, RealTimeByte, VoiceBytes};
-use crate::step::{AfterCut, CutKind, Step};
+use crate::step::{AfterCut, CutKind, PlainStep, Step};
 use small_types::NoMemory;
 use std::alloc::Global;
 use std::marker::Model;
 use voice_messages::{END_OF_EXCLUSIVE, START_OF_EXCLUSIVE};
-
-// Adds a byte for which memory is reserved.
-fn append(bytes: &mut Vec<u8>, byte: u8)
-    requires { vec_len bytes.old < vec_capacity bytes.old }
-    ensures items { bytes.new.items ≡ bytes.old.items ++ byte ∷ [] }
-    ensures capacity { vec_capacity bytes.old ≤ vec_capacity bytes.new }
-{
-    match bytes.push(byte) {
-        Ok(()) => {}
-        // Memory is reserved for the byte, so the push takes none.
-        Err(_) => unreachable!(),
-    }
-}
 
 // Adds bytes for which memory is reserved.
 #[inline]
@@ -130,6 +116,7 @@ impl Parser {
       begun_after,
       parse,
       parse_under,
+      quiet,
       AreHeld,
     };
 
@@ -144,7 +131,7 @@ impl Parser {
         let Ok(mut bytes) = Vec::with_capacity(alloc, room as usize + 2) else {
             return Err(NoMemory);
         };
-        append(&mut bytes, START_OF_EXCLUSIVE);
+        bytes.push_reserved(START_OF_EXCLUSIVE);
         Ok(Parser {
             running: Running::Unset,
             begun: Begun::Nothing,
@@ -314,7 +301,7 @@ impl Parser {
             self.begun = Begun::Nothing;
             return Step::TooLong;
         }
-        append(&mut self.bytes, byte);
+        self.bytes.push_reserved(byte);
         Step::Held
     }
 
@@ -477,83 +464,124 @@ impl Parser {
                     after: AfterCut::Stray,
                 },
             Begun::Exclusive { .. } => {
-                append(&mut self.bytes, END_OF_EXCLUSIVE);
+                self.bytes.push_reserved(END_OF_EXCLUSIVE);
                 Step::Exclusive(self.bytes.as_slice())
             }
         }
     }
 
-    // Takes a data byte that is only held, under running status if nothing is open.
-    #[tactic(auto, using(crate::proofs::HeldLaws::held_or_not))]
+    // A data byte if nothing is open, as `plain` has it.
     #[inline(always)]
-    fn holds_data(&mut self, byte: u8, offset: u64) -> bool
-        requires { byte < 128 }
-        ensures class { result ≡ is_held (parse_under data_byte self.old offset byte).step }
-        ensures after { IsTrue result → self.new ≡ (parse_under data_byte self.old offset byte).after }
-        ensures unchanged { result ≡ false → self.new ≡ self.old }
+    fn plain_under_running(&mut self, byte: u8, start: u64) -> PlainStep
+        requires begun { self.old.begun ≡ None }
+        requires below { byte < 128 }
+        ensures { IsPlain result (parse_under data_byte self.old start byte) self.old self.new }
     {
-        let (start, status) = match (self.begun, self.running) {
-            (Begun::First { start, status }, _) => (start, status),
-            (Begun::Nothing, Running::Two(status)) => (offset, status),
-            (Begun::Exclusive { .. }, _) if self.bytes.len() <= self.room as usize => {
-                append(&mut self.bytes, byte);
-                return true;
+        match self.running {
+            Running::Two(status) => {
+                self.begun = Begun::Second {
+                    start,
+                    status,
+                    first: byte,
+                };
+                PlainStep::Held
             }
-            _ => return false,
-        };
-        self.begun = Begun::Second {
-            start,
-            status,
-            first: byte,
-        };
-        true
+            Running::One(status) => PlainStep::Voice(VoiceBytes::of_one(status, byte)),
+            Running::Unset => PlainStep::Other,
+        }
     }
 
-    // Takes a status byte that is only held.
-    #[tactic(auto, using(crate::proofs::HeldLaws::held_or_not), unfolding(crate::specs::Sorts::sort_of))]
+    // A data byte of the open exclusive, as `plain` has it.
+    #[tactic(auto, using(crate::proofs::DataLaws::more_data))]
     #[inline(always)]
-    fn holds_status(&mut self, byte: u8, offset: u64) -> bool
+    fn plain_exclusive(&mut self, start: u64, byte: u8) -> PlainStep
+        requires begun { self.old.begun ≡ Some (begun_exclusive start (bytes_begun self.old)) }
+        requires below { byte < 128 }
+        ensures { IsPlain result (parse_under data_byte self.old 0 byte) self.old self.new }
+    {
+        // F0 is in the buffer too.
+        if self.bytes.len() <= self.room as usize {
+            self.bytes.push_reserved(byte);
+            return PlainStep::Held;
+        }
+        PlainStep::Other
+    }
+
+    // A data byte, as `plain` has it.
+    #[tactic(auto, using(crate::proofs::PlainLaws::plain_data))]
+    #[inline(always)]
+    fn plain_data(&mut self, byte: u8, offset: u64) -> PlainStep
+        requires { byte < 128 }
+        ensures { IsPlain result (parse_under data_byte self.old offset byte) self.old self.new }
+    {
+        match self.begun {
+            Begun::Second { status, first, .. } => {
+                if status >= 0xf0 {
+                    return PlainStep::Other;
+                }
+                PlainStep::Voice(VoiceBytes::of_two(status, first, byte))
+            }
+            Begun::First { start, status } => {
+                self.begun = Begun::Second {
+                    start,
+                    status,
+                    first: byte,
+                };
+                PlainStep::Held
+            }
+            Begun::Exclusive { start } => self.plain_exclusive(start, byte),
+            Begun::Only { status, .. } => {
+                if status >= 0xf0 {
+                    return PlainStep::Other;
+                }
+                PlainStep::Voice(VoiceBytes::of_one(status, byte))
+            }
+            Begun::Nothing => self.plain_under_running(byte, offset),
+        }
+    }
+
+    // A status byte, as `plain` has it.
+    #[tactic(auto, using(crate::proofs::PlainLaws::status_plain), unfolding(crate::specs::Sorts::sort_of))]
+    #[inline(always)]
+    fn plain_status(&mut self, byte: u8, offset: u64) -> PlainStep
         requires { 128 ≤ byte }
-        ensures class { result ≡ is_held (parse self.old offset byte).step }
-        ensures after { IsTrue result → self.new ≡ (parse self.old offset byte).after }
-        ensures unchanged { result ≡ false → self.new ≡ self.old }
+        ensures { IsPlain result (parse self.old offset byte) self.old self.new }
     {
         if !matches!(self.begun, Begun::Nothing) {
-            return false;
+            return PlainStep::Other;
         }
         match byte {
-            0x80..=0xef => {
-                self.begin_voice(byte, offset);
-                true
-            }
-            0xf0 => {
-                self.begin_exclusive(offset);
-                true
-            }
-            0xf1..=0xf3 => {
-                self.begin_common(byte, offset);
-                true
-            }
-            _ => false,
+            0x80..=0xef => self.begin_voice(byte, offset),
+            0xf0 => self.begin_exclusive(offset),
+            0xf1..=0xf3 => self.begin_common(byte, offset),
+            _ => return PlainStep::Other,
+        }
+        PlainStep::Held
+    }
+
+    /// What one more byte does, if it is only held or completes a channel voice message (MIDI 1.0 Detailed
+    /// Specification: summary of status bytes, running status); `Other` exactly if it does anything else. A
+    /// byte that is held is taken, as `byte` takes it. Otherwise nothing changes: `take_voice` takes a byte that
+    /// completes a message, and `byte` any byte. The offset is kept as in `byte`. Takes no memory.
+    #[tactic(auto, unfolding(crate::specs::Sorts::sort_of))]
+    #[inline(always)]
+    pub fn plain(&mut self, byte: u8, offset: u64) -> PlainStep
+        ensures { IsPlain result (parse self.old offset byte) self.old self.new }
+    {
+        if byte < 0x80 {
+            self.plain_data(byte, offset)
+        } else {
+            self.plain_status(byte, offset)
         }
     }
 
-    /// Takes one more byte, if it is only held: it belongs to what is open, or opens it (MIDI 1.0 Detailed
-    /// Specification: summary of status bytes, running status). Then it is the whole step of `byte`, which
-    /// would answer `Held`. `false` exactly for other bytes, and then nothing changes: `byte` has their
-    /// answer. The offset is kept as in `byte`. Takes no memory.
-    #[tactic(auto, unfolding(crate::specs::Sorts::sort_of))]
+    /// Takes the byte that completes the message which `plain` has given: the parser is then as after it by
+    /// `byte`.
     #[inline(always)]
-    pub fn holds(&mut self, byte: u8, offset: u64) -> bool
-        ensures class { result ≡ is_held (parse self.old offset byte).step }
-        ensures after { IsTrue result → self.new ≡ (parse self.old offset byte).after }
-        ensures unchanged { result ≡ false → self.new ≡ self.old }
+    pub fn take_voice(&mut self)
+        ensures { self.new ≡ quiet self.old.room self.old.running }
     {
-        if byte < 0x80 {
-            self.holds_data(byte, offset)
-        } else {
-            self.holds_status(byte, offset)
-        }
+        self.begun = Begun::Nothing;
     }
 
     /// Takes one more byte of the stream, 0 to FF (MIDI 1.0 Detailed Specification: summary of status bytes,

@@ -56,7 +56,7 @@ impl VoiceBytes {
         VoiceBytes {
             status,
             first: only,
-            second: 0,
+            second: only,
         }
     }
 

@@ -52,3 +52,14 @@ pub enum Step<'a> {
     /// It is the data byte that exceeds the limit of the exclusive, which is dropped (own rule).
     TooLong,
 }
+
+/// What a byte does, if it is only held or completes a voice message.
+#[derive(Clone, Copy, Debug)]
+pub enum PlainStep {
+    /// It belongs to what is open, or opens it.
+    Held,
+    /// It completes this channel voice message, also under running status.
+    Voice(VoiceBytes),
+    /// It does anything else.
+    Other,
+}

@@ -6,7 +6,6 @@ ghost use Rattle.outside.specs.Outside.{HasCause, HasOpenCause, Rose};
 mod buffered_source;
 mod file_shelf;
 mod folder_lanes;
-mod gathered;
 mod read_source;
 mod write_sink;
 

@@ -1,13 +1,14 @@
 -- An input, cut into packets: a recording from its start, or a file after its first bytes. These count in each offset, and the limit is
 -- that of the whole input.
-use Rattle.std.specs.Prelude.{◌≡◌, ◌⊎◌, ℕ, ◌+◌, ◌*◌, ◌-◌, ◌%◌, ◌^◌, ◌<◌, ◌≤◌, List, ◌∷◌, ◌++◌, drop, length, map, Option, None, Some, IfOk, IfSome, Result, Ok, Err}
+use Rattle.std.specs.Prelude.{◌≡◌, ◌⊎◌, ℕ, ◌+◌, ◌*◌, ◌-◌, ◌%◌, ◌^◌, ◌<◌, ◌≤◌, List, [], ◌∷◌, ◌++◌, false, drop, length, map, Option, None, Some, IfOk, IfSome, Result, Ok, Err}
 use Rattle.std.specs.List.{AllByRecursion}
 use Rattle.item_reader.specs.Cut.{IsCutInto}
 use Rattle.item_reader.specs.Reading.{held_bytes, new_reading}
 use Rattle.item_reader.specs.SoFar.{Given, ReadSoFar, given}
 use Rattle.item_reader.specs.declared.cutting.Tail as tails
 use Rattle.item_reader.specs.declared.cutting.Tail.TheVariants as tail
-use Rattle.ump_words.specs.Cut.{bytes_asked, words_of}
+use Rattle.encoded_packets.specs.Pairs.{is_low_pair, is_low_voice1}
+use Rattle.ump_words.specs.Cut.{bytes_asked, word_at, words_of}
 use Rattle.ump_words.specs.Reader.{IsHeldAt, Reading}
 use Rattle.ump_words.specs.declared.words.Framed.{Framed}
 use Rattle.ump_words.specs.declared.words.Order.{Order}
@@ -128,6 +129,15 @@ IsReadInto framed next result =
 abbrev pub ReadsAt : Reading → ℕ → Found Framed Packet → Type 0
 ReadsAt reader place result =
     (framed : Framed) × (next : ℕ) × IsHeldAt place next reader framed × IsReadInto framed next result
+
+-- The first two words at a place of a reader don't show the packet there: they aren't both read yet, or neither these two nor the
+-- first alone are a packet that is known at once, by few of their bytes.
+abbrev pub IsUnknownAt : Reading → ℕ → Type 0
+IsUnknownAt reader place =
+    let rest = drop place (held_bytes reader) in
+    let first = word_at reader.how rest 0 in
+    (length (held_bytes reader) < place + 8)
+    ⊎ ((is_low_pair (first ∷ word_at reader.how rest 1 ∷ []) ≡ false) × (is_low_voice1 (first ∷ []) ≡ false))
 
 -- a packet stands at the place of the reader, which is after it then, within the limit; when the input ends, all of it is read
 abbrev pub MovesOn : ℕ → Reading → Reading → Option (List ℕ) → Next Framed Packet → Type 0

@@ -1,5 +1,5 @@
 // The packets of a recording, one by one, as the words that encode them.
-ghost use Rattle.std.specs.Prelude.{◌≡◌, ◌<◌, ◌≤◌, ◌-◌, ℕ, IfSome, List, Option, None, length};
+ghost use Rattle.std.specs.Prelude.{◌≡◌, ◌<◌, ◌≤◌, ◌-◌, ℕ, IfSome, List, MatchOption, Option, None, length};
 ghost use Rattle.std.proofs.Common.{ap};
 ghost use Rattle.item_reader.specs.SoFar.{Given, given};
 ghost use Rattle.outside.specs.Outside.{ahead};
@@ -11,7 +11,7 @@ ghost use Rattle.ump_grammar.specs.declared.packet.Packet.{Packet};
 ghost use Rattle.ump_words.specs.Cut.{IsWhole};
 ghost use Rattle.ump_words.specs.declared.words.Framed.{Framed};
 ghost use Rattle.ump_words.specs.declared.words.Order.{Order};
-ghost use Rattle.packet_input.specs.Packets.{BeginsPacket, GivenSoFar, IsReadInto, ReadsAt, new_words, packet_cutting};
+ghost use Rattle.packet_input.specs.Packets.{BeginsPacket, GivenSoFar, IsReadInto, IsUnknownAt, ReadsAt, new_words, packet_cutting};
 ghost use Rattle.packet_input.specs.ForProofs.Starting.{none_given};
 ghost use Rattle.pass_loop.specs.ForProofs.Starting.{none_passed};
 
@@ -40,8 +40,9 @@ impl EncodedReader {
     }
 }
 
-// The packet of the two words that begin at a place of those that are held, or of the first of them, if it is
-// known by these: most are, so that what comes next rests on no table of lengths.
+// The packet at a place of the bytes in the reader, if its first two words show that they, or the first of
+// them alone, are the whole packet: most are, so that what comes next rests on no table of lengths. `None`
+// exactly for other bytes.
 #[inline(always)]
 fn known_in(
     words: &WordReader,
@@ -52,7 +53,7 @@ fn known_in(
     requires held { held.now ≡ held_bytes words.now }
     requires offset { offset ≡ words.now.offset }
     requires place { place ≤ length held.now }
-    ensures { IfSome result (λ found. ReadsAt words.now place found) }
+    ensures { MatchOption result (IsUnknownAt words.now place) (λ found. ReadsAt words.now place found) }
 {
     let pair = words.two_in(held, place)?;
     let offset = offset + place as u64;
@@ -79,7 +80,7 @@ fn known_in(
     }
 }
 
-// What the words that are held are, before the place at which the next ones begin.
+// What the words of one packet are read into, before the place at which the next ones begin.
 #[inline(always)]
 fn read_words(framed: Framed, next: usize) -> Found<Framed, EncodedPacket>
     requires { IsWhole framed.words }

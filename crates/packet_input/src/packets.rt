@@ -74,7 +74,7 @@ impl PacketReader {
     }
 }
 
-// What the words that are held spell, before the place at which the next ones begin.
+// What the words of one packet are read into, before the place at which the next ones begin.
 #[inline(always)]
 fn read_words(framed: Framed, next: usize) -> Found<Framed, Packet>
     requires { IsWhole framed.words }

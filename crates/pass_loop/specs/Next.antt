@@ -34,7 +34,7 @@ abbrev pub ComesNearer : {A I : Type 0} → ℕ → ℕ → Next A I → Type 0
 ComesNearer before now (Item at item) = now < before
 ComesNearer before now _ = Unit {0}
 
--- ---- from the state
+-- ---- from the bytes that a reader keeps
 
 -- what begins at a place, by what was given before it: as above, in which an item is given once the reader has passed it
 abbrev pub GivesFound : {A I : Type 0} → Cutting (A × I) → (List (A × I) → A × I → Type 0) →

@@ -35,7 +35,7 @@ abbrev pub Cutting : Type 0 → Type 1
 Cutting Item = List ℕ → List Item → Tail → Type 0
 
 -- What is done with each item and at the end of the input, by the items before it, the newest first: which places it names; whether
--- it takes memory while it runs; why an item is refused, with the offset; what is put for it; why the input is refused if it ends
+-- it takes memory while it runs; why an item is refused, with the offset; what is put for it; why the input is refused at its end
 -- after these items; what is put at the end; and what all that is put for the items means.
 pub record Work (Item : Type 0) : Type 1 where
   pub names : Named

@@ -72,10 +72,11 @@ fn packet_words(group: U4, form: Form, stream: u8, bytes: &[u8]) -> [u32; 4]
     ensures count { count_of result ≡ length bytes.now + 1 }
     ensures stream { stream_of result ≡ stream }
     ensures places { data_places result ≡
-        slice_index bytes.now 0 ∷ slice_index bytes.now 1 ∷ slice_index bytes.now 2 ∷ slice_index bytes.now 3
-        ∷ slice_index bytes.now 4 ∷ slice_index bytes.now 5 ∷ slice_index bytes.now 6 ∷ slice_index bytes.now 7
-        ∷ slice_index bytes.now 8 ∷ slice_index bytes.now 9 ∷ slice_index bytes.now 10
-        ∷ slice_index bytes.now 11 ∷ slice_index bytes.now 12 ∷ [] }
+        slice_index bytes.now 0 ∷ slice_index bytes.now 1 ∷ slice_index bytes.now 2
+        ∷ slice_index bytes.now 3 ∷ slice_index bytes.now 4 ∷ slice_index bytes.now 5
+        ∷ slice_index bytes.now 6 ∷ slice_index bytes.now 7 ∷ slice_index bytes.now 8
+        ∷ slice_index bytes.now 9 ∷ slice_index bytes.now 10 ∷ slice_index bytes.now 11
+        ∷ slice_index bytes.now 12 ∷ [] }
 {
     [
         first_word(group, form, bytes.len() as u8 + 1, stream, place(bytes, 0)),

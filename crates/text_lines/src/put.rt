@@ -12,7 +12,7 @@ pub fn put_text(line: &mut Line, text: &str)
     requires { HasRoom (length text.now) line.old }
     ensures { line.new ≡ line.old ++ text.now }
 {
-    line.extend(text.as_bytes());
+    line.extend_one_by_one(text.as_bytes());
 }
 
 // An upper case hexadecimal digit.

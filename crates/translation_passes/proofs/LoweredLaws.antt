@@ -1,7 +1,7 @@
 -- What is put for a message that alone carries a packet is what is put for an answer with its bytes; so is nothing for a packet that is
 -- only held.
 use Rattle.std.proofs.Common.{◌≡◌, ◌<◌, ℕ, Bool, true, false, List, [], ◌∷◌, ◌++◌, length, refl, ap, sym, ◌∙◌, subst, arith, Option, Some, None}
-use Rattle.std.specs.Prelude.{◌==◌, if◌then◌else◌, Result, Ok}
+use Rattle.std.specs.Prelude.{◌==◌, ◌||◌, if◌then◌else◌, Result, Ok}
 use Rattle.std.specs.Option.{option_map, option_to_list}
 use Rattle.std.proofs.lemmas.Bool.{cond_both, eqb-true}
 use Rattle.midi_meaning.specs.declared.listed.BadStep.{BadStep}
@@ -14,7 +14,7 @@ use Rattle.down_translator.specs.declared.shortened.ShortenedMessage.{ShortenedM
 use Rattle.down_translator.specs.Carried.{line_in, listed_by}
 use Rattle.down_translator.specs.Held.{DownState}
 use Rattle.down_translator.specs.HeldStep.{IsNothing}
-use Rattle.down_translator.specs.Lowered.{IsAnsweredAs, attribute_line, lowered_bytes, shortened_bytes}
+use Rattle.down_translator.specs.Lowered.{IsAnsweredAs, attribute_line, lowered_bytes, shortened_bytes, unless_running}
 use Rattle.down_translator.specs.Step.{IsStep}
 use Rattle.listing_lines.specs.Lines.{line_puts}
 use Rattle.listing_lines.specs.Refusal.{refusal_by}
@@ -90,6 +90,13 @@ carries_nothing state offset packet step places =
     let T : Option BadStep → Type 0 = λ bad. Takes (refusal_by bad offset) (puts_for carried) places places (Ok tt) in
     (puts_for carried, λ fine. (carried, is, refl), subst T (sym is.accepted) (sym (over_puts-none places)))
 
+-- none of the ways to take a packet at once takes it
+pub none_takes : (direct short held : Bool) → direct ≡ false → short ≡ false → held ≡ false → (direct || short || held) ≡ false
+none_takes false false false e f g = refl
+none_takes false false true e f g = cc
+none_takes false true held e f g = cc
+none_takes true short held e f g = cc
+
 -- a message has a status byte
 some_whole : (status : ℕ) (others : List ℕ) → 0 < length (status ∷ others)
 some_whole status others = omega arith
@@ -98,10 +105,10 @@ pub some_lowered : (m : LoweredMessage) → 0 < length (lowered_bytes m)
 some_lowered m = some_whole m.status (m.first ∷ option_to_list m.second)
 
 -- without it, a data byte
-some_bytes : (status : Option ℕ) (first : ℕ) (second : Option ℕ)
-    → 0 < length (option_to_list status ++ (first ∷ option_to_list second))
-some_bytes None first second = omega arith
-some_bytes (Some status) first second = omega arith
+some_bytes : (is_running : Bool) (status first : ℕ) (second : Option ℕ)
+    → 0 < length (unless_running is_running status (first ∷ option_to_list second))
+some_bytes true status first second = omega arith
+some_bytes false status first second = omega arith
 
 pub some_shortened : (m : ShortenedMessage) → 0 < length (shortened_bytes m)
-some_shortened m = some_bytes m.status m.first m.second
+some_shortened m = some_bytes m.is_running m.status m.first m.second

@@ -1,6 +1,6 @@
 -- A recording that is carried down: the piece and the line of each packet, and at the end the lines of the exclusives that are
 -- still begun.
-use Rattle.std.specs.Prelude.{◌≡◌, ℕ, Bool, true, false, ◌≤◌, List, [], ◌∷◌, ◌++◌, map, reverse, None, Some, Result}
+use Rattle.std.specs.Prelude.{◌≡◌, ◌||◌, ℕ, Bool, true, false, ◌≤◌, List, [], ◌∷◌, ◌++◌, map, reverse, None, Some, Result}
 use Rattle.std.specs.List.{flat_map}
 use Rattle.std.specs.Option.{option_to_list}
 use Rattle.packet_words.specs.declared.words.Framed.{Framed}
@@ -18,7 +18,8 @@ use Rattle.down_translator.specs.declared.lowered.LoweredMessage.{LoweredMessage
 use Rattle.down_translator.specs.declared.shortened.ShortenedMessage.{ShortenedMessage}
 use Rattle.down_translator.specs.Carried.{line_in}
 use Rattle.down_translator.specs.Held.{DownState, limit_of, new_down, paired_of, refusal_in, style_of}
-use Rattle.down_translator.specs.Lowered.{attribute_line, lowered_bytes, shortened_bytes}
+use Rattle.down_translator.specs.HeldStep.{goes_held}
+use Rattle.down_translator.specs.Lowered.{attribute_line, goes_direct, goes_shortened, lowered_bytes, shortened_bytes}
 use Rattle.down_translator.specs.Recording.{AreAccepted, AreInRange, packets_of, pair_put, state_of}
 use Rattle.down_translator.specs.Step.{IsStep}
 use Rattle.pass_loop.specs.Pass.{Takes, Work}
@@ -77,6 +78,10 @@ lowered_puts offset message = message_puts offset message.lane (lowered_bytes me
 
 abbrev pub shortened_puts : ℕ → ShortenedMessage → List Put
 shortened_puts offset message = message_puts offset message.lane (shortened_bytes message) message.has_attribute
+
+-- the packets that one message carries, in plain or in compact style, and those that only add six bytes to an exclusive
+abbrev pub goes_at_once : DownState → Packet → Bool
+goes_at_once state packet = goes_direct state packet || goes_shortened state packet || goes_held state packet
 
 -- a packet is refused, or what is put for its answer is put, or one of these puts failed
 abbrev pub Carries : DownState → ℕ → Packet → Places → Places → Result (Unit {0}) RunEnd → Type 0

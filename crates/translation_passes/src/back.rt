@@ -111,6 +111,25 @@ fn lowered_in(down: &Down, packet: &RaisedPacket) -> Option<LoweredMessage>
     down.lowered_message(&message)
 }
 
+// Takes a packet down that no message alone carries, and puts its piece. Few packets are such, so they stay out
+// of the loop.
+#[inline(never)]
+fn put_other<O: Outputs>(
+    down: &mut Down,
+    packet: &RaisedPacket,
+    offset: u64,
+    outputs: &mut O,
+) -> Result<(), RunEnd>
+    requires { ComesDown down.old packet.now }
+    ensures { CarriesOut (PutsDown offset down.old packet.now) down.new
+        (O.places outputs.old) (O.places outputs.new) result }
+{
+    match down.packet(&packet.packet(), offset) {
+        Ok(carried) => put_piece(carried.piece, outputs),
+        Err(bad) => Err(refused(bad, offset)),
+    }
+}
+
 // Takes packets down, and puts their pieces. What bytes are raised to is neither refused nor listed there.
 impl PacketWork for Down {
     ghost Accepts = { λ from packet. ComesDown from packet };
@@ -126,10 +145,7 @@ impl PacketWork for Down {
     ) -> Result<(), RunEnd> {
         match lowered_in(self, packet) {
             Some(message) => put_message(&message, outputs),
-            None => match self.packet(&packet.packet(), offset) {
-                Ok(carried) => put_piece(carried.piece, outputs),
-                Err(bad) => Err(refused(bad, offset)),
-            },
+            None => put_other(self, packet, offset, outputs),
         }
     }
 }

@@ -1,5 +1,5 @@
 // From packets to MIDI 1.0 bytes.
-ghost use Rattle.std.specs.Prelude.{◌≡◌, ◌<◌, ◌≤◌, ◌∷◌, [], IfOk, true};
+ghost use Rattle.std.specs.Prelude.{◌≡◌, ◌<◌, ◌≤◌, ◌∷◌, [], IfOk, MatchOption, false, true};
 ghost use Rattle.std.specs.Option.{option_map, option_to_list};
 ghost use Rattle.sysex_groups.specs.Table.{Table, begun_in};
 ghost use Rattle.ump_grammar.specs.declared.packet.Packet.{Packet};
@@ -11,10 +11,10 @@ ghost use Rattle.pass_loop.specs.Pass.{seen};
 ghost use Rattle.pass_loop.specs.Places.{Puts};
 ghost use Rattle.pass_loop.specs.Put.{in_lane};
 ghost use Rattle.midi_meaning.specs.Listing.{groups};
-ghost use Rattle.down_translator.specs.Lowered.{attribute_line, lowered_bytes, shortened_bytes};
+ghost use Rattle.down_translator.specs.Lowered.{attribute_line, lowered_bytes, shortened_bytes, unless_running};
 ghost use Rattle.down_translator.specs.Recording.{pair_put};
 ghost use Rattle.listing_lines.specs.Lines.{line_puts};
-ghost use Rattle.translation_passes.specs.Down.{Carries, HoldsDown, IsReadyDown, carrying, lowered_puts, shortened_puts, down_options, pair_puts, puts_for};
+ghost use Rattle.translation_passes.specs.Down.{Carries, HoldsDown, IsReadyDown, carrying, goes_at_once, lowered_puts, shortened_puts, down_options, pair_puts, puts_for};
 ghost use Rattle.listing_lines.specs.Open.{open_line, open_puts};
 ghost use Rattle.translation_passes.specs.ForProofs.DownMeans.{carries_named, carries_nothing, carries_means, ends_named};
 ghost use Rattle.packet_input.specs.Packets.{packet_cutting};
@@ -34,7 +34,6 @@ use pass_loop::{Engine, Outputs, RunEnd, drive};
 use small_types::{NoMemory, U4};
 use std::alloc::Global;
 use std::marker::Model;
-use voice_messages::U7;
 
 /// A translation down that is ready to begin, with all its memory. A contract sees its options.
 #[derive(Drop)]
@@ -244,42 +243,44 @@ fn put_three<O: Outputs>(
     outputs.put_lane(lane, &[status, first, second])
 }
 
-// Puts a message with its status byte.
+// Puts a message of two data bytes, without its status byte if that is left out.
 #[inline(always)]
-fn put_whole<O: Outputs>(
+fn put_with_two<O: Outputs>(
     lane: U4,
     status: u8,
-    first: U7,
-    second: Option<U7>,
+    is_running: bool,
+    first: u8,
+    second: u8,
     outputs: &mut O,
 ) -> Result<(), RunEnd>
     requires begun { (O.places outputs.old).begun ≡ true }
-    ensures { Puts (in_lane lane (status ∷ first ∷ option_to_list second) ∷ [])
+    ensures { Puts (in_lane lane (unless_running is_running status (first ∷ second ∷ [])) ∷ [])
         (O.places outputs.old) (O.places outputs.new) result }
 {
-    let first = first.get();
-    match second {
-        Some(second) => put_three(lane, status, first, second.get(), outputs),
-        None => put_two(lane, status, first, outputs),
+    if is_running {
+        put_two(lane, first, second, outputs)
+    } else {
+        put_three(lane, status, first, second, outputs)
     }
 }
 
-// Puts the data bytes of a message alone.
+// Puts a message of one data byte, without its status byte if that is left out.
 #[inline(always)]
-fn put_data<O: Outputs>(
+fn put_with_one<O: Outputs>(
     lane: U4,
-    first: U7,
-    second: Option<U7>,
+    status: u8,
+    is_running: bool,
+    first: u8,
     outputs: &mut O,
 ) -> Result<(), RunEnd>
     requires begun { (O.places outputs.old).begun ≡ true }
-    ensures { Puts (in_lane lane (first ∷ option_to_list second) ∷ [])
+    ensures { Puts (in_lane lane (unless_running is_running status (first ∷ [])) ∷ [])
         (O.places outputs.old) (O.places outputs.new) result }
 {
-    let first = first.get();
-    match second {
-        Some(second) => put_two(lane, first, second.get(), outputs),
-        None => put_one(lane, first, outputs),
+    if is_running {
+        put_one(lane, first, outputs)
+    } else {
+        put_two(lane, status, first, outputs)
     }
 }
 
@@ -297,7 +298,11 @@ fn put_message<O: Outputs>(message: &LoweredMessage, outputs: &mut O) -> Result<
         second,
         ..
     } = *message;
-    put_whole(lane, status, first, second, outputs)
+    let first = first.get();
+    match second {
+        Some(second) => put_three(lane, status, first, second.get(), outputs),
+        None => put_two(lane, status, first, outputs),
+    }
 }
 
 // Puts a message of compact style into its lane.
@@ -310,13 +315,15 @@ fn put_short_message<O: Outputs>(message: &ShortenedMessage, outputs: &mut O) ->
     let ShortenedMessage {
         lane,
         status,
+        is_running,
         first,
         second,
         ..
     } = *message;
-    match status {
-        Some(status) => put_whole(lane, status, first, second, outputs),
-        None => put_data(lane, first, second, outputs),
+    let first = first.get();
+    match second {
+        Some(second) => put_with_two(lane, status, is_running, first, second.get(), outputs),
+        None => put_with_one(lane, status, is_running, first, outputs),
     }
 }
 
@@ -372,9 +379,36 @@ fn put_shortened<O: Outputs>(
     }
 }
 
-// Takes one packet down: puts its piece into the lane of its group, and its line into the notes. What most
-// packets are is asked first: one that a message alone carries, in plain or in compact style, and one that only
-// adds six bytes to an exclusive, of which nothing is put.
+// Takes the packet down at once, as most are: one that a message alone carries, in plain or in compact style,
+// or one that only adds six bytes to an exclusive, of which nothing is put. `None` exactly for other packets,
+// and then nothing is done.
+#[inline(always)]
+fn carry_at_once<O: Outputs>(
+    down: &mut Down,
+    packet: &EncodedPacket,
+    offset: u64,
+    outputs: &mut O,
+) -> Option<Result<(), RunEnd>>
+    requires begun { (O.places outputs.old).begun ≡ true }
+    ensures { MatchOption result
+        ((goes_at_once down.old packet.now ≡ false) × (down.new ≡ down.old)
+        × (O.places outputs.new ≡ O.places outputs.old))
+        (λ done. (down.new ≡ down_after offset packet.now down.old)
+        × Carries down.old offset packet.now (O.places outputs.old) (O.places outputs.new) done) }
+{
+    if let Some(message) = down.lowered(packet) {
+        return Some(put_lowered(&message, offset, outputs));
+    }
+    if let Some(message) = down.shortened(packet) {
+        return Some(put_shortened(&message, offset, outputs));
+    }
+    if down.holds(packet) {
+        return Some(Ok(()));
+    }
+    None
+}
+
+// Takes one packet down: puts its piece into the lane of its group, and its line into the notes.
 fn carry<O: Outputs>(
     down: &mut Down,
     packet: &EncodedPacket,
@@ -387,14 +421,8 @@ fn carry<O: Outputs>(
     ensures carries { Carries down.old offset packet.now
         (O.places outputs.old) (O.places outputs.new) result }
 {
-    if let Some(message) = down.lowered(packet) {
-        return put_lowered(&message, offset, outputs);
+    match carry_at_once(down, packet, offset, outputs) {
+        Some(done) => done,
+        None => carry_encoded(down, packet, offset, outputs),
     }
-    if let Some(message) = down.shortened(packet) {
-        return put_shortened(&message, offset, outputs);
-    }
-    if down.holds(packet) {
-        return Ok(());
-    }
-    carry_encoded(down, packet, offset, outputs)
 }

@@ -89,8 +89,8 @@ fn put_packets<P: PacketWork, O: Outputs>(
     }
 }
 
-// Does the work on the packets of a byte, and then puts its lines. Of
-// most bytes nothing comes, since they are only held.
+// Does the work on the packets of a byte, and then puts its lines. Most bytes have neither, since they are
+// only kept.
 #[inline(always)]
 fn put_raised<P: PacketWork, O: Outputs>(
     raised: &Raised<'_>,

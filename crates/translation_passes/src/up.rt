@@ -23,7 +23,7 @@ use midi_meaning::up_laws::{
 use midi1_bytes::laws::parsed_bytes_are_the_definition;
 use outside::{Lanes, Sink, Source};
 use packet_input::put_encoded;
-use packet_words::{Order, pair_bytes};
+use packet_words::Order;
 use pass_loop::laws::bytes_are_cut_once;
 use pass_loop::{Engine, LIMIT, Outputs, RunEnd, Runs, drive_bytes};
 use small_types::{NoMemory, U4};
@@ -98,10 +98,7 @@ impl PacketWork for WordOutput {
         outputs: &mut O,
     ) -> Result<(), RunEnd> {
         match packet.pair() {
-            Some(pair) => {
-                let [first, second] = pair;
-                outputs.put_output(&pair_bytes(first, second, self.order))
-            }
+            Some(pair) => put_encoded(&pair, self.order, outputs),
             None => {
                 let words = packet.words();
                 put_encoded(words.as_slice(), self.order, outputs)

@@ -30,8 +30,8 @@ ReadsVoice1 words result = ReadsMarked (marked_in_voice1 words) (λ message. Spe
 abbrev pub ReadsVoice2 : List ℕ → Option Voice2 → Type 0
 ReadsVoice2 words result = ReadsMarked (marked_in_voice2 words) (λ message. SpellsVoice2 message words) result
 
--- The words spell the packet, there is no reason to refuse them, and they hold zeros in the places that its row
--- doesn't name.
+-- The words spell the packet, there is no reason to refuse them, and they have zeros in the places that its
+-- row doesn't name.
 pub record Encodes (p : Packet) (words : List ℕ) : Type 0 where
   pub spelled : Spells p words
   pub accepted : reason words ≡ None

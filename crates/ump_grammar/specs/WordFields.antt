@@ -1,5 +1,5 @@
--- The places of the fields of a packet (M2-104-UM, Universal MIDI Packet Format and MIDI 2.0 Protocol). Bytes and
--- words are counted from 1, byte 1 being the top byte of word 1, and bits from 0.
+-- The places of the fields of a packet (M2-104-UM, Universal MIDI Packet Format and MIDI 2.0 Protocol). Bytes
+-- and words are counted from 1, byte 1 being the top byte of word 1, and bits from 0.
 use Rattle.std.specs.Prelude.{ℕ, ◌-◌, ◌*◌, ◌/◌, ◌%◌, ◌^◌, List, slice_index}
 
 -- a field of a word: this many bits, from a low bit on
@@ -22,8 +22,8 @@ type_of words = field (word words 1) 28 4
 abbrev pub group_of : List ℕ → ℕ
 group_of words = field (word words 1) 24 4
 
--- the high half of byte 2: the opcode of a voice message, the status of a utility message, the form of a 7-bit
--- exclusive
+-- the high half of byte 2: the opcode of a voice message, the status of a utility message, the form of a
+-- 7-bit exclusive
 abbrev pub opcode_of : List ℕ → ℕ
 opcode_of words = field (word words 1) 20 4
 

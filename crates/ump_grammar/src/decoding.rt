@@ -219,19 +219,15 @@ pub fn form_of(number: u32) -> Option<Form>
     }
 }
 
-// Bytes 3 to 8.
-fn exclusive_bytes(words: &[u32]) -> [u8; 6]
+/// Bytes 3 to 8, the places for the bytes of a 7-bit exclusive (M2-104-UM, system exclusive 7-bit messages).
+#[inline(always)]
+pub fn exclusive_bytes(words: &[u32]) -> [u8; 6]
     requires { length words.now ≡ 2 }
     ensures { result ≡ exclusive_places words.now }
 {
-    [
-        byte(words[0], 8),
-        byte(words[0], 0),
-        byte(words[1], 24),
-        byte(words[1], 16),
-        byte(words[1], 8),
-        byte(words[1], 0),
-    ]
+    let [_, _, byte3, byte4] = words[0].to_be_bytes();
+    let [byte5, byte6, byte7, byte8] = words[1].to_be_bytes();
+    [byte3, byte4, byte5, byte6, byte7, byte8]
 }
 
 // Whether some byte is 128 or more.

@@ -1,19 +1,19 @@
 -- What is raised of bytes that are taken at once is what is raised of them one after the other.
-use Rattle.std.proofs.Common.{ℕ, ◌≡◌, ◌+◌, ◌∙◌, ap, sym, subst, refl, true, List, [], ◌∷◌, map}
+use Rattle.std.proofs.Common.{ℕ, ◌≡◌, ◌+◌, ◌∙◌, ap, sym, subst, refl, Bool, false, List, [], ◌∷◌, map}
 use Rattle.ump_grammar.specs.declared.packet.Packet.TheVariants as packet
 use Rattle.voice_messages.specs.declared.voice1.Voice1.{Voice1}
 use Rattle.encoded_packets.specs.declared.direct_message.DirectMessage.{DirectMessage}
 use Rattle.encoded_packets.specs.DirectMessages.{direct_voice}
-use Rattle.midi1_bytes.specs.Messages.{voice}
+use Rattle.midi1_bytes.specs.Messages.{voice, common, exclusive, real_time}
 use Rattle.midi1_bytes.specs.Parsing.{Parsing, AreHeld, AreMessage, parse}
-use Rattle.midi1_bytes.specs.Fronts.{is_held}
+use Rattle.midi1_bytes.specs.Plain.{is_plain}
 use Rattle.midi1_bytes.specs.Steps.{Step, completes, cut, held, stray, too_long, undefined}
 use Rattle.midi_meaning.specs.Messages.{channel_of, step1}
 use Rattle.param_collector.specs.Holding.{Holding}
 use Rattle.param_collector.specs.Keeps.{Keeps}
 use Rattle.up_translator.specs.DirectWords.{packet_of}
 use Rattle.up_translator.specs.ForProofs.DirectOf.{IsDirectOf}
-use Rattle.up_translator.specs.Fronts.{RaiseNothing, RaiseOne, RaisesStepAlone}
+use Rattle.up_translator.specs.Fronts.{RaiseNothing, RaiseOne, RaisesStepAlone, TakesAlone, is_direct}
 use Rattle.up_translator.specs.Held.{UpState, holding_after_step}
 use Rattle.up_translator.proofs.DirectLaws as direct
 use Rattle.up_translator.proofs.DirectLaws.{OthersKeep}
@@ -27,23 +27,17 @@ nothing_of_held holding group offset = record {
   kept = λ state keeps. keeps;
 }
 
-pub held_raises : (holding : Holding) (group offset : ℕ) (step : Step) → is_held step ≡ true
-    → RaisesStepAlone holding group offset step []
-held_raises holding group offset held is = nothing_of_held holding group offset
-held_raises holding group offset (completes message) is = cc
-held_raises holding group offset stray is = cc
-held_raises holding group offset undefined is = cc
-held_raises holding group offset (cut start what after) is = cc
-held_raises holding group offset too_long is = cc
-
--- and what control changes have set stays
-pub held_keeps : (holding : Holding) (step : Step) → is_held step ≡ true → holding_after_step holding step ≡ holding
-held_keeps holding held is = refl
-held_keeps holding (completes message) is = cc
-held_keeps holding stray is = cc
-held_keeps holding undefined is = cc
-held_keeps holding (cut start what after) is = cc
-held_keeps holding too_long is = cc
+-- what is neither held nor completes a voice message is taken by no direct step
+pub other_not_direct : (paired : Bool) (step : Step) → is_plain step ≡ false → is_direct paired step ≡ false
+other_not_direct paired held is = cc
+other_not_direct paired (completes (voice message)) is = cc
+other_not_direct paired (completes (common message)) is = refl
+other_not_direct paired (completes (exclusive bytes)) is = refl
+other_not_direct paired (completes (real_time message)) is = refl
+other_not_direct paired stray is = refl
+other_not_direct paired undefined is = refl
+other_not_direct paired (cut start what after) is = refl
+other_not_direct paired too_long is = refl
 
 -- the packet of the direct message comes of the byte that completes it
 one_of_direct : OthersKeep → (holding : Holding) (group offset : ℕ) (message : Voice1) (to : DirectMessage)
@@ -67,6 +61,27 @@ module _ (group : ℕ) (holding : Holding) where
   -- what control changes have set stays
   abbrev after_step : Parsing → Step → UpState
   after_step parsing step = record { group = group; parsing = parsing; holding = holding_after_step holding step }
+
+  -- a byte that is held, and one that completes a message which is raised alone
+  pub takes_held : (parsing : Parsing) (offset byte : ℕ) (new : Parsing) → (parse parsing offset byte).step ≡ held
+      → new ≡ (parse parsing offset byte).after → TakesAlone (with_parsing parsing) offset byte [] (with_parsing new)
+  takes_held parsing offset byte new is after = record {
+    direct = ap (is_direct holding.paired) is;
+    alone = subst (λ (s : Step). RaisesStepAlone holding group offset s []) (sym is) (nothing_of_held holding group offset);
+    after = ap with_parsing after ∙ ap (λ (s : Step). after_step (parse parsing offset byte).after s) (sym is);
+  }
+
+  pub takes_direct : OthersKeep → (message : Voice1) (to : DirectMessage) → IsDirectOf (record { group = group; holding = holding }) message to
+      → (parsing : Parsing) (offset byte : ℕ) (new : Parsing) → (parse parsing offset byte).step ≡ completes (voice message)
+      → new ≡ (parse parsing offset byte).after → TakesAlone (with_parsing parsing) offset byte (packet_of to ∷ []) (with_parsing new)
+  takes_direct others message to direct_of parsing offset byte new is after = record {
+    direct = ap (is_direct holding.paired) is ∙ direct_of.alone;
+    alone = subst (λ (s : Step). RaisesStepAlone holding group offset s (packet_of to ∷ [])) (sym is)
+        (one_of_direct others holding group offset message to direct_of);
+    after = ap with_parsing after
+        ∙ ap (λ (h : Holding). record { group = group; parsing = (parse parsing offset byte).after; holding = h })
+        (sym (direct.held holding message direct_of.alone) ∙ ap (holding_after_step holding) (sym is));
+  }
 
   pub held_raise_nothing : (bytes : List ℕ) (parsing : Parsing) (offset : ℕ) (new : Parsing) → AreHeld bytes parsing offset new
       → RaiseNothing bytes (with_parsing parsing) offset (with_parsing new)

@@ -9,7 +9,7 @@ use Rattle.ump_grammar.specs.Reading.{Encodes}
 use Rattle.ump_grammar.specs.Zeros.{ZerosInVoice2}
 use Rattle.encoded_packets.specs.declared.direct_message.DirectMessage.{DirectMessage}
 use Rattle.encoded_packets.specs.DirectMessages.{is_direct_opcode, message_by, direct_voice, one_of_six}
-use Rattle.encoded_packets.proofs.DirectLaws.{fine_value, packet_at, spells_value}
+use Rattle.up_translator.proofs.SpellLaws.{fine_value, packet_at, spells_value}
 use Rattle.ump_grammar.specs.Spelling.{Spells}
 use Rattle.up_translator.specs.DirectWords.{IsRaisedDirect, message_in, packet_of}
 

@@ -1,10 +1,11 @@
--- The outcome of several bytes that are taken at once, by what the translator holds. Bytes are listed oldest
--- first.
-use Rattle.std.specs.Prelude.{◌≡◌, ◌<◌, ◌≤◌, ℕ, ◌+◌, List, [], ◌∷◌, length, take, false, Some, None, IfSome}
+-- The outcome of a byte that is taken alone, and of several that are taken at once, by what the translator
+-- holds. Bytes are listed oldest first.
+use Rattle.std.specs.Prelude.{◌≡◌, ◌<◌, ◌≤◌, ℕ, ◌+◌, List, [], ◌∷◌, length, take, Bool, true, false, Some, None, IfSome}
 use Rattle.ump_grammar.specs.declared.packet.Packet.{Packet}
 use Rattle.encoded_packets.specs.declared.direct_message.DirectMessage.{DirectMessage}
 use Rattle.midi1_bytes.specs.Fronts.{front_voice}
-use Rattle.midi1_bytes.specs.Steps.{Step}
+use Rattle.midi1_bytes.specs.Messages.{voice}
+use Rattle.midi1_bytes.specs.Steps.{Step, held, completes}
 use Rattle.midi_meaning.specs.State.{GroupState}
 use Rattle.midi_meaning.specs.Raising.{raised_step}
 use Rattle.midi_meaning.specs.StepListing.{kinds_up}
@@ -14,6 +15,8 @@ use Rattle.param_collector.specs.Keeps.{Keeps}
 use Rattle.up_translator.specs.Direct.{goes_direct}
 use Rattle.up_translator.specs.DirectWords.{IsRaisedDirect, packet_of}
 use Rattle.up_translator.specs.Held.{UpState, KeepsAfter, step_in, up_after}
+use Rattle.up_translator.specs.declared.up.DirectStep.{DirectStep}
+use Rattle.up_translator.specs.declared.up.DirectStep.TheVariants as direct
 
 -- A step is accepted in the group, and these packets and no line are raised of it from each state that is
 -- kept; each is kept after it, as it then is.
@@ -26,6 +29,25 @@ pub record RaisesStepAlone (holding : Holding) (group offset : ℕ) (step : Step
 -- so is the step of a byte
 abbrev pub RaisesAlone : UpState → ℕ → ℕ → List Packet → Type 0
 RaisesAlone up offset byte packets = RaisesStepAlone up.holding up.group offset (step_in up offset byte) packets
+
+-- a step is held, or completes a message that is raised alone
+abbrev pub is_direct : Bool → Step → Bool
+is_direct paired held = true
+is_direct paired (completes (voice message)) = goes_direct (Some paired) message
+is_direct paired _ = false
+
+-- Such a byte is taken: of it these packets and no line are raised.
+pub record TakesAlone (up : UpState) (offset byte : ℕ) (packets : List Packet) (new : UpState) : Type 0 where
+  pub direct : is_direct up.holding.paired (step_in up offset byte) ≡ true
+  pub alone : RaisesAlone up offset byte packets
+  pub after : new ≡ up_after up offset byte
+
+-- One byte is taken, and nothing is raised of it, or this direct message alone. It isn't taken exactly when it is
+-- neither held nor completes a message that is raised alone.
+abbrev pub IsDirect : DirectStep → UpState → ℕ → ℕ → UpState → Type 0
+IsDirect direct.Held up offset byte new = TakesAlone up offset byte [] new
+IsDirect (direct.Message message) up offset byte new = IsRaisedDirect message × TakesAlone up offset byte (packet_of message ∷ []) new
+IsDirect direct.Other up offset byte new = (is_direct up.holding.paired (step_in up offset byte) ≡ false) × (new ≡ up)
 
 -- Nothing is raised of any of these bytes, the first of them at this offset; and the state after the last
 -- of them.

@@ -1,15 +1,20 @@
 // Messages that are raised alone, whatever came before (M2-104-UM, translation from MIDI 1.0; M2-115-U).
-ghost use Rattle.std.specs.Prelude.{◌≡◌, ◌≢◌, ◌/◌, ◌==◌, if◌then◌else◌};
+ghost use Rattle.std.specs.Prelude.{◌≡◌, ◌≢◌, ◌<◌, ◌/◌, ◌==◌, if◌then◌else◌};
+ghost use Rattle.bit_scaling.specs.Scaling.{up};
+ghost use Rattle.midi1_bytes.specs.Messages.{fourteen_bits};
 ghost use Rattle.midi1_bytes.specs.Spoken.{voice_in};
 ghost use Rattle.voice_messages.specs.declared.voice2.Voice2.TheVariants as voice2;
 ghost use Rattle.encoded_packets.specs.DirectMessages.{direct_voice};
 ghost use Rattle.up_translator.specs.Direct.{RaisesTo, raised_by, goes_direct, value_by};
-ghost use Rattle.up_translator.specs.DirectWords.{IsRaisedDirect};
+ghost use Rattle.ump_grammar.specs.Reading.{Encodes};
+ghost use Rattle.up_translator.specs.DirectWords.{IsRaisedDirect, packet_of};
 
+use crate::direct_words::DirectWords;
 use bit_scaling::{up7, up14};
 use encoded_packets::DirectMessage;
 use midi_meaning::DirectControls;
 use midi1_bytes::VoiceBytes;
+use std::marker::Model;
 use voice_messages::{U4, U7, U14};
 
 /// The value of the note off that a note on of velocity 0 becomes: the
@@ -18,14 +23,11 @@ const RELEASE: u32 = 0x8000_0000;
 
 // The index of a control change; for other messages one that is direct.
 #[inline(always)]
-fn index_of(opcode: u8, first: U7) -> U7
+fn index_of(opcode: u8, first: u8) -> U7
+    requires { first < 128 }
     ensures { result ≡ (if opcode == 0xB then first else 64) }
 {
-    if opcode == 0xB {
-        first
-    } else {
-        U7::low_bits(64)
-    }
+    U7::low_bits(if opcode == 0xB { u32::from(first) } else { 64 })
 }
 
 /// Whether a message neither takes nor changes what control changes set: a note off or on, a pressure, a
@@ -36,50 +38,121 @@ pub fn goes_direct(direct: &DirectControls, bytes: &VoiceBytes) -> bool
     ensures { result ≡ goes_direct direct.now (voice_in bytes.now) }
 {
     let opcode = bytes.status / 16;
-    let first = U7::low_bits(u32::from(bytes.first));
-    (opcode != 0xC) & direct.has(index_of(opcode, first))
+    (opcode != 0xC) & direct.has(index_of(opcode, bytes.first))
 }
 
-// The value, by the opcode. The upper half of a value that is raised to
-// 32 bits is the value raised to 16, as a velocity is.
+// The value of a bend.
+#[inline(always)]
+fn bend_of(first: u8, second: u8) -> u32
+    requires first_below { first < 128 }
+    requires second_below { second < 128 }
+    ensures { result ≡ up (fourteen_bits first second) 14 32 }
+{
+    up14(U14::low_bits(u32::from(second) * 128 + u32::from(first)))
+}
+
+// The value of any other message, by the opcode. The upper half of a value that is raised to 32 bits is the
+// value raised to 16, as a velocity is.
 #[tactic(auto, using(crate::proofs::DirectLaws::upper_half))]
 #[inline(always)]
-fn value_of(opcode: u8, first: U7, second: U7) -> u32
+fn value_of(opcode: u8, first: u8, second: u8) -> u32
+    requires no_bend { opcode < 0xE }
+    requires first_below { first < 128 }
+    requires second_below { second < 128 }
     ensures { result ≡ value_by opcode first second }
 {
-    let whole = up7(if opcode == 0xD { first } else { second });
-    let bend = u32::from(second.get()) * 128 + u32::from(first.get());
-    let bend = up14(U14::low_bits(bend));
-    let value = if opcode < 0xA {
+    let entered = if opcode < 0xD { second } else { first };
+    let whole = up7(U7::low_bits(u32::from(entered)));
+    if opcode < 0xA {
         whole / 0x1_0000 * 0x1_0000
     } else {
         whole
-    };
-    if opcode == 0xE { bend } else { value }
+    }
 }
 
 // The fields of the message. Those of a silent note are chosen branchless, since the next velocity can't be
-// predicted.
+// predicted. Few messages are bends, so their value is raised only for them.
 #[inline(always)]
 fn fields(group: U4, bytes: &VoiceBytes) -> DirectMessage
     ensures { result ≡ raised_by (bytes.now.status / 16) group bytes.now.status
         bytes.now.first bytes.now.second }
 {
     let opcode = bytes.status / 16;
-    let first = U7::low_bits(u32::from(bytes.first));
-    let second = U7::low_bits(u32::from(bytes.second));
-    let value = value_of(opcode, first, second);
+    let value = if opcode < 0xE {
+        value_of(opcode, bytes.first, bytes.second)
+    } else {
+        bend_of(bytes.first, bytes.second)
+    };
     let (status, value) = if (opcode == 0x9) & (bytes.second == 0) {
         (bytes.status - 16, RELEASE)
     } else {
         (bytes.status, value)
     };
+    let index = if opcode < 0xD {
+        u32::from(bytes.first)
+    } else {
+        0
+    };
     DirectMessage {
         group,
         status,
-        index: if opcode < 0xD { first } else { U7::low_bits(0) },
+        index: U7::low_bits(index),
         attribute_type: 0,
         value,
+    }
+}
+
+/// A voice message that is raised alone, with its group. It is raised when the message is asked for, so that a
+/// caller can do before that what else is to be done. A contract sees the message to which it is raised.
+#[derive(Debug, Drop)]
+pub struct DirectVoice {
+    group: U4,
+    bytes: VoiceBytes,
+}
+
+impl Model for DirectVoice {
+    ghost use Rattle.std.specs.Prelude.{◌/◌};
+    ghost use Rattle.encoded_packets.specs.declared.direct_message.DirectMessage.{DirectMessage};
+    ghost use Rattle.up_translator.specs.Direct.{raised_by};
+
+    ghost Value = { DirectMessage };
+
+    ghost view = { λ voice. raised_by (voice.bytes.status / 16) voice.group voice.bytes.status
+        voice.bytes.first voice.bytes.second };
+}
+
+impl DirectVoice {
+    /// A voice message that is no program change, in a group.
+    #[inline(always)]
+    pub(crate) fn of(group: U4, bytes: &VoiceBytes) -> DirectVoice
+        requires { bytes.now.status / 16 ≢ 0xC }
+        ensures raised_direct { IsRaisedDirect result }
+        ensures group { result.group ≡ group }
+        ensures raised { RaisesTo (voice_in bytes.now) (direct_voice result) }
+    {
+        // tells that the group is below 16
+        group.get();
+        DirectVoice {
+            group,
+            bytes: *bytes,
+        }
+    }
+
+    /// The words that encode its packet (M2-104-UM, MIDI 2.0 channel voice messages).
+    #[inline(always)]
+    pub fn pair(&self) -> [u32; 2]
+        requires { IsRaisedDirect self.now }
+        ensures { Encodes (packet_of self.now) result }
+    {
+        DirectWords::new(&self.message()).pair()
+    }
+
+    /// The message to which it is raised.
+    #[inline(always)]
+    pub(crate) fn message(&self) -> DirectMessage
+        ensures { result ≡ self.now }
+    {
+        fields(self.group, &self.bytes)
     }
 }
 
@@ -91,9 +164,7 @@ pub fn raise_direct(group: U4, bytes: &VoiceBytes) -> DirectMessage
     ensures group { result.group ≡ group }
     ensures raised { RaisesTo (voice_in bytes.now) (direct_voice result) }
 {
-    // tells that the group is below 16
-    group.get();
-    fields(group, bytes)
+    DirectVoice::of(group, bytes).message()
 }
 
 /// A control change, in a group.

@@ -11,8 +11,9 @@ mod raiser;
 pub mod up;
 mod voice;
 
+pub use crate::direct_message::DirectVoice;
 pub use crate::raised::Raised;
 pub use crate::raised_packet::RaisedPacket;
-pub use crate::up::Up;
+pub use crate::up::{DirectStep, Up};
 pub use listing_terms::{ByteLine, ByteLines, byte_lines};
 pub use midi_meaning::{BadStep, Kind, Listed, kind_of_cut, kind_of_open};

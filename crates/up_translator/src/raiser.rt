@@ -9,7 +9,7 @@ ghost use Rattle.ump_grammar.specs.Ranges.{IsPacket};
 ghost use Rattle.ump_grammar.specs.declared.packet.Packet.TheVariants as packet;
 ghost use Rattle.voice_messages.specs.declared.voice2.Voice2.TheVariants as voice2;
 
-use crate::direct_message::{control_change, goes_direct, raise_direct};
+use crate::direct_message::{DirectVoice, control_change, goes_direct, raise_direct};
 use crate::outcome::{Outcome, SelectingMessage, raise_selecting};
 use crate::raised::Raised;
 use crate::raised_packet::RaisedPacket;
@@ -179,6 +179,20 @@ impl Raiser {
         }
     }
 
+    /// A voice message, if it is raised alone; `None` exactly when it isn't.
+    #[inline(always)]
+    pub(crate) fn direct_voice(&self, bytes: &VoiceBytes) -> Option<DirectVoice>
+        ensures { MatchOption result
+            (goes_direct (Some self.now.holding.paired) (voice_in bytes.now) ≡ false)
+            (IsDirectOf self.now (voice_in bytes.now)) }
+    {
+        if goes_direct(&self.direct, bytes) {
+            Some(DirectVoice::of(self.group, bytes))
+        } else {
+            None
+        }
+    }
+
     /// The message to which a voice message is raised that is raised alone; `None` exactly when it isn't.
     #[inline(always)]
     pub(crate) fn direct_message(&self, bytes: &VoiceBytes) -> Option<DirectMessage>
@@ -186,10 +200,9 @@ impl Raiser {
             (goes_direct (Some self.now.holding.paired) (voice_in bytes.now) ≡ false)
             (IsDirectOf self.now (voice_in bytes.now)) }
     {
-        if goes_direct(&self.direct, bytes) {
-            Some(raise_direct(self.group, bytes))
-        } else {
-            None
+        match self.direct_voice(bytes) {
+            Some(voice) => Some(voice.message()),
+            None => None,
         }
     }
 

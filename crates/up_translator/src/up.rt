@@ -1,19 +1,20 @@
 // The translator up.
-ghost use Rattle.std.specs.Prelude.{◌≡◌, ◌≢◌, ◌≤◌, ℕ, [], false, length, map, take, IfOk, IsTrue, MatchOption, Option};
+ghost use Rattle.std.specs.Prelude.{◌≡◌, ◌≢◌, ◌≤◌, ℕ, [], length, map, take, IfOk, MatchOption, Option};
 ghost use Rattle.std.specs.Option.{option_map, option_to_list};
 ghost use Rattle.midi1_bytes.specs.Answers.{step_view, LendsData, LendsFramed};
-ghost use Rattle.midi1_bytes.specs.Fronts.{data_taken, is_held};
+ghost use Rattle.midi1_bytes.specs.Fronts.{data_taken};
 ghost use Rattle.midi1_bytes.specs.Parsing.{ended_by, Begun};
 ghost use Rattle.midi_meaning.specs.StepListing.{kinds_at_end, line_up};
 ghost use Rattle.param_collector.specs.Holding.{Holding};
 ghost use Rattle.up_translator.specs.Step.{Accepts};
 
+use crate::direct_message::DirectVoice;
 use crate::raised::Raised;
 use crate::raiser::Raiser;
 use encoded_packets::DirectMessage;
 use midi_meaning::lines::{cut_off, kind_of_open, stray, undefined};
 use midi_meaning::{BadStep, Listed};
-use midi1_bytes::{AfterCut, Parser, Step, System};
+use midi1_bytes::{AfterCut, Parser, PlainStep, Step, System};
 use param_collector::Collector;
 use param_collector::laws::other_messages_change_nothing_kept;
 use small_types::{NoMemory, U4};
@@ -40,6 +41,17 @@ fn raised_end<'a>(group: U4, step: Step<'a>, offset: u64) -> Raised<'a>
     }
 }
 
+/// What one more byte is taken as, if it raises nothing or one direct message alone.
+#[derive(Debug, Drop)]
+pub enum DirectStep {
+    /// It belongs to what is open, or opens it: nothing is raised of it.
+    Held,
+    /// It completes a message that is raised to this one.
+    Message(DirectVoice),
+    /// It does anything else, and isn't taken.
+    Other,
+}
+
 /// Translates the bytes of one MIDI 1.0 stream to packets of one group. A contract sees the group, what is
 /// open of a message or an exclusive, and what control changes have set.
 #[derive(Drop)]
@@ -64,7 +76,7 @@ impl Up {
     ghost use Rattle.std.specs.Borrow.{sem};
     ghost use Rattle.midi1_bytes.specs.Parsing.{idle, open_of};
     ghost use Rattle.param_collector.specs.Holding.{fresh};
-    ghost use Rattle.up_translator.specs.Fronts.{HasNoDirectFront, IsDirectFront, RaiseNothing, RaisesAlone};
+    ghost use Rattle.up_translator.specs.Fronts.{HasNoDirectFront, IsDirect, IsDirectFront, RaiseNothing};
     ghost use Rattle.up_translator.specs.Held.{KeepsAfter, step_in, up_after};
     ghost use Rattle.up_translator.specs.Lend.{KeepsUp};
     ghost use Rattle.up_translator.specs.Recording.{HoldsUp};
@@ -221,18 +233,27 @@ impl Up {
         self.parser.take_data(bytes)
     }
 
-    /// Takes one more byte, if it is only held: it belongs to a message or an exclusive that is open, or opens
-    /// one (MIDI 1.0 Detailed Specification: summary of status bytes, running status). Then it is the whole
-    /// step of `byte`, which would raise nothing and no line. `false` exactly for other bytes, and then
-    /// nothing changes: `byte` has their answer. Takes no memory.
+    /// Takes one more byte, if it is only held or completes a channel voice message that neither takes nor
+    /// changes what control changes set (M2-104-UM, translation from MIDI 1.0). `byte` would raise nothing of one
+    /// that is held, the packet of this message of one that completes it, and no line of either; the translator
+    /// is then as after it by `byte`. `Other` exactly for all other bytes, and then nothing changes: `byte` has
+    /// their answer. The offset is the number of bytes before it. Takes no memory.
     #[inline(always)]
-    pub fn holds(&mut self, byte: u8, offset: u64) -> bool
-        ensures class { result ≡ is_held (step_in self.old offset byte) }
-        ensures held { IsTrue result → RaisesAlone self.old offset byte [] }
-        ensures after { IsTrue result → self.new ≡ up_after self.old offset byte }
-        ensures unchanged { result ≡ false → self.new ≡ self.old }
+    pub fn direct(&mut self, byte: u8, offset: u64) -> DirectStep
+        ensures { IsDirect result self.old offset byte self.new }
     {
-        self.parser.holds(byte, offset)
+        other_messages_change_nothing_kept();
+        match self.parser.plain(byte, offset) {
+            PlainStep::Held => return DirectStep::Held,
+            PlainStep::Other => return DirectStep::Other,
+            PlainStep::Voice(spoken) => {
+                let Some(voice) = self.raiser.direct_voice(&spoken) else {
+                    return DirectStep::Other;
+                };
+                self.parser.take_voice();
+                return DirectStep::Message(voice);
+            }
+        }
     }
 
     /// The line of what is open at the end of the stream, with the offset at which it starts; `None` exactly

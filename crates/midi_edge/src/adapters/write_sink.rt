@@ -5,9 +5,9 @@ ghost use Rattle.std.specs.Io.KnownBytes.{Keeps, Appends, WriteAppends};
 ghost use Rattle.midi_edge.specs.Adapters.{unwritten, accepted, Accepts};
 ghost use Rattle.outside.specs.Outside.{HasCause, PutsPiece};
 
-use super::gathered::Gathered;
 use super::{CAPACITY, counted};
 use outside::{Failed, Sink};
+use small_types::ByteBuffer;
 use std::io;
 use std::io::{ErrorKind, Write};
 
@@ -20,7 +20,7 @@ use std::io::{ErrorKind, Write};
 #[derive(Drop)]
 pub struct WriteSink<W: Write> {
     writer: W,
-    gathered: Gathered,
+    gathered: ByteBuffer<CAPACITY>,
     faults: u64,
 }
 
@@ -33,7 +33,7 @@ impl<W: Write> WriteSink<W> {
     {
         WriteSink {
             writer,
-            gathered: Gathered::new(),
+            gathered: ByteBuffer::new(),
             faults: 0,
         }
     }
@@ -138,7 +138,7 @@ impl<W: Write> WriteSink<W> {
         requires { written ≤ length (unwritten self.old) }
         ensures { self.new ≡ record self.old { gathered = drop written (unwritten self.old) } }
     {
-        let mut rest = Gathered::new();
+        let mut rest = ByteBuffer::new();
         rest.extend(&self.gathered.as_slice()[written..]);
         self.gathered = rest;
     }

@@ -4,11 +4,11 @@ use Rattle.text_lines.proofs.DecimalText.{three_digits}
 use Rattle.text_lines.proofs.Numbers.{count_in_table, digit_bytes, small_number}
 use Rattle.text_lines.proofs.decimal.put_small.Goals as goal
 
-pub extend_by-requires-clause-within : goal.extend_by-requires-clause-within
-extend_by-requires-clause-within c =
+pub extend_by-requires : goal.extend_by-requires
+extend_by-requires c =
     let n = c.args.number in
     let below : n < 256 = omega arith in
-    omega (arith, count_in_table n below, three_digits n below)
+    (omega arith, (omega arith, omega (arith, count_in_table n below, three_digits n below)))
 
 pub returns-clause-text : goal.returns-clause-text
 returns-clause-text c =

@@ -1,5 +1,5 @@
 -- A handle may go to another thread, since what it owns may.
-use mathlib.Core.Bool.{Bool, true, false}
+use Prim.Native.Nat.{ℕ, zero, suc}
 use mir.Raw.{raw}
 use base.Fraction.{full_share}
 use base.Shift.{Keyless}
@@ -14,13 +14,13 @@ use Rattle.c_handles.specs.contracts.engine.Engine.{the_row as Inner}
 use Rattle.c_handles.proofs.engine.Engine.TheSendSync as inner
 use Rattle.c_handles.specs.contracts.handle.Handle.{the_row, the_type}
 
-held_keyless : (y : Bool) (p : Ptr) (m : Option Inner.Denot) → Keyless (held Inner y p m)
-held_keyless true (block_ptr b o) (Some x) =
+held_keyless : (y : ℕ) (p : Ptr) (m : Option Inner.Denot) → Keyless (held Inner y p m)
+held_keyless (suc n) (block_ptr b o) (Some x) =
     (part_keyless Inner inner.the_send full_share x b o, frees.frees heap (raw (lone Inner.mir)) (block_ptr b o))
-held_keyless true null_ptr (Some x) = (tt, frees.frees heap (raw (lone Inner.mir)) null_ptr)
-held_keyless true p None = tt
-held_keyless false p (Some x) = tt
-held_keyless false p None = tt
+held_keyless (suc n) null_ptr (Some x) = (tt, frees.frees heap (raw (lone Inner.mir)) null_ptr)
+held_keyless (suc n) p None = tt
+held_keyless zero p (Some x) = tt
+held_keyless zero p None = tt
 
 pub send : IsSend the_row
 send = owning_send the_type (search sendable, (search sendable, tt)) (λ d. held_keyless d.is_open d.at d.holds) (λ k x w. tt)

@@ -1,11 +1,11 @@
 -- A closed handle owns nothing.
-use Rattle.std.proofs.Common.{◌∷◌, [], refl, lit<, false}
+use Rattle.std.proofs.Common.{◌∷◌, [], refl, lit<}
 use Rattle.std.proofs.raw_atomic.Walks.{proved}
 use base.Fml.{ftrue}
 use mir.Val.{Val}
 use contract.Running.{tables}
 use types.Kit.{‵, raw, ◌$◌, ◌∵◌, !, qed, done, drop, suffices}
-use types.Run.{enter, lit, false_lit, no_more, and_then, returns}
+use types.Run.{enter, lit, no_more, and_then, returns}
 use types.ByLocal.{alloc_all, pass_all, free_all, look_at, sets}
 use types.Part.{agg}
 use denote.RawPtr.{null_ptr}
@@ -27,10 +27,11 @@ closed_spec 𝓤 𝓛 𝓜 𝓡 wired =
     proved 𝓛 f.ended stayed c 𝓜 𝓡 tt f.Key.name code.function (code.unfolded 𝓤 𝓛.H 𝓜 𝓡 wired)
     (λ κs. tt) (λ κs. tt) (λ κs qs bounds a g are.
     let y : W.Ghost = ((κs, qs, bounds, a, tt), tt) in
-    let v : Val = word null_ptr false in let d : R.Denot = record { at = null_ptr; is_open = false; holds = None } in
+    let v : Val = word null_ptr 0 in let d : R.Denot = record { at = null_ptr; is_open = 0; holds = None } in
     qed 𝓛 (raw (on_entry 𝓛 f.signature κs qs a y.0.4) ∷ ‵ ftrue ∷ []) ∵ drop ! $
     enter ! _ _ _ _ _ $ alloc_all ! (λ l. pass_all ! refl tt $
-    sets ! (agg ! (and_then ! (lit ! tt) (and_then ! (false_lit !) (no_more !)))) refl (tt, (record { fits = lit< tt }, (tt, tt))) $
-    returns ! (look_at ! 0 refl) $ free_all ! refl $ handle_in ! d $
+    sets ! (agg ! (and_then ! (lit ! tt) (and_then ! (lit ! tt) (no_more !)))) refl
+    (tt, (record { fits = lit< tt }, (record { fits = lit< tt }, tt))) $
+    returns ! (look_at ! 0 refl) $ free_all ! refl $ handle_in ! d (lit< tt) $
     suffices ! _ (ends_at 𝓛 f.ended stayed c y v d tt tt) $ says ! refl $ nothing ! $ nothing ! $
     done !))

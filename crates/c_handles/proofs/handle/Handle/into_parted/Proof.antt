@@ -1,6 +1,7 @@
 -- A handle that is open owns what the box as its pointer does.
-use Rattle.std.proofs.Common.{◌≡◌, List, [], ◌∷◌, ◌++◌, refl, sym, subst, lit<}
-use mathlib.Core.Bool.{Bool, true, false}
+use Rattle.std.proofs.Common.{◌≡◌, ℕ, zero, suc, ◌<◌, ◌^◌, List, [], ◌∷◌, ◌++◌, refl, sym, subst, eqb, eqb→eq, lit<}
+use Rattle.std.proofs.Math.Facts.{T_not-not}
+use Rattle.std.proofs.Math.Nat.{suc-ne-zero}
 use Rattle.std.proofs.raw_atomic.Walks.{proved_at}
 use seplogic.Ra.Ura.{Ura}
 use base.Logic.{SProp, ent, via, id⊢, never, never_e, fst∗}
@@ -12,7 +13,7 @@ use prog.Wp.{Calls, Loops, WpFn}
 use contract.Running.{Running, tables}
 use types.Logic.{Logic, sem}
 use types.Kit.{‵, prop, ⋆, ◌⊛◌, at_ret, ◌$◌, ◌∵◌, !, qed, done, by, move, keep, drop, split, join, fsplit, use0, use1, regoal, suffices}
-use types.Run.{enter, of_opd, stop, fld, lit, no_more, and_then, first, branches, exec, returns}
+use types.Run.{enter, of_opd, stop, fld, lit, bin, no_more, and_then, first, branches, exec, returns}
 use types.ByLocal.{alloc_all, pass_all, free_all, look_at, get, get_in, sets, sets_last, env}
 use types.Part.{agg, sub, whole}
 use types.Match.{live}
@@ -62,8 +63,8 @@ module _ {M : Type 1} (𝓤 : Ura M) (𝓛 : Logic 𝓤) (𝓜 : Model 𝓤 𝓛
   abbrev W : Contract 𝓤
   W = walk_of 𝓛 f.ended stayed (f.clauses 𝓛 𝓜.mem 𝓡.returns)
 
-  abbrev y : Ptr → Bool → Option Inner.Denot → W.Ghost
-  y p b m = ((tt, tt, tt, (record { at = p; is_open = b; holds = m }, (a, tt)), (us, (vs, tt))), tt)
+  abbrev y : Ptr → ℕ → Option Inner.Denot → W.Ghost
+  y p n m = ((tt, tt, tt, (record { at = p; is_open = n; holds = m }, (a, tt)), (us, (vs, tt))), tt)
 
   abbrev C : Calls 𝓤 𝓛.H
   C = (tables 𝓤 𝓛.H 𝓜 𝓡 𝓡.env).C
@@ -71,55 +72,56 @@ module _ {M : Type 1} (𝓤 : Ura M) (𝓛 : Logic 𝓤) (𝓜 : Model 𝓤 𝓛
   abbrev Λ : Loops 𝓤 𝓛.H
   Λ = (tables 𝓤 𝓛.H 𝓜 𝓡 𝓡.env).Λ
 
-  abbrev Run : Ptr → Bool → Option Inner.Denot → SProp 𝓤
-  Run p b m = WpFn 𝓤 𝓛.H C Λ code.function (word p b ∷ h ∷ []) (W.post (y p b m))
+  abbrev Run : Ptr → ℕ → Option Inner.Denot → SProp 𝓤
+  Run p n m = WpFn 𝓤 𝓛.H C Λ code.function (word p n ∷ h ∷ []) (W.post (y p n m))
 
-  walk : (p : Ptr) (b : Bool) (m : Option Inner.Denot) → ent 𝓤 (⋆ 𝓛 (‵ (held Inner b p m) ∷ ‵ (Z.own_val a (h ∷ [])) ∷ [])) (Run p b m)
-  walk p true (Some x) =
+  walk : (p : Ptr) (n : ℕ) (m : Option Inner.Denot) → n < 2 ^ 64
+      → ent 𝓤 (⋆ 𝓛 (‵ (held Inner n p m) ∷ ‵ (Z.own_val a (h ∷ [])) ∷ [])) (Run p n m)
+  walk p (suc n) (Some x) small =
       qed 𝓛 (‵ (box_owns token Inner p x) ∷ ‵ (Z.own_val a (h ∷ [])) ∷ []) ∵
       in_a_block ! p (λ q. box_owns token Inner q x) (fst∗ 𝓤 (never 𝓤) (sem 𝓛 (token (bare (lone Inner.mir)) null_ptr))) (λ b o e.
-      let w : Val = word (block_ptr b o) true in let d : Inside.Denot = record { alloc = a; address = block_ptr b o; value = x } in
+      let w : Val = word (block_ptr b o) (suc n) in let d : Inside.Denot = record { alloc = a; address = block_ptr b o; value = x } in
       let made : Val = word_of h b o in let typed = good_of Inner Z heap_laws.the_row_laws ghosts h b o fits in
       let out : Val = live 1 (vcons made vnil) in
       let good : Good (layout Out) out = (and_tt _ typed.0, (record { fits = lit< tt }, (typed.1, tt))) in
-      regoal ! (λ q. prop (Run q true (Some x))) e refl $
+      regoal ! (λ q. prop (Run q (suc n) (Some x))) e refl $
       enter ! C Λ code.function (w ∷ h ∷ [])
-      _ $ alloc_all ! (λ l. pass_all ! refl ((tt, (tt, (tt, tt))), (fits, tt)) $ let Ev = env (code.function).locals l in
+      _ $ alloc_all ! (λ l. pass_all ! refl ((tt, (tt, (record { fits = small }, tt))), (fits, tt)) $ let Ev = env (code.function).locals l in
       -- let Handle { at, is_open } = self;
       sets ! (of_opd ! (get_in ! (fld ! refl (stop !)) (sub ! 0 refl (whole !)))) refl (tt, tt) $
-      sets ! (of_opd ! (get_in ! (fld ! refl (stop !)) (sub ! 1 refl (whole !)))) refl (tt, tt) $
-      -- if is_open
-      sets ! (of_opd ! (get ! refl)) refl (tt, tt) $ first ! $ branches ! (get ! refl)
+      sets ! (of_opd ! (get_in ! (fld ! refl (stop !)) (sub ! 1 refl (whole !)))) refl (tt, record { fits = small }) $
+      -- if is_open != 0
+      sets ! (bin ! (get ! refl) (lit ! tt) tt) refl (tt, tt) $ first ! $ branches ! (get ! refl)
       (λ _. sets ! (of_opd ! (get ! refl)) refl (tt, tt) $
       sets ! (agg ! (and_then ! (get ! refl) (and_then ! (get ! refl) (no_more !)))) refl typed $
       sets_last ! (agg ! (and_then ! (lit ! tt) (and_then ! (get ! refl) (no_more !)))) refl good $
-      exec ! C Λ Ev (after 4 (code.function).body) (at_ret Ev (W.post (y (block_ptr b o) true (Some x)))) $ sets ! (of_opd ! (get ! refl))
+      exec ! C Λ Ev (after 4 (code.function).body) (at_ret Ev (W.post (y (block_ptr b o) (suc n) (Some x)))) $ sets ! (of_opd ! (get ! refl))
       refl good $
       returns ! (look_at ! 0 refl) $ free_all ! refl $
       pack Inner Z heap_laws.the_row_laws ghosts ! h b o a x $ use1 𝓛 (‵ (Out.own_val (Some d) (out ∷ []))) (Some-of 𝓛 Inside d made) $
-      suffices ! _ (ends_at 𝓛 f.ended stayed (f.clauses 𝓛 𝓜.mem 𝓡.returns) (y (block_ptr b o) true (Some x)) out (Some d) (tt, (tt, tt))
+      suffices ! _ (ends_at 𝓛 f.ended stayed (f.clauses 𝓛 𝓜.mem 𝓡.returns) (y (block_ptr b o) (suc n) (Some x)) out (Some d) (tt, (tt, tt))
       (tt, (tt, tt)))
       $ says ! refl $
       nothing ! $ nothing ! $ join ! $ nothing ! $ join ! $ nothing ! $ done !)
-      (λ wrong. absurd wrong)))
-  walk p false None =
+      (λ wrong. absurd (suc-ne-zero n (eqb→eq (suc n) 0 (T_not-not (eqb (suc n) 0) wrong))))))
+  walk p zero None small =
       qed 𝓛 (‵ ftrue ∷ ‵ (Z.own_val a (h ∷ [])) ∷ []) ∵ drop ! $ drop ! $
       let good : Good (layout Out) (live 0 vnil) = (tt, (record { fits = lit< tt }, tt)) in
-      enter ! C Λ code.function (word p false ∷ h ∷ [])
-      _ $ alloc_all ! (λ l. pass_all ! refl (word_good p false, (fits, tt)) $ let Ev = env (code.function).locals l in
+      enter ! C Λ code.function (word p zero ∷ h ∷ [])
+      _ $ alloc_all ! (λ l. pass_all ! refl (word_good p zero small, (fits, tt)) $ let Ev = env (code.function).locals l in
       sets ! (of_opd ! (get_in ! (fld ! refl (stop !)) (sub ! 0 refl (whole !)))) refl (ptr_good p) $
-      sets ! (of_opd ! (get_in ! (fld ! refl (stop !)) (sub ! 1 refl (whole !)))) refl (tt, tt) $
-      sets ! (of_opd ! (get ! refl)) refl (tt, tt) $ first ! $ branches ! (get ! refl)
+      sets ! (of_opd ! (get_in ! (fld ! refl (stop !)) (sub ! 1 refl (whole !)))) refl (tt, record { fits = small }) $
+      sets ! (bin ! (get ! refl) (lit ! tt) tt) refl (tt, tt) $ first ! $ branches ! (get ! refl)
       (λ wrong. absurd wrong)
       (λ _. sets_last ! (agg ! (and_then ! (lit ! tt) (no_more !))) refl good $
-      exec ! C Λ Ev (after 4 (code.function).body) (at_ret Ev (W.post (y p false None))) $ sets ! (of_opd ! (get ! refl)) refl good $
+      exec ! C Λ Ev (after 4 (code.function).body) (at_ret Ev (W.post (y p zero None))) $ sets ! (of_opd ! (get ! refl)) refl good $
       returns ! (look_at ! 0 refl) $ free_all ! refl $ use0 𝓛 (‵ (Out.own_val None (live 0 vnil ∷ []))) (none_of 𝓛 Inside) $
       suffices ! _
-      (ends_at 𝓛 f.ended stayed (f.clauses 𝓛 𝓜.mem 𝓡.returns) (y p false None) (live 0 vnil) None (tt, (tt, tt)) (tt, (tt, tt)))
+      (ends_at 𝓛 f.ended stayed (f.clauses 𝓛 𝓜.mem 𝓡.returns) (y p zero None) (live 0 vnil) None (tt, (tt, tt)) (tt, (tt, tt)))
       $ says ! refl $
       nothing ! $ nothing ! $ join ! $ nothing ! $ join ! $ nothing ! $ done !))
-  walk p true None = via 𝓤 (never 𝓤) (fst∗ 𝓤 (never 𝓤) (sem 𝓛 (Z.own_val a (h ∷ [])))) (never_e 𝓤 _)
-  walk p false (Some x) = via 𝓤 (never 𝓤) (fst∗ 𝓤 (never 𝓤) (sem 𝓛 (Z.own_val a (h ∷ [])))) (never_e 𝓤 _)
+  walk p (suc n) None small = via 𝓤 (never 𝓤) (fst∗ 𝓤 (never 𝓤) (sem 𝓛 (Z.own_val a (h ∷ [])))) (never_e 𝓤 _)
+  walk p zero (Some x) small = via 𝓤 (never 𝓤) (fst∗ 𝓤 (never 𝓤) (sem 𝓛 (Z.own_val a (h ∷ [])))) (never_e 𝓤 _)
 
 pub into_parted_spec : {M : Type 1} → statement M
 into_parted_spec 𝓤 𝓛 𝓜 𝓡 wired =
@@ -136,9 +138,9 @@ into_parted_spec 𝓤 𝓛 𝓜 𝓡 wired =
     ∵ split ! $ drop ! $ fsplit ! $ move ! (1 ∷ []) $ fsplit ! $
     -- [the allocator; nothing; the handle; nothing]
     handle_tells (allocator Inner Z heap_laws.the_row_laws ghosts) ! a z.0.4.1.0
-    (λ h eh fits. move ! (2 ∷ []) $ handle_out ! v z.0.4.0 $ keep ! (0 ∷ 1 ∷ []) $
+    (λ h eh fits. move ! (2 ∷ []) $ handle_out ! v z.0.4.0 (λ small. keep ! (0 ∷ 1 ∷ []) $
     suffices ! (Goes (word v.at v.is_open ∷ h ∷ []))
     (subst (λ (us : List Val). ent 𝓤 (Goes (word v.at v.is_open ∷ h ∷ [])) (Goes us)) (sym (λ i. word_is i ++ (eh i ++ [])))
     (id⊢ 𝓤 (Goes (word v.at v.is_open ∷ h ∷ []))))
     $
-    by ! (walk 𝓤 𝓛 𝓜 𝓡 a z.0.4.0 z.0.4.1.0 h fits v.at v.is_open v.holds)))
+    by ! (walk 𝓤 𝓛 𝓜 𝓡 a z.0.4.0 z.0.4.1.0 h fits v.at v.is_open v.holds small))))

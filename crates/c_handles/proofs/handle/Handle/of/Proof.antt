@@ -1,5 +1,5 @@
 -- An open handle owns what the box as its pointer did.
-use Rattle.std.proofs.Common.{List, [], ◌∷◌, ◌++◌, refl, sym, subst, true}
+use Rattle.std.proofs.Common.{List, [], ◌∷◌, ◌++◌, refl, sym, subst, lit<}
 use Rattle.std.proofs.raw_atomic.Walks.{proved_at}
 use base.Logic.{SProp, ent, id⊢}
 use base.Fml.{ftrue}
@@ -7,7 +7,7 @@ use mir.Val.{Val}
 use prog.Wp.{WpFn}
 use contract.Running.{tables}
 use types.Kit.{‵, ◌⊛◌, ◌$◌, ◌∵◌, !, qed, done, keep, drop, split, join, fsplit, suffices}
-use types.Run.{enter, of_opd, stop, fld, true_lit, no_more, and_then, returns}
+use types.Run.{enter, of_opd, stop, fld, lit, no_more, and_then, returns}
 use types.ByLocal.{alloc_all, pass_all, free_all, look_at, get, get_in, sets}
 use types.Part.{agg, sub, whole}
 use denote.Exit.{yes}
@@ -43,16 +43,16 @@ of_spec 𝓤 𝓛 𝓜 𝓡 wired =
     let Run : List Val → SProp 𝓤 = λ ws. WpFn 𝓤 H 𝓣.C 𝓣.Λ fn ws Post in
     qed 𝓛 ((‵ ftrue ⊛ ‵ (owns (types_at f.ended.signature.params tt) z.0.3 z.0.4)) ∷ ‵ ftrue ∷ []) ∵ split ! $ drop ! $ fsplit ! $
     unpack Inner heap.the_row heap_laws.the_row_laws ghosts ! v z.0.4.0 (λ h b o e ws fits.
-    let w : Val = word_of h b o in let d : R.Denot = record { at = block_ptr b o; is_open = true; holds = Some v.value } in
+    let w : Val = word_of h b o in let d : R.Denot = record { at = block_ptr b o; is_open = 1; holds = Some v.value } in
     suffices ! (Run (w ∷ [])) (subst (λ (us : List Val). ent 𝓤 (Run (w ∷ [])) (Run us)) (sym (λ i. ws i ++ [])) (id⊢ 𝓤 (Run (w ∷ []))))
     $ keep ! (0 ∷ []) $
     enter ! 𝓣.C 𝓣.Λ fn (w ∷ [])
     Post $ alloc_all ! (λ l. pass_all ! refl (good_of Inner heap.the_row heap_laws.the_row_laws ghosts h b o fits, tt) $
     -- let Parted { alloc: _, address } = parted;
     sets ! (of_opd ! (get_in ! (fld ! refl (stop !)) (sub ! 1 refl (whole !)))) refl (tt, tt) $
-    -- Handle { at: at as *mut u8, is_open: true }
+    -- Handle { at: at as *mut u8, is_open: 1 }
     sets ! (of_opd ! (get ! refl)) refl (tt, tt) $
-    sets ! (agg ! (and_then ! (get ! refl) (and_then ! (true_lit !) (no_more !)))) refl (tt, (tt, (tt, tt))) $
-    returns ! (look_at ! 0 refl) $ free_all ! refl $ handle_in ! d $
-    suffices ! _ (ends_at 𝓛 f.ended stayed c z (word (block_ptr b o) true) d (tt, tt) (tt, tt)) $ says ! refl $
+    sets ! (agg ! (and_then ! (get ! refl) (and_then ! (lit ! tt) (no_more !)))) refl (tt, (tt, (record { fits = lit< tt }, tt))) $
+    returns ! (look_at ! 0 refl) $ free_all ! refl $ handle_in ! d (lit< tt) $
+    suffices ! _ (ends_at 𝓛 f.ended stayed c z (word (block_ptr b o) 1) d (tt, tt) (tt, tt)) $ says ! refl $
     nothing ! $ nothing ! $ join ! $ nothing ! $ done !)))
