@@ -5,7 +5,7 @@ ghost use Rattle.ump_grammar.specs.Replies.{word_count};
 ghost use Rattle.ump_grammar.specs.declared.packet.Packet.{Packet};
 ghost use Rattle.system_stream.specs.declared.message.StreamMessage.{StreamMessage};
 ghost use Rattle.function_blocks.specs.InForce.{message_read, protocol_at, replies_at};
-ghost use Rattle.function_blocks.specs.Laws.{SetupsAreConsistent};
+ghost use Rattle.function_blocks.specs.Laws.{SetupsKeepTheRules};
 ghost use Rattle.function_blocks.specs.Replies.{protocol_after, stream_replies};
 ghost use Rattle.function_blocks.specs.Setups.{SetupData, IsSetup};
 
@@ -40,6 +40,6 @@ pub fn protocol_follows_the_requests()
 /// short enough. There are at most 32 blocks and 64 profiles. No two active blocks with MIDI-CI share a
 /// group, and no MUID appears twice. Each profile is of a block whose `ci` isn't 0, at a place of that block,
 /// and no two profiles have the same block, place and id.
-pub fn setups_are_consistent()
-    ensures { SetupsAreConsistent }
+pub fn setups_keep_the_rules()
+    ensures { SetupsKeepTheRules }
 {}

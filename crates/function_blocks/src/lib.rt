@@ -13,7 +13,7 @@ mod setup;
 pub mod whole;
 
 pub use crate::laws::{
-    protocol_follows_the_requests, replies_are_few, replies_have_four_words, setups_are_consistent,
+    protocol_follows_the_requests, replies_are_few, replies_have_four_words, setups_keep_the_rules,
 };
 pub use crate::reading::MOST_BYTES;
 pub use crate::rules::{Rule, SetupFault};

@@ -7,7 +7,7 @@ ghost use Rattle.larboardyuzu_c.specs.EndpointCalls.{AreTaken, HasBegun, HasMuid
 use c_answers::{Block, Status};
 use c_endpoint::{CEndpoint, EndpointProfile, PacketReplies};
 use c_handles::{Engine, Handle};
-use function_blocks::setups_are_consistent;
+use function_blocks::setups_keep_the_rules;
 use std::alloc::Global;
 
 // Puts an endpoint of the setup in a text in a handle that is closed.
@@ -44,7 +44,7 @@ pub extern "C" fn larboardyuzu_endpoint_open(
     ensures answer { IsOpened endpoint.old.holds text.now room result rule.old rule.new endpoint.new.holds }
     ensures consistent { (setup : SetupData) → setup_of text.now ≡ Ok setup → IsSetup setup }
 {
-    setups_are_consistent();
+    setups_keep_the_rules();
     if room < 6 || room > 1_048_576 {
         return Status::BadRoom.number();
     }

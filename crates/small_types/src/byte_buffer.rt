@@ -71,8 +71,8 @@ impl<const N: usize> ByteBuffer<N> {
         self.size = size + bytes.len();
     }
 
-    /// Adds bytes at the end, as `extend` does, but one by one, however many they are. That takes the least time
-    /// for a text that the compiler knows, since it joins the writes.
+    /// Adds bytes at the end, as `extend` does, but one by one, however many they are. That takes the least
+    /// time for a text that the compiler knows, since it joins the writes.
     #[inline(always)]
     pub fn extend_one_by_one(&mut self, bytes: &[u8])
         requires { length self.old + length bytes.now ≤ N }
@@ -83,8 +83,8 @@ impl<const N: usize> ByteBuffer<N> {
         self.size = size + bytes.len();
     }
 
-    /// Adds the first `count` of these bytes at the end. There are places of `N` left for all of them, and all
-    /// are written, so that they can be copied without asking how many are wanted.
+    /// Adds the first `count` of these bytes at the end. There are places of `N` left for all of them, and
+    /// all are written, so that they can be copied without asking how many are wanted.
     #[inline(always)]
     pub fn extend_by(&mut self, bytes: &[u8], count: usize)
         requires room { length self.old + length bytes.now ≤ N }

@@ -1,9 +1,8 @@
 -- The packets of a byte, which come down again.
-use Rattle.std.proofs.Common.{◌≡◌, ◌<◌, ◌≤◌, ℕ, Bool, true, false, List, [], ◌∷◌, ◌++◌, length, take, refl, ap, sym, ◌∙◌, subst}
-use Rattle.std.specs.Prelude.{◌&&◌, Some, reverse, Result, Ok, Err}
+use Rattle.std.proofs.Common.{◌≡◌, ◌<◌, ◌≤◌, ℕ, Bool, List, [], ◌∷◌, ◌++◌, length, take, refl, ap, sym, ◌∙◌, subst}
+use Rattle.std.specs.Prelude.{Some, reverse, Result, Ok, Err}
 use Rattle.std.specs.List.{AllByRecursion}
 use Rattle.std.proofs.lemmas.List.{append_assoc, append-nil, reverse-append}
-use Rattle.encoded_packets.specs.DirectMessages.{has_direct_kind}
 use Rattle.ump_grammar.specs.declared.packet.Packet.{Packet}
 use Rattle.ump_grammar.specs.Ranges.{IsPacket}
 use Rattle.midi_meaning.specs.Back.{SameState}
@@ -28,9 +27,9 @@ use Rattle.pass_loop.specs.Put.{Put, in_output}
 use Rattle.pass_loop.specs.declared.ends.RunEnd.{RunEnd}
 use Rattle.pass_loop.specs.Runs.{next_item}
 use Rattle.translation_passes.specs.Options.{BackOptions}
-use Rattle.down_translator.specs.Lowered.{IsDirectStep, goes_direct, lowered_bytes}
+use Rattle.down_translator.specs.Lowered.{IsDirectStep, lowered_bytes}
 use Rattle.down_translator.specs.declared.lowered.LoweredMessage.{LoweredMessage}
-use Rattle.translation_passes.specs.Back.{HoldsBack, HoldsReturned, returning, ReturnedBytesMean, byte_pieces, ComesDown, comes_alone, piece_puts, plain_puts, PutsDown}
+use Rattle.translation_passes.specs.Back.{HoldsBack, HoldsReturned, returning, ReturnedBytesMean, byte_pieces, ComesDown, piece_puts, plain_puts, PutsDown}
 use Rattle.translation_passes.specs.Raised.{AreDone, AreTaken, CanBeDone, CarriesOut, byte_packets}
 use Rattle.translation_passes.proofs.LoweredLaws.{carried_as, is_carried_as}
 use Rattle.translation_passes.proofs.FrontLaws.{ByteIsPut}
@@ -56,14 +55,6 @@ lowered_is_put offset from packet m whole old new (Ok done) puts =
     (in_output (lowered_bytes m) ∷ [], lowered_comes_down offset from packet m whole, puts)
 lowered_is_put offset from packet m whole old new (Err end) fails =
     (from, in_output (lowered_bytes m) ∷ [], lowered_comes_down offset from packet m whole, fails)
-
--- what one message doesn't carry doesn't come alone
-pub comes_with_others : (down : DownState) (packet : Packet) → goes_direct down packet ≡ false → comes_alone down packet ≡ false
-comes_with_others down packet none = ap (λ goes. has_direct_kind packet && goes) none ∙ by_kind (has_direct_kind packet)
-  where
-    by_kind : (b : Bool) → b && false ≡ false
-    by_kind true = refl
-    by_kind false = refl
 
 -- the outcome of packets that come after others
 record ComesDownAfter (paired : Bool) (room offset : ℕ) (earlier ps : List Packet) (placed : List Placed) : Type 0 where

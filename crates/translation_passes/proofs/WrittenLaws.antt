@@ -1,5 +1,5 @@
 -- The words of a packet are put as a packet is written.
-use Rattle.std.proofs.Common.{◌≡◌, ℕ, List, [], ◌∷◌, length, refl, slice_index, arith}
+use Rattle.std.proofs.Common.{◌≡◌, ℕ, List, [], ◌∷◌, refl}
 use Rattle.std.specs.List.{flat_map}
 use Rattle.packet_words.specs.Words.{word_bytes}
 use Rattle.packet_words.specs.declared.words.Order.{Order}
@@ -20,10 +20,3 @@ words_carry_out from order packet words encodes old new (Ok done) put =
     (in_output (flat_map (word_bytes order) words) ∷ [], (refl, (words, encodes, refl)), put)
 words_carry_out from order packet words encodes old new (Err end) put =
     (from, in_output (flat_map (word_bytes order) words) ∷ [], (refl, (words, encodes, refl)), put)
-
--- two words are their list
-pub two_words : (words : List ℕ) → length words ≡ 2 → slice_index words 0 ∷ slice_index words 1 ∷ [] ≡ words
-two_words [] two = absurd (omega (arith, two))
-two_words (first ∷ []) two = absurd (omega (arith, two))
-two_words (first ∷ second ∷ []) two = refl
-two_words (first ∷ second ∷ third ∷ rest) two = absurd (omega (arith, two))

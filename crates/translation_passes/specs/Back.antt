@@ -1,8 +1,7 @@
 -- A stream of bytes whose packets come down again: the pieces of the packets of each byte, and its lines; at the end the line of what
 -- is open.
-use Rattle.std.specs.Prelude.{◌≡◌, ◌&&◌, ℕ, Bool, false, ◌<◌, ◌≤◌, List, [], ◌∷◌, ◌++◌, reverse, take, None, Some}
+use Rattle.std.specs.Prelude.{◌≡◌, ℕ, Bool, false, ◌<◌, ◌≤◌, List, [], ◌∷◌, ◌++◌, reverse, take, None, Some}
 use Rattle.std.specs.List.{flat_map}
-use Rattle.encoded_packets.specs.DirectMessages.{has_direct_kind}
 use Rattle.ump_grammar.specs.declared.packet.Packet.{Packet}
 use Rattle.ump_grammar.specs.Ranges.{IsPacket}
 use Rattle.midi_meaning.specs.Back.{SameState, back, back_of_bytes}
@@ -17,7 +16,6 @@ use Rattle.text_lines.specs.ListingLines.{listing_text}
 use Rattle.up_translator.specs.Held.{UpState}
 use Rattle.up_translator.specs.Recording.{HoldsUp}
 use Rattle.down_translator.specs.Held.{DownState, down_after, refusal_in}
-use Rattle.down_translator.specs.Lowered.{goes_direct}
 use Rattle.down_translator.specs.Recording.{AreInRange, packets_of, state_of}
 use Rattle.down_translator.specs.Step.{piece_of}
 use Rattle.pass_loop.specs.Bytes.{bytes_read}
@@ -83,10 +81,6 @@ returning options =
     }
 
 -- ---- by what the translator down holds
-
--- a direct message of MIDI 2.0 that one message with its status byte carries
-abbrev pub comes_alone : DownState → Packet → Bool
-comes_alone down packet = has_direct_kind packet && goes_direct down packet
 
 -- a packet that some words spell, and that isn't refused
 abbrev pub ComesDown : DownState → Packet → Type 0

@@ -1,12 +1,13 @@
 // From a stream of MIDI 1.0 bytes to packets, and from these to MIDI 1.0 bytes again.
-ghost use Rattle.std.specs.Prelude.{◌≡◌, ◌<◌, ◌≤◌, [], ◌∷◌, false, IfOk, MatchOption, length};
-ghost use Rattle.down_translator.specs.Lowered.{IsDirectStep, lowered_bytes};
+ghost use Rattle.std.specs.Prelude.{◌≡◌, ◌<◌, ◌≤◌, [], ◌∷◌, IfOk, length};
+ghost use Rattle.down_translator.specs.Lowered.{lowered_bytes};
 ghost use Rattle.pass_loop.specs.Put.{in_output};
 ghost use Rattle.pass_loop.specs.Bytes.{byte_cutting};
 ghost use Rattle.pass_loop.specs.PassEnds.{PassEnds};
 ghost use Rattle.pass_loop.specs.Pass.{seen};
 ghost use Rattle.pass_loop.specs.Places.{Puts};
-ghost use Rattle.translation_passes.specs.Back.{HoldsBack, ComesDown, back_options, comes_alone};
+ghost use Rattle.up_translator.specs.DirectWords.{IsRaisedDirect, packet_of};
+ghost use Rattle.translation_passes.specs.Back.{HoldsBack, ComesDown, back_options};
 ghost use Rattle.translation_passes.specs.Back.{piece_puts, PutsDown, returning};
 ghost use Rattle.translation_passes.specs.Raised.{CarriesOut, TakesNothing};
 ghost use Rattle.translation_passes.specs.ForProofs.BackMeans.{returned_means, returns_named};
@@ -15,6 +16,7 @@ ghost use Rattle.translation_passes.specs.ForProofs.RaisedMeans.{last_named};
 use crate::raised::{PacketWork, put_byte, put_front, put_open};
 use down_translator::laws::what_is_held_is_the_definition;
 use down_translator::{Down, LoweredMessage, Style};
+use encoded_packets::DirectMessage;
 use item_reader::ByteReader;
 use listing_lines::refused;
 use midi_meaning::up_laws::{
@@ -25,11 +27,13 @@ use midi1_bytes::laws::parsed_bytes_are_the_definition;
 use outside::{Lanes, Sink, Source};
 use pass_loop::laws::bytes_are_cut_once;
 use pass_loop::{Engine, LIMIT, Outputs, RunEnd, Runs, drive_bytes};
-use small_types::{NoMemory, U4};
+use small_types::{NoMemory, ShortList, U4};
 use std::alloc::Global;
 use std::marker::Model;
+use ump_grammar::Packet;
 use up_translator::laws::raised_bytes_are_the_definition;
 use up_translator::{RaisedPacket, Up};
+use voice_messages::Form;
 
 /// A translation up and down again that is ready to begin, with all its memory. A contract sees its options.
 #[derive(Drop)]
@@ -100,23 +104,11 @@ fn put_message<O: Outputs>(message: &LoweredMessage, outputs: &mut O) -> Result<
     }
 }
 
-// The message that alone carries a direct message, if one does.
-#[tactic(auto, using(crate::proofs::BackLaws::comes_with_others))]
+// Takes a packet down, and puts its piece.
 #[inline(always)]
-fn lowered_in(down: &Down, packet: &RaisedPacket) -> Option<LoweredMessage>
-    ensures { MatchOption result (comes_alone down.now packet.now ≡ false)
-        (λ message. IsDirectStep down.now packet.now message) }
-{
-    let message = packet.direct_message()?;
-    down.lowered_message(&message)
-}
-
-// Takes a packet down that no message alone carries, and puts its piece. Few packets are such, so they stay out
-// of the loop.
-#[inline(never)]
-fn put_other<O: Outputs>(
+fn put_packet<O: Outputs>(
     down: &mut Down,
-    packet: &RaisedPacket,
+    packet: &Packet,
     offset: u64,
     outputs: &mut O,
 ) -> Result<(), RunEnd>
@@ -124,10 +116,43 @@ fn put_other<O: Outputs>(
     ensures { CarriesOut (PutsDown offset down.old packet.now) down.new
         (O.places outputs.old) (O.places outputs.new) result }
 {
-    match down.packet(&packet.packet(), offset) {
+    match down.packet(packet, offset) {
         Ok(carried) => put_piece(carried.piece, outputs),
         Err(bad) => Err(refused(bad, offset)),
     }
+}
+
+// The same with the packet of a direct message. Few need one, so it is made out of the loop.
+#[inline(never)]
+fn put_by_packet<O: Outputs>(
+    down: &mut Down,
+    message: DirectMessage,
+    offset: u64,
+    outputs: &mut O,
+) -> Result<(), RunEnd>
+    requires raised { IsRaisedDirect message }
+    requires comes { ComesDown down.old (packet_of message) }
+    ensures { CarriesOut (PutsDown offset down.old (packet_of message)) down.new
+        (O.places outputs.old) (O.places outputs.new) result }
+{
+    down.put(&RaisedPacket::of_value(&message), offset, outputs)
+}
+
+// The same again. Its answer is kept here, so that nothing is written for a message that needs no packet.
+#[inline(always)]
+fn put_rare<O: Outputs>(
+    down: &mut Down,
+    message: DirectMessage,
+    offset: u64,
+    outputs: &mut O,
+) -> Result<(), RunEnd>
+    requires raised { IsRaisedDirect message }
+    requires comes { ComesDown down.old (packet_of message) }
+    ensures { CarriesOut (PutsDown offset down.old (packet_of message)) down.new
+        (O.places outputs.old) (O.places outputs.new) result }
+{
+    put_by_packet(down, message, offset, outputs)?;
+    Ok(())
 }
 
 // Takes packets down, and puts their pieces. What bytes are raised to is neither refused nor listed there.
@@ -136,17 +161,44 @@ impl PacketWork for Down {
 
     ghost IsDone = { λ offset. PutsDown offset };
 
-    #[inline(always)]
+    #[inline(never)]
     fn put<O: Outputs>(
         &mut self,
         packet: &RaisedPacket,
         offset: u64,
         outputs: &mut O,
     ) -> Result<(), RunEnd> {
-        match lowered_in(self, packet) {
-            Some(message) => put_message(&message, outputs),
-            None => put_other(self, packet, offset, outputs),
+        put_packet(self, &packet.packet(), offset, outputs)
+    }
+
+    #[inline(always)]
+    fn put_direct<O: Outputs>(
+        &mut self,
+        message: &DirectMessage,
+        offset: u64,
+        outputs: &mut O,
+    ) -> Result<(), RunEnd> {
+        match self.lowered_message(message) {
+            Some(lowered) => put_message(&lowered, outputs),
+            None => put_rare(self, *message, offset, outputs),
         }
+    }
+
+    #[inline(never)]
+    fn put_part<O: Outputs>(
+        &mut self,
+        group: U4,
+        form: Form,
+        bytes: ShortList<u8, 6>,
+        offset: u64,
+        outputs: &mut O,
+    ) -> Result<(), RunEnd> {
+        put_packet(
+            self,
+            &Packet::Exclusive { group, form, bytes },
+            offset,
+            outputs,
+        )
     }
 }
 

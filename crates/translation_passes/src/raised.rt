@@ -1,10 +1,11 @@
 // What is done with the packets to which a byte is raised, and with its lines.
 ghost use Rattle.std.specs.Prelude.{◌≡◌, ◌++◌, ℕ, IfOk, List, Ok};
 ghost use Rattle.ump_grammar.specs.declared.packet.Packet.{Packet};
+ghost use Rattle.ump_grammar.specs.declared.packet.Packet.TheVariants as packet;
 ghost use Rattle.midi_meaning.specs.Raising.{exclusive_packets};
 ghost use Rattle.up_translator.specs.declared.raised.Raised.{Raised};
 ghost use Rattle.encoded_packets.specs.declared.direct_message.DirectMessage.{DirectMessage};
-ghost use Rattle.up_translator.specs.DirectWords.{packet_of};
+ghost use Rattle.up_translator.specs.DirectWords.{IsRaisedDirect, packet_of};
 ghost use Rattle.up_translator.specs.Fronts.{IsDirectFront};
 ghost use Rattle.up_translator.specs.Held.{KeepsAfter, UpState, step_in, up_after};
 ghost use Rattle.up_translator.specs.Raised.{IsApart, packets_in};
@@ -14,11 +15,13 @@ ghost use Rattle.translation_passes.specs.ForProofs.Fronts.{FrontIsTaken};
 ghost use Rattle.translation_passes.specs.Raised.{Answers, AreDone, AreTaken, ByteIsDone, CanBeDone, CarriesOut};
 ghost use Rattle.translation_passes.specs.Raised.{Doing, TakesNothing, byte_task, open_puts};
 
+use encoded_packets::DirectMessage;
 use listing_lines::{put_lines, put_listed, refused};
 use pass_loop::{Outputs, RunEnd};
-use small_types::U4;
+use small_types::{ShortList, U4};
 use sysex_groups::part;
 use up_translator::{Raised, RaisedPacket, Up};
+use voice_messages::Form;
 
 /// What is done with each of the packets to which a byte is raised.
 pub(crate) trait PacketWork {
@@ -37,6 +40,31 @@ pub(crate) trait PacketWork {
     ) -> Result<(), RunEnd>
         requires { Accepts self.old packet.now }
         ensures { CarriesOut (IsDone offset self.old packet.now) self.new
+            (O.places outputs.old) (O.places outputs.new) result };
+
+    /// Does it with the packet of a direct message, as most packets are.
+    fn put_direct<O: Outputs>(
+        &mut self,
+        message: &DirectMessage,
+        offset: u64,
+        outputs: &mut O,
+    ) -> Result<(), RunEnd>
+        requires raised { IsRaisedDirect message.now }
+        requires accepted { Accepts self.old (packet_of message.now) }
+        ensures { CarriesOut (IsDone offset self.old (packet_of message.now)) self.new
+            (O.places outputs.old) (O.places outputs.new) result };
+
+    /// Does it with the packet of a part of an exclusive.
+    fn put_part<O: Outputs>(
+        &mut self,
+        group: U4,
+        form: Form,
+        bytes: ShortList<u8, 6>,
+        offset: u64,
+        outputs: &mut O,
+    ) -> Result<(), RunEnd>
+        requires { Accepts self.old (packet.Exclusive group form bytes) }
+        ensures { CarriesOut (IsDone offset self.old (packet.Exclusive group form bytes)) self.new
             (O.places outputs.old) (O.places outputs.new) result };
 }
 
@@ -57,8 +85,7 @@ fn put_payload<P: PacketWork, O: Outputs>(
     loop {
         match part(payload, k) {
             Some((form, bytes)) => {
-                let packet = RaisedPacket::of_exclusive(group, form, bytes);
-                work.put(&packet, offset, outputs)?;
+                work.put_part(group, form, bytes, offset, outputs)?;
                 k += 1;
             }
             None => return Ok(()),
@@ -149,7 +176,7 @@ pub(crate) fn put_front<P: PacketWork, O: Outputs>(
 {
     match up.front(bytes) {
         Some((message, count)) => {
-            work.put(&RaisedPacket::of_value(&message), 0, outputs)?;
+            work.put_direct(&message, 0, outputs)?;
             Ok(count)
         }
         None => Ok(up.take_data(bytes)),

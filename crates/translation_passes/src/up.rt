@@ -15,6 +15,7 @@ ghost use Rattle.translation_passes.specs.ForProofs.RaisedMeans.{last_named};
 ghost use Rattle.translation_passes.specs.ForProofs.UpMeans.{raised_means, raises_named};
 
 use crate::raised::{PacketWork, put_byte, put_front, put_open};
+use encoded_packets::DirectMessage;
 use item_reader::ByteReader;
 use midi_meaning::up_laws::{
     raised_packets_are_in_range, raised_packets_mean_the_bytes,
@@ -26,12 +27,13 @@ use packet_input::put_encoded;
 use packet_words::Order;
 use pass_loop::laws::bytes_are_cut_once;
 use pass_loop::{Engine, LIMIT, Outputs, RunEnd, Runs, drive_bytes};
-use small_types::{NoMemory, U4};
+use small_types::{NoMemory, ShortList, U4};
 use std::alloc::Global;
 use std::marker::Model;
 use ump_grammar::laws::exclusives_have_words;
 use up_translator::laws::raised_bytes_are_the_definition;
 use up_translator::{RaisedPacket, Up};
+use voice_messages::Form;
 
 /// A translation up that is ready to begin, with all its memory. A contract sees its options.
 #[derive(Drop)]
@@ -104,6 +106,31 @@ impl PacketWork for WordOutput {
                 put_encoded(words.as_slice(), self.order, outputs)
             }
         }
+    }
+
+    #[inline(always)]
+    fn put_direct<O: Outputs>(
+        &mut self,
+        message: &DirectMessage,
+        offset: u64,
+        outputs: &mut O,
+    ) -> Result<(), RunEnd> {
+        self.put(&RaisedPacket::of_value(message), offset, outputs)
+    }
+
+    fn put_part<O: Outputs>(
+        &mut self,
+        group: U4,
+        form: Form,
+        bytes: ShortList<u8, 6>,
+        offset: u64,
+        outputs: &mut O,
+    ) -> Result<(), RunEnd> {
+        self.put(
+            &RaisedPacket::of_exclusive(group, form, bytes),
+            offset,
+            outputs,
+        )
     }
 }
 

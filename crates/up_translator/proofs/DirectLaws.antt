@@ -412,13 +412,13 @@ fits m raised_direct =
 
 -- ---- not a program change
 
-pub no_program : (paired : Bool) (status first second : ℕ)
-    → goes_direct (Some paired) (voice_by (sort_of status) status first second) ≡ true → status / 16 ≢ 0xC
-no_program paired status first second alone e =
+pub no_program : (direct : Option Bool) (status first second : ℕ)
+    → goes_direct direct (voice_by (sort_of status) status first second) ≡ true → status / 16 ≢ 0xC
+no_program direct status first second alone e =
     let message : voice_by (sort_of status) status first second ≡ voice1.Program (status % 16) first =
     ap (λ (sort : Sort). voice_by sort status first second) (one-sort status (omega (arith, e)) (omega (arith, e)))
     ∙ ap (λ n. voice_of_one n (status % 16) first) e in
-    true≢false (sym alone ∙ ap (goes_direct (Some paired)) message)
+    true≢false (sym alone ∙ ap (goes_direct direct) message)
 
 -- ---- a control change
 

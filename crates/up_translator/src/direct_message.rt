@@ -88,15 +88,11 @@ fn fields(group: U4, bytes: &VoiceBytes) -> DirectMessage
     } else {
         (bytes.status, value)
     };
-    let index = if opcode < 0xD {
-        u32::from(bytes.first)
-    } else {
-        0
-    };
+    let first = U7::low_bits(u32::from(bytes.first));
     DirectMessage {
         group,
         status,
-        index: U7::low_bits(index),
+        index: if opcode < 0xD { first } else { U7::low_bits(0) },
         attribute_type: 0,
         value,
     }
@@ -164,7 +160,9 @@ pub fn raise_direct(group: U4, bytes: &VoiceBytes) -> DirectMessage
     ensures group { result.group ≡ group }
     ensures raised { RaisesTo (voice_in bytes.now) (direct_voice result) }
 {
-    DirectVoice::of(group, bytes).message()
+    // tells that the group is below 16
+    group.get();
+    fields(group, bytes)
 }
 
 /// A control change, in a group.

@@ -200,9 +200,10 @@ impl Raiser {
             (goes_direct (Some self.now.holding.paired) (voice_in bytes.now) ≡ false)
             (IsDirectOf self.now (voice_in bytes.now)) }
     {
-        match self.direct_voice(bytes) {
-            Some(voice) => Some(voice.message()),
-            None => None,
+        if goes_direct(&self.direct, bytes) {
+            Some(raise_direct(self.group, bytes))
+        } else {
+            None
         }
     }
 

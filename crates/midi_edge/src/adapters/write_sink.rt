@@ -68,13 +68,13 @@ impl<W: Write> WriteSink<W> {
 
     // Accepts a piece that is larger than the room for gathered bytes, and counts a fault.
     #[inline(never)]
-    fn put_behind(&mut self, piece: &[u8]) -> Result<(), Failed>
+    fn put_after(&mut self, piece: &[u8]) -> Result<(), Failed>
         requires { 0 < length piece.now }
         ensures accepts { Accepts (accepted W.contents self.old)
             (accepted W.contents self.new) result piece.now }
         ensures cause { HasCause self.old.faults self.new.faults result }
     {
-        let answer = self.write_behind(piece);
+        let answer = self.write_after(piece);
         counted(answer, &mut self.faults)
     }
 
@@ -90,7 +90,7 @@ impl<W: Write> WriteSink<W> {
     }
 
     // Writes out what is gathered, and then the piece.
-    fn write_behind(&mut self, piece: &[u8]) -> io::Result<()>
+    fn write_after(&mut self, piece: &[u8]) -> io::Result<()>
         requires { 0 < length piece.now }
         ensures accepts { Accepts (accepted W.contents self.old)
             (accepted W.contents self.new) result piece.now }
@@ -125,7 +125,7 @@ impl<W: Write> WriteSink<W> {
                 Ok(())
             }
             Err(error) => {
-                self.keep_behind(written);
+                self.keep_after(written);
                 Err(error)
             }
         }
@@ -134,7 +134,7 @@ impl<W: Write> WriteSink<W> {
     // Keeps what is gathered after the first `written` bytes. It is a function of its own, so that its list,
     // of the size of the buffer, is made only after a fault.
     #[inline(never)]
-    fn keep_behind(&mut self, written: usize)
+    fn keep_after(&mut self, written: usize)
         requires { written ≤ length (unwritten self.old) }
         ensures { self.new ≡ record self.old { gathered = drop written (unwritten self.old) } }
     {
@@ -160,7 +160,7 @@ impl<W: Write> Sink for WriteSink<W> {
     {
         if piece.len() > CAPACITY - self.gathered.len() {
             if piece.len() > CAPACITY {
-                return self.put_behind(piece);
+                return self.put_after(piece);
             }
             self.make_room()?;
         }

@@ -19,9 +19,7 @@ use Rattle.up_translator.proofs.raiser.Raiser.voice.Goals as goal
 pub raise_direct-message-requires : goal.raise_direct-message-requires
 raise_direct-message-requires c =
     let bytes = c.args.bytes.now in
-    let alone : goes_direct (Some c.self.inside.collector.paired) (voice_in bytes) ≡ true =
-    ap (λ paired. goes_direct paired (voice_in bytes)) (sym c.self.invariant) ∙ sym c.goes_direct.ensures ∙ c.if-goes_direct.true in
-    no_program c.self.inside.collector.paired bytes.status bytes.first bytes.second alone
+    no_program c.self.inside.direct bytes.status bytes.first bytes.second (sym c.goes_direct.ensures ∙ c.if-goes_direct.true)
 
 pub returns-then-goes_direct : goal.returns-then-goes_direct
 returns-then-goes_direct c =
