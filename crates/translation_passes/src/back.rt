@@ -122,36 +122,21 @@ fn put_packet<O: Outputs>(
     }
 }
 
-// The same with the packet of a direct message. Few need one, so it is made out of the loop.
-#[inline(never)]
-fn put_by_packet<O: Outputs>(
-    down: &mut Down,
-    message: DirectMessage,
-    offset: u64,
-    outputs: &mut O,
-) -> Result<(), RunEnd>
-    requires raised { IsRaisedDirect message }
-    requires comes { ComesDown down.old (packet_of message) }
-    ensures { CarriesOut (PutsDown offset down.old (packet_of message)) down.new
-        (O.places outputs.old) (O.places outputs.new) result }
-{
-    down.put(&RaisedPacket::of_value(&message), offset, outputs)
-}
-
-// The same again. Its answer is kept here, so that nothing is written for a message that needs no packet.
+// The same with the packet of a direct message, which few need. The packet and the answer are made here, so
+// that nothing is written to memory for the others.
 #[inline(always)]
 fn put_rare<O: Outputs>(
     down: &mut Down,
-    message: DirectMessage,
+    message: &DirectMessage,
     offset: u64,
     outputs: &mut O,
 ) -> Result<(), RunEnd>
-    requires raised { IsRaisedDirect message }
-    requires comes { ComesDown down.old (packet_of message) }
-    ensures { CarriesOut (PutsDown offset down.old (packet_of message)) down.new
+    requires raised { IsRaisedDirect message.now }
+    requires comes { ComesDown down.old (packet_of message.now) }
+    ensures { CarriesOut (PutsDown offset down.old (packet_of message.now)) down.new
         (O.places outputs.old) (O.places outputs.new) result }
 {
-    put_by_packet(down, message, offset, outputs)?;
+    down.put(&RaisedPacket::of_value(message), offset, outputs)?;
     Ok(())
 }
 
@@ -180,7 +165,7 @@ impl PacketWork for Down {
     ) -> Result<(), RunEnd> {
         match self.lowered_message(message) {
             Some(lowered) => put_message(&lowered, outputs),
-            None => put_rare(self, *message, offset, outputs),
+            None => put_rare(self, message, offset, outputs),
         }
     }
 
