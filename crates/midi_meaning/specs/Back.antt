@@ -59,8 +59,9 @@ module _ (paired : Bool) where
 
   -- ---- what the way down says of the raised packets
 
-  -- After others, newest first, a packet is accepted within the limit and isn't listed, it is carried unless
-  -- it is a part that is held, and its piece is the one without a limit.
+  -- After these packets, newest first, the packet is accepted within the limit and isn't listed. It is
+  -- carried unless it is a part that others follow, and the bytes of the exclusive that it ends are those
+  -- without a limit.
   pub record ComesBack (room : ℕ) (past : List Placed) (placed : Placed) : Type 0 where
     pub accepted : bad_step (Some room) (parts_of past) placed.packet ≡ None
     pub unlisted : line_of paired (Some room) (parts_of past) placed ≡ None

@@ -1,6 +1,6 @@
--- The compact piece of a packet: its plain piece without what a receiver of the lane's bytes has since the
--- last System Reset, a running status (MIDI 1.0 Detailed Specification), a selected parameter or a bank. Own
--- rule: nothing is relied on across a System Reset.
+-- The compact piece of a packet: its plain piece without what the receiver of the lane's bytes already has
+-- since the last System Reset, which is the running status (MIDI 1.0 Detailed Specification), a selected
+-- parameter and a bank. Own rule: nothing is relied on across a System Reset.
 use Rattle.std.specs.Prelude.{ℕ, ◌==◌, ◌&&◌, if◌then◌else◌, Bool, false, List, [], ◌∷◌, drop, Option, Some, None}
 use Rattle.voice_messages.specs.declared.voice2.Param.{Param}
 use Rattle.voice_messages.specs.declared.voice2.Bank.{Bank}

@@ -44,14 +44,14 @@ pairing paired coarse = if paired then coarse else plain
 pairing paired fine = if paired then fine else plain
 pairing paired role = role
 
--- A control change that only gives a controller its value, or is a channel mode message other than the reset:
--- nothing is selected, entered or reset by it, and no other one is a half of it.
+-- A control change that only gives a controller its value, or is a channel mode message other than the reset.
+-- It selects, enters and resets nothing, and is no half of a pair.
 abbrev pub is_direct : Role → Bool
 is_direct channel_mode = true
 is_direct plain = true
 is_direct _ = false
 
--- the same by the index, whether controllers are paired or not; of None no control change is
+-- the same by the index, with controllers paired or not; for `None` no control change is direct
 abbrev pub is_direct_in : Option Bool → ℕ → Bool
 is_direct_in None index = false
 is_direct_in (Some paired) index = is_direct (pairing paired (role_of index))

@@ -1,5 +1,5 @@
--- What the compact style relies on: what the bytes of a lane after the last System Reset leave is what all
--- its bytes leave, wherever it is set.
+-- What the compact style relies on: if the bytes of a lane after the last System Reset set the running status
+-- or a half of a register, all bytes of the lane leave the same value there.
 use Rattle.std.specs.Prelude.{ℕ, ◌≡◌, List, length, Option, Some, None, Bool}
 use Rattle.midi1_bytes.specs.Stream.{open_in, running}
 use Rattle.midi1_bytes.specs.RunningStatus.{IsKnownIn}

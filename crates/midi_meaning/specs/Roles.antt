@@ -1,4 +1,5 @@
--- The roles that the code names are those of the definition.
+-- The role of the definition for each role that the code names, and what a control change leaves of the
+-- registers.
 use Rattle.std.specs.Prelude.{ℕ}
 use Rattle.midi_meaning.specs.Registers.{Registers, with_bank_msb, with_bank_lsb, with_number_msb, with_number_lsb, without_selection}
 use Rattle.midi_meaning.specs.declared.role.ControlRole.{ControlRole}

@@ -52,7 +52,7 @@ module _ (paired : Bool) where
       (style : Style) (past : List ℕ) (whole : Option (List ℕ)) (packet : Packet) →
       IsTrue (is_carried paired whole packet) ↔ (0 < length (piece_in paired style past whole packet))
 
-  -- only voice messages are written otherwise
+  -- system messages and exclusives are written as in plain style
   pub record SystemPiecesArePlain : Type 0 where
     pub system : (past : List ℕ) (whole : Option (List ℕ)) (group : ℕ) (message : System) →
         compact_piece paired past whole (packet.System group message) ≡ plain_piece paired whole (packet.System group message)
@@ -60,10 +60,10 @@ module _ (paired : Bool) where
         compact_piece paired past whole (packet.Exclusive group form bytes) ≡
         plain_piece paired whole (packet.Exclusive group form bytes)
 
-  -- What is left out, and no more: each status byte that equals the running status; of a Set whose parameter
-  -- is selected the two control changes that select it, and of a Program whose bank is held the two that
-  -- select the bank. A MIDI 1.0 voice message, also a control change that selects what is selected already,
-  -- loses at most its status byte; all other packets have their plain messages.
+  -- Compact style leaves out each status byte that equals the running status, the two control changes that
+  -- select the parameter of a Set if that one is selected, and the two that select the bank of a Program if
+  -- that one is held. It leaves out nothing else: a MIDI 1.0 voice message loses at most its status byte,
+  -- even if it selects what is already selected, and all other packets have their plain messages.
   pub record CompactLeavesOutWhatIsHeld : Type 0 where
     pub midi1 : (past : List ℕ) (whole : Option (List ℕ)) (group : ℕ) (message : Voice1) →
         compact_piece paired past whole (packet.Voice1 group message) ≡

@@ -1,5 +1,4 @@
--- Worked rows: the definitions, computed. They define nothing that a contract of a public call other than a
--- law cites.
+-- Worked rows: the definitions, computed. Of the contracts of public calls, only those of laws cite them.
 pub mod CompactRows
 pub mod MeaningRows
 pub mod PairedRows

@@ -13,8 +13,8 @@ ghost use Rattle.midi_meaning.specs.Worked.CompactRows.{
   sets_of_two_groups,
 };
 
-/// A status byte is left out while it runs, and the selection of a parameter while it is selected: a tune
-/// request ends the running status, and reset all controllers the selection.
+/// A status byte is left out if it is the running status, and the selection of a parameter if that one is
+/// selected. A tune request ends the running status, and Reset All Controllers the selection.
 pub fn statuses_and_selections_are_left_out()
     ensures { styled_pairs false compact_style notes_and_sets ≡
         (0, 0x90 ∷ 0x3c ∷ 0x64 ∷ [])
@@ -42,7 +42,7 @@ pub fn banks_are_left_out()
         ∷ [] }
 {}
 
-/// Nothing is left out after a System Reset that was written before it.
+/// After a System Reset, nothing is left out because of what was written before it.
 pub fn nothing_is_relied_on_across_a_reset()
     ensures notes { styled_pairs false compact_style notes_across_a_reset ≡
         (0, 0x90 ∷ 0x3c ∷ 0x64 ∷ [])
@@ -67,8 +67,8 @@ pub fn a_clock_leaves_the_running_status()
         ∷ [] }
 {}
 
-/// What MIDI 1.0 packets select counts for those of MIDI 2.0. A control change that comes as a MIDI 1.0
-/// packet is always written.
+/// A parameter that MIDI 1.0 packets have selected counts as selected for MIDI 2.0 packets too. A control
+/// change that comes as a MIDI 1.0 packet is always written.
 pub fn packets_of_both_protocols_select()
     ensures other { styled_pairs false compact_style mixed_protocols ≡
         (0, 0xb0 ∷ 0x65 ∷ 0 ∷ [])

@@ -6,9 +6,9 @@ use crate::role::ControlRole;
 use std::marker::Model;
 use voice_messages::U7;
 
-/// Which control changes are direct, by their index. It is a table, so that the caller needs no branch:
-/// the index of the next control change can't be predicted. A contract sees whether controllers are
-/// paired, or that no index is marked.
+/// A table of the indexes whose control change is direct (`ControlRole::is_direct`). It spares the caller a
+/// branch, since the next index can't be predicted. A contract sees whether controllers are paired, or
+/// `None` if no index is marked.
 #[derive(Drop)]
 pub struct DirectControls {
     paired: Option<bool>,
@@ -47,7 +47,7 @@ fn marks(paired: bool) -> [bool; 128]
 }
 
 impl DirectControls {
-    /// Marks those that are direct, for paired controllers or for unpaired ones (own rule).
+    /// A table that marks each direct control change, with controllers paired or not (own rule).
     pub fn new(paired: bool) -> DirectControls
         ensures { result ≡ Some paired }
     {
@@ -57,7 +57,7 @@ impl DirectControls {
         }
     }
 
-    /// Marks none.
+    /// A table that marks none.
     pub fn none() -> DirectControls
         ensures { result ≡ None }
     {

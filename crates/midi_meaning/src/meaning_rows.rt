@@ -159,8 +159,8 @@ pub fn programs_take_the_bank()
         ≡ Some (record { program = 6; bank = Some (bank_of_halves 0 2) }) }
 {}
 
-/// System common messages and exclusives are kept in one list, Real Time messages in another, each group's
-/// alone, and reset does nothing else.
+/// System common messages and exclusives are kept in one list, and Real Time messages in another. Each
+/// group has its own lists. System Reset does nothing else.
 pub fn system_messages_are_kept_in_two_lists()
     ensures commons { (mean1 false bytes_of_the_system).commons
         ≡ common (system.Quarter 0x21) ∷ exclusive (1 ∷ 2 ∷ []) ∷ common system.Tune ∷ [] }
@@ -185,7 +185,7 @@ pub fn mode_messages_are_kept_with_the_notes()
 {}
 
 /// Each kind of packet that MIDI 1.0 has no message for is listed, with its offset and its group, if it has
-/// one; carried packets are not.
+/// one. Carried packets aren't listed, except a note with an attribute, which is carried without it.
 pub fn each_kind_of_packet_is_listed()
     ensures each { listing_of false None packets_of_each_listed_kind
         ≡ record { offset = 0; group = None; kind = kinds.Utility }

@@ -86,9 +86,9 @@ impl Pair {
     }
 }
 
-/// What the messages of a channel have set of its bank and of its two parameter numbers, half by half, and
-/// which of the two numbers was touched last (MIDI 1.0 Detailed Specification, bank select, registered and
-/// non-registered parameter numbers). To a contract it is the registers of the definition.
+/// The bank and the two parameter numbers of a channel, each half set or unset, and which of the two
+/// numbers was touched last (MIDI 1.0 Detailed Specification, bank select, registered and non-registered
+/// parameter numbers). A contract sees the registers of the definition.
 #[derive(Drop)]
 pub struct Registers {
     bank: Pair,
@@ -133,7 +133,7 @@ impl Registers {
         self.take(ControlRole::of(index), value);
     }
 
-    /// Takes a control change of a role that is known, as `control` does.
+    /// Takes a control change of 0 to 127 whose role is already known, as `control` does.
     #[inline(always)]
     pub fn take(&mut self, role: ControlRole, value: U7)
         ensures { self.new ≡ registers_after (role_in role) value self.old }
@@ -186,8 +186,8 @@ impl Registers {
         self.bank.lsb
     }
 
-    /// The bank that a program change takes: an unset half is 0, and there is none if neither half is
-    /// set.
+    /// Returns the bank that a program change takes (MIDI 1.0 Detailed Specification, bank select): an
+    /// unset half is 0. `None` exactly if neither half is set.
     pub fn bank(&self) -> Option<Bank>
         ensures { result ≡ bank_of self.now }
     {
@@ -200,8 +200,9 @@ impl Registers {
         }
     }
 
-    /// The parameter that a data entry sets: that of the number touched last. There is none if a half of
-    /// it is unset, or if it is the null parameter.
+    /// Returns the parameter that a data entry sets, which is the one of the number touched last (MIDI 1.0
+    /// Detailed Specification, registered and non-registered parameter numbers). `None` exactly if no
+    /// number was touched, if a half of it is unset, or if it is the null parameter 127/127.
     pub fn selected(&self) -> Option<Param>
         ensures param { result ≡ selected self.now }
         ensures in_range { IfSome result IsParam }

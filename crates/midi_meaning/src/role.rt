@@ -79,8 +79,9 @@ impl ControlRole {
         }
     }
 
-    /// Whether nothing is selected, entered or reset by such a control change, and no other one is a half of
-    /// it: it gives a controller its value, or is a channel mode message other than Reset All Controllers.
+    /// Whether the control change only gives a controller its value, or is a channel mode message other
+    /// than Reset All Controllers (MIDI 1.0 Detailed Specification). Such a control change selects, enters
+    /// and resets nothing, and is no half of a pair.
     #[inline(always)]
     pub fn is_direct(self) -> bool
         ensures { result ≡ is_direct (role_in self) }

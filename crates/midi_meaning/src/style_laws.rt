@@ -45,10 +45,10 @@ pub fn system_pieces_are_plain()
     statuses_that_run_can_be_left_out();
 }
 
-/// Of what a receiver of the lane's bytes has since the last System Reset three things are left out, and
-/// nothing else: a status byte that equals the running status, and, of a MIDI 2.0 packet, the selection of a
-/// parameter that is selected and of a bank that is held. A MIDI 1.0 voice message, also a control change
-/// that selects what is selected already, is always written, at most without its status byte.
+/// Compact style leaves out three things that the receiver of the lane's bytes has since the last System
+/// Reset, and nothing else: a status byte that equals the running status and, for a MIDI 2.0 packet, the
+/// selection of a parameter that is already selected or of a bank that is already held. A MIDI 1.0 voice
+/// message is always written, at most without its status byte, even if it selects what is already selected.
 pub fn compact_leaves_out_what_is_held()
     ensures { (paired : Bool) → CompactLeavesOutWhatIsHeld paired }
 {}
@@ -63,9 +63,9 @@ pub fn styled_lanes_leave_the_registers()
     written_messages_are_read_again();
 }
 
-/// The state that is kept of a lane for the compact style determines the compact piece of a packet, which
-/// by its definition looks back over the lane's bytes. After the packet it is what the bytes after the
-/// last System Reset leave.
+/// The state that is kept of a lane for compact style determines the compact piece of a packet, although
+/// the definition looks back over all bytes of the lane. After the packet, the state is the one that the
+/// bytes after the last System Reset leave.
 pub fn kept_lanes_are_those_of_the_bytes()
     ensures { (paired : Bool) → KeptLanesAreThoseOfTheBytes paired }
 {
