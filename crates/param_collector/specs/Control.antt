@@ -1,4 +1,4 @@
--- What a control change gives and leaves, by the state before it.
+-- The answer to a control change and the state after it, by the state before it.
 use Rattle.std.specs.Prelude.{◌≡◌, ℕ, ◌+◌, ◌-◌, ◌*◌, ◌<◌, Option, Some, None, IfSome, slice_set}
 use Rattle.voice_messages.specs.declared.voice2.Param.{Param}
 use Rattle.voice_messages.specs.Ranges.{IsParam}
@@ -82,7 +82,7 @@ holding_after coarse holding channel index value = with_pair_at channel index va
 holding_after fine holding channel index value = holding
 holding_after plain holding channel index value = holding
 
--- after these answers nothing has changed
+-- these answers say that nothing has changed
 abbrev pub Leaves : Collected → Holding → Holding → Type 0
 Leaves collected.DataIncrement old new = new ≡ old
 Leaves collected.DataDecrement old new = new ≡ old

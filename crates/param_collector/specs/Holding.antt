@@ -1,4 +1,4 @@
--- What a collector holds.
+-- The state of a collector.
 use Rattle.std.specs.Prelude.{◌≡◌, ℕ, Bool, true, if◌then◌else◌, List, length, replicate, slice_index_or}
 use Rattle.voice_messages.specs.declared.voice2.Param.{Param}
 use Rattle.midi_meaning.specs.Registers.{Registers, unset_registers}

@@ -1,4 +1,5 @@
--- When a collector holds what a state of a group says of banks and parameters.
+-- When the state of a collector matches the state of a group: the registers, and the MSBs of parameters and
+-- pairs.
 use Rattle.std.specs.Prelude.{◌≡◌, ℕ, ◌/◌, ◌<◌, Bool, true, false}
 use Rattle.std.specs.Option.{unwrap_or}
 use Rattle.voice_messages.specs.declared.voice1.Voice1.TheVariants as voice1
@@ -36,14 +37,14 @@ pub record Keeps (holding : Holding) (group : GroupState) : Type 0 where
 abbrev pub control_step : Bool → GroupState → ℕ → ℕ → ℕ → GroupState
 control_step paired group channel index value = step1 paired group (voice (voice1.Control channel index value))
 
--- Its answer, by that meaning: a data entry answers the value that the selected parameter has after it, and a
--- half of a pair the pair's.
+-- The answer by that meaning: to a data entry, the value that the selected parameter has after it; to a half
+-- of a pair, the value of that pair.
 abbrev pub meant : Bool → GroupState → ℕ → ℕ → ℕ → Collected
 meant paired group channel index value =
     let after = (control_step paired group channel index value).channels channel in
     answer_by (pairing paired (role_of index)) index (selected (group.channels channel).registers) (value_of after) (controller_of after)
 
--- each state that was kept is kept after the step, with the answer that it means
+-- each state that matched before matches after the step, and the answer is the one by that meaning
 abbrev pub IsMeant : Holding → Holding → ℕ → ℕ → ℕ → Collected → Type 0
 IsMeant old new channel index value answer =
     (group : GroupState) → Keeps old group →

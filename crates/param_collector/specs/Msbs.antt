@@ -17,6 +17,6 @@ place_of channel param = ((channel * 2 + kind_number param.kind) * 128 + param.b
 abbrev pub pair_place : ℕ → ℕ → ℕ
 pair_place channel index = channel * 32 + index
 
--- this many MSBs of 0; a name that stands for its list, which is long
+-- this many MSBs of 0; the name stands for its list, which is long
 unfoldable pub zeros : ℕ → List ℕ
 zeros count = replicate count 0

@@ -1,14 +1,15 @@
-// What a control change gives.
+// The answer to a control change.
 use voice_messages::{Param, U7, U14};
 
-/// What a control change gives (MIDI 1.0 Detailed Specification, control change).
+/// The collector's answer to a control change (MIDI 1.0 Detailed Specification, control change).
 #[derive(Clone, Copy, Debug, PartialEq, Eq)]
 pub enum Collected {
     /// A data increment, 96, which changes nothing.
     DataIncrement,
     /// A data decrement, 97, which changes nothing.
     DataDecrement,
-    /// A half of a bank or of a parameter's number, 0, 32 or 98 to 101, which is held until it is used.
+    /// A half of a bank or of a parameter's number, 0, 32 or 98 to 101. It is kept for the message that
+    /// uses it.
     Held,
     /// A data entry, 6 or 38: the selected parameter and its new value of 14 bits.
     Set(Param, U14),

@@ -32,7 +32,7 @@ use std::marker::Model;
 use voice_messages::{Bank, Param, U7, U14};
 
 /// What the control changes of a MIDI 1.0 stream have set: for each of sixteen channels the halves of the
-/// bank and of the two parameter numbers, and for each parameter the MSB of its value; if controllers are
+/// bank and of the two parameter numbers, and for each parameter the MSB of its value. If controllers are
 /// paired (own rule), also the MSB of each pair. A contract sees these registers and MSBs, and whether
 /// controllers are paired.
 #[derive(Drop)]
@@ -81,9 +81,9 @@ fn unset_all(channels: &mut [Registers])
 
 impl Collector {
     /// A collector for a stream that has had no byte yet: no half of a register is set, and no parameter or
-    /// controller has a value. Controllers are paired or aren't (own rule): if they are, the MSB and the
-    /// LSB of a controller are one value of 14 bits. All memory that it ever needs is taken here; `NoMemory`
-    /// when there is none.
+    /// controller has a value. If controllers are paired (own rule), the MSB and the LSB of a controller
+    /// are one value of 14 bits. Takes all memory that the collector ever needs, a little more than 512
+    /// KiB; `NoMemory` if there isn't that much.
     pub fn new(alloc: Global, paired: bool) -> Result<Collector, NoMemory>
         ensures fresh { IfOk result (λ collector. collector ≡ fresh paired) }
         ensures holding { IfOk result IsHolding }
@@ -107,8 +107,8 @@ impl Collector {
         })
     }
 
-    /// Forgets what control changes have set: the collector is as a new one, with paired controllers or
-    /// without as before (own rule). Takes no memory.
+    /// Forgets what control changes have set: the collector equals a new one, with controllers paired or
+    /// not as before (own rule). Takes no memory.
     pub fn reset(&mut self)
         ensures fresh { self.new ≡ fresh self.old.paired }
         ensures holding { IsHolding self.new }
@@ -119,8 +119,10 @@ impl Collector {
         self.pairs.clear();
     }
 
-    /// Takes one control change (MIDI 1.0 Detailed Specification, control change, bank select, registered and
-    /// non-registered parameter numbers; RP-015).
+    /// Takes one control change (MIDI 1.0 Detailed Specification, control change, bank select, registered
+    /// and non-registered parameter numbers), and returns what it amounts to. A new value has 14 bits: an
+    /// MSB clears the LSB, and an LSB keeps the MSB. Control change 121 also sets both parameter numbers to
+    /// 127/127 (RP-015). After `DataIncrement`, `DataDecrement` and `Ignored` nothing is changed.
     #[inline(always)]
     pub fn control(&mut self, channel: U4, index: U7, value: U7) -> Collected
         ensures answer { result ≡
@@ -136,8 +138,8 @@ impl Collector {
         self.act(channel, role, index, value)
     }
 
-    // Takes a control change by its role, of which those of pairs count only
-    // if controllers are paired: that is asked for last.
+    // Takes a control change by its role. Roles of pairs count only if controllers are paired, which is
+    // asked last.
     #[inline(always)]
     fn act(&mut self, channel: U4, role: ControlRole, index: U7, value: U7) -> Collected
         ensures answer { result ≡
@@ -150,7 +152,7 @@ impl Collector {
         ensures in_range { EntryInRange (pairing self.old.paired (role_in role)) channel
             (selected (registers_at self.old channel)) value }
     {
-        // opened here, so that the sizes are known in each arm
+        // Borrowed here, so that the prover knows the sizes of the tables in each arm.
         let _ = &self.msbs;
         match role {
             ControlRole::DataMsb => self.enter_msb(channel, value),
@@ -258,8 +260,8 @@ impl Collector {
         Collected::Pair(coarse, of_halves(msb, value))
     }
 
-    /// The bank that a program change would take now: an unset half
-    /// is 0; `None` exactly when neither half was set.
+    /// Returns the bank that a program change would take now (MIDI 1.0 Detailed Specification, bank
+    /// select): an unset half is 0. `None` exactly if neither half was set.
     pub fn program(&self, channel: U4) -> Option<Bank>
         ensures exact { result ≡ bank_of (registers_at self.now channel) }
         ensures meant { (group : GroupState) → Keeps self.now group →

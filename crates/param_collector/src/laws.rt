@@ -9,8 +9,9 @@ ghost use Rattle.param_collector.specs.Control.{answer_of, holding_after, AreInR
 ghost use Rattle.param_collector.specs.Holding.{Holding, IsHolding, registers_at};
 ghost use Rattle.param_collector.specs.Keeps.{IsMeant, Keeps, is_control_change};
 
-/// What a control change gives and leaves is what it means: each state that is kept before it is kept after
-/// its step. Whether controllers are paired stays.
+/// A collector answers a control change as the meaning of MIDI 1.0 does. If its registers and MSBs match a
+/// state before the control change, they match the next state after it. Whether controllers are paired
+/// never changes.
 pub fn control_changes_are_kept()
     ensures meant { (holding : Holding) (channel index value : ℕ) → IsHolding holding →
         AreInRange channel (selected (registers_at holding channel)) value →
@@ -24,7 +25,7 @@ pub fn control_changes_are_kept()
         (holding_after role holding channel index value).paired ≡ holding.paired }
 {}
 
-/// A message that is no control change leaves what a collector has to keep.
+/// A message other than a control change leaves the registers and values that a collector keeps.
 pub fn other_messages_change_nothing_kept()
     ensures { (holding : Holding) (group : GroupState) (message : Message) →
         is_control_change message ≡ false → Keeps holding group →

@@ -1,5 +1,5 @@
-//! Tracks the banks and parameters that a MIDI 1.0 stream has set so
-//! far, and tells what each control change gives.
+//! Tracks the banks and parameters that a MIDI 1.0 stream has set so far, and says what each control change
+//! amounts to.
 #![tactic(auto)]
 
 pub mod collected;
