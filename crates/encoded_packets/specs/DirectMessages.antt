@@ -29,7 +29,7 @@ is_direct_kind _ = true
 abbrev pub is_direct_opcode : ℕ → Bool
 is_direct_opcode opcode = is_direct_kind (kind_by opcode)
 
--- What holds of each of the six opcodes holds of one of them.
+-- What holds for each of the six opcodes holds for every direct opcode.
 pick : (P : ℕ → Type 0) (n k : ℕ) (same : Bool) → eqb n k ≡ same → P k → (same ≡ false → P n) → P n
 pick P n k true e here rest = subst P (sym (eqb-true n k e)) here
 pick P n k false e here rest = rest refl

@@ -1,5 +1,5 @@
--- Words that are a whole packet in which no byte of seven bits is high (M2-104-UM): what is told by few of
--- their bytes.
+-- Words that are a whole packet in which each byte that carries seven bits is below 128 (M2-104-UM), as far
+-- as a few of their bytes show it.
 use Rattle.std.specs.Prelude.{◌==◌, ◌&&◌, ◌||◌, nat_le, nat_lt, not, ℕ, Bool, List, slice_index}
 use Rattle.ump_grammar.specs.WordFields.{byte, field, opcode_of, type_of}
 use Rattle.encoded_packets.specs.DirectMessages.{is_direct_opcode}

@@ -63,17 +63,17 @@ impl DirectKind {
 }
 
 /// A channel voice message of the MIDI 2.0 protocol whose MIDI 1.0 counterpart has its status byte: a note
-/// off or on, the pressure of a note or of a channel, a control change, or a bend (M2-104-UM, opcodes 8 to B,
-/// D and E). It has the places of the packet.
+/// off or on, the pressure of a note or of a channel, a control change, or a bend (M2-104-UM, opcodes 8 to
+/// B, D and E). Its fields are those of the packet.
 #[derive(Clone, Copy, Debug)]
 pub struct DirectMessage {
-    /// The group.
+    /// The group, 0 to 15.
     pub group: U4,
-    /// The status byte: the opcode and the channel.
+    /// The status byte: the opcode, 8 to B, D or E, above the channel, 0 to 15.
     pub status: u8,
-    /// The number of the note, or the index of the control change; says nothing in the others.
+    /// The number of the note, or the index of the control change; without meaning in other messages.
     pub index: U7,
-    /// The type of the attribute of a note off or on; says nothing in the others.
+    /// The type of the attribute of a note off or on; without meaning in other messages.
     pub attribute_type: u8,
     /// The value of 32 bits. A note off or on has its velocity in the
     /// upper 16, and its attribute in the lower 16.

@@ -28,7 +28,7 @@ use voice_messages::{U4, U7};
 #[derive(Drop)]
 pub struct EncodedPacket {
     words: Words,
-    // Asked once, when the packet is read.
+    // Determined once, when the packet is read.
     has_direct_kind: bool,
     is_part: bool,
     ghost packet: { ThePacket words } by { the_packet-prop words },
@@ -45,10 +45,11 @@ impl Model for EncodedPacket {
 }
 
 impl EncodedPacket {
-    /// The packet that the words encode (M2-104-UM); they are as many as the type in the first one has.
-    /// `Err(BadCount)` is returned exactly when a 7-bit exclusive of form 0 to 3 counts more than six bytes,
-    /// and `Err(HighBit)` exactly when another packet has a byte of 128 or more that carries seven bits: of
-    /// an exclusive those that it counts, of a program's bank those of a bank that is there.
+    /// The packet that the words encode (M2-104-UM); their number is that of the type in the first word.
+    /// `Err(BadCount)` is returned exactly if a 7-bit exclusive of form 0 to 3 counts more than six bytes.
+    /// `Err(HighBit)` is returned exactly if another packet has 128 or more in a byte that carries seven
+    /// bits. Of an exclusive only the counted bytes carry them, and the bank of a program only if the
+    /// packet has one.
     #[inline(always)]
     #[tactic(auto, using(crate::proofs::LowLaws::fine_low_part))]
     pub fn new(framed: &Framed) -> Result<EncodedPacket, Bad>
@@ -57,7 +58,7 @@ impl EncodedPacket {
         ensures fits { IfOk result IsPacket }
     {
         let first = framed.words.as_slice()[0];
-        // Most packets are such messages, so that others alone are taken apart.
+        // Most packets are such messages. Only other packets are decoded.
         if begins_direct(first) && byte(first, 8) < 128 {
             return Ok(packet_of(&framed.words, true, false));
         }
@@ -69,9 +70,9 @@ impl EncodedPacket {
     }
 
     /// The packet that these two words encode (M2-104-UM), if it is a direct message whose byte 3 is below
-    /// 128, a 7-bit exclusive in which no byte is high, counted or not, or another voice message of MIDI 2.0
-    /// without a program whose bytes 3 and 4 are below 128. `None` comes exactly for other words: `new` has
-    /// their answer.
+    /// 128, a 7-bit exclusive in which all six places are below 128, counted or not, or another voice
+    /// message of MIDI 2.0, except a program, whose bytes 3 and 4 are below 128. `None` for other words:
+    /// `new` has their answer.
     #[inline(always)]
     #[tactic(auto, using(crate::proofs::LowLaws::fine_low_part, crate::proofs::LowLaws::fine_voice2))]
     pub fn of_two(first: u32, second: u32) -> Option<EncodedPacket>
@@ -94,8 +95,8 @@ impl EncodedPacket {
     }
 
     /// The packet that this word encodes, if it is a channel voice message of MIDI 1.0 whose bytes 3 and 4
-    /// are below 128 (M2-104-UM, MIDI 1.0 channel voice messages). `None` comes exactly for other words:
-    /// `new` has their answer.
+    /// are below 128 (M2-104-UM, MIDI 1.0 channel voice messages). `None` for other words: `new` has their
+    /// answer.
     #[inline(always)]
     pub fn of_one(first: u32) -> Option<EncodedPacket>
         ensures whole { IfSome result (λ _. IsWhole (first ∷ [])) }
@@ -110,7 +111,7 @@ impl EncodedPacket {
         }
     }
 
-    /// The words, which encode the packet (M2-104-UM); they are as many as the type in the first one has.
+    /// The words that encode the packet (M2-104-UM), 1 to 4 as the type in the first one says.
     #[inline(always)]
     pub fn words(&self) -> &[u32]
         ensures { Decodes result.now (Ok self.now) }
@@ -135,8 +136,9 @@ impl EncodedPacket {
         }
     }
 
-    /// The packet as a part of an exclusive, if none of its six bytes is 128 or more, counted or not: so
-    /// always if all six count. For others `None` comes, and `decode` has them.
+    /// The packet as a part of an exclusive (M2-104-UM, system exclusive 7-bit messages), if all six places
+    /// of its words are below 128, counted or not. So a part of six bytes is always returned. `None` for
+    /// other packets, which `decode` reads.
     #[inline(always)]
     pub fn exclusive(&self) -> Option<ExclusivePart>
         ensures { MatchOption result (is_full_part self.now ≡ false) (λ part. (part.count ≤ 6)
@@ -182,7 +184,7 @@ impl EncodedPacket {
     }
 }
 
-// The packet that the words encode, with the answers to what is asked when it is read.
+// The packet that the words encode, with what was determined of it.
 #[inline(always)]
 fn packet_of(words: &Words, has_direct_kind: bool, is_part: bool) -> EncodedPacket
     requires whole { IsWhole words.now }

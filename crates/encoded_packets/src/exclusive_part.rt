@@ -11,6 +11,6 @@ pub struct ExclusivePart {
     pub form: Form,
     /// How many bytes it has, 0 to 6.
     pub count: usize,
-    /// The bytes in its places, each below 128; those after the first `count` say nothing.
+    /// The bytes in its places, each below 128; those after the first `count` have no meaning.
     pub bytes: [u8; 6],
 }

@@ -1,5 +1,5 @@
-//! Packets as the words that encode them: a packet is read once, and
-//! taken apart only by those that ask for its fields.
+//! Packets as the words that encode them. A packet is read once, and decoded only if someone asks for its
+//! fields.
 #![tactic(auto)]
 
 pub mod direct_message;
