@@ -1,4 +1,4 @@
--- What the translator answers to one more byte of a stream, by all the bytes before, which are listed newest
+-- The translator's answer to one more byte of a stream, by all bytes before it, which are listed newest
 -- first.
 use Rattle.std.specs.Prelude.{◌≡◌, ℕ, Bool, List, [], Some, None, IfSome, Result, Ok, Err}
 use Rattle.midi1_bytes.specs.Messages.{AreData}

@@ -1,5 +1,5 @@
--- The outcome of a byte that is taken alone, and of several that are taken at once, by what the translator
--- holds. Bytes are listed oldest first.
+-- The outcome of a byte that is taken alone, and of several that are taken at once, by the translator's
+-- state. Bytes are listed oldest first.
 use Rattle.std.specs.Prelude.{◌≡◌, ◌<◌, ◌≤◌, ℕ, ◌+◌, List, [], ◌∷◌, length, take, Bool, true, false, Some, None, IfSome}
 use Rattle.ump_grammar.specs.declared.packet.Packet.{Packet}
 use Rattle.encoded_packets.specs.declared.direct_message.DirectMessage.{DirectMessage}

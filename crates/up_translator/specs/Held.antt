@@ -1,4 +1,4 @@
--- What the translator holds between two bytes, and what a byte leaves.
+-- The state of the translator between two bytes, and after a byte.
 use Rattle.std.specs.Prelude.{ℕ, Bool, Option, Some, None}
 use Rattle.midi1_bytes.specs.Messages.{Message, voice}
 use Rattle.midi1_bytes.specs.Parsing.{Parsing, idle, parse}

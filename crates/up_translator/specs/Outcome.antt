@@ -43,7 +43,7 @@ abbrev pub refusal_in : Outcome → Option BadStep
 refusal_in (outcome.Refused bad) = Some bad
 refusal_in _ = None
 
--- the fields of a message fit their places, and only a control change has a value
+-- the fields of a message fit their places, and only a control change is a direct message
 abbrev pub FitsVoice2 : Outcome → Type 0
 FitsVoice2 (outcome.Control channel index value) = IsVoice2 (voice2.Control channel index value)
 FitsVoice2 (outcome.Message message) = IsVoice2 message × (is_direct_voice message ≡ false)

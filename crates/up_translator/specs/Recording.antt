@@ -1,5 +1,5 @@
--- What the translator holds after the bytes of a stream, which are listed newest first, with paired
--- controllers or without.
+-- The state of the translator after the bytes of a stream, which are listed newest first, with controllers
+-- paired or not.
 use Rattle.std.specs.Prelude.{◌≡◌, ℕ, Bool, List, [], ◌∷◌, length}
 use Rattle.midi1_bytes.specs.Parsing.{held_over}
 use Rattle.midi_meaning.specs.Messages.{meaning1}

@@ -1,4 +1,4 @@
--- What the translator answers to a byte, by what it holds.
+-- The translator's answer to a byte, by its state.
 use Rattle.std.specs.Prelude.{◌≡◌, ℕ, Bool, List, map, Option, Some, None, IfSome, Result, Ok, Err}
 use Rattle.ump_grammar.specs.Ranges.{IsPacket}
 use Rattle.midi1_bytes.specs.Messages.{Message, exclusive, AreData}

@@ -98,8 +98,8 @@ fn fields(group: U4, bytes: &VoiceBytes) -> DirectMessage
     }
 }
 
-/// A voice message that is raised alone, with its group. It is raised when the message is asked for, so that a
-/// caller can do before that what else is to be done. A contract sees the message to which it is raised.
+/// A voice message that is raised alone, with its group. It is raised only when its words are asked for, so
+/// that a caller can do other work first. A contract sees the message to which it is raised.
 #[derive(Debug, Drop)]
 pub struct DirectVoice {
     group: U4,
@@ -126,7 +126,7 @@ impl DirectVoice {
         ensures group { result.group ≡ group }
         ensures raised { RaisesTo (voice_in bytes.now) (direct_voice result) }
     {
-        // tells that the group is below 16
+        // shows the prover that the group is below 16
         group.get();
         DirectVoice {
             group,
@@ -152,7 +152,7 @@ impl DirectVoice {
     }
 }
 
-/// The message to which one is raised that is raised alone, in a group.
+/// The message to which a voice message is raised that is raised alone, in a group.
 #[inline(always)]
 pub fn raise_direct(group: U4, bytes: &VoiceBytes) -> DirectMessage
     requires { bytes.now.status / 16 ≢ 0xC }
@@ -160,7 +160,7 @@ pub fn raise_direct(group: U4, bytes: &VoiceBytes) -> DirectMessage
     ensures group { result.group ≡ group }
     ensures raised { RaisesTo (voice_in bytes.now) (direct_voice result) }
 {
-    // tells that the group is below 16
+    // shows the prover that the group is below 16
     group.get();
     fields(group, bytes)
 }
@@ -173,7 +173,7 @@ pub fn control_change(group: U4, channel: U4, index: U7, value: u32) -> DirectMe
     ensures group { result.group ≡ group }
     ensures message { direct_voice result ≡ voice2.Control channel index value }
 {
-    // these tell that the fields are in range
+    // these show the prover that the fields are in range
     group.get();
     index.get();
     DirectMessage {

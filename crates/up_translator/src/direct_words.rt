@@ -11,9 +11,9 @@ use std::marker::Model;
 use ump_grammar::fields::{byte, nibble};
 use voice_messages::{U4, U7, Voice2};
 
-/// A direct message without an attribute, as the two words of its packet (M2-104-UM, MIDI 2.0 channel
-/// voice messages). Most messages of a stream are raised to such words, which are written without asking what
-/// they are. A contract sees the message.
+/// A direct message without an attribute, as the two words of its packet (M2-104-UM, MIDI 2.0 channel voice
+/// messages). Most messages of a stream are raised to such words, which are written without asking for
+/// their kind. A contract sees the message.
 #[derive(Debug, Drop)]
 pub struct DirectWords {
     first: u32,

@@ -8,12 +8,11 @@ use midi_meaning::up_laws::{
 use midi1_bytes::laws::{completed_messages_are_in_range, parsed_bytes_are_the_definition};
 use param_collector::laws::{control_changes_are_kept, other_messages_change_nothing_kept};
 
-/// A translator that holds what any bytes leave answers one more byte, at its offset, with what the
-/// definitions tell, which look back over all the bytes: its packets, its lines, and why it is refused. It
-/// then holds what all of them leave, as long as no exclusive has exceeded the limit; so a new one, which
-/// holds what no bytes leave, does after the bytes of each such stream. So it is with each of
-/// several bytes that are taken at once, of which packets alone or nothing is raised, as long as no byte has
-/// been refused. At the end it says what is open there.
+/// The translator's answer to one more byte, at its offset, is the one of the definitions, which look back
+/// over all bytes so far: its packets, its lines, and why it is refused. The state of a new translator is
+/// the one that the definitions give for no bytes, and each byte keeps it so, as long as no exclusive has
+/// exceeded the limit. The same holds for each of several bytes that are taken at once, as long as no byte
+/// has been refused. At the end, the line of what is open is the definition's.
 pub fn raised_bytes_are_the_definition()
     ensures { (paired : Bool) → RaisedBytesAreTheDefinition paired }
 {

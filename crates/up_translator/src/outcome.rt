@@ -43,7 +43,7 @@ impl SelectingMessage {
     ghost use Rattle.up_translator.specs.Direct.{goes_direct};
     ghost use Rattle.up_translator.specs.Outcome.{selecting_in};
 
-    /// The message with these bytes. By its status byte, since each kind but these two is raised alone.
+    /// The message with these bytes. The status byte decides, since all other kinds are raised alone.
     #[inline(always)]
     pub fn of(bytes: &VoiceBytes) -> SelectingMessage
         requires { (paired : Bool) × (goes_direct (Some paired) (voice_in bytes.now) ≡ false) }
@@ -73,7 +73,7 @@ pub enum Outcome {
     Nothing,
     /// This control change of MIDI 2.0.
     Control { channel: U4, index: U7, value: u32 },
-    /// This message of MIDI 2.0, which has no value.
+    /// This message of MIDI 2.0, which isn't a direct one: a parameter that is set, or a program change.
     Message(Voice2),
     /// Nothing: it is a data entry without a selected parameter.
     Ignored,

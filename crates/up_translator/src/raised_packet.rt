@@ -56,7 +56,7 @@ impl Model for RaisedPacket {
 }
 
 impl RaisedPacket {
-    /// A message of MIDI 2.0 that has no value, in a group.
+    /// A message of MIDI 2.0 that isn't a direct one, in a group.
     #[inline(always)]
     pub(crate) fn of_voice2(group: U4, message: Voice2) -> RaisedPacket
         requires { is_direct_voice message ≡ false }
@@ -136,8 +136,8 @@ impl RaisedPacket {
         }
     }
 
-    /// The two words that encode a direct message (M2-104-UM, MIDI 2.0 channel voice messages); `None`
-    /// exactly for all other packets, whose words `words` gives.
+    /// The two words that encode a direct message (M2-104-UM, MIDI 2.0 channel voice messages). `None`
+    /// exactly for all other packets, whose words `words` returns.
     #[inline(always)]
     pub fn pair(&self) -> Option<[u32; 2]>
         ensures { MatchOption result (has_direct_kind self.now ≡ false)

@@ -27,7 +27,7 @@ use voice_messages::{System, U4, U7};
 fn system_fits(group: U4, message: &System)
     ensures { IsPacket (packet.System group message.now) }
 {
-    // each `get` tells that its number is in range
+    // each `get` shows the prover that its number is in range
     match *message {
         System::Quarter(value) | System::Song(value) => {
             value.get();
@@ -170,7 +170,7 @@ impl Raiser {
             }
             Outcome::Message(message) => {
                 let group = self.group;
-                // tells that the group is below 16
+                // shows the prover that the group is below 16
                 group.get();
                 Ok(self.give(RaisedPacket::of_voice2(group, message), None))
             }
@@ -193,7 +193,7 @@ impl Raiser {
         }
     }
 
-    /// The message to which a voice message is raised that is raised alone; `None` exactly when it isn't.
+    /// The message to which a voice message is raised, if it is raised alone; `None` exactly if it isn't.
     #[inline(always)]
     pub(crate) fn direct_message(&self, bytes: &VoiceBytes) -> Option<DirectMessage>
         ensures { MatchOption result

@@ -22,8 +22,8 @@ use std::alloc::Global;
 use std::marker::Model;
 use voice_messages::END_OF_EXCLUSIVE;
 
-// What F7 gives: the exclusive that it ends, or the lines of what it
-// cuts off and of F7 itself, which then is stray.
+// The outcome of F7: the exclusive that it ends; or the line of what it cuts off and that of F7 itself,
+// which is then stray.
 #[inline(always)]
 fn raised_end<'a>(group: U4, step: Step<'a>, offset: u64) -> Raised<'a>
     requires ended { (begun : Option Begun) × (step_view step ≡ ended_by begun) }
@@ -41,19 +41,19 @@ fn raised_end<'a>(group: U4, step: Step<'a>, offset: u64) -> Raised<'a>
     }
 }
 
-/// What one more byte is taken as, if it raises nothing or one direct message alone.
+/// The answer of `Up::direct` to one more byte.
 #[derive(Debug, Drop)]
 pub enum DirectStep {
-    /// It belongs to what is open, or opens it: nothing is raised of it.
+    /// It begins or continues a message or an exclusive, and raises nothing.
     Held,
     /// It completes a message that is raised to this one.
     Message(DirectVoice),
-    /// It does anything else, and isn't taken.
+    /// Any other byte. It isn't taken.
     Other,
 }
 
-/// Translates the bytes of one MIDI 1.0 stream to packets of one group. A contract sees the group, what is
-/// open of a message or an exclusive, and what control changes have set.
+/// Translates the bytes of one MIDI 1.0 stream to packets of one group. A contract sees the group, the open
+/// message or exclusive, and the state that control changes have set.
 #[derive(Drop)]
 pub struct Up {
     parser: Parser,
@@ -82,9 +82,10 @@ impl Up {
     ghost use Rattle.up_translator.specs.Recording.{HoldsUp};
     ghost use Rattle.up_translator.specs.Step.{Raises};
 
-    /// A translator into a group, for a stream that has had no byte yet. Takes all memory that it ever needs:
-    /// for exclusives of `room` bytes between F0 and F7, 6 to 1,048,576, and for what control changes set.
-    /// Controllers are paired or aren't (own rule). `NoMemory` when there isn't that much.
+    /// A translator into a group, for a stream that has had no byte yet. Takes all memory that it ever
+    /// needs: for an exclusive of `room` bytes between F0 and F7, 6 to 1,048,576, and a little more than
+    /// 512 KiB for what control changes set. Controllers are paired or aren't (own rule). `NoMemory` if
+    /// there isn't that much.
     pub fn new(alloc: Global, group: U4, room: u32, paired: bool) -> Result<Up, NoMemory>
         requires least { 6 ≤ room }
         requires most { room ≤ 1048576 }
@@ -100,8 +101,9 @@ impl Up {
         })
     }
 
-    /// Drops what is open, and what control changes have set: the translator is as a new one for the same
-    /// group, of the same limit, with paired controllers or without as before (own rule). Takes no memory.
+    /// Drops the open message or exclusive, and what control changes have set: the translator equals a new
+    /// one of the same group and limit, with controllers paired or not as before (own rule). Takes no
+    /// memory.
     pub fn reset(&mut self)
         ensures fresh { self.new ≡ record {
           group = self.old.group;
@@ -180,12 +182,12 @@ impl Up {
         }
     }
 
-    /// The packets of one more byte (M2-104-UM, translation from MIDI 1.0; M2-115-U), and its lines of the
-    /// listing (own rules). The offset is the number of bytes before it.
+    /// Takes one more byte, and returns its packets (M2-104-UM, translation from MIDI 1.0; M2-115-U) and
+    /// its lines of the listing (own rules). The offset is the number of bytes before it.
     ///
     /// `DataIncrement` and `DataDecrement` are returned exactly at the byte that completes a control change
     /// 96 or 97; what control changes have set then stays as it was. `ExclusiveTooLong` is returned exactly
-    /// when the byte makes an exclusive longer than the limit; the exclusive is dropped (own rules).
+    /// if the byte makes an exclusive longer than the limit; the exclusive is dropped (own rules).
     #[inline(always)]
     pub fn byte(&mut self, byte: u8, offset: u64) -> Result<Raised<'_>, BadStep>
         ensures answer { Raises self.old offset byte result }
@@ -202,12 +204,12 @@ impl Up {
         self.take(byte, offset)
     }
 
-    /// Takes the voice message with which these bytes begin, if it neither takes nor changes what control
-    /// changes set, and returns the message to which it is raised (M2-104-UM, translation from MIDI 1.0) and
-    /// how many bytes it has here, 1 to 3. `byte` would raise the packet of this message of the last of them,
-    /// nothing of the others, and no line of any; the translator is then as after all of them by `byte`.
-    /// `None` exactly when `Parser::front` has none here, or one that takes or changes what control changes
-    /// set (own rule), and then nothing changes: take the bytes one by one.
+    /// Takes the voice message at the front of these bytes, if it neither depends on what control changes
+    /// have set nor changes it. Returns the message to which it is raised (M2-104-UM, translation from MIDI
+    /// 1.0) and the number of its bytes here, 1 to 3. This equals `byte` on each of them: the last one
+    /// raises the packet of this message, the others raise nothing, and none has a line. `None` exactly if
+    /// `Parser::front` finds no message here, or one that depends on what control changes have set or
+    /// changes it (own rule). Nothing changes then: take the bytes one by one.
     #[inline(always)]
     pub fn front(&mut self, bytes: &[u8]) -> Option<(DirectMessage, usize)>
         ensures { MatchOption result
@@ -221,9 +223,9 @@ impl Up {
         Some((message, count))
     }
 
-    /// Takes the data bytes of the open exclusive with which these bytes begin, as far as its limit goes (own
-    /// rule), and returns how many they are; 0 if no exclusive is open. `byte` would raise nothing of any
-    /// of them and no line, and the translator is then as after the last of them by `byte`. Takes no memory.
+    /// Takes the data bytes at the front of these bytes into the open exclusive, up to its limit (own
+    /// rule), and returns their number; 0 if no exclusive is open. This equals `byte` on each of them: none
+    /// raises anything or has a line. Takes no memory.
     #[inline(always)]
     pub fn take_data(&mut self, bytes: &[u8]) -> usize
         ensures count { result ≡ data_taken self.old.parsing bytes.now }
@@ -233,10 +235,10 @@ impl Up {
         self.parser.take_data(bytes)
     }
 
-    /// Takes one more byte, if it is only held or completes a channel voice message that neither takes nor
-    /// changes what control changes set (M2-104-UM, translation from MIDI 1.0). `byte` would raise nothing of one
-    /// that is held, the packet of this message of one that completes it, and no line of either; the translator
-    /// is then as after it by `byte`. `Other` exactly for all other bytes, and then nothing changes: `byte` has
+    /// Takes one more byte, if it only continues or begins something, or completes a channel voice message
+    /// that neither depends on what control changes have set nor changes it (M2-104-UM, translation from
+    /// MIDI 1.0). This equals `byte`: the first kind raises nothing, the second the packet of this message,
+    /// and neither has a line. `Other` exactly for all other bytes; nothing changes then, and `byte` has
     /// their answer. The offset is the number of bytes before it. Takes no memory.
     #[inline(always)]
     pub fn direct(&mut self, byte: u8, offset: u64) -> DirectStep
@@ -256,8 +258,8 @@ impl Up {
         }
     }
 
-    /// The line of what is open at the end of the stream, with the offset at which it starts; `None` exactly
-    /// when nothing is open.
+    /// The line of the message or exclusive that is open at the end of the stream, at the offset of its
+    /// start (own rule); `None` exactly if nothing is open.
     pub fn end(&self) -> Option<Listed>
         ensures { option_to_list result ≡ map (line_up self.now.group) (kinds_at_end
             (option_map (λ begun. (begun.start, begun.kind)) (open_of self.now.parsing))) }
