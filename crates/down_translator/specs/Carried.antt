@@ -1,4 +1,4 @@
--- What is carried of a packet: its lane and its line of the listing.
+-- The lane and the line of a packet's answer.
 use Rattle.std.specs.Prelude.{ℕ, Option}
 use Rattle.std.specs.Option.{option_map}
 use Rattle.midi_meaning.specs.declared.listed.Listed.{Listed}

@@ -1,4 +1,4 @@
--- What the translator holds, and what that tells of one more packet.
+-- The state of the translator, and what it determines of one more packet.
 use Rattle.std.specs.Prelude.{ℕ, Bool, List, Option, Some, None}
 use Rattle.std.specs.Option.{option_map, option_and_then}
 use Rattle.ump_grammar.specs.declared.packet.Packet.{Packet}

@@ -1,4 +1,5 @@
--- Packets of which only their bytes are kept: they continue an exclusive by six bytes (M2-104-UM, system exclusive 7-bit messages).
+-- Packets whose bytes are only kept: they continue an exclusive by six bytes (M2-104-UM, system exclusive
+-- 7-bit messages).
 use Rattle.std.specs.Prelude.{◌≡◌, ◌&&◌, ℕ, Bool, true, false, [], Option, Some, None}
 use Rattle.encoded_packets.specs.Parts.{continues_by_six}
 use Rattle.ump_grammar.specs.declared.packet.Packet.{Packet}

@@ -27,7 +27,7 @@ abbrev pub is_plain : Style → Bool
 is_plain plain_style = true
 is_plain compact_style = false
 
--- whether controllers are paired, told in one style alone
+-- whether controllers are paired, known in one style alone
 abbrev pub when_plain : Style → Bool → Option Bool
 when_plain plain_style paired = Some paired
 when_plain compact_style paired = None

@@ -1,4 +1,5 @@
--- What the translator answers to the packets of a recording, one after the other. Packets and answers are listed newest first.
+-- The translator's answers to the packets of a recording, one after the other. Packets and answers are listed
+-- newest first.
 use Rattle.std.specs.Prelude.{◌≡◌, ℕ, ◌==◌, if◌then◌else◌, List, [], ◌∷◌, ◌++◌, length, map, Some, None, Bool}
 use Rattle.std.specs.List.{AllByRecursion}
 use Rattle.std.specs.Option.{option_to_list}

@@ -1,4 +1,4 @@
--- What the translator answers to a packet, by what it holds.
+-- The translator's answer to a packet, by its state.
 use Rattle.std.specs.Prelude.{◌≡◌, ℕ, Bool, true, List, Option, Some, None, Result, Ok, Err}
 use Rattle.ump_grammar.specs.declared.packet.Packet.{Packet}
 use Rattle.midi_meaning.specs.declared.listed.BadStep.{BadStep}

@@ -12,11 +12,12 @@ use Rattle.midi_meaning.specs.Parts.{group_of}
 use Rattle.midi_meaning.specs.Registers.{is_null}
 use Rattle.down_translator.specs.declared.uncarried.Uncarried.{Uncarried}
 
--- what a parameter is listed as that is changed by a relative value
+-- how a relative parameter is listed, which may be the null parameter
 abbrev pub shift_kind : Bool → Kind
 shift_kind null = if null then kinds.NullParameter else kinds.RelativeParameter
 
--- of the voice messages of MIDI 2.0 those of one note, other than its start, its end and its pressure, and the relative parameters
+-- the voice messages of MIDI 2.0 for one note, other than its start, its end and its pressure, and the
+-- relative parameters
 abbrev pub uncarried_voice : Voice2 → Option Kind
 uncarried_voice (voice2.NoteController channel kind note index value) = Some kinds.NoteController
 uncarried_voice (voice2.NoteBend channel note value) = Some kinds.NoteBend
@@ -24,7 +25,7 @@ uncarried_voice (voice2.NoteManagement channel note flags) = Some kinds.NoteMana
 uncarried_voice (voice2.Shift channel param value) = Some (shift_kind (is_null param))
 uncarried_voice _ = None
 
--- what such a packet is listed as
+-- how such a packet is listed
 abbrev pub uncarried_kind : Packet → Option Kind
 uncarried_kind (packet.Utility status value) = Some kinds.Utility
 uncarried_kind (packet.Voice2 group message) = uncarried_voice message

@@ -5,8 +5,8 @@ use crate::pieces::Piece;
 use midi_meaning::{Kind, Listed};
 use small_types::{LentU4, U4};
 
-// A line of the listing. What is lent holds no type that contracts
-// see as another value, as `Listed` holds one.
+// A line of the listing that can be lent. A value that is lent can't contain a type that contracts see as
+// another value, such as the group in `Listed`.
 #[derive(Clone, Copy, Debug)]
 struct LentLine {
     offset: u64,
@@ -55,7 +55,7 @@ impl LentLine {
 /// The outcome of a packet.
 #[derive(Clone, Copy, Debug)]
 pub struct Carried<'a> {
-    /// The MIDI 1.0 bytes of the packet, empty exactly when it isn't carried.
+    /// The MIDI 1.0 bytes of the packet, empty exactly if it isn't carried.
     pub piece: &'a [u8],
     lane: LentU4,
     line: Option<LentLine>,

@@ -43,7 +43,7 @@ use ump_grammar::Packet;
 use voice_messages::{Form, System, U7, Voice1, Voice2};
 
 /// Translates packets to the MIDI 1.0 bytes of sixteen lanes, a lane for each group. A contract sees its
-/// state: the exclusives that the groups have open, and in compact style what is kept of each lane.
+/// state: the open exclusives of the groups, and in compact style what is kept of each lane.
 #[derive(Drop)]
 pub struct Down {
     groups: Groups,
@@ -68,9 +68,9 @@ impl Down {
     ghost use Rattle.down_translator.specs.Lend.{KeepsDown};
     ghost use Rattle.down_translator.specs.Step.{Translates};
 
-    /// A translator that writes in this style, in which nothing is open, with paired controllers or without
-    /// (own rule). Reserves memory for what is kept of the lanes, and for exclusives of `room` bytes between
-    /// F0 and F7 in each group, 6 to 1,048,576 (own rule); no other call takes any. `NoMemory` when there
+    /// A translator that writes in this style, with controllers paired or not (own rule), in which nothing
+    /// is open. Reserves memory for what is kept of the lanes, and for an exclusive of `room` bytes between
+    /// F0 and F7 in each group, 6 to 1,048,576 (own rule); no other call takes any. `NoMemory` if there
     /// isn't that much.
     pub fn new(alloc: Global, room: u32, style: Style, paired: bool) -> Result<Down, NoMemory>
         requires least { 6 ≤ room }
@@ -86,8 +86,8 @@ impl Down {
         })
     }
 
-    /// Drops what is open, and what is kept of the lanes: the translator is as a new one of the same limit,
-    /// in the same style, with paired controllers or without as before (own rule). Takes no memory.
+    /// Drops the open exclusives, and what is kept of the lanes: the translator equals a new one of the
+    /// same limit and style, with controllers paired or not as before (own rule). Takes no memory.
     pub fn reset(&mut self)
         ensures { self.new ≡ new_down (paired_of self.old) (style_of self.old) (limit_of self.old) }
     {
@@ -232,9 +232,9 @@ impl Down {
         }
     }
 
-    /// The MIDI 1.0 bytes of one more packet, its lane, and its line of the listing (M2-104-UM, default
-    /// translation; what that leaves out is listed by own rule). The packet is one that some words decode to,
-    /// and the offset the number of input bytes before it.
+    /// Takes one more packet, and returns its MIDI 1.0 bytes, its lane, and its line of the listing
+    /// (M2-104-UM, default translation; what that leaves out is listed by own rule). The packet is one that
+    /// some words decode to, and the offset the number of input bytes before it.
     ///
     /// `DataIncrement` and `DataDecrement` are returned exactly for a control change 96 and 97, respectively,
     /// of either protocol, and leave the translator as it was. `ExclusiveTooLong` is returned exactly when
@@ -267,7 +267,7 @@ impl Down {
         }
     }
 
-    // Takes a part of an exclusive with its places for bytes.
+    // Takes a part of an exclusive that is given with all its six places for bytes.
     #[tactic(auto, using(crate::proofs::LoweredLaws::few_of, crate::proofs::LoweredLaws::data_of))]
     #[inline(always)]
     fn part(&mut self, part: ExclusivePart, offset: u64) -> Result<Carried<'_>, BadStep>
@@ -326,8 +326,9 @@ impl Down {
         self.lanes.is_shortened(control_index(message))
     }
 
-    /// Answers a packet that is given as its words, as `packet` does. It is taken apart only if its words
-    /// don't tell its answer: those of a part of an exclusive do, and those of a packet that nothing carries.
+    /// Takes a packet that is given as its words, and answers as `packet` does. It is decoded only if its
+    /// words don't show the answer. They do for most parts of exclusives, and for packets that no message
+    /// of MIDI 1.0 carries.
     #[inline(always)]
     pub fn encoded(&mut self, packet: &EncodedPacket, offset: u64) -> Result<Carried<'_>, BadStep>
         ensures answer { Translates self.old offset packet.now result }
@@ -411,11 +412,11 @@ impl Down {
         }
     }
 
-    /// Takes the packet if in compact style one MIDI 1.0 message carries it and leaves the registers as they
-    /// are, and returns the message, whose status byte is left out if it is the running status of its lane
-    /// (MIDI 1.0 Detailed Specification, running status). These are the packets of which `lowered` speaks. It
-    /// is the answer of `packet`, and what `packet` would leave is kept. `None` exactly for other packets and
-    /// in plain style, and then the translator stays as it is: `packet` has their answer.
+    /// Takes the packet if in compact style one MIDI 1.0 message carries it and leaves the registers as
+    /// they are. Returns that message, whose status byte is left out if it is the running status of its
+    /// lane (MIDI 1.0 Detailed Specification, running status). These are the packets that `lowered` lists.
+    /// The answer and the state after it are those of `packet`. `None` exactly for other packets and in
+    /// plain style; the translator is then unchanged, and `packet` has their answer.
     #[inline(always)]
     pub fn shortened(&mut self, packet: &EncodedPacket) -> Option<ShortenedMessage>
         ensures { MatchOption result
@@ -428,12 +429,13 @@ impl Down {
         }
     }
 
-    /// The message that carries the packet, if in plain style one MIDI 1.0 message with the packet's status
-    /// byte does (M2-104-UM, default translation): a note off or on, the pressure of a note or of a channel,
-    /// a bend, a control change of a controller that has a value and isn't one of a pair, and a channel mode
-    /// message other than the reset of all controllers, of either protocol, and a program change of MIDI
-    /// 1.0. It is the answer of `packet`, and the translator stays as it is. `None` exactly for other packets
-    /// and in compact style: `packet` has their answer.
+    /// Returns the message that carries the packet, if in plain style one MIDI 1.0 message with the
+    /// packet's status byte does (M2-104-UM, default translation). These packets are, of either protocol, a
+    /// note off or on, the pressure of a note or of a channel, a bend, a control change of a controller
+    /// that has a value and isn't one of a pair, and a channel mode message other than Reset All
+    /// Controllers; and a program change of MIDI 1.0. The answer is that of `packet`, which would leave the
+    /// translator unchanged. `None` exactly for other packets and in compact style: `packet` has their
+    /// answer.
     #[inline(always)]
     pub fn lowered(&self, packet: &EncodedPacket) -> Option<LoweredMessage>
         ensures { MatchOption result (goes_direct self.now packet.now ≡ false)
@@ -473,10 +475,10 @@ impl Down {
         }
     }
 
-    /// Whether the packet only adds six bytes to the exclusive that its group has open, and that stays within
-    /// the limit (M2-104-UM, system exclusive 7-bit messages). Then they are added, in either style: it is
-    /// the whole step of `packet`, whose answer has no bytes and no line. `false` exactly for other packets,
-    /// and then the translator stays as it is: `packet` has their answer.
+    /// Adds the bytes of the packet, if it only continues the open exclusive of its group by six bytes that
+    /// fit the limit (M2-104-UM, system exclusive 7-bit messages), in either style. Then it returns `true`:
+    /// the state is the one after `packet`, whose answer has no bytes and no line. `false` exactly for
+    /// other packets; the translator is then unchanged, and `packet` has their answer.
     #[inline(always)]
     pub fn holds(&mut self, packet: &EncodedPacket) -> bool
         ensures held { IsTrue result → IsHeldStep self.old packet.now self.new }
@@ -492,7 +494,7 @@ impl Down {
         }
     }
 
-    /// The offset of the packet that began the group's exclusive; `None` exactly when nothing is open.
+    /// The offset of the packet that began the open exclusive of the group; `None` exactly if none is open.
     pub fn begun_at(&self, group: U4) -> Option<u64>
         ensures { result ≡ option_map (λ begun. begun.start) (begun_in self.now.exclusives group) }
     {

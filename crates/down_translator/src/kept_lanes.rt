@@ -80,8 +80,8 @@ fn direct_controls(style: Style, paired: bool) -> (DirectControls, DirectControl
 }
 
 impl KeptLanes {
-    /// Sixteen lanes of which nothing is written, with paired controllers or without (own rule). `NoMemory`
-    /// when there is none for what is kept.
+    /// Sixteen lanes of which nothing is written, with controllers paired or not (own rule). Reserves
+    /// memory for what is kept of them; `NoMemory` if there isn't enough.
     pub fn new(alloc: Global, style: Style, paired: bool) -> Result<KeptLanes, NoMemory>
         ensures { IfOk result (λ lanes. lanes ≡ new_lanes paired (style_in style)) }
     {
@@ -123,8 +123,8 @@ impl KeptLanes {
         self.paired
     }
 
-    /// Whether the style is plain and the control change with this index
-    /// is direct, whether controllers are paired or not.
+    /// Whether the style is plain and the control change with this index is direct, with controllers paired
+    /// or not.
     #[tactic(auto, using(crate::proofs::DirectLaws::direct_when_plain))]
     #[inline(always)]
     pub fn goes_direct(&self, index: U7) -> bool
@@ -134,8 +134,8 @@ impl KeptLanes {
         self.whole.has(index)
     }
 
-    /// Whether the style is compact and the control change with this index
-    /// is direct, whether controllers are paired or not.
+    /// Whether the style is compact and the control change with this index is direct, with controllers
+    /// paired or not.
     #[tactic(auto, using(crate::proofs::DirectLaws::direct_when_compact))]
     #[inline(always)]
     pub fn is_shortened(&self, index: U7) -> bool
@@ -156,8 +156,8 @@ impl KeptLanes {
         }
     }
 
-    /// Whether the receiver of a group's lane has both halves of this bank (MIDI 1.0 Detailed Specification,
-    /// bank select). In plain style nothing counts as there.
+    /// Whether the receiver of a group's lane has both halves of this bank (MIDI 1.0 Detailed
+    /// Specification, bank select). Always `false` in plain style.
     pub fn have_bank(&self, group: U4, channel: U4, bank: &Bank) -> bool
         ensures { result ≡ is_there self.now.style
             (has_bank (registers_at (lane_at self.now.states group).channels channel) bank.now) }
@@ -169,7 +169,7 @@ impl KeptLanes {
     }
 
     /// Whether the receiver of a group's lane has this parameter selected (MIDI 1.0 Detailed Specification,
-    /// registered and non-registered parameter numbers). In plain style nothing counts as there.
+    /// registered and non-registered parameter numbers). Always `false` in plain style.
     pub fn have_selected(&self, group: U4, channel: U4, param: &Param) -> bool
         ensures { result ≡ is_there self.now.style
             (is_selected (registers_at (lane_at self.now.states group).channels channel) param.now) }
@@ -181,8 +181,8 @@ impl KeptLanes {
     }
 
     /// Adds the bytes of a voice message of MIDI 1.0 to a piece, in compact style without its status byte
-    /// if that is the running status, and keeps what it leaves (MIDI 1.0 Detailed Specification, running
-    /// status). Of a message that is carried by one, the style is asked for here alone.
+    /// if that is the running status, and keeps the state after it (MIDI 1.0 Detailed Specification,
+    /// running status). For a packet that one message carries, only this call asks for the style.
     #[inline(always)]
     pub fn write(&mut self, piece: &mut Piece, group: U4, message: &Voice1)
         requires { length piece.old ≤ 9 }

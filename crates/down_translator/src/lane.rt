@@ -55,7 +55,7 @@ fn is_param(selected: Option<Param>, param: &Param) -> bool
 }
 
 impl Lane {
-    /// A lane of which nothing is written. `NoMemory` when there is none for the registers.
+    /// A lane of which nothing is written. `NoMemory` if there is none for the registers.
     pub fn new(alloc: Global) -> Result<Lane, NoMemory>
         ensures { IfOk result (λ lane. lane ≡ new_lane) }
     {

@@ -41,19 +41,19 @@ pub fn spelled_packets_are_in_range()
     ensures { SpelledPacketsAreInRange }
 {}
 
-/// What the translator holds after any packets tells of one more packet what the definitions tell, which look
-/// back over the packets: the exclusive that it ends, where the exclusive that its group has open started,
-/// and why it is refused. The state after it is the state after all of them. A data increment or
-/// decrement, which is refused, leaves the translator as it was.
+/// The state of the translator after any packets determines what the definitions find by looking back over
+/// these packets: for one more packet, the exclusive that it ends, where the open exclusive of its group
+/// started, and why it is refused. With that packet the state becomes the one after all of them. A data
+/// increment or decrement, which is refused, leaves the state unchanged.
 pub fn what_is_held_is_the_definition()
     ensures { (paired : Bool) → WhatIsHeldIsTheDefinition paired }
 {
     fed_parts_are_the_definition();
 }
 
-/// In compact style, after packets of which none was refused, the translator keeps, of the lane of each
-/// group, the running status and the registers that the lane's bytes after the last System Reset leave; each
-/// of these that is set is what all the lane's bytes leave.
+/// In compact style, after packets of which none was refused, what the translator keeps of a group's lane
+/// is the running status and the registers that the lane's bytes after the last System Reset leave. If one
+/// of these is set, all bytes of the lane leave the same value.
 pub fn what_is_kept_is_the_meaning()
     ensures { (paired : Bool) → WhatIsKeptIsTheMeaning paired }
 {
@@ -76,9 +76,9 @@ pub fn empty_pieces_are_not_carried()
     carried_packets_have_a_piece();
 }
 
-/// One more packet that the translator accepts, after packets that it accepted: what is put for the answer is
-/// the pair of the packet in the translator's style, and what is listed is its line, which a limit that isn't
-/// exceeded doesn't change.
+/// If the translator accepts one more packet after packets that it accepted, what is put for the answer is
+/// the packet's pair in the translator's style, and what is listed is the packet's line. A limit that isn't
+/// exceeded doesn't change that line.
 pub fn one_more_accepted_packet_adds_its_pair_and_line()
     ensures { (paired : Bool) → OneMoreAcceptedPacketAddsItsPairAndLine paired }
 {

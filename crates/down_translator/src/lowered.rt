@@ -9,7 +9,7 @@ use encoded_packets::{DirectKind, DirectMessage};
 use small_types::U4;
 use voice_messages::U7;
 
-/// A MIDI 1.0 channel voice message, which alone carries a packet and has its status byte.
+/// A MIDI 1.0 channel voice message with its status byte, which alone carries a packet.
 #[derive(Clone, Copy, Debug)]
 pub struct LoweredMessage {
     /// The lane, which is the packet's group.
@@ -26,7 +26,7 @@ pub struct LoweredMessage {
 
 // The data bytes, by the kind: the note or the index, and the value; of a bend the low and the high seven
 // bits of its value, of a channel pressure the value alone. Branchless, since the kind of the next message
-// can't be predicted; only a channel pressure, which has one byte, is told by a branch.
+// can't be predicted; only a channel pressure, which has one data byte, takes a branch.
 #[inline(always)]
 fn data_bytes(kind: DirectKind, message: &DirectMessage) -> (U7, Option<U7>)
     ensures first { result.0 ≡ first_by kind message.now }

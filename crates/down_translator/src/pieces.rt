@@ -259,9 +259,9 @@ fn write_pair(
     lanes.keep_statuses(group, statuses);
 }
 
-/// Writes a control change of MIDI 2.0 if controllers are paired: both halves of a pair, nothing of what
-/// isn't carried (own rule). Why it is refused, if it is refused; then nothing is written. Out of line, so
-/// that without pairs the packets of all kinds are translated in few instructions.
+/// Writes a control change of MIDI 2.0 if controllers are paired: both halves of a pair, and nothing if it
+/// isn't carried (own rule). Returns why it is refused, if it is refused; then nothing is written. Out of
+/// line, so that without pairs the packets of all kinds are translated in few instructions.
 #[tactic(auto, using(crate::proofs::PieceLaws::single_piece, crate::proofs::PieceLaws::kept_single, crate::proofs::PieceLaws::single_control, crate::proofs::PieceLaws::control_piece, crate::proofs::PieceLaws::kept_control))]
 #[inline(never)]
 pub fn write_paired(
@@ -294,8 +294,8 @@ pub fn write_paired(
     None
 }
 
-/// Writes a message that is carried by several messages or by none. What is written of several is out of
-/// line, and of the message these calls see only fields, so that a packet stays in registers.
+/// Writes a message that is carried by several messages or by none. Several are written out of line, by
+/// calls that see only fields of the message, so that a packet stays in registers.
 #[tactic(auto, using(crate::proofs::PieceLaws::no_piece, crate::proofs::PieceLaws::kept_none))]
 #[inline(always)]
 fn write_others(piece: &mut Piece, lanes: &mut KeptLanes, group: U4, message: &Voice2)

@@ -4,8 +4,8 @@ ghost use Rattle.midi1_bytes.specs.RunningStatus.{is_running};
 
 use std::marker::Model;
 
-/// The running status of a lane, or none, as one number, so that one comparison tells whether a status byte
-/// is it. A contract sees the status byte, if there is one.
+/// The running status of a lane, or none, as one number, so that one comparison decides whether a status
+/// byte equals it. A contract sees the status byte, if there is one.
 #[derive(Drop)]
 pub struct RunningStatus {
     // The status byte; 256 if there is none.
@@ -24,7 +24,7 @@ impl Model for RunningStatus {
 }
 
 impl RunningStatus {
-    /// None.
+    /// No running status.
     #[inline(always)]
     pub fn none() -> RunningStatus
         ensures { result ≡ None }
@@ -32,7 +32,7 @@ impl RunningStatus {
         RunningStatus { number: 256 }
     }
 
-    /// This status byte.
+    /// This status byte as the running status.
     #[tactic(auto, using(crate::proofs::RunningLaws::some_running))]
     #[inline(always)]
     pub fn some(status: u8) -> RunningStatus
@@ -43,7 +43,7 @@ impl RunningStatus {
         }
     }
 
-    /// This status byte, or none.
+    /// This status byte as the running status, or none.
     #[inline(always)]
     pub fn of(status: Option<u8>) -> RunningStatus
         ensures { result ≡ status }

@@ -1,4 +1,4 @@
-// Messages that compact style writes without their packets being taken apart.
+// Messages that compact style writes without decoding their packets.
 ghost use Rattle.std.specs.Prelude.{◌≡◌, ◌/◌};
 ghost use Rattle.encoded_packets.specs.DirectMessages.{kind_by};
 ghost use Rattle.down_translator.specs.Lowered.{index_by};
@@ -23,8 +23,8 @@ pub struct ShortenedMessage {
     pub has_attribute: bool,
 }
 
-/// The index of a control change. Another message has that of a control change that is direct, so that what
-/// asks for it is branchless: the kind of the next message can't be predicted.
+/// The index of a control change. For another message it is the index of a control change that is direct,
+/// so that the look-up needs no branch: the kind of the next message can't be predicted.
 #[inline(always)]
 pub fn control_index(message: &DirectMessage) -> U7
     ensures { result ≡ index_by (kind_by (message.now.status / 16)) message.now }

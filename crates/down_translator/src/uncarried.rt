@@ -1,4 +1,4 @@
-// Packets that no message of MIDI 1.0 carries, told by their first word.
+// Packets that no message of MIDI 1.0 carries, recognized by their first word.
 ghost use Rattle.std.specs.Prelude.{◌≡◌, ◌<◌, ◌==◌, ◌&&◌, if◌then◌else◌, MatchOption, None, Some, length};
 ghost use Rattle.ump_grammar.specs.WordFields.{byte as place, group_of};
 ghost use Rattle.ump_grammar.specs.Spelling.{has_row, is_system_status as is_status};
@@ -17,7 +17,7 @@ use small_types::U4;
 use ump_grammar::fields::{bits, byte, nibble};
 use ump_grammar::laws::rows_are_not_reserved;
 
-/// What a packet that no message of MIDI 1.0 carries is listed as.
+/// How a packet that no message of MIDI 1.0 carries is listed.
 #[derive(Clone, Copy, Debug)]
 pub struct Uncarried {
     /// Its group, if it has one.
@@ -26,7 +26,7 @@ pub struct Uncarried {
     pub kind: Kind,
 }
 
-/// What the packet is listed as, if no message of MIDI 1.0 carries it in any state of a translator (M2-104-UM,
+/// How the packet is listed, if no message of MIDI 1.0 carries it in any state of a translator (M2-104-UM,
 /// default translation; own rules); `None` exactly for other packets.
 #[inline(always)]
 pub fn read_uncarried(packet: &EncodedPacket) -> Option<Uncarried>
