@@ -41,8 +41,8 @@ impl EncodedReader {
 }
 
 // The packet at a place of the bytes in the reader, if its first two words show that they, or the first of
-// them alone, are the whole packet: most are, so that what comes next rests on no table of lengths. `None`
-// exactly for other bytes.
+// them alone, are the whole packet. Most packets are such, so that the place of the next one needs no table
+// of lengths. `None` exactly for other bytes.
 #[inline(always)]
 fn known_in(
     words: &WordReader,

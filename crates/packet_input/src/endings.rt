@@ -1,4 +1,4 @@
-// What is given out if no packet comes.
+// The answer if no packet comes.
 ghost use Rattle.std.specs.Prelude.{◌≡◌};
 ghost use Rattle.packet_input.specs.Packets.{next_of_stop, reason_for, refusal_of_stop};
 
@@ -18,8 +18,8 @@ pub(crate) fn reason_of(bad: Bad) -> Reason
     }
 }
 
-/// The refusal if the words stop, in an input in which so many bytes stand before the first one; `None`
-/// if a read failed.
+/// The refusal if the words stop, in an input that has so many bytes before the first word; `None` if a
+/// read failed.
 #[inline(always)]
 pub(crate) fn refusal_of(stop: ReadStop, before: u64) -> Option<(Reason, u64)>
     ensures { result ≡ refusal_of_stop before stop }
@@ -32,7 +32,7 @@ pub(crate) fn refusal_of(stop: ReadStop, before: u64) -> Option<(Reason, u64)>
     }
 }
 
-/// What comes if the words stop, in an input in which so many bytes stand before the first one.
+/// The answer if the words stop, in an input that has so many bytes before the first word.
 #[inline(always)]
 pub(crate) fn stopped<P>(stop: ReadStop, before: u64) -> Next<Framed, P>
     ensures { result ≡ next_of_stop before stop }

@@ -8,7 +8,7 @@ use crate::pass::{Engine, Found, Items};
 
 /// A way to do the work on the items that a reader holds.
 pub(crate) trait Taking<A, I, R: Items<A, I>, E: Engine<A, I>> {
-    /// Does the work on each whole item that is held, and says how many bytes they have.
+    /// Does the work on each whole item that is held, and returns the number of their bytes.
     fn take_held<O: Outputs>(
         &self,
         reader: &R,

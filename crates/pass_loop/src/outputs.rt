@@ -34,8 +34,9 @@ pub trait Outputs {
         requires { 0 < length text.now }
         ensures { Puts (in_notes text.now ∷ []) (places self.old) (places self.new) result };
 
-    /// Tries to write out what the lanes, the output and the notes have gathered, before the input is waited
-    /// for. It tells no fault: what it leaves stays gathered, and the next put that has to write tries again.
+    /// Tries to write out what the lanes, the output and the notes have gathered, before the input is
+    /// waited for. It reports no fault: what it leaves stays gathered, and the next put that has to write
+    /// tries again.
     fn write_out(&mut self)
         ensures { places self.new ≡ places self.old };
 }

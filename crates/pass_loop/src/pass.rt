@@ -12,7 +12,7 @@ use crate::held::{OneByOne, Taking};
 use crate::outputs::{Borrowed, Outputs};
 use outside::{Lanes, Sink, Source};
 
-/// What comes next of an input.
+/// The next part of an input.
 #[derive(Debug, Drop)]
 pub enum Next<A, I> {
     /// An item, and where it stands.
@@ -34,7 +34,7 @@ pub enum Found<A, I> {
     Refused { reason: Reason, offset: u64 },
 }
 
-/// What reading more of an input brought.
+/// The result of reading more of an input.
 #[derive(Clone, Copy, Debug, PartialEq, Eq)]
 pub enum More {
     /// A whole item is held.
@@ -182,7 +182,7 @@ pub(crate) fn end_of(closed: Result<(), RunEnd>) -> RunEnd
     }
 }
 
-/// Writes out what was put, if the input may wait, so that nobody waits for what was put.
+/// Writes out what was put if the input may wait, so that nobody waits for it.
 #[inline(never)]
 pub fn write_out<S: Source, O: Outputs>(input: &S, outputs: &mut O)
     ensures { O.places outputs.new ≡ O.places outputs.old }

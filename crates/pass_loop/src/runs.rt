@@ -19,9 +19,9 @@ pub trait Runs: Engine<u64, u8> {
     /// None of the bytes at the front of these are taken at once.
     ghost TakesNone: { Self → List ℕ → Type 0 };
 
-    /// Takes bytes at the front of these at once, as far as it can, and says how many: the same as by as many
-    /// steps. 0 comes only if it takes none of them at once: nothing is done, and the caller takes the next
-    /// byte by a step.
+    /// Takes bytes at the front of these at once, as far as it can, and returns their number: the same as
+    /// by a step for each. 0 is returned only if it takes none of them at once: nothing is done, and the
+    /// caller takes the next byte by a step.
     fn take_run<O: Outputs>(&mut self, bytes: &[u8], outputs: &mut O) -> Result<usize, RunEnd>
         requires holds { (first : Self) × (past : List (ℕ × ℕ)) × Self.Holds first self.old past }
         requires begun { Self.UsesLanes → (O.places outputs.old).begun ≡ true }

@@ -1,4 +1,4 @@
--- The packets to which a byte is raised, and what is done with them, one after the other.
+-- The packets to which a byte is raised, and the work on them, one after the other.
 use Rattle.std.specs.Prelude.{◌≡◌, ℕ, Bool, List, [], ◌∷◌, ◌++◌, map, MatchOption, Some, Result, Ok, Err}
 use Rattle.std.specs.Option.{option_map}
 use Rattle.voice_messages.specs.declared.voice2.Form.{Form}

@@ -122,8 +122,8 @@ fn put_packet<O: Outputs>(
     }
 }
 
-// The same with the packet of a direct message, which few need. The packet and the answer are made here, so
-// that nothing is written to memory for the others.
+// The same with the packet of a direct message, which few messages need. The packet and the answer are made
+// here, so that nothing is written to memory for the others.
 #[inline(always)]
 fn put_rare<O: Outputs>(
     down: &mut Down,
@@ -140,7 +140,8 @@ fn put_rare<O: Outputs>(
     Ok(())
 }
 
-// Takes packets down, and puts their pieces. What bytes are raised to is neither refused nor listed there.
+// Takes packets down, and puts their pieces. The way down neither refuses nor lists the packets to which
+// bytes are raised.
 impl PacketWork for Down {
     ghost Accepts = { λ from packet. ComesDown from packet };
 

@@ -138,9 +138,9 @@ impl Engine<Framed, EncodedPacket> for DownEngine {
 }
 
 /// Translates a recording down, to its end or to the first packet that is refused (M2-104-UM, default
-/// translation; what that leaves out is listed by own rule): puts the piece of each packet that is carried,
-/// in the style of the translation, into the lane of its group, and in the notes the line of each packet that
-/// is listed, at the end those of the exclusives that are still open. Takes no memory.
+/// translation; what that leaves out is listed by own rule). Puts the piece of each packet that is carried,
+/// in the style of the translation, into the lane of its group, and in the notes the line of each packet
+/// that is listed, at the end those of the exclusives that are still open. Takes no memory.
 ///
 /// `Refused` comes for `Truncated`, `InputTooLong`, `BadCount`, `HighBit`, `DataIncrement`, `DataDecrement`
 /// and `ExclusiveTooLong`, with the number of bytes before what is refused. `ReadFault`, `LaneFault` and
@@ -187,8 +187,8 @@ fn put_carried<O: Outputs>(carried: &Carried<'_>, outputs: &mut O) -> Result<(),
     put_listed(carried.listed(), outputs)
 }
 
-// Takes one packet down that isn't carried by one message: puts its piece
-// into the lane of its group, and its line into the notes.
+// Takes one packet down that `carry_at_once` doesn't take: puts its piece into the lane of its group, and
+// its line into the notes.
 fn carry_encoded<O: Outputs>(
     down: &mut Down,
     packet: &EncodedPacket,

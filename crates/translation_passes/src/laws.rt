@@ -15,8 +15,8 @@ ghost use Rattle.translation_passes.specs.Up.{raising};
 use packet_input::packets_are_cut_once;
 use pass_loop::laws::bytes_are_cut_once;
 
-/// A recording has one first refusal: after packets that are accepted it is refused at one offset and for one
-/// reason, whichever cutting tells it.
+/// A recording has one first refusal: after packets that are accepted, it is refused at one offset and for
+/// one reason, whichever cutting shows it.
 pub fn a_recording_has_one_first_refusal()
     ensures { (options : DownOptions) →
         HasOneFirstRefusal (packet_cutting options.order) (carrying options) }
@@ -24,7 +24,7 @@ pub fn a_recording_has_one_first_refusal()
     packets_are_cut_once();
 }
 
-/// So has a stream of bytes, raised or brought back.
+/// A stream of bytes, raised or brought back, has one first refusal, too.
 pub fn a_stream_has_one_first_refusal()
     ensures raised { (options : UpOptions) → HasOneFirstRefusal byte_cutting (raising options) }
     ensures returned { (options : BackOptions) → HasOneFirstRefusal byte_cutting (returning options) }

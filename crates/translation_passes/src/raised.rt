@@ -1,4 +1,4 @@
-// What is done with the packets to which a byte is raised, and with its lines.
+// The work on the packets to which a byte is raised, and on its lines.
 ghost use Rattle.std.specs.Prelude.{◌≡◌, ◌++◌, ℕ, IfOk, List, Ok};
 ghost use Rattle.ump_grammar.specs.declared.packet.Packet.{Packet};
 ghost use Rattle.ump_grammar.specs.declared.packet.Packet.TheVariants as packet;
@@ -23,15 +23,15 @@ use sysex_groups::part;
 use up_translator::{Raised, RaisedPacket, Up};
 use voice_messages::Form;
 
-/// What is done with each of the packets to which a byte is raised.
+/// The work on each of the packets to which a byte is raised.
 pub(crate) trait PacketWork {
     /// A packet that it accepts.
     ghost Accepts: { Self → Packet → Type 0 };
 
-    /// What it does with a packet of the byte at this offset: what it then is, and what is put.
+    /// The work on a packet of the byte at this offset: the state after it, and what is put.
     ghost IsDone: { ℕ → Doing Self };
 
-    /// Does it.
+    /// Does the work on a packet.
     fn put<O: Outputs>(
         &mut self,
         packet: &RaisedPacket,
@@ -42,7 +42,7 @@ pub(crate) trait PacketWork {
         ensures { CarriesOut (IsDone offset self.old packet.now) self.new
             (O.places outputs.old) (O.places outputs.new) result };
 
-    /// Does it with the packet of a direct message, as most packets are.
+    /// Does the work on the packet of a direct message; most packets are such.
     fn put_direct<O: Outputs>(
         &mut self,
         message: &DirectMessage,
@@ -54,7 +54,7 @@ pub(crate) trait PacketWork {
         ensures { CarriesOut (IsDone offset self.old (packet_of message.now)) self.new
             (O.places outputs.old) (O.places outputs.new) result };
 
-    /// Does it with the packet of a part of an exclusive.
+    /// Does the work on the packet of a part of an exclusive.
     fn put_part<O: Outputs>(
         &mut self,
         group: U4,
@@ -157,9 +157,10 @@ pub(crate) fn put_byte<P: PacketWork, O: Outputs>(
     }
 }
 
-/// Takes bytes at the front of these up at once, if nothing or one direct packet is raised of them, does
-/// the work on that, and says how many they are: 0 only if they begin with neither. The work rests on no
-/// offset, so that it is told 0.
+/// Takes bytes at the front of these up at once, if they raise nothing or one direct packet, does the work
+/// on that packet, and returns their number. 0 is returned only if these bytes begin neither with a message
+/// that is raised alone nor with data of an open exclusive. The work doesn't depend on the offset, so it is
+/// given 0.
 #[tactic(auto, using(crate::proofs::FrontLaws::some_taken, crate::proofs::FrontLaws::none_taken))]
 #[inline(always)]
 pub(crate) fn put_front<P: PacketWork, O: Outputs>(

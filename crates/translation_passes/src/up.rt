@@ -194,9 +194,10 @@ impl Runs for UpEngine {
     }
 }
 
-/// Translates a stream up, to its end or to the first byte that is refused (M2-104-UM, translation from MIDI
-/// 1.0; what comes to nothing is listed by own rule): puts the words of each packet in the output, and
-/// after those of a byte its lines in the notes, at the end the line of what is still open. Takes no memory.
+/// Translates a stream up, to its end or to the first byte that is refused (M2-104-UM, translation from
+/// MIDI 1.0; bytes that give no packet are listed by own rule). Puts the words of each packet in the
+/// output, and after those of a byte its lines in the notes, at the end the line of what is still open.
+/// Takes no memory.
 ///
 /// `Refused` comes for `InputTooLong`, `DataIncrement`, `DataDecrement` and `ExclusiveTooLong`, with the
 /// number of bytes before what is refused. `ReadFault`, `OutputFault` and `NoteFault` come only if the
