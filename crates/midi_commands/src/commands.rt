@@ -29,27 +29,28 @@ use std::alloc::Global;
 /// events in `input` into a MIDI 1.0 stream for each cable, in `lanes`, and lists in `notes` those whose code
 /// is reserved; `usb pack` turns the MIDI 1.0 stream in `input` into the events of one cable, in `output`,
 /// and lists in `notes` what gave no event. `sysex8 --folder F` joins the 8-bit exclusives of the recording
-/// in `input`, of at most `--streams` streams at once (1 to 64, at first 16), and puts their bytes in
+/// in `input`, of at most `--streams` streams at once (1 to 64, by default 16), and puts their bytes in
 /// `lanes`, and in `notes` a line for each and for what gives none; its `--room` is 13 to 1,048,576.
 /// `rehearse SETUP` reads the setup of that name as `endpoint` does, plays the events in `input` between a
 /// MIDI-CI initiator and the responder of the setup, and puts a line for each in `output`, at the end what
 /// the initiator holds of each profile that it watches, and the profiles of the responder. `clip` puts a line
 /// in `output` for each event of the clip file in `input`, with the ticks at which it stands, and lines for
 /// its start and its end. `selftest SEED` takes packets that a generator draws, `--packets` of them (1 to
-/// 1,000,000, at first 10,000), down, up and down again, and puts one line of counts in `output`; the input
-/// is left unread. `--group` and `--cable` are 0 to 15, at first 0; `--room`, the most bytes of an exclusive
-/// between F0 and F7, is 6 to 1,048,576, at first 1,048,576; with `--little` each word has its least
+/// 1,000,000, by default 10,000), down, up and down again, and puts one line of counts in `output`; the input
+/// is left unread. `--group` and `--cable` are 0 to 15, by default 0; `--room`, the most bytes of an exclusive
+/// between F0 and F7, is 6 to 1,048,576, by default 1,048,576; with `--little` each word has its least
 /// significant byte first.
 ///
 /// `Done` says that the input was read to its end, or that the line of a self test was put. `Refused` comes
 /// at the first packet, byte or event that is refused, with its reason and its offset, the number of input
-/// bytes before it; a clip file without its header is refused at 0, and a clip that doesn't end at the end of
-/// the input. `ReadFault`, `LaneFault`, `OutputFault`, `NoteFault` and `ShelfFault` come only for an object
-/// that the command names and whose count of faults rose in this call. `Usage` comes if the words are no
-/// command, `SetupSyntax` if the text of the setup isn't UTF-8 or no TOML, `SetupField` with the number of
-/// the first rule that it breaks (`function_blocks::Rule`). `NoMemory` may have any cause. Except with
-/// `--state`, it comes before the first read. The clauses say what stands in the lanes, the output and the
-/// notes after each of these; docs/ends.md has it as a table. A last line in the notes tells every status
+/// bytes before it. A clip file without its header is refused at 0, and one without a clip that starts and
+/// ends is refused at the end of the input. `ReadFault`, `LaneFault`, `OutputFault`, `NoteFault` and `ShelfFault`
+/// come only for an object that the command names and whose count of faults rose in this call. `Usage`
+/// comes if the words are no command, `SetupSyntax` if the text of the setup isn't UTF-8 or isn't TOML,
+/// `SetupField` with the number of the first rule that it breaks (`function_blocks::Rule`). The allocator
+/// may cause `NoMemory` for any reason; except with `--state`, it is returned before anything is read. The
+/// clauses say what the lanes, the output and the notes contain after each of these; docs/ends.md has it as
+/// a table. A last line in the notes reports every status except `Done` and `NoteFault`.
 /// except `Done` and `NoteFault`.
 pub fn run<S: Source, L: Lanes, W: Sink, N: Sink, K: Shelf>(
     alloc: Global,

@@ -12,8 +12,8 @@ use outside::{Lanes, Sink};
 use std::io::{ErrorKind, Write};
 use std::rt::Files;
 
-/// If the words of the command line can't be had, tells why: one that is no UTF-8 is `Usage`, want of
-/// memory `NoMemory` (own rule). The last line stands in the notes.
+/// Returns why the words of the command line can't be had: `Usage` if one isn't UTF-8, and `NoMemory` if
+/// there is no memory (own rule). Puts the last line in the notes.
 pub fn unread_words<N: Write>(kind: ErrorKind, notes: &mut WriteSink<N>) -> Status
     ensures memory { kind ≡ ErrorKind.OutOfMemory → result ≡ Status.NoMemory }
     ensures other { kind ≢ ErrorKind.OutOfMemory → result ≡ Status.Usage }
@@ -28,10 +28,10 @@ pub fn unread_words<N: Write>(kind: ErrorKind, notes: &mut WriteSink<N>) -> Stat
     status
 }
 
-/// Writes out what the objects have gathered, whatever the status, the notes last, since the last line stands
-/// there, and gives the exit code. A fault at this writing turns `Done` alone into the fault of that object
-/// (own rule), the first of the lanes, the output and the notes that failed, whose last line, if it has one,
-/// is put. What was put before stays.
+/// Writes out what the objects have gathered, whatever the status, the notes last because the last line is
+/// in them, and returns the exit code. A fault at this writing turns `Done` alone into the fault of that
+/// object (own rule), the first of the lanes, the output and the notes that failed, and its last line, if
+/// it has one, is put. What was put before stays.
 pub fn finish<R: Files + AllocGlobal, O: Write, N: Write>(
     status: Status,
     lanes: &mut FolderLanes<R>,
@@ -98,8 +98,8 @@ fn tell_fault<N: Write>(status: Status, written: Status, notes: &mut WriteSink<N
     }
 }
 
-// Puts the last line of a status, if it has one. If that fails, a front of the line may stand, and the
-// count of faults tells it.
+// Puts the last line of a status, if it has one. If that fails, the notes may have gained a front of the
+// line, and their count of faults has risen.
 fn tell_last<N: Write>(status: Status, notes: &mut WriteSink<N>)
     ensures { PutsLast status (accepted N.contents notes.old) (accepted N.contents notes.new)
         (⟦<WriteSink<N> as Sink>⟧.faults notes.old) (⟦<WriteSink<N> as Sink>⟧.faults notes.new) }

@@ -107,8 +107,8 @@ fn put_line<L: Lanes, W: Sink, N: Sink>(
     }
 }
 
-/// Puts the last line for a status in the notes, if it has one. If that fails, a front of the line may
-/// stand, and the count of faults tells it.
+/// Puts the last line for a status in the notes, if it has one. If that fails, the notes may have gained a
+/// front of the line, and their count of faults has risen.
 pub fn put_last<L: Lanes, W: Sink, N: Sink>(
     status: Status,
     lanes: &mut L,

@@ -16,10 +16,10 @@ use usb_passes::laws::{
     a_packing_that_is_done_is_that_of_the_input, a_split_that_is_done_is_that_of_the_input,
 };
 
-/// When a command is done and its input shows its bytes, what it put is exactly what its definitions tell of
-/// all of them: the translation of all packets or bytes and the lines of their listing, the lines that are
-/// shown, the replies to a peer, what is split, packed or joined, a rehearsal, or a clip; and of a self test
-/// its line. That all else stays as it was is said by `says` of `run`.
+/// When a command is done and its input shows its bytes, what it put is exactly what its definitions give
+/// for all of them: the translation of all packets or bytes and the lines of their listing, the lines that
+/// are shown, the replies to a peer, what is split, packed or joined, a rehearsal, or a clip; and for a
+/// self test its line. `says` of `run` says that all else stays as it was.
 pub fn a_command_that_is_done_leaves_the_whole()
     ensures { DoneLeavesTheWhole }
 {

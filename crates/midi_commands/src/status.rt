@@ -26,7 +26,7 @@ pub enum Status {
     ShelfFault,
     /// The words are no command.
     Usage,
-    /// The setup isn't UTF-8, or no TOML.
+    /// The setup isn't UTF-8, or isn't TOML.
     SetupSyntax,
     /// The rule of this number, 0 to 31, is the first that the setup breaks.
     SetupField(u8),
@@ -97,7 +97,7 @@ impl Status {
     }
 
     /// The status once an object has written out what it gathered: `Done` becomes this fault if that
-    /// failed. Every other status has its cause already, and stays.
+    /// failed. Every other status already has its cause, and stays.
     pub fn after_writing(self, answer: Result<(), Failed>, fault: Status) -> Status
         ensures written { OnOk answer (result ≡ self) }
         ensures fault { self ≡ Status.Done → OnErr answer (result ≡ fault) }
