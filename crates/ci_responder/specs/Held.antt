@@ -1,4 +1,4 @@
--- What a responder holds, and what one message does to it.
+-- The state of a responder, and what one message does to it.
 use Rattle.std.specs.Prelude.{◌≡◌, ◌<◌, ◌≤◌, ◌^◌, ℕ, Bool, ◌+◌, ◌&&◌, nat_le, nat_lt, if◌then◌else◌, List, []}
 use Rattle.std.specs.Prelude.{◌∷◌, length, slice_get, position, Option, None, Some, option_map, option_and_then}
 use Rattle.std.proofs.Common.{zero, suc}

@@ -1,4 +1,4 @@
--- What the bytes of a message tell.
+-- What a message says, by its bytes.
 use Rattle.std.specs.Prelude.{ℕ, true, false, List, unwrap_or}
 use Rattle.ci_messages.specs.declared.kind.Format.{Format}
 use Rattle.ci_messages.specs.declared.kind.Format.TheVariants as format

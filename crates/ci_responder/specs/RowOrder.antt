@@ -30,7 +30,7 @@ pub record RowsInOrder : Type 0 where
       heard_row muid named message ≡ heard.OldVersion
 
 -- Messages to a block of MUID 300, from the device of MUID 5 unless said otherwise. Each meets two rows, of
--- which the first counts, except the last three, which meet one.
+-- which the first counts, except the last five, which meet one.
 pub record WorkedRows : Type 0 where
   pub own_discovery_of_version_00 : heard_row 300 false (worked 0x70 0 300 broadcast other) ≡ heard.Collision
   pub own_invalidation : heard_row 300 false (worked 0x7E 2 300 broadcast (invalidate 300)) ≡ heard.Collision

@@ -1,4 +1,4 @@
--- What is done with a message (M2-101-UM), a row for each: the first that applies.
+-- What a message is heard as (M2-101-UM), a row for each: the first that applies.
 use Rattle.std.specs.Prelude.{ℕ, Bool, true, false, ◌==◌, ◌&&◌, ◌||◌, not, nat_le, if◌then◌else◌, List, Option, Some, None, is_some}
 use Rattle.ci_responder.specs.declared.heard.Heard.{Heard}
 use Rattle.ci_responder.specs.declared.heard.Heard.TheVariants as heard

@@ -1,25 +1,25 @@
-// What a block does with a message.
+// The action of a function block on a message.
 use crate::heard::Heard;
 use ci_messages::ProfileId;
 
-/// What a block does with a message that it hears.
+/// The action of a function block on a message that it hears (M2-101-UM).
 #[derive(Clone, Copy, Debug, PartialEq, Eq)]
 pub(crate) enum Action {
-    /// Nothing: the message is heard so, and that is all.
+    /// Does nothing more: the message is heard as this.
     PassOver(Heard),
-    /// Its own MUID is invalidated for all, and it takes the next one.
+    /// Invalidates its own MUID, for all, and takes the next one.
     Invalidate,
-    /// It takes the next MUID.
+    /// Takes the next MUID.
     Move,
-    /// It tells which device it is part of, and gives back the path of the Discovery, a data byte.
+    /// Replies with the identity of the device, and with the path of the Discovery, 0 to 127.
     TellDevice { path: u8 },
-    /// It tells the product instance id.
+    /// Replies with the product instance id.
     TellProductId,
-    /// It tells which profiles are on, and which are off.
+    /// Replies with the profiles that are on and those that are off.
     TellProfiles,
-    /// It switches a profile, and reports it.
+    /// Switches a profile, and reports it.
     Switch(Switch),
-    /// It sends a NAK.
+    /// Replies with a NAK.
     Nak,
 }
 

@@ -1,6 +1,6 @@
-// What is done with a message.
+// What a message is heard as.
 
-/// What is done with a MIDI-CI message (M2-101-UM): the first of these that applies. Their order is own rule.
+/// What becomes of a MIDI-CI message (M2-101-UM): the first of these that applies. Their order is own rule.
 #[derive(Clone, Copy, Debug, PartialEq, Eq)]
 pub enum Heard {
     /// No active function block with MIDI-CI has the group. Nothing is done.

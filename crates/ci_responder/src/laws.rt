@@ -8,11 +8,11 @@ ghost use Rattle.ci_responder.specs.Laws.{
   ViewsTellTheirBytes,
 };
 
-/// What a responder holds after any messages, of all groups, is what their history says, searched from the
-/// newest message back: the MUID in force of each block, what one more message is heard as, the reply to it,
-/// and whether each profile is on. If no two profiles have the same key, hearing one more message leaves
-/// what the longer history says; so a switch leaves all other profiles as they were, and a change of MUID all
-/// of them.
+/// The state of a responder after any messages, of all groups, is what their history says, searched from
+/// the newest message back: the MUID in force of each block, what one more message is heard as, the reply
+/// to it, and whether each profile is on. If no two profiles have the same key, hearing one more message
+/// leads to the state of the longer history. So a switch leaves all other profiles as they were, and a
+/// change of MUID leaves all of them.
 pub fn held_is_the_history()
     ensures { HeldIsTheHistory }
 {}

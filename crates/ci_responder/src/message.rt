@@ -8,8 +8,8 @@ use ci_messages::{CiView, write};
 use small_types::ShortList;
 use std::marker::Model;
 
-/// A message of MIDI-CI from F0 to F7 (M2-101-UM), of at most 344 bytes, that `ci_messages::read` takes. To a
-/// contract it is its bytes.
+/// A message of MIDI-CI from F0 to F7 (M2-101-UM), of at most 344 bytes, that `ci_messages::read` takes. A
+/// contract sees its bytes.
 #[derive(Debug, Drop)]
 pub struct CiMessage {
     bytes: ShortList<u8, 512>,

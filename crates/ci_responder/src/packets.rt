@@ -17,7 +17,7 @@ fn push_payload(replies: &mut Replies, group: U4, payload: &[u8])
     ensures packets { AddsPackets (packets_of group payload.now) [] replies.new }
     ensures few { length replies.new ≤ 114 }
 {
-    // tells that the group is below 16
+    // shows the prover that the group is below 16
     group.get();
     let mut k = 0;
     while let Some((form, bytes)) = part(payload, k) {

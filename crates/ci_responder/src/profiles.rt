@@ -28,14 +28,14 @@ pub(crate) fn place_of(address: Address, group: U4) -> Place
     }
 }
 
-/// Whether a profile is on; `None` exactly if it isn't named.
+/// Whether a profile is on; `None` exactly if the setup doesn't name it.
 pub(crate) fn state(states: &IndexMap<Key, bool>, key: &Key) -> Option<bool>
     ensures { result ≡ state_in states.now.entries key.now }
 {
     states.get(key).copied()
 }
 
-/// The number of the first profile of a key; `None` exactly if it isn't named.
+/// The number of the first profile of a key, counted from 0; `None` exactly if the setup doesn't name it.
 pub(crate) fn number_of(states: &IndexMap<Key, bool>, key: &Key) -> Option<usize>
     ensures named { is_some result ≡ is_some (state_in states.now.entries key.now) }
     ensures first { IfSome result (λ number. IsFirstOf key.now states.now.entries number) }

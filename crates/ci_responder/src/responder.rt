@@ -40,8 +40,8 @@ use std::alloc::Global;
 use std::marker::Model;
 use ump_grammar::Replies;
 
-/// Answers the MIDI-CI messages for the function blocks of a setup (M2-101-UM). To a contract it is what it
-/// holds: for each block how many of its MUIDs are used up, and for each profile whether it is on.
+/// Answers the MIDI-CI messages for the function blocks of a setup (M2-101-UM). A contract sees its state:
+/// for each block how many of its MUIDs are used up, and for each profile whether it is on.
 #[derive(Drop)]
 pub struct Responder {
     blocks: Vec<CiBlock>,
@@ -95,8 +95,8 @@ impl Responder {
         })
     }
 
-    /// Begins again (own rule): the responder equals the one that `new` makes of the same setup and room. So
-    /// no MUID is used up, and each profile is on or off as the setup has it. The setup must be the one of
+    /// Returns to the state in which `new` makes the responder with the same setup and room (own rule): no
+    /// MUID is used up, and each profile is on or off as the setup has it. The setup must be the one of
     /// which the responder was made. The call takes no memory.
     pub fn reset(&mut self, setup: &Setup)
         requires { IsOf setup.now self.old }

@@ -27,7 +27,7 @@ fn is_report(sub: u8) -> bool
 }
 
 impl Responder {
-    /// What a block does with a message: the first of these that applies.
+    /// The action of a block on a message: the first of these that applies.
     pub(crate) fn action(&self, owner: &Owner, view: &CiView<'_>) -> Action
         requires { IsView view.now }
         ensures heard { heard_of result ≡ heard_row owner.now.muid
@@ -46,7 +46,7 @@ impl Responder {
         }
     }
 
-    // What a block does with a message that is for it, and not of version 00: the first of these that
+    // The action on a message that is for the block, and not of version 00: the first of these that
     // applies.
     fn action_by_body(&self, owner: &Owner, view: &CiView<'_>) -> Action
         requires view { IsView view.now }
@@ -78,7 +78,8 @@ impl Responder {
         }
     }
 
-    // The switch of the profile with this id at a message's place in the block; a NAK if it isn't named.
+    // The switch of the profile with this id at the place of the message's address in the block; a NAK if
+    // the setup doesn't name it.
     fn switch_of(&self, owner: &Owner, view: &CiView<'_>, id: &ProfileId, on: bool) -> Action
         ensures { IsSwitchOf self.now.states
             (key_at owner.now.block (received_of owner.now.group view.now) id.now) on result }

@@ -1,4 +1,4 @@
--- What the keys of a TOML table hold.
+-- The values of the keys of a TOML table.
 use Rattle.std.specs.Prelude.{ℕ, ℤ, pos, negsuc, Bool, ◌==◌, ◌&&◌, ◌+◌, List, [], ◌∷◌, length, Option}
 use Rattle.std.specs.Prelude.{Some, None, option_map, option_and_then, if◌then◌else◌, nat_le, is_some, Ok}
 use Rattle.std.specs.List.{list_all}

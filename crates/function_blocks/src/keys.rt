@@ -1,4 +1,4 @@
-// What the keys of a table hold.
+// The values of the keys of a table.
 ghost use Rattle.std.specs.Prelude.{
   ◌≡◌,
   ◌<◌,
@@ -157,7 +157,7 @@ pub(crate) fn numbers_at<const N: usize>(
     exactly(array_at(table, key)?, most)
 }
 
-/// As many numbers as an array has.
+/// The `N` numbers of a list, as an array.
 pub(crate) fn array<const N: usize>(numbers: &ShortList<u8, N>) -> [u8; N]
     requires { length numbers.now ≡ N }
     ensures { result ≡ numbers.now }
@@ -228,7 +228,8 @@ fn are_tables(values: &[Value], most: usize) -> bool
     values.len() <= most && are_each_tables(values)
 }
 
-/// The entries of a list of at most `most` tables, for which the rule asks; none if the key is absent.
+/// The entries of a list of at most `most` tables; no entries if the key is absent. Any other value breaks
+/// the rule.
 pub(crate) fn entries_at<'a>(
     table: &'a Table,
     key: &str,

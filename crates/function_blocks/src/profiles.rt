@@ -51,7 +51,7 @@ use std::alloc::Global;
 use toml::{Table, Value};
 use voice_messages::{U4, U7};
 
-/// What else the word of a place asks for.
+/// The kind of a place, by its word. It decides which other keys the place needs.
 #[derive(Clone, Copy)]
 pub enum PlaceKind {
     Function,

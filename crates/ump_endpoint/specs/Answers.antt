@@ -1,4 +1,4 @@
--- What an endpoint answers to a packet, by the packets before it, which are listed the newest first.
+-- The answer of an endpoint to a packet, by the packets before it, which are listed the newest first.
 use Rattle.std.specs.Prelude.{ℕ, List, [], ◌∷◌, ◌++◌, Option, None, Some, Result, Ok, Err, map, option_and_then}
 use Rattle.std.specs.Option.{option_map, option_map_or}
 use Rattle.ump_grammar.specs.declared.packet.Packet.{Packet}

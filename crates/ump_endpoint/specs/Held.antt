@@ -1,4 +1,4 @@
--- What an endpoint holds, and what that answers to one more packet.
+-- The state of an endpoint, and its answer to one more packet.
 use Rattle.std.specs.Prelude.{ℕ, List, [], ◌++◌, Option, None, Some, Result, Ok, Err}
 use Rattle.std.specs.Option.{option_map, option_and_then}
 use Rattle.voice_messages.specs.declared.voice2.Form.{Form}

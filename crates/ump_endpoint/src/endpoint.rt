@@ -60,7 +60,8 @@ impl Model for Endpoint {
     ghost invariant = { λ e. IsOf e.setup e.responder × (e.responder.room ≡ e.groups.room) };
 }
 
-// No replies, with memory for the most that there can be. It needs as much of the stack, so it isn't inlined.
+// No replies, with memory for the most that there can be. It isn't inlined, since it needs as much of the
+// stack.
 #[inline(never)]
 fn no_replies(alloc: Global) -> Result<Box<Replies>, NoMemory>
     ensures { IfOk result (λ replies. replies.value ≡ []) }

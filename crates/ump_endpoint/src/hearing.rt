@@ -27,7 +27,8 @@ use sysex_groups::{Fed, Groups};
 use ump_grammar::Replies;
 use voice_messages::Form;
 
-// Hears an exclusive of a group, and adds its reply to the replies, which are empty: what became of it.
+// Hears an exclusive of a group, adds its reply to the replies, which are empty, and returns what became of
+// it.
 fn hear(responder: &mut Responder, replies: &mut Replies, group: U4, message: &[u8]) -> Outcome
     requires message { IsExclusive message.now }
     requires empty { replies.old ≡ [] }

@@ -5,10 +5,10 @@ use ci_responder::held_is_the_history;
 use function_blocks::protocol_follows_the_requests;
 use sysex_groups::laws::fed_parts_are_the_definition;
 
-/// An endpoint that has taken any packets answers one more packet as the definitions do that look back over
-/// all packets: why it is refused, the replies to it, what became of the message that it ends, and what it
-/// lost. The MUIDs and profiles in force are those of the definitions, too. The state after the packet is
-/// the state after all of them.
+/// After any packets, an endpoint answers one more packet as the definitions do, which look back over all
+/// packets: why it is refused, the replies to it, what became of the message that it ends, and what it
+/// lost. The MUIDs and profiles in force are those of the definitions, too. With that packet the state
+/// becomes the one after all of them.
 pub fn answers_are_those_of_the_history()
     ensures { AnswersAreThoseOfTheHistory }
 {
