@@ -16,7 +16,7 @@ use Rattle.ci_responder.specs.Messages.{SaidToResponder, Received, switch, key_a
 use Rattle.ci_responder.specs.Rows.{heard_by, loses_muid, names}
 use Rattle.ci_responder.specs.Replies.{Sender, message_of_reply, replies_by, reply_by}
 
--- the blocks by number, the profiles in the setup's order, and what replies tell of the device
+-- the blocks by number, the profiles in the setup's order, and what replies say of the device
 pub record Held : Type 0 where
   pub blocks : List CiBlock
   pub states : List (Key × Bool)

@@ -46,7 +46,7 @@ pub record BlockOfIsTheOne : Type 0 where
       slice_get setup.blocks number ≡ Some block → covers group block ≡ true →
       block_of setup group ≡ Some number
 
--- a view tells what the bytes tell that spell it
+-- a view says what the bytes say that spell it
 abbrev pub ViewsTellTheirBytes : Type 0
 ViewsTellTheirBytes =
     (group : ℕ) (message : List ℕ) (view : CiView) → CiSpells view message →

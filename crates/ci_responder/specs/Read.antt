@@ -24,7 +24,7 @@ said_by form kind.SetOn body = switch (record { bytes = part_at body 0 5 }) true
 said_by form kind.SetOff body = switch (record { bytes = part_at body 0 5 }) false
 said_by form _ body = other
 
--- what is told by a message from F0 to F7 that has no fault, on its group
+-- what a message from F0 to F7 that has no fault says, on its group
 abbrev pub received_in : ℕ → List ℕ → Received
 received_in group message = record {
   group = group;

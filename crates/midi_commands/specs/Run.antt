@@ -22,7 +22,7 @@ use Rattle.midi_commands.specs.declared.status.Status.TheVariants.{ShelfFault, U
 
 -- ---- the objects of a run
 
--- what a shelf tells and counts
+-- the content of a shelf, as far as a contract can see it, and its count of faults
 pub record ShelfSeen : Type 0 where
   pub asked : Option (List ℕ)
   pub texts : Option (List ℕ → Option (List ℕ))
@@ -31,7 +31,7 @@ pub record ShelfSeen : Type 0 where
 abbrev pub shelf_seen : {K : Type 0} → shelf.Ghosts K → K → ShelfSeen
 shelf_seen K k = record { asked = K.asked k; texts = K.texts k; faults = K.faults k }
 
--- what the objects of a pass tell and count, and the shelf
+-- the same of the objects of a pass, and of the shelf
 pub record Objects : Type 0 where
   pub seen : Seen
   pub shelf : ShelfSeen
@@ -57,7 +57,7 @@ abbrev pub status_in : Result RunEnd Status → Status
 status_in (Ok end) = status_after end
 status_in (Err status) = status
 
--- the pass ran to the end that the status tells, or there was no memory and nothing changed
+-- the pass ran to the end that has this status, or there was no memory and nothing changed
 abbrev pub Runs : Pass → Seen → Seen → Status → Type 0
 Runs pass old new status =
     ((end : RunEnd) × (status ≡ status_after end) × Ends pass.IsCut pass.work old new end)
@@ -97,7 +97,7 @@ RunsInto folder pass old new status =
 abbrev pub asked_for : List ℕ → ShelfSeen → ShelfSeen
 asked_for name old = record old { asked = Some (kept_bytes name) }
 
--- this is the text of the name, if the shelf tells its texts
+-- this is the text of the name, if a contract can see the texts of the shelf
 abbrev pub IsNamed : ShelfSeen → List ℕ → List ℕ → Type 0
 IsNamed old name text = IfSome old.texts (λ texts. texts name ≡ Some text)
 
@@ -126,7 +126,7 @@ RunsWith name pass old new status =
 
 -- ---- a clip file
 
--- the clip file was shown to the end that the status tells, or there was no memory for the words and nothing
+-- the clip file was shown to the end that has this status, or there was no memory for the words and nothing
 -- changed
 abbrev pub ShowsClip : Seen → Seen → Status → Type 0
 ShowsClip old new status =

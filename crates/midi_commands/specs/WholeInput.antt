@@ -40,12 +40,12 @@ LeavesAll clip bytes old new = IsShownClip bytes old.seen.places new.seen.places
 LeavesAll (self_test options) bytes old new =
     PutsLineAlone (self_test_text options.seed options.packets) old new Done
 
--- the bytes of the input that a command reads, if it tells them; a self test reads none
+-- the bytes of the input that a command reads, if a contract can see them; a self test reads none
 abbrev pub input_of : Asked → Objects → Option (List ℕ)
 input_of (self_test options) old = Some []
 input_of _ old = old.seen.left
 
--- the words are a command, and it leaves what it leaves of the whole input, if the input tells its bytes
+-- the words are a command, and it leaves what it leaves of the whole input, if a contract can see its bytes
 abbrev pub LeavesTheWhole : Option Asked → Objects → Objects → Type 0
 LeavesTheWhole None old new = ⊥
 LeavesTheWhole (Some asked) old new = IfSome (input_of asked old) (λ bytes. LeavesAll asked bytes old new)

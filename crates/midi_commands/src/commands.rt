@@ -75,7 +75,7 @@ pub fn run<S: Source, L: Lanes, W: Sink, N: Sink, K: Shelf>(
     // the one that failed, and of that one a front that isn't all of it. There is no memory: nothing is read
     // or put; if a state is kept (`grows`), exactly the puts of the items before the one that wanted it.
     // The setup can't be had, or is none: nothing is read or put. An object that the command doesn't name
-    // is unchanged. `plan_of` tells how each command cuts its input, and what it refuses, puts and means.
+    // is unchanged. `plan_of` says how each command cuts its input, and what it refuses, puts and means.
     ensures says { (before_last_line : Objects)
         × RunSays (command_of (map string_bytes words.now))
         (objects S.Source L.Lanes W.Sink N.Sink K.Shelf input.old lanes.old output.old notes.old shelf.old)
@@ -84,9 +84,9 @@ pub fn run<S: Source, L: Lanes, W: Sink, N: Sink, K: Shelf>(
         (objects S.Source L.Lanes W.Sink N.Sink K.Shelf input.new lanes.new output.new notes.new shelf.new)
         result }
 
-    // `Done` comes only if the words are a command. If the input tells its bytes, what was put is then
-    // exactly what the definitions tell of all of them, each command by its own: `LeavesAll` has a line for
-    // each. That all else stays is said by `says`.
+    // `Done` comes only if the words are a command. If a contract can see the bytes of the input, what was
+    // put is then exactly what the definitions give for all of them: `LeavesAll` has a line for each
+    // command. `says` says that all else stays.
     ensures whole { result ≡ Status.Done → LeavesTheWhole (command_of (map string_bytes words.now))
         (objects S.Source L.Lanes W.Sink N.Sink K.Shelf input.old lanes.old output.old notes.old shelf.old)
         (objects S.Source L.Lanes W.Sink N.Sink K.Shelf input.new lanes.new output.new notes.new shelf.new) }

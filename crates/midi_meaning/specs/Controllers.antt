@@ -38,7 +38,7 @@ role_of index =
     else if nat_le index 63 then fine
     else plain
 
--- Own rule: MSBs and LSBs of controllers are told from other controllers only if controllers are paired.
+-- Own rule: MSBs and LSBs of controllers differ from other controllers only if controllers are paired.
 abbrev pub pairing : Bool → Role → Role
 pairing paired coarse = if paired then coarse else plain
 pairing paired fine = if paired then fine else plain

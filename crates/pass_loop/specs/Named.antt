@@ -25,7 +25,8 @@ pub named-then : (named : Named) (ps qs : List Put) → AreNamed named ps → Ar
 named-then named [] qs are more = more
 named-then named (p ∷ ps) qs are more = (are.0, named-then named ps qs are.1 more)
 
--- the lanes tell and count what they did, and no fault of theirs comes; so with the output and the notes
+-- the content and the count of faults of the lanes stay, and the end is no fault of theirs; so with the
+-- output and the notes
 abbrev pub SparesLanes : RunEnd → Places → Places → Type 0
 SparesLanes end old new = (new.pieces ≡ old.pieces) × (new.faults.lanes ≡ old.faults.lanes) × (end ≢ LaneFault)
 

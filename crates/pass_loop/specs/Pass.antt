@@ -12,7 +12,7 @@ use Rattle.pass_loop.specs.declared.ends.Reason.TheVariants.{Truncated}
 use Rattle.pass_loop.specs.declared.ends.RunEnd.{RunEnd}
 use Rattle.pass_loop.specs.declared.ends.RunEnd.TheVariants.{Done, Refused, ReadFault, NoMemory}
 
--- what all objects of a run tell and count
+-- the content of all objects of a run, as far as a contract can see it, and their counts of faults
 pub record Seen : Type 0 where
   pub left : Option (List ℕ)
   pub reads : ℕ
@@ -22,7 +22,7 @@ abbrev pub seen : {S L W N : Type 0} → source.Ghosts S → lanes.Ghosts L → 
     L → W → N → Seen
 seen S L W N s l w n = record { left = S.left s; reads = S.faults s; places = places L W N l w n }
 
--- the same of places that are told together
+-- the same of places that are given as one value
 abbrev pub seen_with : {S : Type 0} → source.Ghosts S → S → Places → Seen
 seen_with S s places = record { left = S.left s; reads = S.faults s; places = places }
 

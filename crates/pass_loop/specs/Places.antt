@@ -1,4 +1,5 @@
--- What the places that a pass writes to tell and count, and what puts do to them.
+-- The places that a pass writes to: their content, as far as a contract can see it, their counts of faults,
+-- and what puts do to them.
 use Rattle.std.specs.Prelude.{◌≡◌, ℕ, Bool, List, ◌∷◌, ◌++◌, Option, None, Some, Result, Ok, Err}
 use Rattle.outside.specs.Outside.{Rose}
 use Rattle.outside.specs.declared.objects.Lanes as lanes
@@ -13,8 +14,8 @@ pub record Counts : Type 0 where
   pub output : ℕ
   pub notes : ℕ
 
--- what they tell, if they tell it, and their counts; and the names of the borrows, if they are borrowed, which show that they stay
--- the same objects
+-- their content, if a contract can see it, and their counts; and the names of the borrows, if they are
+-- borrowed, which show that they stay the same objects
 pub record Places : Type 0 where
   pub begun : Bool
   pub folder : Option (List ℕ)
@@ -39,7 +40,7 @@ places L W N l w n =
 abbrev pub borrowed : ℕ × ℕ × ℕ → Places → Places
 borrowed borrows s = record s { borrows = borrows }
 
--- what is told, with these after it
+-- a content that can be seen, with these after it
 abbrev pub with_more : {A : Type 0} → Option (List A) → List A → Option (List A)
 with_more None items = None
 with_more (Some old) items = Some (old ++ items)

@@ -9,7 +9,7 @@ use small_types::U4;
 
 /// The places of a pass: lanes, an output and notes.
 pub trait Outputs {
-    /// What they tell and count.
+    /// Their content, as far as a contract can see it, and their counts of faults.
     ghost places: { Self → Places };
 
     /// Puts a piece, which isn't empty, in a lane, once the lanes are begun. At an `Err`, which comes only

@@ -223,7 +223,7 @@ pub fn drive<
     drive_into(&OneByOne, reader, engine, input, &mut outputs)
 }
 
-// The same into places that are told together, the items that are held taken in this way.
+// The same for places that are given as one value, with the held items taken in this way.
 #[inline(always)]
 pub(crate) fn drive_into<
     A: Drop,
