@@ -36,7 +36,7 @@ pub record Message : Type 0 where
   pub destination : ℕ
   pub said : SaidToResponder
 
--- what a view says, wherever the bytes stand that it lends
+-- what a view says, wherever in memory the bytes are that it lends
 abbrev pub viewed_message : CiView → Message
 viewed_message view = record {
   address = view.address;

@@ -430,12 +430,15 @@ impl Down {
     }
 
     /// Returns the message that carries the packet, if in plain style one MIDI 1.0 message with the
-    /// packet's status byte does (M2-104-UM, default translation). These packets are, of either protocol, a
-    /// note off or on, the pressure of a note or of a channel, a bend, a control change of a controller
-    /// that has a value and isn't one of a pair, and a channel mode message other than Reset All
-    /// Controllers; and a program change of MIDI 1.0. The answer is that of `packet`, which would leave the
-    /// translator unchanged. `None` exactly for other packets and in compact style: `packet` has their
-    /// answer.
+    /// packet's status byte does (M2-104-UM, default translation):
+    ///
+    /// - a note off or on, the pressure of a note or of a channel, or a bend, of either protocol;
+    /// - a control change, of either protocol, of a controller that has a value and isn't one of a pair;
+    /// - a channel mode message other than Reset All Controllers, of either protocol;
+    /// - a program change of MIDI 1.0.
+    ///
+    /// The answer is that of `packet`, which would leave the translator unchanged. `None` exactly for other
+    /// packets and in compact style: `packet` has their answer.
     #[inline(always)]
     pub fn lowered(&self, packet: &EncodedPacket) -> Option<LoweredMessage>
         ensures { MatchOption result (goes_direct self.now packet.now ≡ false)

@@ -69,10 +69,15 @@ impl EncodedPacket {
         Ok(packet_of(&framed.words, begins_direct(first), false))
     }
 
-    /// The packet that these two words encode (M2-104-UM), if it is a direct message whose byte 3 is below
-    /// 128, a 7-bit exclusive in which all six places are below 128, counted or not, or another voice
-    /// message of MIDI 2.0, except a program, whose bytes 3 and 4 are below 128. `None` for other words:
-    /// `new` has their answer.
+    /// The packet that these two words encode (M2-104-UM), if a few of their bytes show that there is no
+    /// reason to refuse it:
+    ///
+    /// - a direct message whose byte 3 is below 128;
+    /// - a 7-bit exclusive that counts at most six bytes, all six places of which are below 128, counted or
+    ///   not;
+    /// - another voice message of MIDI 2.0, except a program, whose bytes 3 and 4 are below 128.
+    ///
+    /// `None` for other words: `new` has their answer.
     #[inline(always)]
     #[tactic(auto, using(crate::proofs::LowLaws::fine_low_part, crate::proofs::LowLaws::fine_voice2))]
     pub fn of_two(first: u32, second: u32) -> Option<EncodedPacket>

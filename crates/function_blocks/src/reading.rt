@@ -18,9 +18,9 @@ impl Setup {
     /// Reads a setup from a TOML text, by the rules in their order (`Rule`; own rules). A number is a TOML
     /// integer, and unknown keys are ignored. Returns the setup, which keeps all rules.
     ///
-    /// `Field` is returned exactly when the rule of that number is the first that is broken, and `Syntax`
-    /// exactly when the text is short enough and isn't UTF-8, or `toml` gives no tree for it. Instead of any
-    /// answer, `NoMemory` is returned when there is no memory.
+    /// `Field` is returned exactly if the rule of that number is the first that is broken. `Syntax` is
+    /// returned exactly if the text is short enough, but isn't UTF-8 or has no tree by `toml`. Instead of
+    /// any answer, `NoMemory` is returned if there is no memory.
     pub fn read(alloc: Global, text: &[u8]) -> Result<Setup, SetupFault>
         ensures setup { MeetsRead (setup_of text.now) result }
         ensures fits { IfOk result IsSetup }

@@ -92,8 +92,8 @@ pub struct Profile {
     pub on: bool,
 }
 
-/// The identity of the device, as it stands in Device Identity (M2-104-UM): family and model have seven bits
-/// in each byte, the lowest first.
+/// The identity of the device, as it is written in Device Identity (M2-104-UM): family and model have seven
+/// bits in each byte, the lowest first.
 #[derive(Clone, Copy, Debug, PartialEq, Eq)]
 pub struct Identity {
     /// Each 0 to 127.

@@ -75,9 +75,9 @@ impl Status {
         }
     }
 
-    /// The exit code: 0 for `Done`, 1 for `Refused`, 2 to 6 for faults of reading, of the lanes, of the
-    /// output, of the notes and of the shelf, 7 for `Usage`, 8 for `SetupSyntax`, 9 for `SetupField`, 10 for
-    /// `NoMemory` (own rule).
+    /// The exit code (own rule): 0 for `Done`, 1 for `Refused`; 2 to 6 for faults of reading, of the lanes,
+    /// of the output, of the notes and of the shelf; 7 for `Usage`, 8 for `SetupSyntax`, 9 for
+    /// `SetupField`, 10 for `NoMemory`.
     pub fn exit_code(self) -> u8
         ensures { result ≡ exit_code_of self }
     {

@@ -60,10 +60,11 @@ module _ (paired : Bool) where
         compact_piece paired past whole (packet.Exclusive group form bytes) ≡
         plain_piece paired whole (packet.Exclusive group form bytes)
 
-  -- Compact style leaves out each status byte that equals the running status, the two control changes that
-  -- select the parameter of a Set if that one is selected, and the two that select the bank of a Program if
-  -- that one is held. It leaves out nothing else: a MIDI 1.0 voice message loses at most its status byte,
-  -- even if it selects what is already selected, and all other packets have their plain messages.
+  -- Compact style leaves out each status byte that equals the running status. It leaves out the two control
+  -- changes that select the parameter of a Set, if that one is selected, and the two that select the bank of
+  -- a Program, if that one is held. It leaves out nothing else. A MIDI 1.0 voice message loses at most its
+  -- status byte, even if it selects what is already selected, and all other packets have their plain
+  -- messages.
   pub record CompactLeavesOutWhatIsHeld : Type 0 where
     pub midi1 : (past : List ℕ) (whole : Option (List ℕ)) (group : ℕ) (message : Voice1) →
         compact_piece paired past whole (packet.Voice1 group message) ≡

@@ -12,24 +12,23 @@ pub trait Outputs {
     /// Their content, as far as a contract can see it, and their counts of faults.
     ghost places: { Self → Places };
 
-    /// Puts a piece, which isn't empty, in a lane, once the lanes are begun. At an `Err`, which comes only
-    /// if the count of the lanes' faults rose and is `LaneFault`, the lane gained nothing, or a front of
+    /// Puts a piece, which isn't empty, in a lane, once the lanes are begun. An `Err` is `LaneFault`, and
+    /// comes only if the count of the lanes' faults rose. The lane has then gained nothing, or a front of
     /// the piece that is neither empty nor all of it.
     fn put_lane(&mut self, lane: U4, piece: &[u8]) -> Result<(), RunEnd>
         requires begun { (places self.old).begun ≡ true }
         requires piece { 0 < length piece.now }
         ensures { Puts (in_lane lane piece.now ∷ []) (places self.old) (places self.new) result };
 
-    /// Puts text, which isn't empty, in the output. At an `Err`, which comes only if the count of the
-    /// output's faults rose and is `OutputFault`, the output gained at most a front of the text that isn't
-    /// all of it.
+    /// Puts text, which isn't empty, in the output. An `Err` is `OutputFault`, and comes only if the count
+    /// of the output's faults rose. The output has then gained at most a front of the text that isn't all
+    /// of it.
     fn put_output(&mut self, text: &[u8]) -> Result<(), RunEnd>
         requires { 0 < length text.now }
         ensures { Puts (in_output text.now ∷ []) (places self.old) (places self.new) result };
 
-    /// Puts text, which isn't empty, in the notes. At an `Err`, which comes only if the count of the
-    /// notes' faults rose and is `NoteFault`, the notes gained at most a front of the text that isn't all of
-    /// it.
+    /// Puts text, which isn't empty, in the notes. An `Err` is `NoteFault`, and comes only if the count of
+    /// the notes' faults rose. The notes have then gained at most a front of the text that isn't all of it.
     fn put_notes(&mut self, text: &[u8]) -> Result<(), RunEnd>
         requires { 0 < length text.now }
         ensures { Puts (in_notes text.now ∷ []) (places self.old) (places self.new) result };

@@ -6,8 +6,8 @@ ghost use Rattle.pass_loop.specs.Put.{in_notes, in_output};
 use crate::ends::RunEnd;
 use outside::{Lanes, Sink};
 
-/// Puts text, which isn't empty, in the output. At an `Err`, which comes only if the count of the output's
-/// faults rose and is `OutputFault`, the output gained at most a front of the text that isn't all of it.
+/// Puts text, which isn't empty, in the output. An `Err` is `OutputFault`, and comes only if the count of
+/// the output's faults rose. The output has then gained at most a front of the text that isn't all of it.
 #[inline]
 pub fn put_output<L: Lanes, W: Sink, N: Sink>(
     text: &[u8],
@@ -26,8 +26,8 @@ pub fn put_output<L: Lanes, W: Sink, N: Sink>(
     }
 }
 
-/// Puts text, which isn't empty, in the notes. At an `Err`, which comes only if the count of the notes'
-/// faults rose and is `NoteFault`, the notes gained at most a front of the text that isn't all of it.
+/// Puts text, which isn't empty, in the notes. An `Err` is `NoteFault`, and comes only if the count of the
+/// notes' faults rose. The notes have then gained at most a front of the text that isn't all of it.
 #[inline]
 pub fn put_notes<L: Lanes, W: Sink, N: Sink>(
     text: &[u8],

@@ -93,7 +93,7 @@ Carries state offset packet old new result =
 
 -- ---- from the first to the last
 
--- the options of an engine: the order is that of its reader, and says nothing of the work
+-- the options of an engine; the order belongs to its reader, and the work doesn't depend on it
 abbrev pub down_options : DownState → DownOptions
 down_options state = record { paired = paired_of state; style = style_of state; order = Big; room = limit_of state }
 

@@ -81,8 +81,8 @@ impl DownRun {
     }
 }
 
-// Puts the piece of each packet that is carried into the lane of its group, and in the notes the line of each
-// packet that is listed, at the end those of the exclusives that are still open.
+// Puts the piece of each packet that is carried into the lane of its group, and the line of each packet
+// that is listed in the notes. At the end it puts the lines of the exclusives that are still open.
 #[derive(Drop)]
 struct DownEngine {
     down: Down,
@@ -138,9 +138,9 @@ impl Engine<Framed, EncodedPacket> for DownEngine {
 }
 
 /// Translates a recording down, to its end or to the first packet that is refused (M2-104-UM, default
-/// translation; what that leaves out is listed by own rule). Puts the piece of each packet that is carried,
-/// in the style of the translation, into the lane of its group, and in the notes the line of each packet
-/// that is listed, at the end those of the exclusives that are still open. Takes no memory.
+/// translation; what that leaves out is listed by own rule). The piece of each packet that is carried is
+/// put into the lane of its group, in the style of the translation. The line of each packet that is listed
+/// is put in the notes, and at the end the lines of the exclusives that are still open. Takes no memory.
 ///
 /// `Refused` comes for `Truncated`, `InputTooLong`, `BadCount`, `HighBit`, `DataIncrement`, `DataDecrement`
 /// and `ExclusiveTooLong`, with the number of bytes before what is refused. `ReadFault`, `LaneFault` and

@@ -1,4 +1,4 @@
--- What the translator ends as once what it lends is given back.
+-- The state of the translator once what it lends is given back.
 use Rattle.std.specs.Prelude.{◌≡◌}
 use Rattle.std.specs.Borrow.{MutBor, Fml}
 use Rattle.std.specs.Io.BufRead.{Rests}
