@@ -3,14 +3,16 @@
  * and what is proved.
  *
  * A handle is a struct of the caller's. It is all zero while it is closed: start from LARBOARDYUZU_CLOSED,
- * open it, use it, close it. To close a closed handle does nothing. The calls that end in _open take all
+ * open it, use it, close it. Closing a closed handle does nothing. The calls that end in _open take all
  * memory that the handle ever needs, and those that end in _close return it; no other call takes any.
  *
- * Each call except _close and the sizes returns a status, an enum larboardyuzu_status, whatever numbers are
- * passed to it. A call over packets or bytes tests the handle first, then the buffers, then the input, and
- * returns the first reason to refuse. If it refuses, it writes nothing to a buffer, and empties the struct of
- * a packet or byte: zero, except that the group of a piece or of replies is 255, and except `need` and an
- * offset as said there. A block call keeps what it wrote before the refusal.
+ * Each call returns a status, an enum larboardyuzu_status, whatever numbers are passed to it; only those that
+ * end in _close or _size, larboardyuzu_version and larboardyuzu_words_in_packet return none. A call over
+ * packets or bytes tests the handle first, then the buffers, then the input, and returns the first reason to
+ * refuse. If it refuses, it writes nothing to a buffer, and sets the struct of a packet or byte to zero,
+ * except these fields, which are explained at each struct: `need`; the group of a piece or of replies, which
+ * is 255; the offset of an outcome; and what is known of a part after LARBOARDYUZU_EXCLUSIVE_TOO_LONG. A
+ * block call keeps what it wrote before the refusal.
  *
  * What C must promise, since nothing checks it:
  *  - A handle is all zero before it is opened, and nobody else writes into it. It may be moved: copy it,
@@ -71,8 +73,8 @@ enum larboardyuzu_status {
     LARBOARDYUZU_NO_MEMORY = 1,
     LARBOARDYUZU_HANDLE_CLOSED = 2,
     LARBOARDYUZU_ALREADY_OPEN = 3,
-    LARBOARDYUZU_BAD_ROOM = 4,            /* room isn't 6 (SysEx8: 13) to 1,048,576; a state's lists */
-    LARBOARDYUZU_BAD_WORD_COUNT = 5,      /* not as many words as the message type of the first one has */
+    LARBOARDYUZU_BAD_ROOM = 4,            /* room, or a state's notes or params, is out of its range */
+    LARBOARDYUZU_BAD_WORD_COUNT = 5,      /* not the number of words that the first one's message type has */
     LARBOARDYUZU_SMALL_BUFFER = 6,        /* a buffer is too small; `need` is a size that does */
     LARBOARDYUZU_BAD_COUNT = 7,           /* a 7-bit exclusive packet counts more than six bytes */
     LARBOARDYUZU_HIGH_BIT = 8,            /* a data byte is 128 or more */
@@ -80,16 +82,16 @@ enum larboardyuzu_status {
     LARBOARDYUZU_DATA_DECREMENT = 10,     /* control change 97, which can't be carried */
     LARBOARDYUZU_EXCLUSIVE_TOO_LONG = 11, /* an exclusive has more than room bytes, and is dropped */
     LARBOARDYUZU_BAD_GROUP = 12,          /* a group or a cable isn't 0 to 15 */
-    LARBOARDYUZU_NOTHING = 13,            /* there is none */
+    LARBOARDYUZU_NOTHING = 13,            /* what was asked for doesn't exist */
     LARBOARDYUZU_OTHER_KIND = 14,         /* the handle is open for something else */
     LARBOARDYUZU_BAD_STREAMS = 15,        /* not 1 to 64 streams */
     LARBOARDYUZU_SETUP_SYNTAX = 16,       /* the setup isn't UTF-8, or isn't TOML */
     LARBOARDYUZU_SETUP_RULE = 17,         /* the setup breaks a rule, whose number is returned */
     LARBOARDYUZU_BAD_BITS = 18,           /* there is no scaling between these widths */
-    LARBOARDYUZU_BAD_VALUE = 19,          /* the value has more bits than that */
+    LARBOARDYUZU_BAD_VALUE = 19,          /* the value has more bits than its width */
     LARBOARDYUZU_STATE_FULL = 20,         /* the message adds to a list of the state that is full; reset it */
     LARBOARDYUZU_BAD_FLAGS = 21,          /* a flag that the call doesn't have */
-    LARBOARDYUZU_BAD_SIZE = 22,           /* not as many bytes as the call takes */
+    LARBOARDYUZU_BAD_SIZE = 22,           /* not the number of bytes that the call takes */
     LARBOARDYUZU_BAD_CHANNEL = 23         /* a channel isn't 0 to 15 or LARBOARDYUZU_NO_CHANNEL */
 };
 
@@ -170,8 +172,8 @@ typedef struct larboardyuzu_block {
     size_t written;    /* places written to the first buffer */
     size_t items;      /* items written to the second buffer */
     size_t refused;    /* how many of `taken`, at its end, are the packet or byte that was refused; else 0 */
-    size_t need;       /* with SMALL_BUFFER, if the first buffer is short: a whole size that does; else 0 */
-    size_t need_items; /* with SMALL_BUFFER, if the second buffer is short: 1; else 0 */
+    size_t need;       /* with SMALL_BUFFER, if the first buffer is short: what an empty one needs; else 0 */
+    size_t need_items; /* with SMALL_BUFFER, if the second buffer is full: 1; else 0 */
 } larboardyuzu_block;
 
 /* ---- Down: packets to MIDI 1.0 bytes ---- */
@@ -211,7 +213,8 @@ uint32_t larboardyuzu_down_packets(larboardyuzu_down *down, const uint32_t *word
                                    uint64_t offset, uint8_t *bytes, size_t size, larboardyuzu_piece *pieces,
                                    size_t piece_count, larboardyuzu_block *block);
 
-/* Finds the offset at which the exclusive began that a group has open. LARBOARDYUZU_NOTHING: none is open. */
+/* Writes the offset of the packet that began the exclusive that a group has open. LARBOARDYUZU_NOTHING: none
+ * is open. */
 uint32_t larboardyuzu_down_begun(const larboardyuzu_down *down, uint8_t group, uint64_t *offset);
 
 /* Makes the handle as if it were just opened, with the same arguments, and takes no memory: no exclusive is
@@ -247,7 +250,8 @@ uint32_t larboardyuzu_up_bytes(larboardyuzu_up *up, const uint8_t *bytes, size_t
                                uint32_t *words, size_t size, larboardyuzu_outcome *outcomes,
                                size_t outcome_count, larboardyuzu_block *block);
 
-/* Returns what is open at the end of the stream. */
+/* Writes the line of the message or exclusive that is open at the end of the stream, with the offset of its
+ * first byte. LARBOARDYUZU_NOTHING: none is open, and the line is unchanged. */
 uint32_t larboardyuzu_up_end(const larboardyuzu_up *up, larboardyuzu_line *line);
 
 /* Makes the handle as if it were just opened, with the same arguments, and takes no memory: no message is
@@ -281,7 +285,7 @@ uint32_t larboardyuzu_parser_bytes(larboardyuzu_parser *parser, const uint8_t *b
                                    larboardyuzu_outcome *outcomes, size_t outcome_count,
                                    larboardyuzu_block *block);
 
-/* Returns what is open at the end of the stream. */
+/* The same as larboardyuzu_up_end. */
 uint32_t larboardyuzu_parser_end(const larboardyuzu_parser *parser, larboardyuzu_line *line);
 
 /* Makes the handle as if it were just opened, with the same arguments, and takes no memory. */
@@ -327,9 +331,10 @@ enum larboardyuzu_heard {
 typedef struct larboardyuzu_replies {
     size_t written;  /* words of replies: whole packets, in the order of sending */
     size_t need;     /* with LARBOARDYUZU_SMALL_BUFFER a size that does, else 0 */
-    uint64_t offset; /* of its line of the listing: an exclusive that is cut off or stray */
+    uint64_t offset; /* of its line: of the packet if it is stray, or of the first one of an exclusive that it
+                      * cuts off; else 0 */
     uint8_t heard;   /* enum larboardyuzu_heard */
-    uint8_t group;   /* of the exclusive, or of its line; 255 if it has none */
+    uint8_t group;   /* of a packet of an exclusive, and so of its line; 255 for other packets */
     uint8_t kind;    /* of its line, enum larboardyuzu_kind */
 } larboardyuzu_replies;
 
@@ -351,10 +356,10 @@ uint32_t larboardyuzu_endpoint_packets(larboardyuzu_endpoint *endpoint, const ui
                                        larboardyuzu_replies *replies, size_t reply_count,
                                        larboardyuzu_block *block);
 
-/* Returns the protocol in force: 1 for MIDI 1.0, 2 for MIDI 2.0. */
+/* Writes the protocol in force: 1 for MIDI 1.0, 2 for MIDI 2.0. */
 uint32_t larboardyuzu_endpoint_protocol(const larboardyuzu_endpoint *endpoint, uint8_t *protocol);
 
-/* Returns the MUID in force of a function block, counted from 0. LARBOARDYUZU_NOTHING: the block has no
+/* Writes the MUID in force of a function block, counted from 0. LARBOARDYUZU_NOTHING: the block has no
  * MIDI-CI or has used up its MUIDs, or there is no such block. */
 uint32_t larboardyuzu_endpoint_muid(const larboardyuzu_endpoint *endpoint, uint8_t block, uint32_t *muid);
 
@@ -367,11 +372,12 @@ typedef struct larboardyuzu_profile {
     bool is_on; /* now */
 } larboardyuzu_profile;
 
-/* Returns a profile, counted from 0 in the order of the setup. */
+/* Writes a profile, counted from 0 in the order of the setup. LARBOARDYUZU_NOTHING: there is none. */
 uint32_t larboardyuzu_endpoint_profile(const larboardyuzu_endpoint *endpoint, size_t index,
                                        larboardyuzu_profile *profile);
 
-/* Finds the offset at which the exclusive began that a group has open. LARBOARDYUZU_NOTHING: none is open. */
+/* Writes the offset of the packet that began the exclusive that a group has open. LARBOARDYUZU_NOTHING: none
+ * is open. */
 uint32_t larboardyuzu_endpoint_begun(const larboardyuzu_endpoint *endpoint, uint8_t group, uint64_t *offset);
 
 /* Makes the handle as if it were just opened with the same setup, and takes no memory: protocol, MUIDs and
@@ -405,17 +411,17 @@ enum larboardyuzu_fact_kind {
 };
 
 typedef struct larboardyuzu_fact {
-    uint64_t count;
-    uint32_t value; /* of 7 or 14 bits after bytes, of 16 or 32 after packets */
-    uint8_t kind;   /* enum larboardyuzu_fact_kind */
-    uint8_t group;
-    uint8_t channel;
-    uint8_t number;
-    uint8_t bank;
-    uint8_t bank_lsb;
-    bool has_bank;
-    bool has_value;
-    bool is_loose; /* a relative change came after the value */
+    uint64_t count;   /* of system messages, at most 2^64 - 1 */
+    uint32_t value;   /* of 7 or 14 bits after bytes, of 16 or 32 after packets; 0 if there is none */
+    uint8_t kind;     /* enum larboardyuzu_fact_kind */
+    uint8_t group;    /* 0 to 15 */
+    uint8_t channel;  /* 0 to 15; of system messages 0 */
+    uint8_t number;   /* 0 to 127; of a parameter the LSB of its number */
+    uint8_t bank;     /* the MSB of a program's bank, or of a parameter's number */
+    uint8_t bank_lsb; /* the LSB of a program's bank */
+    bool has_bank;    /* a bank was selected for the program */
+    bool has_value;   /* there is a value: never of a program or of system messages */
+    bool is_loose;    /* a relative change of the parameter came after its value */
 } larboardyuzu_fact;
 
 /* The most that `notes` and `params` of larboardyuzu_state_open may be. */
@@ -433,14 +439,15 @@ typedef struct larboardyuzu_fact {
 uint32_t larboardyuzu_state_open(larboardyuzu_state *state, uint32_t room, uint32_t notes, uint32_t params,
                                  uint32_t flags);
 
-/* Takes one packet. After LARBOARDYUZU_STATE_FULL nothing has changed: it adds to a list that is full. */
+/* Takes one packet. LARBOARDYUZU_STATE_FULL: it adds to a list that is full, and nothing has changed. */
 uint32_t larboardyuzu_state_packet(larboardyuzu_state *state, const uint32_t *words, size_t count);
 
 /* Takes packets that follow each other. The block has no buffers. */
 uint32_t larboardyuzu_state_packets(larboardyuzu_state *state, const uint32_t *words, size_t count,
                                     larboardyuzu_block *block);
 
-/* Takes one byte. After LARBOARDYUZU_STATE_FULL it is taken, but the message that it completes isn't kept. */
+/* Takes one byte. LARBOARDYUZU_STATE_FULL: the message that it completes adds to a list that is full, and
+ * isn't kept; the byte is taken. */
 uint32_t larboardyuzu_state_byte(larboardyuzu_state *state, uint8_t byte);
 
 /* Takes bytes that follow each other. The block has no buffers. */
@@ -490,7 +497,8 @@ typedef struct larboardyuzu_part {
 /* streams: how many exclusives may be open at once, 1 to 64. room: the most bytes of one, 13 to 1,048,576. */
 uint32_t larboardyuzu_sysex8_open(larboardyuzu_sysex8 *sysex8, uint8_t streams, uint32_t room);
 
-/* Takes one packet. Packets of other types do nothing. A buffer of fewer than `room` bytes is refused. */
+/* Takes one packet. A packet of another type changes nothing. A buffer of fewer than `room` bytes is refused,
+ * whatever the packet is. */
 uint32_t larboardyuzu_sysex8_packet(larboardyuzu_sysex8 *sysex8, const uint32_t *words, size_t count,
                                     uint64_t offset, uint8_t *bytes, size_t size, larboardyuzu_part *part);
 
@@ -500,8 +508,8 @@ uint32_t larboardyuzu_sysex8_packets(larboardyuzu_sysex8 *sysex8, const uint32_t
                                      uint64_t offset, uint8_t *bytes, size_t size, larboardyuzu_part *parts,
                                      size_t part_count, larboardyuzu_block *block);
 
-/* Finds the offset at which the exclusive began that a stream of a group has open. LARBOARDYUZU_NOTHING: none
- * is open. */
+/* Writes the offset of the packet that began the exclusive that a stream of a group has open.
+ * LARBOARDYUZU_NOTHING: none is open. */
 uint32_t larboardyuzu_sysex8_begun(const larboardyuzu_sysex8 *sysex8, uint8_t group, uint8_t stream,
                                    uint64_t *offset);
 
@@ -541,7 +549,7 @@ uint32_t larboardyuzu_usb_bytes(larboardyuzu_usb *usb, const uint8_t *bytes, siz
                                 uint8_t *events, size_t size, larboardyuzu_outcome *outcomes,
                                 size_t outcome_count, larboardyuzu_block *block);
 
-/* Returns what is open at the end of the stream. */
+/* The same as larboardyuzu_up_end. */
 uint32_t larboardyuzu_usb_end(const larboardyuzu_usb *usb, larboardyuzu_line *line);
 
 /* Makes the handle as if it were just opened, with the same arguments, and takes no memory. */
@@ -551,12 +559,12 @@ void larboardyuzu_usb_close(larboardyuzu_usb *usb);
 
 /* What one event carries. */
 typedef struct larboardyuzu_carried {
-    uint8_t cable;  /* 0 to 15 */
-    uint8_t length; /* how many of the bytes, 1 to 3 */
-    uint8_t bytes[3];
+    uint8_t cable;    /* 0 to 15 */
+    uint8_t length;   /* how many of the bytes, 1 to 3 */
+    uint8_t bytes[3]; /* the last three of the event, also those that it doesn't carry */
 } larboardyuzu_carried;
 
-/* Returns what an event of four bytes carries. LARBOARDYUZU_BAD_SIZE: size isn't 4.
+/* Writes what an event of four bytes carries. LARBOARDYUZU_BAD_SIZE: size isn't 4.
  * LARBOARDYUZU_NOTHING: its code is reserved. */
 uint32_t larboardyuzu_usb_carried(const uint8_t *event, size_t size, larboardyuzu_carried *carried);
 
@@ -580,7 +588,8 @@ uint32_t larboardyuzu_words_in_packet(uint32_t first);
 /* Cuts bytes into the words of whole packets. flags: LARBOARDYUZU_LITTLE_ENDIAN; without it the bytes of a
  * word come highest first. block: bytes taken, and words written. LARBOARDYUZU_SMALL_BUFFER before a packet
  * for which the rest of `words` is too small; need is how many words it has. LARBOARDYUZU_BAD_SIZE before a
- * last packet whose bytes aren't all there: pass them again with those that follow. */
+ * last packet whose bytes aren't all there, and always before fewer than four bytes: pass them again with
+ * those that follow. */
 uint32_t larboardyuzu_packets_in(const uint8_t *bytes, size_t count, uint32_t flags, uint32_t *words,
                                  size_t size, larboardyuzu_block *block);
 
@@ -595,10 +604,11 @@ uint32_t larboardyuzu_exclusive_packet(uint8_t group, const uint8_t *payload, si
 uint32_t larboardyuzu_packet_line(const uint32_t *words, size_t count, uint64_t offset, uint8_t *text,
                                   size_t size, size_t *length);
 
-/* Scales a value of 7 bits to 16 or 32, or of 14 bits to 32 (M2-115-U, min-centre-max scaling). */
+/* Scales a value of 7 bits to 16 or 32, or of 14 bits to 32 (M2-115-U, min-centre-max scaling). narrow, wide:
+ * widths in bits. LARBOARDYUZU_BAD_BITS: other widths. LARBOARDYUZU_BAD_VALUE: the value has more bits. */
 uint32_t larboardyuzu_scale_up(uint32_t value, uint8_t narrow, uint8_t wide, uint32_t *scaled);
 
-/* Takes the upper 7 of 16 bits, or the upper 7 or 14 of 32 (M2-115-U). */
+/* Takes the upper 7 of 16 bits, or the upper 7 or 14 of 32 (M2-115-U). The same statuses. */
 uint32_t larboardyuzu_scale_down(uint32_t value, uint8_t wide, uint8_t narrow, uint32_t *scaled);
 
 #ifdef __cplusplus
