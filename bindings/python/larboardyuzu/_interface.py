@@ -1,5 +1,5 @@
-"""The structs and prototypes of include/larboardyuzu.h, as ctypes has them. Nothing is loaded here, so that c/interface.py can compare them
-with the header: each struct has the name of the header after larboardyuzu_, and each call the types of its arguments."""
+"""The structs and prototypes of include/larboardyuzu.h, as ctypes has them. Nothing is loaded here, so that bindings/compare.py can compare
+them with the header: each struct has the name of the header after larboardyuzu_, and each call the types of its arguments."""
 from ctypes import POINTER, Structure, c_bool, c_char_p, c_size_t, c_uint8, c_uint32, c_uint64, c_void_p
 
 

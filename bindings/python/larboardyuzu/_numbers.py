@@ -1,4 +1,4 @@
-"""The numbers of include/larboardyuzu.h: the names of the header without LARBOARDYUZU_. c/interface.py compares them with the sources."""
+"""The numbers of include/larboardyuzu.h: the names of the header without LARBOARDYUZU_. bindings/compare.py compares them with it."""
 
 VERSION = 0x000300
 

@@ -192,7 +192,7 @@ class Replies(NamedTuple):
 
     words: List[int]  # whole packets, in the order of sending
     heard: Optional[Heard]  # None if the packet is no stream message and ends no exclusive
-    group: Optional[int]  # of the exclusive, or of the line
+    group: Optional[int]  # of a packet of an exclusive, and so of its line; None for other packets
     line: Optional[Line]  # an exclusive that was cut off or is stray
 
 
@@ -207,7 +207,7 @@ class Profile(NamedTuple):
 
 
 class Part(NamedTuple):
-    """What a packet added to the 8-bit exclusive of its stream."""
+    """What a packet added to the 8-bit exclusive of its stream. One that makes it too long raises Refused: TOO_LONG doesn't occur."""
 
     data: bytes  # the exclusive that it ends
     answer: Joined
@@ -223,11 +223,11 @@ class Fact(NamedTuple):
     kind: FactKind
     group: int
     channel: Optional[int]  # None of the counts of system messages
-    number: int  # the note, the controller, the program, or the index of the parameter
+    number: int  # the note, the controller, the program, or the LSB of the parameter's number
     bank: Optional[Tuple[int, int]]  # the bank of a program (MSB, LSB), if it has one
-    parameter_bank: Optional[int]  # the bank of a parameter
+    parameter_bank: Optional[int]  # the MSB of the parameter's number
     value: Optional[int]  # 7 or 14 bits after bytes, 16 or 32 after packets
-    count: int  # how many system messages
+    count: int  # how many system messages, at most 2**64 - 1
     is_loose: bool  # a relative change came after the value
 
 

@@ -246,7 +246,7 @@ impl Replies {
         (self.heard != sys::HEARD_NOTHING).then(|| Heard::of(self.heard))
     }
 
-    /// The group of the exclusive, or of the line.
+    /// The group of a packet of an exclusive, and so of its line. `None` for other packets.
     #[must_use]
     pub fn group(&self) -> Option<u8> {
         numbered(self.group)

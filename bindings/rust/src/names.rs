@@ -176,7 +176,8 @@ numbers! {
         RestartedWhole = JOINED_RESTARTED_WHOLE,
         /// It begins an exclusive, and all slots are taken: it is passed over.
         Full = JOINED_FULL,
-        /// It makes an exclusive longer than `room`, which is dropped.
+        /// It makes an exclusive longer than `room`, which is dropped. The calls of this crate return
+        /// [`ExclusiveTooLong`](crate::Error::ExclusiveTooLong) instead.
         TooLong = JOINED_TOO_LONG,
     }
 }
@@ -223,7 +224,7 @@ impl sys::Outcome {
     }
 }
 
-/// A group or channel; 255 means that there is none.
+/// A group or channel, 0 to 15; `None` of any other number, such as 255.
 pub(crate) fn numbered(number: u8) -> Option<u8> {
     (number < 16).then_some(number)
 }

@@ -71,8 +71,9 @@ sizes! {
 /// Cuts bytes into the words of whole packets, and writes them to the front of `words`. The bytes of a word come highest first,
 /// or with [`LITTLE_ENDIAN`](Flags::LITTLE_ENDIAN) lowest first. `taken` counts bytes, `written` words.
 ///
-/// It ends as `BadSize` before a last packet whose bytes aren't all there, and as `SmallBuffer` before a packet for which the
-/// rest of `words` is too small; `need` is the number of its words.
+/// It ends as `BadSize` before a last packet whose bytes aren't all there, and always before fewer than four bytes; as
+/// `SmallBuffer` before a packet for which the rest of `words` is too small, and `need` is the number of its words; and at
+/// once as `BadFlags` if another flag is set.
 ///
 /// ```
 /// use larboardyuzu::{packets_in, Error, Flags};
@@ -245,7 +246,7 @@ pub fn scale_up(value: u32, narrow: u8, wide: u8) -> Result<u32> {
     answer(unsafe { sys::larboardyuzu_scale_up(value, narrow, wide, &mut scaled) }, 0).map(|()| scaled)
 }
 
-/// Takes the upper 7 of 16 bits, or the upper 7 or 14 of 32 (M2-115-U).
+/// Takes the upper 7 of 16 bits, or the upper 7 or 14 of 32 (M2-115-U, downscaling).
 ///
 /// # Errors
 ///

@@ -129,7 +129,8 @@ impl State {
     ///
     /// # Errors
     ///
-    /// `BadGroup`, `BadChannel`; `SmallBuffer` with the number of facts, and nothing is written.
+    /// `BadGroup` and `BadChannel` if the group or the channel isn't 0 to 15; `SmallBuffer`, with the number of facts, if
+    /// `facts` is too small, and then nothing is written.
     ///
     /// ```
     /// use larboardyuzu::{Error, Fact, FactKind, Flags, State};

@@ -1,7 +1,8 @@
 //! The C interface: the numbers, structs and calls of `include/larboardyuzu.h`.
 //!
-//! `c/interface.py` compares this file with the header and the sources of the library: each constant has the name of the
-//! header without `LARBOARDYUZU_`, each `#[repr(C)]` struct the fields of its counterpart.
+//! `bindings/compare.py` compares this file with the header, and `c/interface.py` the header with the sources of the
+//! library. Each constant has the name of the header without `LARBOARDYUZU_`, each `#[repr(C)]` struct the fields of
+//! its counterpart.
 
 use core::ffi::c_void;
 use core::ptr::null_mut;
@@ -179,7 +180,8 @@ pub struct Piece {
     pub written: usize,
     /// With `SMALL_BUFFER` a size that does, else 0.
     pub need: usize,
-    /// The offset of its line of the listing.
+    /// The offset of its line of the listing: of the packet, or of the first one of an exclusive that is cut off;
+    /// else 0.
     pub offset: u64,
     /// The group whose MIDI 1.0 stream the bytes belong to, 0 to 15.
     pub lane: u8,
@@ -197,11 +199,12 @@ pub struct Replies {
     pub written: usize,
     /// With `SMALL_BUFFER` a size that does, else 0.
     pub need: usize,
-    /// The offset of its line of the listing.
+    /// The offset of its line of the listing: of the packet if it is stray, or of the first one of an exclusive that it
+    /// cuts off; else 0.
     pub offset: u64,
     /// `enum larboardyuzu_heard`.
     pub heard: u8,
-    /// The group of the exclusive, or of the line; 255 if there is none.
+    /// The group of a packet of an exclusive, and so of its line; 255 for other packets.
     pub group: u8,
     /// `enum larboardyuzu_kind` of its line; 0 if it has none.
     pub kind: u8,
@@ -227,25 +230,26 @@ pub struct Profile {
 #[repr(C)]
 #[derive(Clone, Copy, Debug, Default, PartialEq, Eq)]
 pub struct Fact {
-    /// The number of messages (system messages only).
+    /// The number of messages, at most 2^64 - 1 (system messages only).
     pub count: u64,
-    /// The value: 7 or 14 bits after bytes, 16 or 32 after packets.
+    /// The value: 7 or 14 bits after bytes, 16 or 32 after packets; 0 if there is none.
     pub value: u32,
     /// `enum larboardyuzu_fact_kind`.
     pub kind: u8,
     /// The group, 0 to 15.
     pub group: u8,
-    /// The channel, 0 to 15.
+    /// The channel, 0 to 15; of system messages 0.
     pub channel: u8,
-    /// The note, the controller, the program, or the index of the parameter.
+    /// The note, the controller, the program, or the LSB of the parameter's number: 0 to 127.
     pub number: u8,
-    /// The bank of a parameter, or the upper half of that of a program.
+    /// The MSB of a parameter's number, or of the bank of a program: 0 to 127.
     pub bank: u8,
-    /// The lower half of the bank of a program.
+    /// The LSB of the bank of a program: 0 to 127.
     pub bank_lsb: u8,
     /// Whether a bank was selected for the program.
     pub has_bank: bool,
-    /// Whether the parameter was ever set.
+    /// Whether there is a value: always up to `FACT_BEND`, never of a program or a count; of a parameter if it was
+    /// ever set.
     pub has_value: bool,
     /// Whether a relative change came after the value.
     pub is_loose: bool,
@@ -259,7 +263,7 @@ pub struct Part {
     pub written: usize,
     /// With `SMALL_BUFFER` a size that does, else 0.
     pub need: usize,
-    /// The offset at which the exclusive began that the packet cut off.
+    /// The offset at which the exclusive began that the packet cut off; else 0.
     pub cut_at: u64,
     /// `enum larboardyuzu_joined`.
     pub answer: u8,
@@ -269,7 +273,7 @@ pub struct Part {
     pub stream: u8,
 }
 
-/// What one USB-MIDI 1.0 event carries.
+/// What one USB-MIDI 1.0 event carries. Two values differ also if they differ only in bytes that aren't carried.
 #[repr(C)]
 #[derive(Clone, Copy, Debug, Default, PartialEq, Eq)]
 pub struct Carried {
@@ -277,7 +281,7 @@ pub struct Carried {
     pub cable: u8,
     /// How many of `bytes` it carries, 1 to 3.
     pub length: u8,
-    /// The bytes; those after `length` are 0.
+    /// The last three bytes of the event, also those after `length`, which it doesn't carry.
     pub bytes: [u8; 3],
 }
 
