@@ -1,8 +1,8 @@
-// larboardyuzu.hpp: the calls of larboardyuzu.h as C++17. A handle closes itself, each call is spelled once,
-// and statuses, kinds and flags have types of their own.
+// larboardyuzu.hpp: the calls of larboardyuzu.h as C++17. A handle closes itself, and statuses, kinds and
+// flags have types of their own. larboardyuzu.h has the statuses, ranges and units of each call.
 //
 // No call throws, and none takes memory of its own: `open` takes all memory that a handle ever needs. What C
-// must promise, C++ must promise too; so one call at a time has a handle, also a call that is const.
+// must promise, C++ must promise too: only one call at a time may use a handle, even if it is const.
 //
 //     larboardyuzu::Down down;
 //     if (down.open(1024) != larboardyuzu::Status::Done)
@@ -175,12 +175,13 @@ constexpr std::size_t usb_size(std::size_t room) noexcept { return LARBOARDYUZU_
 
 // ---- What the calls take and return.
 
-// A pointer and how many places lie there. It is made of an array, of anything that has data() and size(),
-// such as std::vector, std::array and std::span, or of the two. It doesn't own the places: they have to
-// outlive it.
+// A pointer and the number of places there. It is made of an array, of anything that has data() and size(),
+// such as std::vector, std::array and std::span, or of a pointer and a size. It doesn't own the places: they
+// have to outlive it.
 template <class T> class View
 {
-    // The places of a range as an array: it has to be one of T, or if T is const of T without const.
+    // A pointer to an array of the range's items. It has to convert to a pointer to an array of T, which may
+    // only add const: so a range of a derived or a narrower type is refused.
     template <class Range>
     using ArrayOf = std::remove_pointer_t<decltype(std::data(std::declval<Range &>()))> (*)[];
 
@@ -198,7 +199,7 @@ template <class T> class View
     [[nodiscard]] constexpr T *begin() const noexcept { return places; }
     [[nodiscard]] constexpr T *end() const noexcept { return places + count; }
     constexpr T &operator[](std::size_t at) const noexcept { return places[at]; }
-    // The first places, and those after them. There have to be so many.
+    // The first `size` places, and those from `at` on. Neither may exceed size().
     [[nodiscard]] constexpr View first(std::size_t size) const noexcept { return { places, size }; }
     [[nodiscard]] constexpr View from(std::size_t at) const noexcept { return { places + at, count - at }; }
 
@@ -210,8 +211,8 @@ template <class T> class View
 using Words = View<const std::uint32_t>;
 using Bytes = View<const std::uint8_t>;
 
-// A status, and what was written with it. It is true if the status is Done. After a refusal the value is as
-// the header says; of a block it says how far the call came.
+// A status and the value that the call wrote. It is true if the status is Done. After a refusal the value is
+// as larboardyuzu.h says; a Block says how far the call came.
 template <class Value> struct [[nodiscard]] Result {
     Status status;
     Value value;
@@ -221,12 +222,12 @@ template <class Value> struct [[nodiscard]] Result {
     constexpr const Value &operator*() const noexcept { return value; }
 };
 
-// A text of the library of at most so many bytes.
+// A text of the library, of at most `Most` bytes.
 template <std::size_t Most> struct Text {
     std::uint8_t bytes[Most] = {};
     std::size_t length = 0;
 
-    // It is ASCII.
+    // The text, which is ASCII. It points into this struct.
     [[nodiscard]] std::string_view view() const noexcept
     {
         return { reinterpret_cast<const char *>(bytes), length };
@@ -235,9 +236,10 @@ template <std::size_t Most> struct Text {
 using Name = Text<LARBOARDYUZU_MOST_NAME>;
 using PacketLine = Text<LARBOARDYUZU_MOST_LINE>;
 
-// How a call of C is made: its status as a Status, or with the value that it writes.
+// The status of a call of C as a Status.
 inline Status status_of(std::uint32_t status) noexcept { return static_cast<Status>(status); }
 
+// Makes a call of C, which writes a value, and returns this value with the status.
 template <class Value, class Call> Result<Value> result_of(Call &&call) noexcept
 {
     Result<Value> result {};
@@ -247,7 +249,7 @@ template <class Value, class Call> Result<Value> result_of(Call &&call) noexcept
 
 // ---- Handles.
 
-// A handle of C, closed at first. It can be moved, and what it was moved from is closed; it can't be copied.
+// A handle of C, closed at first. It can be moved, which closes what it was moved from; it can't be copied.
 template <class Raw, void (*Close)(Raw *)> class Handle
 {
   public:
@@ -268,11 +270,11 @@ template <class Raw, void (*Close)(Raw *)> class Handle
     void close() noexcept { Close(&held); }
     [[nodiscard]] bool is_open() const noexcept { return held.is_open != 0; }
 
-    // The handle of C, for its calls. Nobody copies it.
+    // The handle of C, for its calls. A copy of it must not be used.
     [[nodiscard]] Raw *raw() const noexcept { return &held; }
 
   private:
-    // A call that only reads has it alone all the same, and may write to it.
+    // mutable, since a call of C that only reads also uses the handle alone and may write to it meanwhile.
     mutable Raw held = LARBOARDYUZU_CLOSED;
 };
 
@@ -307,7 +309,7 @@ class Down : public Handle<larboardyuzu_down, larboardyuzu_down_close>
         });
     }
 
-    // Where the exclusive began that a group has open; Nothing if it has none.
+    // The offset of the packet that began the exclusive that a group has open; Nothing if none is open.
     [[nodiscard]] Result<std::uint64_t> begun(std::uint8_t group) const noexcept
     {
         return result_of<std::uint64_t>(
@@ -322,7 +324,7 @@ class Down : public Handle<larboardyuzu_down, larboardyuzu_down_close>
 class Up : public Handle<larboardyuzu_up, larboardyuzu_up_close>
 {
   public:
-    // group: 0 to 15. flags: Paired.
+    // group: 0 to 15. room: the most bytes of an exclusive, 6 to 1,048,576. flags: Paired.
     [[nodiscard]] Status open(std::uint8_t group, std::uint32_t room, Flags flags = {}) noexcept
     {
         return status_of(larboardyuzu_up_open(raw(), group, room, static_cast<std::uint32_t>(flags)));
@@ -347,7 +349,7 @@ class Up : public Handle<larboardyuzu_up, larboardyuzu_up_close>
         });
     }
 
-    // What is open at the end of the stream; Nothing if nothing is.
+    // The line of what is open at the end of the stream; Nothing if nothing is open.
     [[nodiscard]] Result<Line> end() const noexcept
     {
         return result_of<Line>([&](Line &line) { return larboardyuzu_up_end(raw(), &line); });
@@ -360,6 +362,7 @@ class Up : public Handle<larboardyuzu_up, larboardyuzu_up_close>
 class Parser : public Handle<larboardyuzu_parser, larboardyuzu_parser_close>
 {
   public:
+    // room: the most bytes of an exclusive, 6 to 1,048,576.
     [[nodiscard]] Status open(std::uint32_t room) noexcept
     {
         return status_of(larboardyuzu_parser_open(raw(), room));
@@ -394,7 +397,7 @@ class Parser : public Handle<larboardyuzu_parser, larboardyuzu_parser_close>
 class Usb : public Handle<larboardyuzu_usb, larboardyuzu_usb_close>
 {
   public:
-    // cable: 0 to 15.
+    // cable: 0 to 15. room: the most bytes of an exclusive, 6 to 1,048,576.
     [[nodiscard]] Status open(std::uint8_t cable, std::uint32_t room) noexcept
     {
         return status_of(larboardyuzu_usb_open(raw(), cable, room));
@@ -429,7 +432,8 @@ class Usb : public Handle<larboardyuzu_usb, larboardyuzu_usb_close>
 class Endpoint : public Handle<larboardyuzu_endpoint, larboardyuzu_endpoint_close>
 {
   public:
-    // setup: its text, in TOML. The value is the rule that it breaks if the status is SetupRule.
+    // setup: its text, in TOML. room: the most bytes of an exclusive, 6 to 1,048,576. If the status is
+    // SetupRule, the value is the number of the first rule that the setup breaks, 0 to 31.
     [[nodiscard]] Result<std::uint8_t> open(std::string_view setup, std::uint32_t room) noexcept
     {
         const auto *text = reinterpret_cast<const std::uint8_t *>(setup.data());
@@ -476,6 +480,7 @@ class Endpoint : public Handle<larboardyuzu_endpoint, larboardyuzu_endpoint_clos
             [&](Profile &profile) { return larboardyuzu_endpoint_profile(raw(), index, &profile); });
     }
 
+    // The offset of the packet that began the exclusive that a group has open; Nothing if none is open.
     [[nodiscard]] Result<std::uint64_t> begun(std::uint8_t group) const noexcept
     {
         return result_of<std::uint64_t>(
@@ -495,8 +500,9 @@ class State : public Handle<larboardyuzu_state, larboardyuzu_state_close>
         std::size_t need;
     };
 
-    // notes: the most notes on, notes off and mode messages of a channel, all of which it keeps, in order,
-    // until it is reset. params: the most parameters of a kind and channel. flags: OfBytes.
+    // room: the most bytes of an exclusive, 6 to 1,048,576. notes: the most notes on, notes off and mode
+    // messages of a channel, all of which it keeps, in order, until it is reset; 0 to 1,048,576. params: the
+    // most parameters of a kind and channel, 0 to 16,384. flags: OfBytes.
     [[nodiscard]] Status open(std::uint32_t room, std::uint32_t notes, std::uint32_t params,
                               Flags flags = {}) noexcept
     {
@@ -528,7 +534,7 @@ class State : public Handle<larboardyuzu_state, larboardyuzu_state_close>
         });
     }
 
-    // The facts of a channel of a group; of LARBOARDYUZU_NO_CHANNEL the counts of the group's system
+    // Writes the facts of a channel of a group; with LARBOARDYUZU_NO_CHANNEL the counts of the group's system
     // messages.
     [[nodiscard]] Result<Count> facts(std::uint8_t group, std::uint8_t channel,
                                       View<Fact> facts) const noexcept
@@ -570,6 +576,8 @@ class Sysex8 : public Handle<larboardyuzu_sysex8, larboardyuzu_sysex8_close>
         });
     }
 
+    // The offset of the packet that began the exclusive that a stream of a group has open; Nothing if none is
+    // open.
     [[nodiscard]] Result<std::uint64_t> begun(std::uint8_t group, std::uint8_t stream) const noexcept
     {
         return result_of<std::uint64_t>(
@@ -621,8 +629,8 @@ inline Result<Block> packets_in(Bytes bytes, View<std::uint32_t> words, Flags fl
     });
 }
 
-// Writes a packet of an exclusive with these bytes: two words, and of an 8-bit exclusive four. Nothing: it
-// has no such packet.
+// Writes a packet, counted from 0, of an exclusive with these bytes: two words, and of an 8-bit exclusive
+// four. Nothing: the exclusive has no such packet.
 [[nodiscard]] inline Status exclusive_packet(std::uint8_t group, Bytes payload, std::size_t index,
                                              View<std::uint32_t> words) noexcept
 {
