@@ -10,9 +10,12 @@ use c_translators::{CDown, Piece, down_size};
 use down_translator::Style;
 use std::alloc::Global;
 
-/// Opens a handle: a translator down, with the flag 1 in compact style and otherwise in plain style, with the
-/// flag 2 with paired controllers and otherwise without (own rule). `room` is the limit of an exclusive, 6 to
-/// 1,048,576. All the memory that it ever needs is taken here.
+/// Opens a handle as a translator down: in compact style if the flag 1 is set and otherwise in plain style,
+/// and with paired controllers if the flag 2 is set (own rules). `room` is the most bytes of an exclusive, 6
+/// to 1,048,576. Takes all memory that the handle ever needs.
+///
+/// Returns the first that applies of `BadRoom`, `BadFlags` (another flag), `AlreadyOpen` and `NoMemory`; the
+/// handle is then unchanged.
 #[unsafe(no_mangle)]
 pub extern "C" fn larboardyuzu_down_open(
     alloc: Global,
@@ -43,7 +46,9 @@ pub extern "C" fn larboardyuzu_down_open(
     }
 }
 
-/// Takes one packet down.
+/// Translates one packet to MIDI 1.0 bytes (M2-104-UM, default translation), as `CDown::packet` does: writes
+/// them to the front of `bytes`, and their number, lane and line to `piece`. Returns `HandleClosed` or
+/// `OtherKind`, with an empty piece, if the handle isn't open for this; otherwise the statuses of that call.
 #[unsafe(no_mangle)]
 pub extern "C" fn larboardyuzu_down_packet(
     alloc: Global,
@@ -70,7 +75,8 @@ pub extern "C" fn larboardyuzu_down_packet(
     status.number()
 }
 
-/// Takes packets that follow one another down.
+/// Translates packets whose words follow one another, as `CDown::packets` does. Returns `HandleClosed` or
+/// `OtherKind`, with an empty block, if the handle isn't open for this; otherwise the statuses of that call.
 #[unsafe(no_mangle)]
 pub extern "C" fn larboardyuzu_down_packets(
     alloc: Global,
@@ -99,7 +105,8 @@ pub extern "C" fn larboardyuzu_down_packets(
     status.number()
 }
 
-/// The size of a buffer that takes the piece of any packet, if the limit of an exclusive is `room`.
+/// Returns the least size, in bytes, of a buffer for the piece of any packet, if an exclusive has at most
+/// `room` bytes (own rule).
 #[unsafe(no_mangle)]
 pub extern "C" fn larboardyuzu_down_size(room: u32) -> usize
     ensures { result ≡ most_bytes_of room }
@@ -107,7 +114,8 @@ pub extern "C" fn larboardyuzu_down_size(room: u32) -> usize
     down_size(room)
 }
 
-/// Finds the start of the exclusive that a group has open.
+/// Writes the offset of the packet that began the exclusive that a group has open. Returns `HandleClosed`,
+/// `OtherKind`, `BadGroup` if the group isn't 0 to 15, or `Nothing`; the offset is then unchanged.
 #[unsafe(no_mangle)]
 pub extern "C" fn larboardyuzu_down_begun(
     alloc: Global,
@@ -129,7 +137,8 @@ pub extern "C" fn larboardyuzu_down_begun(
     status.number()
 }
 
-/// Begins again: the handle is then as it was opened, with the same arguments. Takes no memory.
+/// Makes the handle as it was just after it was opened with the same arguments (own rule). Takes no memory.
+/// Returns `HandleClosed` or `OtherKind`, and changes nothing, if the handle isn't open for this.
 #[unsafe(no_mangle)]
 pub extern "C" fn larboardyuzu_down_reset(alloc: Global, down: &mut Handle) -> u32
     ensures { IsReset down.old.holds result down.new.holds }
@@ -148,7 +157,7 @@ pub extern "C" fn larboardyuzu_down_reset(alloc: Global, down: &mut Handle) -> u
     status.number()
 }
 
-/// Closes a handle, and gives its memory back. A handle that is closed stays closed.
+/// Closes a handle, whatever it is open for, and returns its memory. A closed handle stays closed.
 #[unsafe(no_mangle)]
 pub extern "C" fn larboardyuzu_down_close(alloc: Global, down: &mut Handle)
     ensures { down.new.holds ≡ None }

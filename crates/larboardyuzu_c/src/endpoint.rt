@@ -10,7 +10,7 @@ use c_handles::{Engine, Handle};
 use function_blocks::setups_keep_the_rules;
 use std::alloc::Global;
 
-// Puts an endpoint of the setup in a text in a handle that is closed.
+// Opens a closed handle as an endpoint of the setup in a text.
 #[tactic(auto, using(crate::proofs::EndpointLaws::opened_fails))]
 fn fill_endpoint(
     alloc: Global,
@@ -30,9 +30,13 @@ fn fill_endpoint(
     }
 }
 
-/// Opens a handle: an endpoint of the setup in a text, which is TOML. `room` is the limit of an exclusive, 6
-/// to 1,048,576. All the memory that it ever needs is taken here. The setup of a text without a fault keeps
-/// all rules of setups, as the laws of an endpoint ask.
+/// Opens a handle as an endpoint of the setup in a text, which is TOML (docs/setup.md). `room` is the most
+/// bytes of an exclusive, 6 to 1,048,576. Takes all memory that the handle ever needs.
+///
+/// Returns the first that applies of `BadRoom`, `AlreadyOpen`, `SetupSyntax` and `SetupRule`, or `NoMemory`,
+/// which may also come for a text with a fault; the handle is then unchanged. With `SetupRule` it writes the
+/// number of the first rule that is broken, 0 to 31, to `rule`, which is otherwise unchanged. A setup that is
+/// accepted keeps all rules, as the laws of an endpoint require (`consistent`).
 #[unsafe(no_mangle)]
 pub extern "C" fn larboardyuzu_endpoint_open(
     alloc: Global,
@@ -55,7 +59,9 @@ pub extern "C" fn larboardyuzu_endpoint_open(
     fill_endpoint(alloc, endpoint, text, room, rule).number()
 }
 
-/// Takes one packet of the peer, and writes the words of the replies to it.
+/// Takes one packet of the peer and writes the words of the replies to it (M2-104-UM, UMP stream messages;
+/// M2-101-UM), as `CEndpoint::packet` does. Returns `HandleClosed` or `OtherKind`, with empty replies, if the
+/// handle isn't open for this; otherwise the statuses of that call.
 #[unsafe(no_mangle)]
 pub extern "C" fn larboardyuzu_endpoint_packet(
     alloc: Global,
@@ -83,7 +89,9 @@ pub extern "C" fn larboardyuzu_endpoint_packet(
     status.number()
 }
 
-/// Takes the packets of the peer whose words follow one another, and writes the words of the replies to them.
+/// Takes packets of the peer whose words follow one another, as `CEndpoint::packets` does. Returns
+/// `HandleClosed` or `OtherKind`, with an empty block, if the handle isn't open for this; otherwise the
+/// statuses of that call.
 #[unsafe(no_mangle)]
 pub extern "C" fn larboardyuzu_endpoint_packets(
     alloc: Global,
@@ -112,7 +120,8 @@ pub extern "C" fn larboardyuzu_endpoint_packets(
     status.number()
 }
 
-/// The protocol in force: 1 for MIDI 1.0, 2 for MIDI 2.0.
+/// Writes the protocol in force, 1 for MIDI 1.0 and 2 for MIDI 2.0 (M2-104-UM, Stream Configuration). Returns
+/// `HandleClosed` or `OtherKind`, and writes nothing, if the handle isn't open for this.
 #[unsafe(no_mangle)]
 pub extern "C" fn larboardyuzu_endpoint_protocol(
     alloc: Global,
@@ -136,7 +145,9 @@ pub extern "C" fn larboardyuzu_endpoint_protocol(
     status.number()
 }
 
-/// The MUID in force of a function block, counted from 0.
+/// Writes the MUID in force of a function block, counted from 0 (M2-101-UM). Returns `HandleClosed`,
+/// `OtherKind`, or `Nothing` if the block has no MIDI-CI or has used up its MUIDs, or if there is no such
+/// block; the number is then unchanged.
 #[unsafe(no_mangle)]
 pub extern "C" fn larboardyuzu_endpoint_muid(
     alloc: Global,
@@ -158,7 +169,8 @@ pub extern "C" fn larboardyuzu_endpoint_muid(
     status.number()
 }
 
-/// A profile, counted from 0 in the order of the setup, and whether it is on.
+/// Writes a profile, counted from 0 in the order of the setup, and whether it is on. Returns `HandleClosed`,
+/// `OtherKind` or `Nothing`, and writes an empty profile, if there is none.
 #[unsafe(no_mangle)]
 pub extern "C" fn larboardyuzu_endpoint_profile(
     alloc: Global,
@@ -184,7 +196,8 @@ pub extern "C" fn larboardyuzu_endpoint_profile(
     status.number()
 }
 
-/// Finds the start of the exclusive that a group has open.
+/// Writes the offset of the packet that began the exclusive that a group has open. Returns `HandleClosed`,
+/// `OtherKind`, `BadGroup` if the group isn't 0 to 15, or `Nothing`; the offset is then unchanged.
 #[unsafe(no_mangle)]
 pub extern "C" fn larboardyuzu_endpoint_begun(
     alloc: Global,
@@ -206,7 +219,9 @@ pub extern "C" fn larboardyuzu_endpoint_begun(
     status.number()
 }
 
-/// Begins again: the endpoint is as it was opened. Takes no memory.
+/// Makes the handle as it was just after it was opened with the same setup (own rule): protocol, MUIDs and
+/// profiles are those of the setup again. Takes no memory. Returns `HandleClosed` or `OtherKind`, and changes
+/// nothing, if the handle isn't open for this.
 #[unsafe(no_mangle)]
 pub extern "C" fn larboardyuzu_endpoint_reset(alloc: Global, endpoint: &mut Handle) -> u32
     ensures { IsReset endpoint.old.holds result endpoint.new.holds }
@@ -225,7 +240,7 @@ pub extern "C" fn larboardyuzu_endpoint_reset(alloc: Global, endpoint: &mut Hand
     status.number()
 }
 
-/// Closes a handle, and gives its memory back. A handle that is closed stays closed.
+/// Closes a handle, whatever it is open for, and returns its memory. A closed handle stays closed.
 #[unsafe(no_mangle)]
 pub extern "C" fn larboardyuzu_endpoint_close(alloc: Global, endpoint: &mut Handle)
     ensures { endpoint.new.holds ≡ None }

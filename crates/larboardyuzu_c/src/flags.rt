@@ -1,4 +1,4 @@
-// The flags of the calls that open a translator, by the numbers of the header.
+// The flags of the calls that open a translator, with the numbers that the header gives them.
 ghost use Rattle.std.specs.Prelude.{◌≡◌};
 ghost use Rattle.larboardyuzu_c.specs.Flags.{has_compact, has_paired};
 

@@ -8,7 +8,8 @@ use c_handles::{Engine, Handle};
 use c_streams::{CParser, parser_size};
 use std::alloc::Global;
 
-/// The size of a buffer for any message, if an exclusive has at most `room` bytes.
+/// Returns the least size, in bytes, of a buffer for any message, if an exclusive has at most `room` bytes
+/// (own rule).
 #[unsafe(no_mangle)]
 pub extern "C" fn larboardyuzu_parser_size(room: u32) -> usize
     ensures { result ≡ longest_message room }
@@ -16,8 +17,10 @@ pub extern "C" fn larboardyuzu_parser_size(room: u32) -> usize
     parser_size(room)
 }
 
-/// Opens a handle: a parser with nothing open and no running status. `room` is the limit of an exclusive, 6
-/// to 1,048,576. All the memory that it ever needs is taken here.
+/// Opens a handle as a parser, with nothing open and no running status. `room` is the most bytes of an
+/// exclusive, 6 to 1,048,576. Takes all memory that the handle ever needs.
+///
+/// Returns the first that applies of `BadRoom`, `AlreadyOpen` and `NoMemory`; the handle is then unchanged.
 #[unsafe(no_mangle)]
 pub extern "C" fn larboardyuzu_parser_open(alloc: Global, parser: &mut Handle, room: u32) -> u32
     ensures { IsOpened parser.old.holds room result parser.new.holds }
@@ -35,7 +38,9 @@ pub extern "C" fn larboardyuzu_parser_open(alloc: Global, parser: &mut Handle, r
     }
 }
 
-/// Takes one byte.
+/// Takes one more byte of the stream and writes the message that it completes (MIDI 1.0 Detailed
+/// Specification), as `CParser::byte` does. Returns `HandleClosed` or `OtherKind`, with an empty outcome, if
+/// the handle isn't open for this; otherwise the statuses of that call.
 #[unsafe(no_mangle)]
 pub extern "C" fn larboardyuzu_parser_byte(
     alloc: Global,
@@ -63,7 +68,8 @@ pub extern "C" fn larboardyuzu_parser_byte(
     status.number()
 }
 
-/// Takes bytes from the front of these.
+/// Takes bytes that follow one another, as `CParser::bytes` does. Returns `HandleClosed` or `OtherKind`, with
+/// an empty block, if the handle isn't open for this; otherwise the statuses of that call.
 #[unsafe(no_mangle)]
 pub extern "C" fn larboardyuzu_parser_bytes(
     alloc: Global,
@@ -92,7 +98,9 @@ pub extern "C" fn larboardyuzu_parser_bytes(
     status.number()
 }
 
-/// Writes the line of what is open at the end of the stream.
+/// Writes the line of the message or exclusive that is open at the end of the stream, with the offset of its
+/// first byte. Returns `HandleClosed`, `OtherKind`, or `Nothing` if nothing is open; the line is then
+/// unchanged.
 #[unsafe(no_mangle)]
 pub extern "C" fn larboardyuzu_parser_end(
     alloc: Global,
@@ -113,7 +121,8 @@ pub extern "C" fn larboardyuzu_parser_end(
     status.number()
 }
 
-/// Makes what a handle holds as if it had just been opened with the same arguments.
+/// Makes the handle as it was just after it was opened with the same arguments (own rule). Takes no memory.
+/// Returns `HandleClosed` or `OtherKind`, and changes nothing, if the handle isn't open for this.
 #[unsafe(no_mangle)]
 pub extern "C" fn larboardyuzu_parser_reset(alloc: Global, parser: &mut Handle) -> u32
     ensures { IsReset parser.old.holds result parser.new.holds }
@@ -132,7 +141,7 @@ pub extern "C" fn larboardyuzu_parser_reset(alloc: Global, parser: &mut Handle) 
     status.number()
 }
 
-/// Closes a handle, and gives its memory back. A handle that is closed stays closed.
+/// Closes a handle, whatever it is open for, and returns its memory. A closed handle stays closed.
 #[unsafe(no_mangle)]
 pub extern "C" fn larboardyuzu_parser_close(alloc: Global, parser: &mut Handle)
     ensures { parser.new.holds ≡ None }

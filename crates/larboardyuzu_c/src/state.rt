@@ -11,7 +11,7 @@ use std::alloc::Global;
 /// The flag of a state of bytes.
 const OF_BYTES: u32 = 4;
 
-// Nothing is told of a handle.
+// Reports no fact, for a handle that isn't open for this.
 fn untold(why: Status, written: &mut usize, need: &mut usize) -> Status
     ensures status { result ≡ why }
     ensures none { (written.new ≡ 0) × (need.new ≡ 0) }
@@ -21,7 +21,7 @@ fn untold(why: Status, written: &mut usize, need: &mut usize) -> Status
     why
 }
 
-// Puts a state of packets in a handle that is closed.
+// Opens a closed handle as a state of packets.
 fn fill_packets(alloc: Global, state: &mut Handle, room: u32, notes: u32, params: u32) -> Status
     requires closed { state.old.holds ≡ None }
     requires least { 6 ≤ room }
@@ -35,7 +35,7 @@ fn fill_packets(alloc: Global, state: &mut Handle, room: u32, notes: u32, params
     }
 }
 
-// Puts a state of bytes in a handle that is closed.
+// Opens a closed handle as a state of bytes.
 fn fill_bytes(alloc: Global, state: &mut Handle, room: u32, notes: u32, params: u32) -> Status
     requires closed { state.old.holds ≡ None }
     requires least { 6 ≤ room }
@@ -49,10 +49,13 @@ fn fill_bytes(alloc: Global, state: &mut Handle, room: u32, notes: u32, params: 
     }
 }
 
-/// Opens a handle: the state before the first packet, or with the flag 4 before the first byte of a stream.
-/// `room` is the limit of an exclusive, 6 to 1,048,576. The state keeps at most `notes` notes and mode
+/// Opens a handle as the state before the first packet, or with the flag 4 before the first byte of a stream.
+/// `room` is the most bytes of an exclusive, 6 to 1,048,576. The state keeps at most `notes` notes and mode
 /// messages of each channel, 0 to 1,048,576, and at most `params` parameters of each kind and channel, 0 to
-/// 16,384. All memory is taken here.
+/// 16,384 (own rule). Takes all memory that the handle ever needs.
+///
+/// Returns the first that applies of `BadRoom` (one of the three numbers), `BadFlags` (another flag),
+/// `AlreadyOpen` and `NoMemory`; the handle is then unchanged.
 #[unsafe(no_mangle)]
 pub extern "C" fn larboardyuzu_state_open(
     alloc: Global,
@@ -82,7 +85,8 @@ pub extern "C" fn larboardyuzu_state_open(
     }
 }
 
-/// Takes one packet. If it adds to a list that is full, nothing has changed.
+/// Takes one packet, as `CPacketState::packet` does. Returns `HandleClosed` or `OtherKind`, and changes
+/// nothing, if the handle isn't a state of packets; otherwise the statuses of that call.
 #[unsafe(no_mangle)]
 pub extern "C" fn larboardyuzu_state_packet(alloc: Global, state: &mut Handle, words: &[u32]) -> u32
     ensures { IsPacketTaken state.old.holds words.now result state.new.holds }
@@ -98,7 +102,9 @@ pub extern "C" fn larboardyuzu_state_packet(alloc: Global, state: &mut Handle, w
     status.number()
 }
 
-/// Takes the packets whose words follow one another. One that is refused ends the call.
+/// Takes packets whose words follow one another, as `CPacketState::packets` does. Returns `HandleClosed` or
+/// `OtherKind`, with an empty block, if the handle isn't a state of packets; otherwise the statuses of that
+/// call.
 #[unsafe(no_mangle)]
 pub extern "C" fn larboardyuzu_state_packets(
     alloc: Global,
@@ -123,8 +129,8 @@ pub extern "C" fn larboardyuzu_state_packets(
     status.number()
 }
 
-/// Takes one byte. If the message that it completes adds to a list that is full, the byte is taken, and
-/// the message isn't kept.
+/// Takes one more byte of the stream, as `CByteState::byte` does. Returns `HandleClosed` or `OtherKind`, and
+/// changes nothing, if the handle isn't a state of bytes; otherwise the statuses of that call.
 #[unsafe(no_mangle)]
 pub extern "C" fn larboardyuzu_state_byte(alloc: Global, state: &mut Handle, byte: u8) -> u32
     ensures { IsByteTaken state.old.holds byte result state.new.holds }
@@ -140,7 +146,8 @@ pub extern "C" fn larboardyuzu_state_byte(alloc: Global, state: &mut Handle, byt
     status.number()
 }
 
-/// Takes bytes one after another. One for which the answer isn't `Done` ends the call.
+/// Takes bytes that follow one another, as `CByteState::bytes` does. Returns `HandleClosed` or `OtherKind`,
+/// with an empty block, if the handle isn't a state of bytes; otherwise the statuses of that call.
 #[unsafe(no_mangle)]
 pub extern "C" fn larboardyuzu_state_bytes(
     alloc: Global,
@@ -165,8 +172,10 @@ pub extern "C" fn larboardyuzu_state_bytes(
     status.number()
 }
 
-/// Tells the facts of one channel of a group by numbers, or with channel 255 the counts of the group's system
-/// messages.
+/// Writes the facts of one channel of a group, or with channel 255 the counts of the group's system messages,
+/// and their number to `written`. Returns `HandleClosed`, `OtherKind`, `BadGroup`, `BadChannel`, or
+/// `SmallBuffer`, with the number of facts in `need`; it then writes no fact. `written` and `need` are
+/// otherwise 0.
 #[unsafe(no_mangle)]
 pub extern "C" fn larboardyuzu_state_facts(
     alloc: Global,
@@ -193,7 +202,9 @@ pub extern "C" fn larboardyuzu_state_facts(
     status.number()
 }
 
-/// Empties the state: it is as it was opened. Takes no memory.
+/// Makes the handle as it was just after it was opened with the same arguments (own rule): a state without
+/// facts. Takes no memory. Returns `HandleClosed` or `OtherKind`, and changes nothing, if the handle isn't
+/// open for this.
 #[unsafe(no_mangle)]
 pub extern "C" fn larboardyuzu_state_reset(alloc: Global, state: &mut Handle) -> u32
     ensures { IsReset state.old.holds result state.new.holds }
@@ -216,7 +227,7 @@ pub extern "C" fn larboardyuzu_state_reset(alloc: Global, state: &mut Handle) ->
     status.number()
 }
 
-/// Closes a handle, and gives its memory back. A handle that is closed stays closed.
+/// Closes a handle, whatever it is open for, and returns its memory. A closed handle stays closed.
 #[unsafe(no_mangle)]
 pub extern "C" fn larboardyuzu_state_close(alloc: Global, state: &mut Handle)
     ensures { state.new.holds ≡ None }

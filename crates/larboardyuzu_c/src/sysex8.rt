@@ -1,4 +1,4 @@
-// The calls of the join of 8-bit exclusives, and of their packets.
+// The calls that join 8-bit exclusives, and the one that cuts one into packets.
 ghost use Rattle.std.specs.Prelude.{◌≡◌, None};
 ghost use Rattle.c_pure.specs.Sysex8.{IsCut};
 ghost use Rattle.larboardyuzu_c.specs.Sysex8Calls.{AreTaken, HasBegun, IsOpened, IsReset, IsTaken};
@@ -8,8 +8,11 @@ use c_handles::{Engine, Handle};
 use c_streams::{CSysex8, JoinedPart};
 use std::alloc::Global;
 
-/// Opens a handle: a join of the 8-bit exclusives of so many streams at once, 1 to 64. `room` is the limit of
-/// an exclusive, 13 to 1,048,576. All the memory that it ever needs is taken here.
+/// Opens a handle as a join of 8-bit exclusives, of which `streams`, 1 to 64, may be open at once. `room` is
+/// the most bytes of one, 13 to 1,048,576. Takes all memory that the handle ever needs.
+///
+/// Returns the first that applies of `BadRoom`, `BadStreams`, `AlreadyOpen` and `NoMemory`; the handle is
+/// then unchanged.
 #[unsafe(no_mangle)]
 pub extern "C" fn larboardyuzu_sysex8_open(
     alloc: Global,
@@ -35,7 +38,9 @@ pub extern "C" fn larboardyuzu_sysex8_open(
     }
 }
 
-/// Takes one packet.
+/// Takes one packet and writes the exclusive that it ends (M2-104-UM, system exclusive 8-bit messages), as
+/// `CSysex8::packet` does. Returns `HandleClosed` or `OtherKind`, with an empty part, if the handle isn't
+/// open for this; otherwise the statuses of that call.
 #[unsafe(no_mangle)]
 pub extern "C" fn larboardyuzu_sysex8_packet(
     alloc: Global,
@@ -62,7 +67,8 @@ pub extern "C" fn larboardyuzu_sysex8_packet(
     status.number()
 }
 
-/// Takes packets from the front of these words.
+/// Takes packets whose words follow one another, as `CSysex8::packets` does. Returns `HandleClosed` or
+/// `OtherKind`, with an empty block, if the handle isn't open for this; otherwise the statuses of that call.
 #[unsafe(no_mangle)]
 pub extern "C" fn larboardyuzu_sysex8_packets(
     alloc: Global,
@@ -91,7 +97,9 @@ pub extern "C" fn larboardyuzu_sysex8_packets(
     status.number()
 }
 
-/// Finds the start of the exclusive that a stream has open.
+/// Writes the offset of the packet that began the exclusive that a stream of a group has open. Returns
+/// `HandleClosed`, `OtherKind`, `BadGroup` if the group isn't 0 to 15, or `Nothing`; the offset is then
+/// unchanged.
 #[unsafe(no_mangle)]
 pub extern "C" fn larboardyuzu_sysex8_begun(
     alloc: Global,
@@ -114,7 +122,8 @@ pub extern "C" fn larboardyuzu_sysex8_begun(
     status.number()
 }
 
-/// Makes what a handle holds as if it had just been opened with the same arguments.
+/// Makes the handle as it was just after it was opened with the same arguments (own rule). Takes no memory.
+/// Returns `HandleClosed` or `OtherKind`, and changes nothing, if the handle isn't open for this.
 #[unsafe(no_mangle)]
 pub extern "C" fn larboardyuzu_sysex8_reset(alloc: Global, sysex8: &mut Handle) -> u32
     ensures { IsReset sysex8.old.holds result sysex8.new.holds }
@@ -133,7 +142,7 @@ pub extern "C" fn larboardyuzu_sysex8_reset(alloc: Global, sysex8: &mut Handle) 
     status.number()
 }
 
-/// Closes a handle, and gives its memory back. A handle that is closed stays closed.
+/// Closes a handle, whatever it is open for, and returns its memory. A closed handle stays closed.
 #[unsafe(no_mangle)]
 pub extern "C" fn larboardyuzu_sysex8_close(alloc: Global, sysex8: &mut Handle)
     ensures { sysex8.new.holds ≡ None }
@@ -141,7 +150,9 @@ pub extern "C" fn larboardyuzu_sysex8_close(alloc: Global, sysex8: &mut Handle)
     let _held = sysex8.take(alloc);
 }
 
-/// Writes the words of a packet, counted from 0, of an 8-bit exclusive with these bytes.
+/// Writes the four words of a packet, counted from 0, of an 8-bit exclusive with these bytes (M2-104-UM,
+/// system exclusive 8-bit messages), as `c_pure::sysex8_cut` does. Returns `SmallBuffer`, `BadGroup` or
+/// `Nothing`, and writes nothing, as that call says.
 #[unsafe(no_mangle)]
 pub extern "C" fn larboardyuzu_sysex8_cut(
     group: u8,

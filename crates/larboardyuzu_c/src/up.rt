@@ -10,9 +10,12 @@ use c_translators::{CUp, up_size};
 use small_types::U4;
 use std::alloc::Global;
 
-/// Opens a handle: a translator up into a group, 0 to 15, with the flag 2 with paired controllers and
-/// otherwise without (own rule). `room` is the limit of an exclusive, 6 to 1,048,576. All the memory that it
-/// ever needs is taken here.
+/// Opens a handle as a translator up into a group, 0 to 15, with paired controllers if the flag 2 is set (own
+/// rule). `room` is the most bytes of an exclusive, 6 to 1,048,576. Takes all memory that the handle ever
+/// needs.
+///
+/// Returns the first that applies of `BadRoom`, `BadGroup`, `BadFlags` (another flag), `AlreadyOpen` and
+/// `NoMemory`; the handle is then unchanged.
 #[unsafe(no_mangle)]
 pub extern "C" fn larboardyuzu_up_open(
     alloc: Global,
@@ -42,7 +45,7 @@ pub extern "C" fn larboardyuzu_up_open(
     }
 }
 
-// Takes one byte, if it can be taken at once: few registers are needed for such a byte.
+// Takes one byte if `CUp::direct` does. Such a byte needs few registers, so it has a function of its own.
 #[inline(always)]
 fn take_direct(
     held: &mut Engine,
@@ -86,7 +89,9 @@ fn take_any(
     status.number()
 }
 
-/// Takes one byte up.
+/// Takes one more byte of the stream and writes the words of the packets that it completes (M2-104-UM,
+/// translation from MIDI 1.0; M2-115-U), as `CUp::byte` does. Returns `HandleClosed` or `OtherKind`, with an
+/// empty outcome, if the handle isn't open for this; otherwise the statuses of that call.
 #[unsafe(no_mangle)]
 pub extern "C" fn larboardyuzu_up_byte(
     alloc: Global,
@@ -109,7 +114,8 @@ pub extern "C" fn larboardyuzu_up_byte(
     take_any(alloc, up, byte, offset, words, outcome)
 }
 
-/// Takes bytes that follow one another up.
+/// Takes bytes that follow one another, as `CUp::bytes` does. Returns `HandleClosed` or `OtherKind`, with an
+/// empty block, if the handle isn't open for this; otherwise the statuses of that call.
 #[unsafe(no_mangle)]
 pub extern "C" fn larboardyuzu_up_bytes(
     alloc: Global,
@@ -138,7 +144,8 @@ pub extern "C" fn larboardyuzu_up_bytes(
     status.number()
 }
 
-/// The size of a buffer that takes the words of any byte, if the limit of an exclusive is `room`.
+/// Returns the least size, in words, of a buffer for what any byte completes, if an exclusive has at most
+/// `room` bytes (own rule).
 #[unsafe(no_mangle)]
 pub extern "C" fn larboardyuzu_up_size(room: u32) -> usize
     ensures { result ≡ most_words_of room }
@@ -146,7 +153,9 @@ pub extern "C" fn larboardyuzu_up_size(room: u32) -> usize
     up_size(room)
 }
 
-/// The line of what is open at the end of the stream.
+/// Writes the line of the message or exclusive that is open at the end of the stream, with the offset of its
+/// first byte. Returns `HandleClosed`, `OtherKind`, or `Nothing` if nothing is open; the line is then
+/// unchanged.
 #[unsafe(no_mangle)]
 pub extern "C" fn larboardyuzu_up_end(alloc: Global, up: &mut Handle, line: &mut ListingLine) -> u32
     ensures same { up.new.holds ≡ up.old.holds }
@@ -163,7 +172,8 @@ pub extern "C" fn larboardyuzu_up_end(alloc: Global, up: &mut Handle, line: &mut
     status.number()
 }
 
-/// Begins again: the handle is then as it was opened, with the same arguments. Takes no memory.
+/// Makes the handle as it was just after it was opened with the same arguments (own rule). Takes no memory.
+/// Returns `HandleClosed` or `OtherKind`, and changes nothing, if the handle isn't open for this.
 #[unsafe(no_mangle)]
 pub extern "C" fn larboardyuzu_up_reset(alloc: Global, up: &mut Handle) -> u32
     ensures { IsReset up.old.holds result up.new.holds }
@@ -182,7 +192,7 @@ pub extern "C" fn larboardyuzu_up_reset(alloc: Global, up: &mut Handle) -> u32
     status.number()
 }
 
-/// Closes a handle, and gives its memory back. A handle that is closed stays closed.
+/// Closes a handle, whatever it is open for, and returns its memory. A closed handle stays closed.
 #[unsafe(no_mangle)]
 pub extern "C" fn larboardyuzu_up_close(alloc: Global, up: &mut Handle)
     ensures { up.new.holds ≡ None }

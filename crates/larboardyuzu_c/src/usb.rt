@@ -9,7 +9,8 @@ use c_streams::{CUsb, CarriedBytes, split_event, usb_size};
 use small_types::U4;
 use std::alloc::Global;
 
-/// The size of a buffer for the events of any message, if an exclusive has at most `room` bytes.
+/// Returns the least size, in bytes, of a buffer for the events of any message, if an exclusive has at most
+/// `room` bytes (own rule).
 #[unsafe(no_mangle)]
 pub extern "C" fn larboardyuzu_usb_size(room: u32) -> usize
     ensures { result ≡ longest_events room }
@@ -17,8 +18,11 @@ pub extern "C" fn larboardyuzu_usb_size(room: u32) -> usize
     usb_size(room)
 }
 
-/// Opens a handle: a packer into the events of a cable, 0 to 15. `room` is the limit of an exclusive, 6 to
-/// 1,048,576. All the memory that it ever needs is taken here.
+/// Opens a handle as a packer into the events of a cable, 0 to 15. `room` is the most bytes of an exclusive,
+/// 6 to 1,048,576. Takes all memory that the handle ever needs.
+///
+/// Returns the first that applies of `BadRoom`, `BadGroup` (the cable), `AlreadyOpen` and `NoMemory`; the
+/// handle is then unchanged.
 #[unsafe(no_mangle)]
 pub extern "C" fn larboardyuzu_usb_open(
     alloc: Global,
@@ -44,7 +48,10 @@ pub extern "C" fn larboardyuzu_usb_open(
     }
 }
 
-/// Takes one byte.
+/// Takes one more byte of the stream and writes the events of the message that it completes (USB Device Class
+/// Definition for MIDI Devices 1.0, code index numbers), as `CUsb::byte` does. Returns `HandleClosed` or
+/// `OtherKind`, with an empty outcome, if the handle isn't open for this; otherwise the statuses of that
+/// call.
 #[unsafe(no_mangle)]
 pub extern "C" fn larboardyuzu_usb_byte(
     alloc: Global,
@@ -71,7 +78,8 @@ pub extern "C" fn larboardyuzu_usb_byte(
     status.number()
 }
 
-/// Takes bytes from the front of these.
+/// Takes bytes that follow one another, as `CUsb::bytes` does. Returns `HandleClosed` or `OtherKind`, with an
+/// empty block, if the handle isn't open for this; otherwise the statuses of that call.
 #[unsafe(no_mangle)]
 pub extern "C" fn larboardyuzu_usb_bytes(
     alloc: Global,
@@ -100,7 +108,9 @@ pub extern "C" fn larboardyuzu_usb_bytes(
     status.number()
 }
 
-/// Writes the line of what is open at the end of the stream.
+/// Writes the line of the message or exclusive that is open at the end of the stream, with the offset of its
+/// first byte. Returns `HandleClosed`, `OtherKind`, or `Nothing` if nothing is open; the line is then
+/// unchanged.
 #[unsafe(no_mangle)]
 pub extern "C" fn larboardyuzu_usb_end(
     alloc: Global,
@@ -121,7 +131,8 @@ pub extern "C" fn larboardyuzu_usb_end(
     status.number()
 }
 
-/// Makes what a handle holds as if it had just been opened with the same arguments.
+/// Makes the handle as it was just after it was opened with the same arguments (own rule). Takes no memory.
+/// Returns `HandleClosed` or `OtherKind`, and changes nothing, if the handle isn't open for this.
 #[unsafe(no_mangle)]
 pub extern "C" fn larboardyuzu_usb_reset(alloc: Global, usb: &mut Handle) -> u32
     ensures { IsReset usb.old.holds result usb.new.holds }
@@ -140,7 +151,7 @@ pub extern "C" fn larboardyuzu_usb_reset(alloc: Global, usb: &mut Handle) -> u32
     status.number()
 }
 
-/// Closes a handle, and gives its memory back. A handle that is closed stays closed.
+/// Closes a handle, whatever it is open for, and returns its memory. A closed handle stays closed.
 #[unsafe(no_mangle)]
 pub extern "C" fn larboardyuzu_usb_close(alloc: Global, usb: &mut Handle)
     ensures { usb.new.holds ≡ None }
@@ -148,7 +159,8 @@ pub extern "C" fn larboardyuzu_usb_close(alloc: Global, usb: &mut Handle)
     let _held = usb.take(alloc);
 }
 
-/// Returns the cable of an event, and the bytes that it carries.
+/// Writes the cable of an event of four bytes, and the bytes that it carries, as `split_event` does. Returns
+/// `BadSize` or `Nothing`, and writes nothing, if the size isn't 4 or the event's code is reserved.
 #[unsafe(no_mangle)]
 pub extern "C" fn larboardyuzu_usb_carried(event: &[u8], carried: &mut CarriedBytes) -> u32
     ensures { IsCarried event.now result carried.old carried.new }
