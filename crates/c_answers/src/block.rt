@@ -6,22 +6,23 @@ ghost use Rattle.c_answers.specs.Blocks.{leaves_few, nothing_taken, with_item, w
 #[repr(C)]
 #[derive(Clone, Copy)]
 pub struct Block {
-    /// How many words or bytes were taken from the front of the input, those of a refused item too.
+    /// The number of words or bytes taken from the front of the input, with those of a refused item.
     pub taken: usize,
-    /// How many places of the first buffer were written.
+    /// The number of places written to the first buffer.
     pub written: usize,
-    /// How many items were written to the second buffer.
+    /// The number of items written to the second buffer.
     pub items: usize,
-    /// How many of those taken, at their end, are the item that was refused; 0 if none was.
+    /// How many of `taken`, at its end, belong to the item that was refused; 0 if none was.
     pub refused: usize,
-    /// After `SmallBuffer`, if the rest of the first buffer was short: a whole size that does. Otherwise 0.
+    /// After `SmallBuffer`, if the rest of the first buffer was too small: what an empty one needs. Otherwise
+    /// 0.
     pub need: usize,
-    /// After `SmallBuffer`, if the rest of the second buffer was short: 1. Otherwise 0.
+    /// After `SmallBuffer`, if the second buffer was full: 1. Otherwise 0.
     pub need_items: usize,
 }
 
 impl Block {
-    /// Nothing is taken.
+    /// The block of a call that took nothing.
     #[inline(always)]
     pub fn nothing() -> Block
         ensures { result ≡ nothing_taken }
@@ -36,8 +37,8 @@ impl Block {
         }
     }
 
-    /// Whether a buffer is short for one more item, by the places that the buffers have, and those that any
-    /// item may need in each. If one is, `need` and `need_items` say what is needed.
+    /// Whether the rest of a buffer is too small for one more item, by the sizes of both buffers and the most
+    /// places that an item may need in each. If so, sets `need` and `need_items`; otherwise changes nothing.
     #[inline(always)]
     pub fn is_full(
         &mut self,
@@ -65,7 +66,7 @@ impl Block {
         false
     }
 
-    /// One more item was taken, of so many words or bytes, with the places that it wrote in each buffer.
+    /// Counts an item that was taken: `count` words or bytes, and the places that it wrote to each buffer.
     #[inline(always)]
     pub fn add(&mut self, count: usize, written: usize, items: usize)
         requires taken { self.old.taken + count < 2 ^ 64 }
@@ -78,7 +79,7 @@ impl Block {
         self.items += items;
     }
 
-    /// The next item was refused, of so many words or bytes.
+    /// Counts an item of `count` words or bytes that was refused.
     #[inline(always)]
     pub fn refuse(&mut self, count: usize)
         requires { self.old.taken + count < 2 ^ 64 }

@@ -1,8 +1,8 @@
-// Writes to the front of a buffer of the caller's.
+// Writes to the front of the caller's buffer.
 ghost use Rattle.std.specs.Prelude.{◌≡◌, ◌≤◌, length};
 ghost use Rattle.c_answers.specs.Fronts.{with_front};
 
-/// Copies bytes to the front of a buffer that has room for all of them, and returns how many they are.
+/// Copies bytes to the front of a buffer that has room for all of them, and returns their number.
 #[inline(always)]
 pub fn put_bytes(bytes: &[u8], buffer: &mut [u8]) -> usize
     requires { length bytes.now ≤ length buffer.old }
@@ -13,7 +13,7 @@ pub fn put_bytes(bytes: &[u8], buffer: &mut [u8]) -> usize
     bytes.len()
 }
 
-/// The same of words.
+/// Copies words in the same way.
 #[inline(always)]
 pub fn put_words(words: &[u32], buffer: &mut [u32]) -> usize
     requires { length words.now ≤ length buffer.old }

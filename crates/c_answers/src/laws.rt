@@ -1,8 +1,7 @@
-// What holds of all streams.
+// A law on all streams.
 ghost use Rattle.c_answers.specs.Within.{ExclusivesStayWithinTheirLimit};
 
-/// An exclusive that is open in a parser has at most as many bytes as
-/// the limit, and so has one that a byte completes.
+/// Neither an exclusive that a parser has open nor one that a byte completes exceeds the parser's limit.
 #[tactic(auto, using(crate::proofs::WithinLaws::parse_within))]
 pub fn exclusives_stay_within_their_limit()
     ensures { ExclusivesStayWithinTheirLimit }

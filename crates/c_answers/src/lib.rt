@@ -1,5 +1,5 @@
-//! What the calls of the library for C answer: statuses, lines of the
-//! listing, and what is written to a buffer of the caller's.
+//! What the calls of the library for C return: statuses, lines of the listing, outcomes, how far a block call
+//! came, and what is written to the caller's buffers.
 #![tactic(auto)]
 
 pub mod block;

@@ -9,21 +9,21 @@ use listing_terms::{Kind, Listed};
 #[repr(C)]
 #[derive(Clone, Copy)]
 pub struct ListingLine {
-    /// The offset of what it tells.
+    /// The offset of what it reports, as the caller numbered it; 0 if there is no line.
     pub offset: u64,
     /// The number of its kind; 0 if there is no line.
     pub kind: u8,
 }
 
 impl ListingLine {
-    /// No line.
+    /// The value for no line.
     pub fn none() -> ListingLine
         ensures { result ≡ no_line }
     {
         ListingLine { offset: 0, kind: 0 }
     }
 
-    /// A line of this kind and offset.
+    /// Makes a line of this kind and offset.
     pub fn of(kind: Kind, offset: u64) -> ListingLine
         ensures { result ≡ line_of (kind, offset) }
     {
@@ -33,7 +33,7 @@ impl ListingLine {
         }
     }
 
-    /// A line, if there is one.
+    /// Makes a line, or the value for none; its group is left out.
     pub fn listed(listed: Option<Listed>) -> ListingLine
         ensures { result ≡ listed_line listed }
     {

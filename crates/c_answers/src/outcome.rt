@@ -8,11 +8,11 @@ use crate::line::ListingLine;
 #[repr(C)]
 #[derive(Clone, Copy)]
 pub struct ByteOutcome {
-    /// How many places of the buffer were written.
+    /// The number of places written to the buffer: words or bytes.
     pub written: usize,
     /// After `SmallBuffer`, the size of a buffer that does. Otherwise 0.
     pub need: usize,
-    /// The offset of the byte.
+    /// The offset of the byte, as the caller numbered it.
     pub offset: u64,
     /// If the byte cuts something off, what that is; otherwise what the byte is.
     pub first: ListingLine,
@@ -21,7 +21,7 @@ pub struct ByteOutcome {
 }
 
 impl ByteOutcome {
-    /// No byte was looked at.
+    /// The outcome of a call that looked at no byte.
     #[inline(always)]
     pub fn none() -> ByteOutcome
         ensures { result ≡ no_outcome }
@@ -29,7 +29,7 @@ impl ByteOutcome {
         ByteOutcome::empty(0)
     }
 
-    /// Nothing was written for the byte at this offset, and it has no line.
+    /// The outcome of the byte at this offset, for which nothing was written and which has no line.
     #[inline(always)]
     pub fn empty(offset: u64) -> ByteOutcome
         ensures { result ≡ empty_outcome offset }
@@ -37,7 +37,7 @@ impl ByteOutcome {
         ByteOutcome::of(offset, 0, ListingLine::none(), ListingLine::none())
     }
 
-    /// The byte at this offset, for which so many places were written, with its lines.
+    /// The outcome of the byte at this offset, by the number of places written for it and its lines.
     #[inline(always)]
     pub fn of(offset: u64, written: usize, first: ListingLine, second: ListingLine) -> ByteOutcome
         ensures { result ≡ outcome_of offset written first second }
@@ -51,7 +51,8 @@ impl ByteOutcome {
         }
     }
 
-    /// The byte at this offset wasn't taken, since the buffer is short; one of this size does.
+    /// The outcome of the byte at this offset if the buffer was too small, so that it wasn't taken; one of
+    /// this size does.
     #[inline(always)]
     pub fn needing(offset: u64, size: usize) -> ByteOutcome
         ensures { result ≡ needing offset size }

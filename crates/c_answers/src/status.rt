@@ -1,4 +1,4 @@
-// What a call answers.
+// The status that a call returns.
 ghost use Rattle.std.specs.Prelude.{◌≡◌};
 ghost use Rattle.c_answers.specs.Numbers.{number_of};
 ghost use Rattle.c_answers.specs.Refusals.{status_of_bad, status_of_step};
@@ -6,7 +6,7 @@ ghost use Rattle.c_answers.specs.Refusals.{status_of_bad, status_of_step};
 use listing_terms::BadStep;
 use ump_grammar::Bad;
 
-/// What a call answers: that it is done, or why it isn't.
+/// The status that a call returns: that it is done, or why it isn't.
 #[derive(Clone, Copy, Debug)]
 pub enum Status {
     /// It is done.
@@ -15,13 +15,13 @@ pub enum Status {
     NoMemory,
     /// The handle is closed.
     HandleClosed,
-    /// The handle is open.
+    /// The handle is open already.
     AlreadyOpen,
-    /// The limit of an exclusive is out of range, or a room of a running state.
+    /// The limit of an exclusive, or a room of a running state, is out of range.
     BadRoom,
-    /// The words aren't as many as the message type of the first one has.
+    /// The number of words isn't that of the first one's message type.
     BadWordCount,
-    /// A buffer has fewer places than the call may have to write; nothing more was taken.
+    /// A buffer is too small for what the call may have to write; nothing more was taken.
     SmallBuffer,
     /// A packet of an exclusive counts more than six bytes.
     BadCount,
@@ -35,9 +35,9 @@ pub enum Status {
     ExclusiveTooLong,
     /// A group or a cable isn't 0 to 15.
     BadGroup,
-    /// There is none.
+    /// What was asked for doesn't exist.
     Nothing,
-    /// The handle is open, and holds something else.
+    /// The handle is open for something else.
     OtherKind,
     /// The number of streams isn't 1 to 64.
     BadStreams,
@@ -53,9 +53,9 @@ pub enum Status {
     StateFull,
     /// A flag is set that the call doesn't have.
     BadFlags,
-    /// The bytes aren't as many as the call takes.
+    /// The number of bytes isn't the one that the call takes.
     BadSize,
-    /// A channel isn't 0 to 15, nor the number that stands for none.
+    /// A channel isn't 0 to 15, nor 255 for none.
     BadChannel,
 }
 
@@ -93,7 +93,7 @@ impl Status {
         }
     }
 
-    /// That of words which no packet has.
+    /// The status of words that no packet has.
     pub fn of_bad(bad: Bad) -> Status
         ensures { result ≡ status_of_bad bad }
     {
@@ -103,7 +103,7 @@ impl Status {
         }
     }
 
-    /// That of a packet or a byte which is refused.
+    /// The status of a packet or a byte that is refused.
     pub fn of_step(bad: BadStep) -> Status
         ensures { result ≡ status_of_step bad }
     {

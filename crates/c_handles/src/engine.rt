@@ -4,7 +4,7 @@ use c_streams::{CParser, CSysex8, CUsb};
 use c_translators::{CDown, CUp};
 use c_voice_state::{CByteState, CPacketState};
 
-/// What was opened.
+/// What a handle was opened for.
 #[derive(Drop)]
 pub enum Engine {
     /// A translator of packets to MIDI 1.0 bytes.
@@ -19,8 +19,8 @@ pub enum Engine {
     Sysex8(CSysex8),
     /// An endpoint that answers a peer.
     Endpoint(CEndpoint),
-    /// What packets have left in a receiver.
+    /// The running state of a receiver of packets.
     PacketState(CPacketState),
-    /// What the bytes of a MIDI 1.0 stream have left in a receiver.
+    /// The running state of a receiver of the bytes of a MIDI 1.0 stream.
     ByteState(CByteState),
 }

@@ -1,4 +1,4 @@
-// The struct that a caller in C holds.
+// The handle: a struct of the caller's in C.
 ghost use Rattle.std.specs.Prelude.{◌≡◌, Option, Some, None};
 ghost use Rattle.std.specs.Option.{option_map};
 ghost use Rattle.std.specs.Coded.{coded_option};
@@ -13,12 +13,13 @@ use c_answers::Status;
 use std::alloc::Global;
 use std::marker::Model;
 
-/// What was opened, on the heap, or nothing: a struct that C holds. A contract sees what it holds.
+/// A struct of the caller's in C: the address of an engine on the heap if it is open, or nothing if it is
+/// closed. A contract sees the engine that it holds.
 #[repr(C)]
 pub struct Handle {
     at: *mut u8,
-    // 1 if the handle is open and 0 if it is closed. It is as wide as the pointer, so that no byte of the struct
-    // is padding: else a call would copy that too.
+    // 1 if the handle is open and 0 if it is closed. It is as wide as the pointer, so that the struct has no
+    // padding, which a call would copy too.
     is_open: usize,
     pub ghost holds: { Option Engine } by { coded_option the_row.coded },
 }
@@ -30,11 +31,11 @@ impl Model for Handle {
     ghost also_owns = { λ h. held the_row h.is_open h.at h.holds };
 }
 
-// Each call has the handle for itself, and what it holds may go to another thread.
+// One call at a time uses a handle, and no engine depends on the thread that opened it.
 unsafe impl Send for Handle {}
 
 impl Handle {
-    /// A handle that holds nothing, as one that is all zero does.
+    /// Makes a closed handle, which is all zero.
     #[inline(always)]
     pub fn closed() -> Handle
         ensures { result.holds ≡ None }
@@ -45,7 +46,7 @@ impl Handle {
         }
     }
 
-    // Holds the value of a box that was taken apart.
+    // Makes an open handle of a box that was taken apart.
     #[inline(always)]
     fn of(parted: Parted<Engine, Global>) -> Handle
         ensures { result.holds ≡ Some parted.value }
@@ -57,7 +58,7 @@ impl Handle {
         }
     }
 
-    // What it holds, as a box that was taken apart.
+    // Returns what it holds, as a box that was taken apart.
     #[inline(always)]
     fn into_parted(self, alloc: Global) -> Option<Parted<Engine, Global>>
         ensures { option_map (λ l. l.value) result ≡ self.holds }
@@ -73,7 +74,8 @@ impl Handle {
         }
     }
 
-    // Lets go of a handle, which frees nothing, and tells by its flag whether it was open.
+    // Gives up a handle and returns its flag. It frees nothing, so it would leak what an open handle holds:
+    // `put` calls it only over a closed one.
     #[inline(always)]
     fn let_go(self) -> usize
         ensures { result ≡ self.is_open }
@@ -82,7 +84,7 @@ impl Handle {
         is_open
     }
 
-    /// What it holds.
+    /// Returns what it holds; `None` exactly if it is closed.
     #[inline(always)]
     pub fn into_box(self, alloc: Global) -> Option<Box<Engine>>
         ensures { option_map (λ b. b.value) result ≡ self.holds }
@@ -93,7 +95,8 @@ impl Handle {
         }
     }
 
-    /// Takes out what it holds as a box that was taken apart, and leaves it closed.
+    /// Takes out what it holds, as a box that was taken apart, and leaves it closed. The caller makes the box
+    /// again by `into_box`; otherwise its memory leaks, and no clause says so.
     #[inline(always)]
     pub fn take_parted(&mut self, alloc: Global) -> Option<Parted<Engine, Global>>
         ensures closed { self.new.holds ≡ None }
@@ -102,7 +105,7 @@ impl Handle {
         std::mem::replace(self, Handle::closed()).into_parted(alloc)
     }
 
-    /// Takes out what it holds, and leaves it closed.
+    /// Takes out what it holds, and leaves it closed. `None` exactly if it was closed.
     #[inline(always)]
     pub fn take(&mut self, alloc: Global) -> Option<Box<Engine>>
         ensures closed { self.new.holds ≡ None }
@@ -111,7 +114,7 @@ impl Handle {
         std::mem::replace(self, Handle::closed()).into_box(alloc)
     }
 
-    /// Puts this in a handle that is closed.
+    /// Opens a closed handle with this engine.
     #[inline(always)]
     pub fn put(&mut self, value: Box<Engine>)
         requires { self.old.holds ≡ None }
@@ -120,8 +123,8 @@ impl Handle {
         let _was_open = std::mem::replace(self, Handle::of(Parted::of(value))).let_go();
     }
 
-    /// Puts this in a handle that is closed. `NoMemory` if there isn't
-    /// enough for it; the handle then stays closed.
+    /// Opens a closed handle with this engine, for which it takes memory. Returns `NoMemory` if there isn't
+    /// enough; the handle then stays closed.
     pub fn fill(&mut self, alloc: Global, engine: Engine) -> Status
         requires { self.old.holds ≡ None }
         ensures { IsFilled engine (number_of result) self.new.holds }

@@ -1,4 +1,4 @@
-//! What a caller in C holds: a struct of its own, over a hidden box of what was opened.
+//! The handles of the library for C: a struct of the caller's, with the address of a box that only the library uses.
 #![tactic(auto)]
 
 pub mod engine;

@@ -5,7 +5,8 @@ ghost use Rattle.std.specs.Box.Ownership.{box_owns};
 use std::alloc::Allocator;
 use std::marker::Model;
 
-/// A value on the heap, by its address and what frees it.
+/// A box that was taken apart: the address of its value, and the allocator that frees it. Only `into_box`
+/// leads to the value being freed.
 pub struct Parted<T, A: Allocator> {
     pub alloc: A,
     pub address: *mut T,
