@@ -1,4 +1,4 @@
-//! The calls of the library for C that need no handle: the words of the header by their numbers, bytes as the
+//! The calls of the library for C that need no handle: the names of the header by their numbers, bytes as the
 //! words of packets, the line of a packet, the packets of an 8-bit exclusive, and the scaling of values.
 #![tactic(auto)]
 

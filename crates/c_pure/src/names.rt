@@ -1,4 +1,4 @@
-// The words of the header by their numbers.
+// The names of the header by their numbers, without their prefix.
 ghost use Rattle.std.specs.Prelude.{◌≡◌, map};
 ghost use Rattle.c_answers.specs.Numbers.{number_of};
 ghost use Rattle.c_endpoint.specs.Numbers.{heard_number};
@@ -83,7 +83,7 @@ const HEARD: [&str; 18] = [
     "BAD_FORMAT",
 ];
 
-// Writes the word with this number, and its length.
+// Writes the name with this number, and its length in bytes.
 fn put_name(names: &[&str], number: u32, text: &mut [u8], length: &mut usize) -> Status
     ensures { IsNamed (map (λ name. name.now) names.now) number
         text.old (number_of result) text.new length.new }
@@ -99,38 +99,38 @@ fn put_name(names: &[&str], number: u32, text: &mut [u8], length: &mut usize) ->
     Status::Done
 }
 
-/// Writes the word of a status to the front of the buffer, as the header has it after its prefix, and returns
-/// its length (own rule). Nothing is written, and the length is 0, in these cases: `Nothing` when no status
-/// has the number; `SmallBuffer` when the word doesn't fit, which never happens with 32 bytes.
+/// Writes the name of a status to the front of the buffer, as the header has it after its prefix, and its
+/// length in bytes to `length` (own rule). `Nothing` if no status has the number; `SmallBuffer` if the name
+/// doesn't fit, which never happens with 32 bytes. Then nothing is written, and the length is 0.
 pub fn status_name(number: u32, text: &mut [u8], length: &mut usize) -> Status
     ensures { IsNamed status_names number text.old (number_of result) text.new length.new }
 {
     put_name(&STATUSES, number, text, length)
 }
 
-/// Writes the word of a kind of line, in the same way.
+/// Writes the name of a kind of line, in the same way.
 pub fn kind_name(number: u32, text: &mut [u8], length: &mut usize) -> Status
     ensures { IsNamed kind_names number text.old (number_of result) text.new length.new }
 {
     put_name(&KINDS, number, text, length)
 }
 
-/// Writes the word of what an endpoint did with a message, in the same way.
+/// Writes the name of what an endpoint did with a message, in the same way.
 pub fn heard_name(number: u32, text: &mut [u8], length: &mut usize) -> Status
     ensures { IsNamed heard_names number text.old (number_of result) text.new length.new }
 {
     put_name(&HEARD, number, text, length)
 }
 
-/// A buffer of 32 bytes takes each of these words.
+/// A buffer of 32 bytes takes each of these names.
 pub fn words_have_at_most_32_bytes()
     ensures statuses { AreShort status_names }
     ensures kinds { AreShort kind_names }
     ensures heard { AreShort heard_names }
 {}
 
-/// The word at the number of each status is that status's own, and there are no other words. So it is with
-/// the kinds of lines, of which 0 is none, and with what an endpoint did with a message.
+/// The name at the number of each status is that status's own, and there are no other names. The same is true
+/// of the kinds of lines, where 0 stands for no line, and of what an endpoint did with a message.
 pub fn words_are_those_of_the_numbers()
     ensures statuses { AreWordsOf number_of status_word status_names }
     ensures kinds { AreWordsOf line_number kind_word kind_names }

@@ -11,14 +11,14 @@ use packet_words::{Order, Words};
 /// The flag by which the lowest byte of a word comes first.
 const LITTLE_ENDIAN: u32 = 8;
 
-// Why no packet is taken, and how many places it needs.
+// Why no packet is taken, and how many places its words need.
 #[derive(Clone, Copy)]
 struct Stop {
     why: Status,
     need: usize,
 }
 
-// The packet at the front of these bytes, if there are so many places for its words.
+// The words of the packet at the front of these bytes, if `places` are enough for them.
 fn front(order: Order, bytes: &[u8], places: usize) -> Result<Words, Stop>
     ensures { MatchResult result
         (λ words. let own = take (4 * length words) bytes.now in
@@ -83,11 +83,12 @@ fn order_by(flags: u32) -> Option<Order>
 
 /// Cuts bytes from the front into the words of whole packets (M2-104-UM, message types), and writes the words
 /// to the front of the buffer. The highest byte of each word comes first, or with flag 8 the lowest. `block`
-/// tells how many bytes were taken and how many words were written.
+/// has the numbers of bytes taken and of words written.
 ///
-/// The status is `Done` when all bytes are taken, and `BadFlags` when another flag is set. Otherwise it tells
-/// why the next packet isn't taken: `SmallBuffer` when its words don't fit in the rest of the buffer, and
-/// `need` is then how many they are; `BadSize` when its bytes aren't all there, or fewer than four are left.
+/// Returns `BadFlags` if another flag is set, and `Done` if all bytes are taken. Otherwise the status says
+/// why the next packet isn't taken: `BadSize` if fewer than four bytes are left; `SmallBuffer` if its words
+/// don't fit in the rest of the buffer, and `need` is then their number; `BadSize` if its bytes aren't all
+/// there.
 pub fn packets_in(bytes: &[u8], flags: u32, words: &mut [u32], block: &mut Block) -> Status
     ensures { ArePacketsIn bytes.now flags words.old (number_of result) words.new block.new }
 {

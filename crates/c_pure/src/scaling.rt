@@ -7,7 +7,7 @@ ghost use Rattle.c_pure.specs.Scaling.{IsLowered, IsRaised, raises_value};
 use bit_scaling::{down7, down14, release_down, up};
 use c_answers::Status;
 
-// Raises a value, if it has no more bits than its width.
+// Raises a value, unless it has more bits than its width.
 fn raise(value: u32, narrow: u32, wide: u32, scaled: &mut u32) -> Status
     requires { IsScaling narrow wide }
     ensures { raises_value value narrow wide scaled.old (number_of result) scaled.new }
@@ -20,9 +20,9 @@ fn raise(value: u32, narrow: u32, wide: u32, scaled: &mut u32) -> Status
 }
 
 /// Raises a value of 7 bits to 16 or 32, or one of 14 bits to 32: the least, the centre and the greatest
-/// value stay the least, the centre and the greatest (M2-115-U, min-centre-max). The status is `BadBits` when
-/// the widths are others, and `BadValue` when the value has more bits than its width; nothing is written
-/// then.
+/// value stay the least, the centre and the greatest (M2-115-U, min-centre-max). `narrow` and `wide` are
+/// widths in bits. Returns `BadBits` for other widths, and `BadValue` if the value has more than `narrow`
+/// bits; nothing is written then.
 pub fn scale_up(value: u32, narrow: u8, wide: u8, scaled: &mut u32) -> Status
     ensures { IsRaised value narrow wide scaled.old (number_of result) scaled.new }
 {
@@ -34,9 +34,9 @@ pub fn scale_up(value: u32, narrow: u8, wide: u8, scaled: &mut u32) -> Status
     }
 }
 
-/// The upper 7 of 16 bits, or the upper 7 or 14 of 32 (M2-115-U, downscaling). The status is `BadBits` when
-/// the widths are others, and `BadValue` when the value has more bits than its width; nothing is written
-/// then.
+/// Writes the upper 7 of 16 bits, or the upper 7 or 14 of 32 (M2-115-U, downscaling). `wide` and `narrow` are
+/// widths in bits. Returns `BadBits` for other widths, and `BadValue` if the value has more than `wide` bits;
+/// nothing is written then.
 pub fn scale_down(value: u32, wide: u8, narrow: u8, scaled: &mut u32) -> Status
     ensures { IsLowered value wide narrow scaled.old (number_of result) scaled.new }
 {

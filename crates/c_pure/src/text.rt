@@ -7,16 +7,16 @@ use c_answers::{Status, framed, put_bytes};
 use text_lines::packet_line;
 use ump_grammar::decode;
 
-/// The most bytes of a line.
+/// The most bytes of a line of `show` (own rule).
 const MOST_BYTES: usize = 256;
 
-/// Writes the line of the packet that the words encode, with its line feed, to the front of the buffer, and
-/// returns its length: the line that the program's `show` has for it at this offset (own rule).
+/// Writes the line that the program's `show` has for the packet of these words at this offset to the front of
+/// the buffer, with its line feed, and its length in bytes to `length` (own rule).
 ///
-/// Nothing is written, and the length is 0, in these cases, of which the status tells the first:
-/// `SmallBuffer` when the buffer has fewer than 256 places; `BadWordCount` when the number of words isn't
-/// that of the message type of the first one; `BadCount` when they are of a 7-bit exclusive and count more
-/// than six bytes; `HighBit` when a byte that carries seven bits is 128 or more.
+/// Returns the first that applies of `SmallBuffer` if the buffer has fewer than 256 places; `BadWordCount` if
+/// the number of words isn't that of the first one's message type; `BadCount` if they are of a 7-bit
+/// exclusive and count more than six bytes; and `HighBit` if a byte that carries seven bits is 128 or more.
+/// Then nothing is written, and the length is 0.
 pub fn packet_text(words: &[u32], offset: u64, text: &mut [u8], length: &mut usize) -> Status
     ensures { IsTold words.now offset text.old (number_of result) text.new length.new }
 {

@@ -1,4 +1,4 @@
-// The translator down, into a buffer of the caller's.
+// The translator down, into the caller's buffer.
 ghost use Rattle.std.specs.Prelude.{◌≡◌, ◌≤◌, ◌<◌, ℕ, List, length, slice_index, take, true, false, None, IfErr, IfOk, IfSome, IsTrue};
 ghost use Rattle.packet_words.specs.Words.{words_asked};
 ghost use Rattle.ump_grammar.specs.Ranges.{IsPacket};
@@ -20,11 +20,11 @@ use small_types::{NoMemory, U4};
 use std::alloc::Global;
 use std::marker::Model;
 
-/// The size of a buffer that takes any piece but that of an exclusive.
+/// The size, in bytes, of a buffer that takes any piece except that of an exclusive.
 const LEAST_SIZE: usize = 12;
 
-// The packet of the two words at the front of these, if there are so many and the packet is known by them.
-// Most are, so that what comes next rests on no table of lengths.
+// The packet of the first two words, if there are two and `EncodedPacket::of_two` knows it by them. It knows
+// most packets, so that what comes next rests on no table of lengths.
 #[inline(always)]
 fn pair_in(words: &[u32]) -> Option<EncodedPacket>
     ensures packet { IfSome result (λ packet. Reads (take 2 words.now) packet) }
@@ -38,7 +38,7 @@ fn pair_in(words: &[u32]) -> Option<EncodedPacket>
     Some(packet)
 }
 
-// The packet that the words encode, or why none has them.
+// The packet that the words encode, or the reason why no packet has them.
 #[inline(always)]
 fn read(words: &[u32], offset: u64) -> Result<EncodedPacket, Status>
     ensures { IsRead words.now result }
@@ -52,8 +52,8 @@ fn read(words: &[u32], offset: u64) -> Result<EncodedPacket, Status>
     }
 }
 
-// Copies a message to the front of the buffer, and returns how many
-// bytes it has. Most packets of an exclusive have none.
+// Copies a message to the front of the buffer, and returns its number of bytes. Most packets of an exclusive
+// have none.
 #[tactic(auto, using(crate::proofs::DownLaws::nothing_put))]
 #[inline(always)]
 fn put(message: &[u8], buffer: &mut [u8]) -> usize
@@ -67,7 +67,7 @@ fn put(message: &[u8], buffer: &mut [u8]) -> usize
     put_bytes(message, buffer)
 }
 
-// Writes a message in a lane, and gives its piece with its line.
+// Writes a message in a lane, and returns its piece, with its line.
 #[inline(always)]
 fn write(message: &[u8], lane: U4, listed: Option<Listed>, buffer: &mut [u8]) -> Piece
     requires { length message.now ≤ length buffer.old }
@@ -364,16 +364,16 @@ fn take_all(
     Status::Done
 }
 
-/// The size of a buffer that takes the piece of any packet, if the limit of an exclusive is `room`: two more
-/// than the limit, or 12 (own rule). There is one for every number.
+/// Returns the size, in bytes, of a buffer that takes the piece of any packet, if the limit of an exclusive
+/// is `room`: two more than the limit, and at least 12 (own rule). `room` may be any number.
 pub fn down_size(room: u32) -> usize
     ensures { result ≡ most_bytes_of room }
 {
     (room as usize + 2).max(LEAST_SIZE)
 }
 
-/// A translator down that knows the size of a buffer which takes the piece of any packet. A contract sees
-/// what the translator holds.
+/// A translator down that knows the size of a buffer which takes the piece of any packet. A contract sees the
+/// state of the translator.
 #[derive(Drop)]
 pub struct CDown {
     down: Down,
@@ -393,8 +393,8 @@ impl Model for CDown {
 }
 
 impl CDown {
-    /// A translator in which nothing is open. All memory that it ever needs is taken here: for exclusives of
-    /// `room` bytes between F0 and F7 in each group, 6 to 1,048,576 (own rule). `NoMemory` when there isn't
+    /// Makes a translator in which nothing is open. Takes all memory that it ever needs: for exclusives of
+    /// `room` bytes between F0 and F7 in each group, 6 to 1,048,576 (own rule). `NoMemory` if there isn't
     /// that much.
     pub fn new(alloc: Global, room: u32, style: Style, is_paired: bool) -> Result<CDown, NoMemory>
         requires least { 6 ≤ room }
@@ -408,23 +408,23 @@ impl CDown {
         })
     }
 
-    /// Begins again: the translator is then as `new` makes it with the same arguments. Nothing is open, and
-    /// in compact style nothing is known of what a receiver holds (own rule). Takes no memory.
+    /// Makes the translator as `new` makes it with the same arguments: nothing is open, and in compact style
+    /// nothing is known of a receiver (own rule). Takes no memory.
     pub fn reset(&mut self)
         ensures { self.new ≡ new_down (paired_of self.old) (style_of self.old) (limit_of self.old) }
     {
         self.down.reset();
     }
 
-    /// Takes the packet that the words encode. Its MIDI 1.0 bytes are written to the front of the buffer, and
+    /// Takes the packet that the words encode. Writes its MIDI 1.0 bytes to the front of the buffer, and
     /// their number, their lane and the packet's line to `piece` (M2-104-UM, default translation).
     ///
-    /// Nothing is taken, and nothing written to the buffer, in these cases, of which the first that holds is
-    /// returned: `SmallBuffer` if the buffer has fewer places than any piece may need (`down_size`);
-    /// `BadWordCount` if the words aren't as many as the message type of the first one has; `BadCount` if
-    /// they are of a 7-bit exclusive and count more than six bytes; `HighBit` if a byte that carries seven
-    /// bits is 128 or more. `DataIncrement` and `DataDecrement` leave the translator as it was; after
-    /// `ExclusiveTooLong` the group has nothing open, and all else is as it was (own rules).
+    /// Returns the first that applies of these, and then writes nothing to the buffer: `SmallBuffer` if the
+    /// buffer has fewer places than any piece may need (`down_size`); `BadWordCount` if the number of words
+    /// isn't that of the first one's message type; `BadCount` if they are of a 7-bit exclusive and count more
+    /// than six bytes; `HighBit` if a byte that carries seven bits is 128 or more; `DataIncrement` or
+    /// `DataDecrement` for a control change 96 or 97; `ExclusiveTooLong` if an exclusive exceeds the limit.
+    /// The last one leaves the group with nothing open; otherwise the translator is unchanged (own rules).
     #[tactic(auto, using(crate::proofs::DownLaws::taken_keeps))]
     #[inline(always)]
     pub fn packet(
@@ -450,12 +450,12 @@ impl CDown {
         }
     }
 
-    /// Takes the packets whose words follow one another, each as `packet` does. Their bytes follow one
-    /// another in the buffer, and their pieces in `pieces`. The offset is that of the first; each word adds 4
-    /// to it, modulo 2^64. The block says how far it came.
+    /// Takes packets whose words follow one another, each as `packet` does. Their bytes follow one another in
+    /// the buffer, and their pieces in `pieces`. The offset is that of the first; each word adds 4 to it,
+    /// modulo 2^64. The block says how far the call came.
     ///
-    /// Returns `Done` exactly when all words are taken. `SmallBuffer` comes exactly before the first packet
-    /// for which there is no piece left, or fewer places in the rest of the buffer than any piece may need;
+    /// Returns `Done` exactly if all words are taken; `SmallBuffer` exactly before the first packet for which
+    /// no piece is left, or for which the rest of the buffer has fewer places than any piece may need;
     /// `BadWordCount` before a last packet whose words aren't all there. A packet that is refused ends the
     /// call with its status, has no piece, and its words count as taken and as refused (own rules).
     pub fn packets(
@@ -483,8 +483,8 @@ impl CDown {
         status
     }
 
-    /// Finds the start of the exclusive that a group has open: the offset of its first packet. `BadGroup` if
-    /// the group isn't 0 to 15, and `Nothing` if it has none open; the offset is then left as it was.
+    /// Writes the offset of the packet that began the exclusive that a group has open. Returns `BadGroup` if
+    /// the group isn't 0 to 15, and `Nothing` if it has none open; the offset is then unchanged.
     pub fn begun(&self, group: u8, offset: &mut u64) -> Status
         ensures { HasBegun self.now group offset.old (number_of result) offset.new }
     {

@@ -31,7 +31,7 @@ fn is_refused(index: usize, payload: &[u8], own: &[u8]) -> bool
     has_high(own) || index == 0 && has_high(payload)
 }
 
-/// The two words of a packet of an exclusive.
+/// Returns the two words of a packet of an exclusive (M2-104-UM, system exclusive 7-bit messages).
 #[tactic(auto, using(crate::proofs::ExclusiveLaws::two_words))]
 pub fn exclusive_words(group: U4, form: Form, bytes: ShortList<u8, 6>) -> [u32; 2]
     requires { IsPacket (packet.Exclusive group form bytes) }
@@ -59,10 +59,11 @@ fn put_part(group: U4, payload: &[u8], index: usize, words: &mut [u32]) -> Statu
 }
 
 /// Writes the two words of a packet, counted from 0, of an exclusive with these bytes between F0 and F7
-/// (M2-104-UM, system exclusive 7-bit messages) to the front of the buffer. Nothing is written in these
-/// cases, of which the status tells the first: `SmallBuffer` when the buffer has fewer than two places;
-/// `BadGroup` when the group isn't 0 to 15; `Nothing` when the exclusive has no such packet; `HighBit` when a
-/// byte is 128 or more: one of the packet's bytes, or with index 0 any byte of the exclusive.
+/// (M2-104-UM, system exclusive 7-bit messages) to the front of the buffer.
+///
+/// Returns the first that applies of `SmallBuffer` if the buffer has fewer than two places; `BadGroup` if the
+/// group isn't 0 to 15; `Nothing` if the exclusive has no such packet; and `HighBit` if a byte of the packet,
+/// or with index 0 any byte of the exclusive, is 128 or more. Nothing is written then.
 pub fn exclusive_packet(group: u8, payload: &[u8], index: usize, words: &mut [u32]) -> Status
     ensures { IsCut group payload.now index words.old (number_of result) words.new }
 {

@@ -1,4 +1,4 @@
-// What a caller gets of a packet that goes down.
+// What a packet that goes down becomes, as a caller gets it.
 ghost use Rattle.std.specs.Prelude.{◌≡◌};
 ghost use Rattle.c_translators.specs.Pieces.{needing, no_piece, piece_shown};
 
@@ -10,13 +10,13 @@ use small_types::U4;
 #[repr(C)]
 #[derive(Clone, Copy)]
 pub struct Piece {
-    /// How many bytes were written.
+    /// The number of bytes written.
     pub written: usize,
     /// After `SmallBuffer`, the size of a buffer that does. Otherwise 0.
     pub need: usize,
-    /// The offset of the line.
+    /// The offset of the line, as the caller numbered it; 0 if there is none.
     pub offset: u64,
-    /// The lane of the bytes, 0 to 15.
+    /// The lane of the bytes, 0 to 15; 0 if there are none.
     pub lane: u8,
     /// The number of the kind of the line; 0 if there is no line.
     pub kind: u8,
@@ -25,7 +25,7 @@ pub struct Piece {
 }
 
 impl Piece {
-    /// No bytes and no line.
+    /// The piece of a packet without bytes and without a line.
     #[inline(always)]
     pub fn none() -> Piece
         ensures { result ≡ no_piece }
@@ -33,7 +33,7 @@ impl Piece {
         Piece::needing(0)
     }
 
-    /// Nothing was taken, since the buffer is short; one of this size does.
+    /// The piece of a packet that wasn't taken, since the buffer was too small; one of this size does.
     #[inline(always)]
     pub fn needing(size: usize) -> Piece
         ensures { result ≡ needing size }
@@ -48,7 +48,7 @@ impl Piece {
         }
     }
 
-    /// So many bytes in a lane, and a line.
+    /// The piece of a packet, by the number of bytes written, their lane and its line.
     #[inline(always)]
     pub fn of(written: usize, lane: U4, listed: Option<Listed>) -> Piece
         ensures { result ≡ piece_shown written lane listed }

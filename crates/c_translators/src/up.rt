@@ -1,4 +1,4 @@
-// The translator up, into a buffer of the caller's.
+// The translator up, into the caller's buffer.
 ghost use Rattle.std.specs.Prelude.{◌≡◌, ◌≤◌, ◌<◌, ◌+◌, ◌*◌, ◌^◌, length, false, IfOk, IfSome};
 ghost use Rattle.midi1_bytes.specs.Messages.{AreData};
 ghost use Rattle.midi1_bytes.specs.Parsing.{idle};
@@ -39,13 +39,13 @@ use std::marker::Model;
 use sysex_groups::part;
 use up_translator::{BadStep, DirectStep, Listed, Raised, RaisedPacket, Up};
 
-/// The size of a buffer that takes the words of any packet.
+/// The size, in words, of a buffer that takes any packet.
 const LEAST_SIZE: usize = 4;
 
 /// The most bytes of an exclusive that a packet carries.
 const PACKET_BYTES: usize = 6;
 
-// Writes two words, one by one, so that they don't go through memory, and returns how many they are.
+// Writes two words, one by one, so that they don't go through memory, and returns 2.
 #[inline(always)]
 fn put_pair(pair: [u32; 2], words: &mut [u32]) -> usize
     requires { 2 ≤ length words.old }
@@ -57,7 +57,7 @@ fn put_pair(pair: [u32; 2], words: &mut [u32]) -> usize
     2
 }
 
-// Writes the words of a packet, and returns how many they are.
+// Writes the words of a packet, and returns their number.
 #[inline(always)]
 fn put_packet(packet: &RaisedPacket, words: &mut [u32]) -> usize
     requires packet { IsPacket packet.now }
@@ -74,8 +74,8 @@ fn put_packet(packet: &RaisedPacket, words: &mut [u32]) -> usize
     }
 }
 
-// Writes the words of the packets of an exclusive with these bytes
-// between F0 and F7, and returns how many they are.
+// Writes the words of the packets of an exclusive with these bytes between F0 and F7, and returns their
+// number.
 fn put_exclusive(group: U4, payload: &[u8], words: &mut [u32]) -> usize
     requires data_bytes { AreData payload.now }
     requires room { 2 * part_count payload.now ≤ length words.old }
@@ -95,7 +95,7 @@ fn put_exclusive(group: U4, payload: &[u8], words: &mut [u32]) -> usize
     }
 }
 
-// Writes the words of the packets of a byte, and returns how many they are.
+// Writes the words of the packets of a byte, and returns their number.
 #[inline(always)]
 fn put_packets(raised: &Raised<'_>, words: &mut [u32]) -> usize
     requires apart { IsApart raised.now }
@@ -125,8 +125,8 @@ fn show_line(listed: Option<Listed>, line: &mut ListingLine)
     }
 }
 
-// Writes the words of the packets of a byte, and shows how many they are, and its lines. Most bytes
-// have none of these.
+// Writes the words of the packets of a byte, and their number and its lines to the outcome. Most bytes have
+// none of these.
 #[tactic(auto, using(crate::proofs::UpLaws::shows_alone))]
 #[inline(always)]
 fn show(raised: &Raised<'_>, offset: u64, words: &mut [u32], outcome: &mut ByteOutcome)
@@ -169,8 +169,8 @@ fn take(
     }
 }
 
-// Takes one more byte, and writes its outcome, if nothing is raised of it or a direct message alone. Otherwise
-// the outcome says nothing. It is written first, while little else is kept.
+// Takes one more byte, and writes its outcome, if nothing is raised of it or a direct message alone.
+// Otherwise the outcome says nothing. It is written first, while little else is kept.
 #[inline(always)]
 fn take_direct(
     up: &mut Up,
@@ -195,7 +195,7 @@ fn take_direct(
     }
 }
 
-// How many bytes were taken at once, and how many words and outcomes were written for them.
+// The number of bytes taken at once, and of words and outcomes written for them.
 #[derive(Clone, Copy)]
 pub(crate) struct Run {
     count: usize,
@@ -239,7 +239,7 @@ fn take_run(
     }
 }
 
-// Writes the item of a byte, if it has one, and returns how many that are.
+// Writes the item of a byte, if it has one, and returns their number: 0 or 1.
 #[inline(always)]
 fn put_item(outcome: ByteOutcome, outcomes: &mut [ByteOutcome]) -> usize
     requires { 0 < length outcomes.old }
@@ -309,7 +309,7 @@ fn take_front(
     take_first(up, bytes, next, words, outcomes)
 }
 
-// Takes bytes that follow one another, if any byte has at most so many words.
+// Takes bytes that follow one another. Any byte has at most `most_written` words.
 #[inline(always)]
 fn take_all(
     up: &mut Up,
@@ -357,16 +357,16 @@ fn take_all(
     Status::Done
 }
 
-/// The size of a buffer that takes the words of any byte, if the limit of an exclusive is `room`: two for
-/// each packet of such an exclusive, or 4 (own rule). There is one for every number.
+/// Returns the size, in words, of a buffer that takes what any byte completes, if the limit of an exclusive
+/// is `room`: two for each packet of such an exclusive, and at least 4 (own rule). `room` may be any number.
 pub fn up_size(room: u32) -> usize
     ensures { result ≡ most_words_of room }
 {
     ((room as usize).div_ceil(PACKET_BYTES) * 2).max(LEAST_SIZE)
 }
 
-/// A translator up that knows the size of a buffer which takes the words
-/// of any byte. A contract sees what the translator holds.
+/// A translator up that knows the size of a buffer which takes the words of any byte. A contract sees the
+/// state of the translator.
 #[derive(Drop)]
 pub struct CUp {
     up: Up,
@@ -386,9 +386,9 @@ impl Model for CUp {
 }
 
 impl CUp {
-    /// A translator into a group, for a stream that has had no byte yet. All memory that it ever needs is
-    /// taken here: for exclusives of `room` bytes between F0 and F7, 6 to 1,048,576 (own rule). `NoMemory`
-    /// when there isn't that much.
+    /// Makes a translator into a group, for a stream that has had no byte yet. Takes all memory that it ever
+    /// needs: for exclusives of `room` bytes between F0 and F7, 6 to 1,048,576 (own rule), and for the MSBs
+    /// of parameters. `NoMemory` if there isn't that much.
     pub fn new(alloc: Global, group: U4, room: u32, is_paired: bool) -> Result<CUp, NoMemory>
         requires least { 6 ≤ room }
         requires most { room ≤ 1048576 }
@@ -402,8 +402,8 @@ impl CUp {
         })
     }
 
-    /// Begins again: the translator is then as `new` makes it with the same arguments, for a stream that has had
-    /// no byte yet (own rule). Takes no memory.
+    /// Makes the translator as `new` makes it with the same arguments, for a stream that has had no byte yet
+    /// (own rule). Takes no memory.
     pub fn reset(&mut self)
         ensures { self.new ≡ record {
           group = self.old.group;
@@ -414,14 +414,13 @@ impl CUp {
         self.up.reset();
     }
 
-    /// Takes one more byte (M2-104-UM, translation from MIDI 1.0; M2-115-U). The words of its packets are
-    /// written to the front of the buffer, those of an exclusive all at once, and its lines to `outcome`.
+    /// Takes one more byte (M2-104-UM, translation from MIDI 1.0; M2-115-U). Writes the words of its packets
+    /// to the front of the buffer, those of an exclusive all at once, and its lines to `outcome`.
     ///
-    /// `SmallBuffer` comes, and nothing is taken, exactly when the buffer has fewer places than any byte may
-    /// need (`up_size`). `DataIncrement` and `DataDecrement` come at the
-    /// byte that completes a control change 96 or 97; what control changes have set stays as it was.
-    /// `ExclusiveTooLong` comes at the byte that makes an exclusive longer than the limit, which is dropped
-    /// (own rules). Nothing is written then.
+    /// Returns `SmallBuffer`, and takes nothing, exactly if the buffer has fewer places than any byte may
+    /// need (`up_size`); `DataIncrement` or `DataDecrement` at the byte that completes a control change 96 or
+    /// 97, which sets nothing; `ExclusiveTooLong` at the byte that makes an exclusive longer than the limit,
+    /// which is dropped (own rules). Nothing is written to the buffer then.
     #[tactic(auto, using(crate::proofs::UpLaws::refused))]
     #[inline(always)]
     pub fn byte(
@@ -445,10 +444,10 @@ impl CUp {
         }
     }
 
-    /// Takes one more byte as `byte` does, with `Done`, if the buffer is large enough and the byte is only held or
-    /// completes a message that is raised alone. `false` exactly otherwise: then nothing is taken or written but
-    /// the outcome, which says nothing, and `byte` has the answer. It takes most bytes of a performance, in less
-    /// time than `byte`.
+    /// Takes one more byte as `byte` does, with `Done`, if the buffer is large enough and the byte is only
+    /// kept or completes a message that is raised alone. Returns `false` exactly otherwise: then nothing is
+    /// taken, nothing is written except the outcome, which may hold anything, and the caller has to call
+    /// `byte`. Most bytes of a performance are taken, in less time than by `byte`.
     #[inline(always)]
     pub fn direct(
         &mut self,
@@ -468,13 +467,13 @@ impl CUp {
     }
 
     /// Takes bytes that follow one another, each as `byte` does. Their words follow one another in the
-    /// buffer. An outcome is written for each byte that completes a packet or has a line. The offset is that
-    /// of the first byte; each adds 1 to it, modulo 2^64. The block says how far it came.
+    /// buffer, and each byte that completes a packet or has a line has an outcome. The offset is that of the
+    /// first byte; each byte adds 1 to it, modulo 2^64. The block says how far the call came.
     ///
-    /// `Done` comes exactly when all bytes are taken. `SmallBuffer` comes exactly before the first byte for
-    /// which there is no outcome left, or fewer places in the rest of the buffer than any byte may need. A byte
-    /// that is refused ends the call with its status, has no outcome, and counts as taken and as refused (own
-    /// rules).
+    /// Returns `Done` exactly if all bytes are taken, and `SmallBuffer` exactly before the first byte for
+    /// which no outcome is left, or for which the rest of the buffer has fewer places than any byte may need.
+    /// A byte that is refused ends the call with its status, has no outcome, and counts as taken and as
+    /// refused (own rules).
     pub fn bytes(
         &mut self,
         bytes: &[u8],
@@ -500,7 +499,8 @@ impl CUp {
         status
     }
 
-    /// What is open at the end of the stream: its line, or `Nothing`, and the line is then left as it was.
+    /// Writes the line of the message or exclusive that is open at the end of the stream. Returns `Nothing`
+    /// if nothing is open; the line is then unchanged.
     pub fn end(&self, line: &mut ListingLine) -> Status
         ensures { HasEnd self.now line.old (number_of result) line.new }
     {
