@@ -1,5 +1,5 @@
 //! The readers of the library for C as safe functions: the parser of MIDI 1.0 bytes, the packer of USB-MIDI
-//! events and the join of 8-bit exclusives. Each takes buffers of the caller's, and returns a status.
+//! events and the join of 8-bit exclusives. Each writes to the caller's buffers, and returns a status.
 #![tactic(auto)]
 
 pub mod parser;

@@ -19,8 +19,8 @@ use small_types::NoMemory;
 use std::alloc::Global;
 use std::marker::Model;
 
-/// The size of a buffer that takes any message, if exclusives have at most `room` bytes between F0 and F7:
-/// two bytes more than those (own rule).
+/// Returns the size, in bytes, of a buffer that takes any message, if exclusives have at most `room` bytes
+/// between F0 and F7: two bytes more (own rule).
 pub fn parser_size(room: u32) -> usize
     ensures { result ≡ longest_message room }
 {
@@ -38,7 +38,7 @@ fn whole(bytes: &[u8], offset: u64, buffer: &mut [u8]) -> ByteOutcome
     ByteOutcome::of(offset, put_bytes(bytes, buffer), none, none)
 }
 
-// The outcome of the byte at this offset that is only listed.
+// The outcome of the byte at this offset, which only has a line.
 fn listed(kind: Kind, offset: u64) -> ByteOutcome
     ensures { result ≡ outcome_of offset 0 (line_of (kind, offset)) no_line }
 {
@@ -50,7 +50,7 @@ fn listed(kind: Kind, offset: u64) -> ByteOutcome
     )
 }
 
-// The outcome of the byte at this offset that cuts off what started at `start`.
+// The outcome of the byte at this offset, which cuts off what began at `start`.
 fn cut(start: u64, what: CutKind, after: AfterCut, offset: u64, buffer: &mut [u8]) -> ByteOutcome
     requires { length (message_in (steps.cut start what after)) ≤ length buffer.old }
     ensures { ShowsStep (steps.cut start what after) offset (message_in (steps.cut start what after))
@@ -75,7 +75,7 @@ fn cut(start: u64, what: CutKind, after: AfterCut, offset: u64, buffer: &mut [u8
     }
 }
 
-// Shows what a byte does: writes the message that it completes, with its status byte.
+// Writes the message that a byte completes, with its status byte, and returns its outcome.
 #[inline(always)]
 fn show(step: &Step<'_>, offset: u64, buffer: &mut [u8]) -> Result<ByteOutcome, Status>
     requires framed { LendsFramed step.now }
@@ -105,7 +105,7 @@ fn show(step: &Step<'_>, offset: u64, buffer: &mut [u8]) -> Result<ByteOutcome, 
     }
 }
 
-/// A parser of the bytes of a MIDI 1.0 stream that knows its limit. A contract sees what it holds.
+/// A parser of the bytes of a MIDI 1.0 stream that knows its limit. A contract sees the state of the parser.
 #[derive(Drop)]
 pub struct CParser {
     parser: Parser,
@@ -126,8 +126,9 @@ impl Model for CParser {
 }
 
 impl CParser {
-    /// A parser with nothing open and no running status, for exclusives of `room` bytes between F0 and F7, 6
-    /// to 1,048,576. All memory that it ever needs is taken here; `NoMemory` when there isn't that much.
+    /// Makes a parser with nothing open and no running status, for exclusives of `room` bytes between F0 and
+    /// F7, 6 to 1,048,576 (own rule). Takes all memory that it ever needs; `NoMemory` if there isn't that
+    /// much.
     pub fn new(alloc: Global, room: u32) -> Result<CParser, NoMemory>
         requires least { 6 ≤ room }
         requires most { room ≤ 1048576 }
@@ -138,8 +139,8 @@ impl CParser {
     }
 
     /// Takes one more byte (MIDI 1.0 Detailed Specification), as `take_byte` does. A message is written with
-    /// its status byte first, also when that was running; an exclusive from F0 to F7. Any byte may need two
-    /// places more than the limit of an exclusive.
+    /// its status byte, also if that was running; an exclusive from F0 to F7. Any byte may need two places
+    /// more than the limit of an exclusive (`parser_size`).
     #[inline]
     pub fn byte(
         &mut self,
@@ -154,7 +155,7 @@ impl CParser {
         take_byte(self, byte, offset, buffer, outcome)
     }
 
-    /// Takes bytes from the front of these as `take_bytes` does, each as `byte` does.
+    /// Takes bytes that follow one another as `take_bytes` does, each as `byte` does.
     pub fn bytes(
         &mut self,
         bytes: &[u8],
@@ -169,7 +170,7 @@ impl CParser {
         take_bytes(self, bytes, offset, buffer, outcomes, block)
     }
 
-    /// Makes the parser as if it were new, with the same limit: nothing is open, and there is no running
+    /// Makes the parser as `new` makes it with the same limit: nothing is open, and there is no running
     /// status (own rule). Takes no memory.
     pub fn reset(&mut self)
         ensures { self.new ≡ idle self.old.room }
@@ -177,8 +178,8 @@ impl CParser {
         self.parser.reset();
     }
 
-    /// Writes the line of what is open, a message or an exclusive, with the offset at which it starts. The
-    /// status is `Nothing`, and no line is written, exactly when nothing is open.
+    /// Writes the line of the message or exclusive that is open, with the offset of its first byte. Returns
+    /// `Nothing`, and writes no line, exactly if nothing is open.
     pub fn end(&self, line: &mut ListingLine) -> Status
         ensures { IsEnd (open_of self.now) (number_of result) line.old line.new }
     {

@@ -1,4 +1,4 @@
-// A reader of the bytes of a MIDI 1.0 stream, for a caller with buffers of its own.
+// A reader of the bytes of a MIDI 1.0 stream, into the caller's buffers.
 ghost use Rattle.std.specs.Prelude.{◌≡◌, ◌≤◌, ◌<◌, length};
 ghost use Rattle.c_answers.specs.Fronts.{with_front};
 ghost use Rattle.c_answers.specs.Numbers.{number_of};
@@ -7,16 +7,16 @@ ghost use Rattle.c_streams.specs.Readers.{AreBytesTaken, IsByteTaken, Reader, Re
 
 use c_answers::{Block, ByteOutcome, Status};
 
-/// What reads the bytes of a stream one by one, and writes what they complete.
+/// A reader that takes the bytes of a stream one by one, and writes what they complete.
 pub trait ByteReader {
     ghost reader: { Reader Self };
 
-    /// The places that any byte may need.
+    /// The most places of the buffer that a byte may need.
     fn most_written(&self) -> usize
         ensures { result ≡ reader.most self.now };
 
-    /// Takes one more byte, and writes what it completes to the front of the buffer. An error says why the
-    /// byte is refused; nothing is written then.
+    /// Takes one more byte, and writes what it completes to the front of the buffer. `Err` says why the byte
+    /// is refused; nothing is written then.
     fn take(&mut self, byte: u8, offset: u64, buffer: &mut [u8]) -> Result<ByteOutcome, Status>
         requires { reader.most self.old ≤ length buffer.old }
         ensures answer { Reads reader self.old byte offset buffer.old result buffer.new }
@@ -27,8 +27,8 @@ pub trait ByteReader {
 /// Takes one more byte, and writes what it completes to the front of the buffer. The outcome has the number
 /// of places written, and the lines of the byte (own rules).
 ///
-/// The status is `SmallBuffer` exactly when the buffer has fewer places than any byte may need; nothing is
-/// taken then, and `need` is the size that does. It is `ExclusiveTooLong` at the byte that makes an exclusive
+/// Returns `SmallBuffer` exactly if the buffer has fewer places than any byte may need; nothing is taken
+/// then, and `need` is the size that does. Returns `ExclusiveTooLong` at the byte that makes an exclusive
 /// longer than the limit, which is dropped.
 #[inline(always)]
 pub fn take_byte<R: ByteReader>(
@@ -58,7 +58,8 @@ pub fn take_byte<R: ByteReader>(
     }
 }
 
-// Writes an outcome to the front of these, if it has something to tell, and returns how many that are.
+// Writes an outcome to the front of these, if its byte wrote something or has a line, and returns the number
+// of outcomes written: 0 or 1.
 #[inline(always)]
 fn put_outcome(outcome: ByteOutcome, outcomes: &mut [ByteOutcome]) -> usize
     requires { 0 < length outcomes.old }
@@ -72,14 +73,13 @@ fn put_outcome(outcome: ByteOutcome, outcomes: &mut [ByteOutcome]) -> usize
     1
 }
 
-/// Takes bytes from the front of these, each as `take_byte` does. All that they complete is written to the
-/// buffer in order, and `outcomes` has an outcome for each byte that completes something or has a line. The
-/// offset is that of the first byte; each byte adds 1 to it, modulo 2^64. The block tells how far the call
-/// came.
+/// Takes bytes that follow one another, each as `take_byte` does. What they complete follows one another in
+/// the buffer, and each byte that completes something or has a line has an outcome. The offset is that of the
+/// first byte; each byte adds 1 to it, modulo 2^64. The block says how far the call came.
 ///
-/// The status is `Done` when all bytes are taken. It is `SmallBuffer` before a byte for which no outcome is
-/// left, or fewer places in the rest of the buffer than any byte may need. `ExclusiveTooLong` ends the call
-/// after the byte that is refused, which counts as taken (own rules).
+/// Returns `Done` if all bytes are taken, and `SmallBuffer` before a byte for which no outcome is left, or
+/// for which the rest of the buffer has fewer places than any byte may need. `ExclusiveTooLong` ends the call
+/// after the byte that is refused, which has no outcome and counts as taken and as refused (own rules).
 pub fn take_bytes<R: ByteReader>(
     reader: &mut R,
     bytes: &[u8],

@@ -20,7 +20,7 @@ use std::marker::Model;
 use sysex8_streams::{Fed8, Part8, Streams, read8};
 use ump_grammar::fields::bits;
 
-/// What a packet does to the 8-bit exclusive of its stream.
+/// What a packet did to the 8-bit exclusive of its stream.
 #[repr(C)]
 #[derive(Clone, Copy)]
 pub struct JoinedPart {
@@ -28,28 +28,28 @@ pub struct JoinedPart {
     pub written: usize,
     /// After `SmallBuffer`, the size of a buffer that does. Otherwise 0.
     pub need: usize,
-    /// The offset at which the exclusive started that it cuts off.
+    /// The offset at which the exclusive began that it cuts off; otherwise 0.
     pub cut_at: u64,
-    /// 1: it is kept. 2: it ends an exclusive. 3: it continues or ends one, and none is begun. 4: it begins
-    /// one, and cuts one off. 5: it is all of one, and cuts one off. 6: it begins one, and all slots are
-    /// taken. 7: the exclusive has more bytes than the limit, and is dropped. 0: the packet has no part of an
-    /// 8-bit exclusive.
+    /// 0: the packet has no part of an 8-bit exclusive. 1: its part is kept. 2: it ends an exclusive. 3: it
+    /// continues or ends one, and none is begun. 4: it begins one, and cuts one off. 5: it is all of one, and
+    /// cuts one off. 6: it begins one, but all slots are taken, so it is passed over. 7: the exclusive has
+    /// more bytes than the limit, and is dropped.
     pub answer: u8,
-    /// The group of the stream, 0 to 15.
+    /// The group of the stream, 0 to 15; 0 if there is no part.
     pub group: u8,
-    /// Its stream id.
+    /// Its stream id, 0 to 255; 0 if there is no part.
     pub stream: u8,
 }
 
 impl JoinedPart {
-    /// There is no part.
+    /// The value for a packet without a part.
     pub fn none() -> JoinedPart
         ensures { result ≡ no_part }
     {
         JoinedPart::needing(0)
     }
 
-    /// Nothing was taken, since the buffer is too small; one of this size does.
+    /// The value for a packet that wasn't taken, since the buffer was too small; one of this size does.
     pub fn needing(size: usize) -> JoinedPart
         ensures { result ≡ needing_part size }
     {
@@ -84,7 +84,7 @@ fn part_in(words: &Words) -> Option<Part8>
     }
 }
 
-// Writes the exclusive that a part ends, and returns how many bytes it has.
+// Writes the exclusive that a part ends, and returns its number of bytes.
 fn put_ended(fed: &Fed8<'_>, buffer: &mut [u8]) -> usize
     requires { length (ended_by (fed8_view fed.now)) ≤ length buffer.old }
     ensures count { result ≡ length (ended_by (fed8_view fed.now)) }
@@ -166,7 +166,7 @@ fn take(
     }
 }
 
-// Takes packets as `packets` does, if an exclusive has at most so many bytes.
+// Takes packets as `packets` does. An exclusive has at most `most` bytes.
 fn take_all(
     streams: &mut Streams,
     most: usize,
@@ -228,8 +228,8 @@ impl Model for CSysex8 {
 }
 
 impl CSysex8 {
-    /// This many slots, 1 to 64, all idle, each for an exclusive of `room` bytes, 13 to 1,048,576. All memory
-    /// that is ever needed is taken here; `NoMemory` when there isn't that much.
+    /// Makes a join of this many slots, 1 to 64, all idle, each for an exclusive of `room` bytes, 13 to
+    /// 1,048,576 (own rules). Takes all memory that it ever needs; `NoMemory` if there isn't that much.
     pub fn new(alloc: Global, slots: u8, room: u32) -> Result<CSysex8, NoMemory>
         requires some { 1 ≤ slots }
         requires few { slots ≤ 64 }
@@ -241,13 +241,13 @@ impl CSysex8 {
         Ok(CSysex8 { streams, room })
     }
 
-    /// Takes one packet (M2-104-UM, system exclusive 8-bit messages). The exclusive that it ends is written
+    /// Takes one packet (M2-104-UM, system exclusive 8-bit messages), and writes the exclusive that it ends
     /// to the front of the buffer. A packet that has no part of an 8-bit exclusive changes nothing.
     ///
-    /// The status is `SmallBuffer` exactly when the buffer has fewer bytes than the limit of an exclusive,
-    /// and `need` is then that size. Otherwise it is `BadWordCount` when the words aren't those of one
-    /// packet. Nothing is taken in both cases. It is `ExclusiveTooLong` at the part that makes an exclusive
-    /// longer than the limit, which is dropped (own rules).
+    /// Returns `SmallBuffer` exactly if the buffer has fewer bytes than the limit of an exclusive, and `need`
+    /// is then that size; otherwise `BadWordCount` if the words aren't those of one packet. Nothing is taken
+    /// in either case. Returns `ExclusiveTooLong` at the part that makes an exclusive longer than the limit,
+    /// which is dropped; `joined` then still has the answer, the group and the stream (own rules).
     pub fn packet(
         &mut self,
         words: &[u32],
@@ -279,14 +279,14 @@ impl CSysex8 {
         }
     }
 
-    /// Takes packets from the front of these words, each as `packet` does. The exclusives that they end
-    /// follow each other in the buffer, and `parts` has one for each packet. The offset is that of the first
-    /// packet; each word adds 4 to it, modulo 2^64. The block tells how far the call came.
+    /// Takes packets whose words follow one another, each as `packet` does. The exclusives that they end
+    /// follow one another in the buffer, and `parts` has one for each packet. The offset is that of the first
+    /// packet; each word adds 4 to it, modulo 2^64. The block says how far the call came.
     ///
-    /// The status is `Done` when all words are taken. It is `SmallBuffer` before a packet for which no part
-    /// is left, or fewer bytes in the rest of the buffer than the limit of an exclusive; `BadWordCount`
-    /// before a last packet whose words aren't all there. `ExclusiveTooLong` ends the call after the packet
-    /// that is refused, which counts as taken (own rules).
+    /// Returns `Done` if all words are taken; `SmallBuffer` before a packet for which no part is left, or for
+    /// which the rest of the buffer has fewer bytes than the limit of an exclusive; `BadWordCount` before a
+    /// last packet whose words aren't all there. `ExclusiveTooLong` ends the call after the packet that is
+    /// refused, which has no part and counts as taken and as refused (own rules).
     pub fn packets(
         &mut self,
         words: &[u32],
@@ -302,16 +302,16 @@ impl CSysex8 {
         take_all(&mut self.streams, most, words, offset, buffer, parts, block)
     }
 
-    /// Makes the join as if it were new, with as many slots of the same size: all of them are idle (own
-    /// rule). Takes no memory.
+    /// Makes the join as `new` makes it with the same arguments: all slots are idle (own rule). Takes no
+    /// memory.
     pub fn reset(&mut self)
         ensures { self.new ≡ empty_table8 (length self.old.slots) self.old.room }
     {
         self.streams.reset();
     }
 
-    /// Returns the offset of the packet that began the exclusive of a stream. The status is `BadGroup` when
-    /// the group is above 15, and `Nothing` when the stream has none begun; nothing is written then.
+    /// Writes the offset of the packet that began the exclusive of a stream. Returns `BadGroup` if the group
+    /// is above 15, and `Nothing` if the stream has none begun; nothing is written then.
     pub fn begun(&self, group: u8, stream: u8, offset: &mut u64) -> Status
         ensures { IsBegun self.now group stream (number_of result) offset.old offset.new }
     {

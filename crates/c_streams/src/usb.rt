@@ -19,8 +19,8 @@ use std::marker::Model;
 use usb_midi1::laws::exclusive_events_come_in_order;
 use usb_midi1::{EachEvent, Packed, Packer, carried, exclusive_event, is_reserved};
 
-/// The size of a buffer that takes the events of any message, if exclusives have at most `room` bytes between
-/// F0 and F7: four bytes for each three of theirs, with F0 and F7 (own rule).
+/// Returns the size, in bytes, of a buffer that takes the events of any message, if exclusives have at most
+/// `room` bytes between F0 and F7: four bytes for each three of an exclusive with its F0 and F7 (own rule).
 pub fn usb_size(room: u32) -> usize
     ensures { result ≡ longest_events room }
 {
@@ -33,15 +33,15 @@ pub fn usb_size(room: u32) -> usize
 pub struct CarriedBytes {
     /// The number of its cable, 0 to 15.
     pub cable: u8,
-    /// How many of its three bytes it carries.
+    /// How many of its three bytes it carries, 1 to 3.
     pub length: u8,
-    /// Its three bytes.
+    /// Its three bytes, also those that it doesn't carry.
     pub bytes: [u8; 3],
 }
 
-/// Returns the cable of an event of four bytes, its three other bytes, and how many of them it carries (USB
-/// Device Class Definition for MIDI Devices 1.0, event packets). The status is `BadSize` when there are more
-/// or fewer bytes, and otherwise `Nothing` when the code is reserved; nothing is written then.
+/// Writes the cable of an event of four bytes, its last three bytes, and how many of them it carries (USB
+/// Device Class Definition for MIDI Devices 1.0, event packets). Returns `BadSize` if there are more or fewer
+/// than four bytes, and otherwise `Nothing` if the code is reserved; nothing is written then.
 pub fn split_event(event: &[u8], split: &mut CarriedBytes) -> Status
     ensures { IsCarried event.now (number_of result) split.old split.new }
 {
@@ -60,8 +60,7 @@ pub fn split_event(event: &[u8], split: &mut CarriedBytes) -> Status
     Status::Done
 }
 
-// Writes the events of an exclusive that is given from its F0 to its
-// F7, and returns how many bytes they have.
+// Writes the events of an exclusive, from its F0 to its F7, and returns their number of bytes.
 fn put_exclusive(cable: U4, whole: &[u8], buffer: &mut [u8]) -> usize
     requires both_ends { 2 ≤ length whole.now }
     requires fits { length (concat (exclusive_events cable whole.now)) ≤ length buffer.old }
@@ -77,7 +76,7 @@ fn put_exclusive(cable: U4, whole: &[u8], buffer: &mut [u8]) -> usize
     4 * k
 }
 
-// Writes the events, and returns how many bytes they have.
+// Writes the events, and returns their number of bytes.
 fn put_events(packed: Packed<'_>, buffer: &mut [u8]) -> usize
     requires apart { IsApart packed }
     requires both_ends { IfSome (whole_in packed) (λ whole. 2 ≤ length whole) }
@@ -94,8 +93,8 @@ fn put_events(packed: Packed<'_>, buffer: &mut [u8]) -> usize
     }
 }
 
-/// A packer of the bytes of one MIDI 1.0 stream into events of one cable
-/// that knows its limit. A contract sees what it holds.
+/// A packer of the bytes of one MIDI 1.0 stream into events of one cable that knows its limit. A contract
+/// sees the state of the packer.
 #[derive(Drop)]
 pub struct CUsb {
     packer: Packer,
@@ -116,8 +115,8 @@ impl Model for CUsb {
 }
 
 impl CUsb {
-    /// A packer into events of a cable, for exclusives of `room` bytes between F0 and F7, 6 to 1,048,576. All
-    /// memory that it ever needs is taken here; `NoMemory` when there isn't that much.
+    /// Makes a packer into events of a cable, for exclusives of `room` bytes between F0 and F7, 6 to
+    /// 1,048,576 (own rule). Takes all memory that it ever needs; `NoMemory` if there isn't that much.
     pub fn new(alloc: Global, cable: U4, room: u32) -> Result<CUsb, NoMemory>
         requires least { 6 ≤ room }
         requires most { room ≤ 1048576 }
@@ -129,7 +128,7 @@ impl CUsb {
 
     /// Takes one more byte (USB Device Class Definition for MIDI Devices 1.0, code index numbers), as
     /// `take_byte` does. A message is written as its events, four bytes each; those of an exclusive all at
-    /// once. Any byte may need the places for the events of an exclusive of the limit.
+    /// once. Any byte may need as many places as the events of the longest exclusive (`usb_size`).
     pub fn byte(
         &mut self,
         byte: u8,
@@ -143,7 +142,7 @@ impl CUsb {
         take_byte(self, byte, offset, buffer, outcome)
     }
 
-    /// Takes bytes from the front of these as `take_bytes` does, each as `byte` does.
+    /// Takes bytes that follow one another as `take_bytes` does, each as `byte` does.
     pub fn bytes(
         &mut self,
         bytes: &[u8],
@@ -158,16 +157,16 @@ impl CUsb {
         take_bytes(self, bytes, offset, buffer, outcomes, block)
     }
 
-    /// Makes the packer as if it were new, with the same cable and limit: nothing is open, and there is no
-    /// running status (own rule). Takes no memory.
+    /// Makes the packer as `new` makes it with the same arguments: nothing is open, and there is no running
+    /// status (own rule). Takes no memory.
     pub fn reset(&mut self)
         ensures { self.new ≡ record { cable = self.old.cable; parsing = idle self.old.parsing.room } }
     {
         self.packer.reset();
     }
 
-    /// Writes the line of what is open, a message or an exclusive, with the offset at which it starts. The
-    /// status is `Nothing`, and no line is written, exactly when nothing is open.
+    /// Writes the line of the message or exclusive that is open, with the offset of its first byte. Returns
+    /// `Nothing`, and writes no line, exactly if nothing is open.
     pub fn end(&self, line: &mut ListingLine) -> Status
         ensures { IsEnd (open_of self.now.parsing) (number_of result) line.old line.new }
     {
