@@ -19,11 +19,11 @@ use std::marker::Model;
 use ump_endpoint::{Endpoint, Key, MOST_REPLY_WORDS};
 use ump_grammar::{Packet, decode};
 
-/// An endpoint that answers a peer, and writes its replies into
-/// buffers of the caller's. A contract sees what it holds.
+/// An endpoint that answers a peer, and writes its replies to the caller's buffers. A contract sees the state
+/// of the endpoint.
 #[derive(Drop)]
 pub struct CEndpoint {
-    // On the heap, since it is larger than the other kinds of handle, and is moved when it is opened.
+    // On the heap, since it is larger than the other engines, and opening moves it.
     endpoint: Box<Endpoint>,
 }
 
@@ -44,7 +44,7 @@ fn read_setup(alloc: Global, text: &[u8]) -> Result<Setup, SetupFault>
     Setup::read(alloc, text)
 }
 
-// The packet that the words encode, or why none has them.
+// The packet that the words encode, or the reason why no packet has them.
 fn read(words: &[u32], offset: u64) -> Result<Packet, Status>
     ensures { IsRead words.now result }
 {
@@ -122,8 +122,8 @@ impl CEndpoint {
     ghost use Rattle.std.specs.Prelude.{IfOk};
     ghost use Rattle.ump_endpoint.specs.Held.{new_endpoint};
 
-    /// An endpoint of this setup, to which nothing has come, for exclusives of `room` bytes, 6 to 1,048,576.
-    /// All memory that is ever needed is taken here; `NoMemory` if there isn't that much.
+    /// Makes an endpoint of this setup, to which nothing has come, for exclusives of `room` bytes, 6 to
+    /// 1,048,576 (own rule). Takes all memory that it ever needs; `NoMemory` if there isn't that much.
     #[inline(never)]
     pub fn new(alloc: Global, setup: Setup, room: u32) -> Result<CEndpoint, NoMemory>
         requires least { 6 ≤ room }
@@ -137,9 +137,9 @@ impl CEndpoint {
         }
     }
 
-    /// The same of the setup in a text (docs/setup.md). `Err` is `SetupSyntax` if the text isn't UTF-8, or
-    /// isn't TOML; `SetupRule` if it breaks a rule, of which the first is then told by its number, 0 to 31;
-    /// and otherwise `NoMemory`.
+    /// Makes an endpoint of the setup in a text (docs/setup.md). `Err` is `SetupSyntax` if the text isn't
+    /// UTF-8, or isn't TOML; `SetupRule` if it breaks a rule, and then the number of the first one, 0 to 31,
+    /// is written to `rule`; or `NoMemory`, which may also come for a text with a fault.
     pub fn opened(alloc: Global, text: &[u8], room: u32, rule: &mut u8) -> Result<CEndpoint, Status>
         requires least { 6 ≤ room }
         requires most { room ≤ 1048576 }
@@ -162,10 +162,10 @@ impl CEndpoint {
     /// Takes one packet of the peer, and writes the words of the replies to the front of the buffer, packet
     /// after packet (M2-104-UM, UMP stream messages; M2-101-UM).
     ///
-    /// The answer is `SmallBuffer` if the buffer has fewer than 1,024 words, which do for any replies;
-    /// `BadWordCount` if the words aren't as many as the message type of the first one has; `BadCount` or
-    /// `HighBit` if no packet has them. Then nothing is taken. It is `ExclusiveTooLong` if an exclusive has
-    /// more bytes than the room: the exclusive is dropped, and nothing is written.
+    /// Returns the first that applies of `SmallBuffer` if the buffer has fewer than 1,024 words, which are
+    /// enough for any replies; `BadWordCount` if the number of words isn't that of the first one's message
+    /// type; `BadCount` or `HighBit` if no packet has them; nothing is taken then. Returns `ExclusiveTooLong`
+    /// if an exclusive exceeds the limit: it is dropped, and nothing is written (own rules).
     pub fn packet(
         &mut self,
         words: &[u32],
@@ -192,14 +192,14 @@ impl CEndpoint {
         }
     }
 
-    /// Takes the packets of the peer whose words follow one another, each as `packet` does. The words of the
-    /// replies follow one another in the buffer. What each packet led to is in `replies`, an item for each
-    /// packet. The offset is that of the first packet; each word adds 4 to it, modulo 2^64. The block says
-    /// how far the call came.
+    /// Takes packets of the peer whose words follow one another, each as `packet` does. The words of the
+    /// replies follow one another in the buffer, and `replies` has an item for each packet. The offset is
+    /// that of the first packet; each word adds 4 to it, modulo 2^64. The block says how far the call came.
     ///
-    /// `Done` comes when all words are taken. `SmallBuffer` comes before a packet for which there is no item
-    /// left, or fewer than 1,024 words in the rest of the buffer; `BadWordCount` before one whose words
-    /// aren't all there. A packet that is refused ends the call with its status; its words count as taken.
+    /// Returns `Done` if all words are taken; `SmallBuffer` before a packet for which no item is left, or for
+    /// which the rest of the buffer has fewer than 1,024 words; `BadWordCount` before a last packet whose
+    /// words aren't all there. A packet that is refused ends the call with its status, has no item, and its
+    /// words count as taken and as refused (own rules).
     pub fn packets(
         &mut self,
         words: &[u32],
@@ -214,23 +214,24 @@ impl CEndpoint {
         take_all(&mut self.endpoint, words, offset, buffer, replies, block)
     }
 
-    /// Begins again: the endpoint is as it was made of its setup, with the MUIDs, the profiles and the
-    /// protocol of the setup, and nothing open. Takes no memory (own rule).
+    /// Makes the endpoint as `new` makes it of the same setup and limit: with the MUIDs, the profiles and the
+    /// protocol of the setup, and nothing open (own rule). Takes no memory.
     pub fn reset(&mut self)
         ensures { self.new ≡ reset_endpoint self.old }
     {
         self.endpoint.reset();
     }
 
-    /// The protocol in force: 1 for MIDI 1.0, 2 for MIDI 2.0.
+    /// Returns the protocol in force: 1 for MIDI 1.0, 2 for MIDI 2.0 (M2-104-UM, Stream Configuration).
     pub fn protocol(&self) -> u8
         ensures { result ≡ self.now.protocol }
     {
         self.endpoint.protocol()
     }
 
-    /// The MUID in force of a function block, counted from 0. The answer is `Nothing` if the block has no
-    /// MIDI-CI or has used up its MUIDs, or if there is no such block.
+    /// Writes the MUID in force of a function block, counted from 0 (M2-101-UM). Returns `Nothing` if the
+    /// block has no MIDI-CI or has used up its MUIDs, or if there is no such block; the number is then
+    /// unchanged.
     pub fn muid(&self, block: u8, muid: &mut u32) -> Status
         ensures { IsMuid self.now block (number_of result) muid.old muid.new }
     {
@@ -256,8 +257,8 @@ impl CEndpoint {
         self.endpoint.profile_is_on(&key).unwrap_or(profile.on)
     }
 
-    /// A profile, counted from 0 in the order of the setup, and whether it is on. The answer is `Nothing`
-    /// if there is no such profile.
+    /// Writes a profile, counted from 0 in the order of the setup, and whether it is on. Returns `Nothing`,
+    /// and writes an empty profile, if there is no such profile.
     pub fn profile(&self, index: usize, profile: &mut EndpointProfile) -> Status
         ensures { IsProfile self.now index (number_of result) profile.new }
     {
@@ -273,8 +274,8 @@ impl CEndpoint {
         }
     }
 
-    /// The offset of the packet that began the exclusive of a group. The answer is `BadGroup` if the group is
-    /// above 15, and `Nothing` if the group has none open.
+    /// Writes the offset of the packet that began the exclusive of a group. Returns `BadGroup` if the group
+    /// is above 15, and `Nothing` if the group has none open; the offset is then unchanged.
     pub fn begun(&self, group: u8, offset: &mut u64) -> Status
         ensures { IsBegun self.now group (number_of result) offset.old offset.new }
     {

@@ -1,5 +1,5 @@
-//! The endpoint of the library for C as a safe type: packets of a peer in, and the words of the replies in a
-//! buffer of the caller's out.
+//! The endpoint of the library for C as a safe type: it takes packets of a peer, and writes the words of the
+//! replies to the caller's buffer.
 #![tactic(auto)]
 
 pub mod endpoint;

@@ -4,7 +4,7 @@ ghost use Rattle.c_endpoint.specs.Profiles.{no_profile, profile_of};
 
 use function_blocks::{Place, Profile};
 
-// What stands for no group or channel of a profile.
+// The number of no group or channel of a profile (own rule).
 const NO_PLACE: u8 = 255;
 
 /// A profile of the setup, and whether it is on now.
@@ -24,7 +24,7 @@ pub struct EndpointProfile {
 }
 
 impl EndpointProfile {
-    /// No profile.
+    /// The value for no profile.
     pub fn none() -> EndpointProfile
         ensures { result ≡ no_profile }
     {
@@ -37,7 +37,7 @@ impl EndpointProfile {
         }
     }
 
-    /// A profile of the setup that is on or off.
+    /// Makes the value of a profile of the setup, which is on or off.
     pub fn of(profile: &Profile, is_on: bool) -> EndpointProfile
         ensures { result ≡ profile_of profile.now is_on }
     {

@@ -11,12 +11,12 @@ use ump_grammar::Packet;
 #[repr(C)]
 #[derive(Clone, Copy)]
 pub struct PacketReplies {
-    /// How many words of replies were written, packet after packet.
+    /// The number of words of replies written, packet after packet.
     pub written: usize,
-    /// If the buffer is too small, how many words it has to have; otherwise 0.
+    /// If the buffer is too small, the number of words that it needs; otherwise 0.
     pub need: usize,
-    /// The offset of the line of the listing: that of the start of the exclusive that is cut off, or that of
-    /// the packet that is stray.
+    /// The offset of the line of the listing: of the packet if it is stray, or of the first one of the
+    /// exclusive that it cuts off. 0 if there is no line.
     pub offset: u64,
     /// What became of the message that the packet ended; 0 if it ended none.
     pub heard: u8,
@@ -37,7 +37,7 @@ fn group_number(packet: &Packet) -> u8
 }
 
 impl PacketReplies {
-    /// There are no replies.
+    /// The value for a packet without replies.
     #[inline(always)]
     pub fn none() -> PacketReplies
         ensures { result ≡ no_replies }
@@ -52,7 +52,7 @@ impl PacketReplies {
         }
     }
 
-    /// Nothing is taken, since the buffer is too small; one of this size does.
+    /// The value for a packet that wasn't taken, since the buffer was too small; one of this size does.
     pub fn needing(size: usize) -> PacketReplies
         ensures { result ≡ needing size }
     {
@@ -62,7 +62,7 @@ impl PacketReplies {
         }
     }
 
-    /// What was done with a packet, and how many words of replies were written.
+    /// The value for a packet that was taken, by what was done with it and the number of words written.
     pub fn of(packet: &Packet, taken: &Taken, words: usize) -> PacketReplies
         ensures { result ≡ replies_of packet.now taken.now words }
     {

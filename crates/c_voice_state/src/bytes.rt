@@ -23,7 +23,7 @@ use std::marker::Model;
 use voice_state::VoiceState;
 
 /// What the bytes of a MIDI 1.0 stream so far have left in a receiver. A contract sees what is kept of the
-/// groups, and what the parser holds. A stream has no groups: all its messages are in group 0 (own rule).
+/// groups, and the state of the parser. A stream has no groups: all its messages are in group 0 (own rule).
 #[derive(Drop)]
 pub struct CByteState {
     state: VoiceState,
@@ -38,7 +38,7 @@ impl Model for CByteState {
     ghost view = { λ s. record { kept = s.state; parsing = s.parser } };
 }
 
-// The group of a stream, which has none (own rule).
+// The group that stands for a stream, which has none (own rule).
 fn stream_group() -> U4
     ensures { result ≡ 0 }
 {
@@ -84,9 +84,9 @@ fn take_step(state: &mut VoiceState, step: &Step<'_>) -> Status
 }
 
 impl CByteState {
-    /// The state before the first byte, for exclusives of `room` bytes between F0 and F7, 6 to 1,048,576,
-    /// for `notes` notes and mode messages of each channel, and `params` parameters of each kind and channel.
-    /// `NoMemory` if there isn't enough for all that it ever needs.
+    /// Makes the state before the first byte, for exclusives of `room` bytes between F0 and F7, 6 to
+    /// 1,048,576, for `notes` notes and mode messages of each channel, and `params` parameters of each kind
+    /// and channel (own rule). Takes all memory that it ever needs; `NoMemory` if there isn't that much.
     pub fn new(alloc: Global, room: u32, notes: u32, params: u32) -> Result<CByteState, NoMemory>
         requires least { 6 ≤ room }
         requires most { room ≤ 1048576 }
@@ -99,9 +99,10 @@ impl CByteState {
         Ok(CByteState { state, parser })
     }
 
-    /// Takes one more byte (MIDI 1.0 Detailed Specification; RP-015). The answer is `ExclusiveTooLong` if it
-    /// exceeds the limit of the exclusive, which is dropped, `StateFull` if the message that it completes
-    /// adds to a list that is full, and `NoMemory` if there isn't enough for it; the byte is taken then, too.
+    /// Takes one more byte (MIDI 1.0 Detailed Specification; RP-015). Returns `ExclusiveTooLong` if the byte
+    /// exceeds the limit of the exclusive, which is dropped, and `StateFull` exactly if the message that it
+    /// completes adds to a list that is full, so that it isn't kept; the byte is taken in either case. The
+    /// clauses also allow `NoMemory` if a message isn't kept.
     pub fn byte(&mut self, byte: u8) -> Status
         ensures { IsByteTaken self.old byte (number_of result) self.new }
     {
@@ -109,9 +110,9 @@ impl CByteState {
         take_step(&mut self.state, &step)
     }
 
-    /// Takes the bytes one after another, each as `byte` does. The block says how far the call came: `Done`
-    /// comes when all are taken. A byte for which the answer isn't `Done` ends the call with that status; it
-    /// counts as taken.
+    /// Takes bytes that follow one another, each as `byte` does. The block says how far the call came.
+    /// Returns `Done` if all are taken. A byte that is refused ends the call with its status, and counts as
+    /// taken and as refused.
     pub fn bytes(&mut self, bytes: &[u8], block: &mut Block) -> Status
         ensures { AreBytesTaken self.old bytes.now (number_of result) block.new self.new }
     {
@@ -128,8 +129,7 @@ impl CByteState {
         Status::Done
     }
 
-    /// Empties the state: it is as `new` made it, with the same limit of an exclusive and the same room for
-    /// notes and parameters. Takes no memory (own rule).
+    /// Makes the state as `new` makes it with the same arguments (own rule). Takes no memory.
     pub fn reset(&mut self)
         ensures parsing { self.new.parsing ≡ idle self.old.parsing.room }
         ensures kept { Keeps as_they_come self.new.kept (first_states as_they_come) }
@@ -139,12 +139,13 @@ impl CByteState {
         self.parser.reset();
     }
 
-    /// Tells the facts of one channel of a group: what isn't at its first value, in order. With channel 255
-    /// it tells the counts of the group's system messages. `written` is how many facts were written.
+    /// Writes the facts of one channel of a group, 0 to 15 each, to the front of the buffer, and their number
+    /// to `written`: what isn't at its initial value, in the order of `show --state`. With channel 255 these
+    /// are the counts of the group's system messages (own rule).
     ///
-    /// `BadGroup` comes if the group isn't 0 to 15, and `BadChannel` if the channel isn't 0 to 15 or 255. If
-    /// the buffer has fewer places than there are facts, the answer is `SmallBuffer`: nothing is written, and
-    /// `need` is how many there are, at most the greatest number of 64 bits. Otherwise `need` is 0.
+    /// Returns the first that applies of `BadGroup`, `BadChannel`, and `SmallBuffer` if the buffer has fewer
+    /// places than there are facts; `need` is then the number of facts, at most 2^64 - 1, and otherwise 0. No
+    /// fact is written then.
     pub fn facts(
         &self,
         group: u8,

@@ -1,18 +1,18 @@
-// What is told of a running state, by numbers.
+// The facts of a running state as numbers.
 ghost use Rattle.std.specs.Prelude.{◌≡◌, unwrap_or};
 ghost use Rattle.c_voice_state.specs.Facts.{counted, lsb_of, msb_of, nothing_at, numbers_of, parametrised, programmed, valued};
 
 use voice_messages::{Bank, Param, ParamKind, U4, U7};
 use voice_state::{Fact, FactAddress};
 
-/// One thing that is told of a state: a note or a channel mode message
-/// that came, or a value that isn't at its first one.
+/// One fact of a state: a note or a channel mode message that came, a value that isn't at its initial one, or
+/// a count of system messages.
 #[repr(C)]
 #[derive(Clone, Copy)]
 pub struct FactNumbers {
-    /// How many messages came, of kinds 10 and 11.
+    /// The number of messages, of kinds 10 and 11, at most 2^64 - 1; of other kinds 0.
     pub count: u64,
-    /// The value, of 16 or 32 bits, if it has one.
+    /// The value: of 7 or 14 bits after bytes, of 16 or 32 after packets; 0 if there is none.
     pub value: u32,
     /// 0: a note on. 1: a note off. 2: a channel mode message. 3: the pressure of a key. 4: a controller. 5:
     /// the pressure of the channel. 6: the bend. 7: the program. 8: a registered parameter. 9: an assignable
@@ -20,18 +20,18 @@ pub struct FactNumbers {
     pub kind: u8,
     /// The group, 0 to 15.
     pub group: u8,
-    /// The channel, 0 to 15.
+    /// The channel, 0 to 15; 0 of kinds 10 and 11.
     pub channel: u8,
-    /// The note, the index of the controller or the mode message, the
-    /// program, or the LSB of the parameter's number: 0 to 127.
+    /// The note, the index of the controller or the mode message, the program, or the LSB of the parameter's
+    /// number: 0 to 127.
     pub number: u8,
     /// The MSB of the program's bank, if it has one, or of the parameter's number: 0 to 127.
     pub bank: u8,
     /// The LSB of the program's bank, if it has one: 0 to 127.
     pub bank_lsb: u8,
-    /// Whether the program change took a bank.
+    /// Whether a bank was selected for the program.
     pub has_bank: bool,
-    /// Whether there is a value.
+    /// Whether there is a value: always of kinds 0 to 6, and of a parameter if it was set.
     pub has_value: bool,
     /// Whether a relative change of the parameter came since its value was set.
     pub is_loose: bool,
@@ -66,7 +66,8 @@ fn channel_number(channel: Option<U4>) -> u8
 }
 
 impl FactNumbers {
-    // Nothing is told yet, of this address. The channel is 0 if the fact is about the whole group.
+    // A fact at this address without numbers of its own. The channel is 0 if the fact is about the whole
+    // group.
     fn at(address: FactAddress) -> FactNumbers
         ensures { result ≡ nothing_at address }
     {
@@ -134,7 +135,7 @@ impl FactNumbers {
         }
     }
 
-    /// The numbers of a fact.
+    /// Returns the numbers of a fact.
     pub fn of(fact: &Fact) -> FactNumbers
         ensures { result ≡ numbers_of fact.now }
     {

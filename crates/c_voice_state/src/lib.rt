@@ -1,5 +1,5 @@
-//! The running state for callers in C: what packets, or the bytes of a stream, leave in a receiver, told by
-//! numbers.
+//! The running state for callers in C: what packets, or the bytes of a stream, leave in a receiver, as facts
+//! made of numbers.
 #![tactic(auto)]
 
 pub mod bytes;

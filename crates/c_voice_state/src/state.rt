@@ -23,7 +23,7 @@ use ump_grammar::{Packet, decode};
 use voice_messages::Form;
 use voice_state::{NotKept, VoiceState};
 
-// What is answered of a message, by whether it is kept.
+// The status of a message, by whether it is kept.
 pub(crate) fn kept_status(kept: Result<(), NotKept>) -> Status
     ensures { number_of result ≡ kept_status kept }
 {
@@ -37,8 +37,8 @@ pub(crate) fn kept_status(kept: Result<(), NotKept>) -> Status
 /// What the packets so far have left in a receiver. A contract sees what is kept of the groups, and the
 /// exclusives that they have open.
 ///
-/// Notes and channel mode messages are kept as the list of all that came, parameters by their numbers. All
-/// memory is taken when it is made.
+/// Notes and channel mode messages are kept as a list of all that came, parameters by their numbers. All
+/// memory is taken by `new`.
 #[derive(Drop)]
 pub struct CPacketState {
     state: VoiceState,
@@ -54,9 +54,9 @@ impl Model for CPacketState {
 }
 
 impl CPacketState {
-    /// The state before the first packet, for exclusives of `room` bytes between F0 and F7, 6 to 1,048,576,
-    /// for `notes` notes and mode messages of each channel, and `params` parameters of each kind and channel.
-    /// `NoMemory` if there isn't enough for all that it ever needs.
+    /// Makes the state before the first packet, for exclusives of `room` bytes between F0 and F7, 6 to
+    /// 1,048,576, for `notes` notes and mode messages of each channel, and `params` parameters of each kind
+    /// and channel (own rule). Takes all memory that it ever needs; `NoMemory` if there isn't that much.
     pub fn new(alloc: Global, room: u32, notes: u32, params: u32) -> Result<CPacketState, NoMemory>
         requires least { 6 ≤ room }
         requires most { room ≤ 1048576 }
@@ -114,10 +114,10 @@ impl CPacketState {
         kept_status(self.state.take_packet(packet))
     }
 
-    /// Takes the packet that the words encode (M2-104-UM). The answer is `BadWordCount` if they aren't those
-    /// of one packet, `BadCount` or `HighBit` if no packet has them, and `StateFull` if the message adds to
-    /// a list that is full; then, and if it is `NoMemory`, nothing has changed. If it is `ExclusiveTooLong`,
-    /// the exclusive of the group is dropped.
+    /// Takes the packet that the words encode (M2-104-UM). Returns `BadWordCount` if they aren't those of one
+    /// packet, `BadCount` or `HighBit` if no packet has them, and `StateFull` exactly if the message adds to
+    /// a list that is full; nothing has changed then. `ExclusiveTooLong` drops the exclusive of the group.
+    /// The clauses also allow `NoMemory`, which changes nothing.
     pub fn packet(&mut self, words: &[u32]) -> Status
         ensures { IsPacketTaken self.old words.now (number_of result) self.new }
     {
@@ -130,9 +130,10 @@ impl CPacketState {
         }
     }
 
-    /// Takes the packets whose words follow one another, each as `packet` does. The block says how far the
-    /// call came: `Done` comes when all words are taken, and `BadWordCount` before a packet whose words
-    /// aren't all there. A packet that is refused ends the call with its status; its words count as taken.
+    /// Takes packets whose words follow one another, each as `packet` does. The block says how far the call
+    /// came. Returns `Done` if all words are taken, and `BadWordCount` before a last packet whose words
+    /// aren't all there. A packet that is refused ends the call with its status; its words count as taken and
+    /// as refused.
     pub fn packets(&mut self, words: &[u32], block: &mut Block) -> Status
         ensures { ArePacketsTaken self.old words.now (number_of result) block.new self.new }
     {
@@ -154,8 +155,7 @@ impl CPacketState {
         Status::Done
     }
 
-    /// Empties the state: it is as `new` made it, with the same limit of an exclusive and the same room for
-    /// notes and parameters. Takes no memory (own rule).
+    /// Makes the state as `new` makes it with the same arguments (own rule). Takes no memory.
     pub fn reset(&mut self)
         ensures exclusives { self.new.exclusives ≡ empty_table self.old.exclusives.room }
         ensures kept { Keeps raised self.new.kept (first_states raised) }
@@ -165,12 +165,13 @@ impl CPacketState {
         self.groups.reset();
     }
 
-    /// Tells the facts of one channel of a group: what isn't at its first value, in order. With channel 255
-    /// it tells the counts of the group's system messages. `written` is how many facts were written.
+    /// Writes the facts of one channel of a group, 0 to 15 each, to the front of the buffer, and their number
+    /// to `written`: what isn't at its initial value, in the order of `show --state`. With channel 255 these
+    /// are the counts of the group's system messages (own rule).
     ///
-    /// `BadGroup` comes if the group isn't 0 to 15, and `BadChannel` if the channel isn't 0 to 15 or 255. If
-    /// the buffer has fewer places than there are facts, the answer is `SmallBuffer`: nothing is written, and
-    /// `need` is how many there are, at most the greatest number of 64 bits. Otherwise `need` is 0.
+    /// Returns the first that applies of `BadGroup`, `BadChannel`, and `SmallBuffer` if the buffer has fewer
+    /// places than there are facts; `need` is then the number of facts, at most 2^64 - 1, and otherwise 0. No
+    /// fact is written then.
     pub fn facts(
         &self,
         group: u8,

@@ -1,4 +1,4 @@
-// Facts that are written to a buffer of the caller's.
+// Writes facts to the caller's buffer.
 ghost use Rattle.std.specs.Prelude.{◌≡◌, ◌≤◌, ◌==◌, ◌||◌, [], ◌∷◌, nat_lt, true, length, map};
 ghost use Rattle.midi_meaning.specs.Messages.{Scale};
 ghost use Rattle.voice_state.specs.Facts.{channel_facts, count_of, group_counts};
@@ -13,10 +13,10 @@ use c_answers::Status;
 use small_types::U4;
 use voice_state::{ChannelFacts, Fact, VoiceState};
 
-/// What stands for no channel: the counts of the group.
+/// The number of no channel, for the counts of the group (own rule).
 const NO_CHANNEL: u8 = 255;
 
-// How many facts there are, at most the greatest number of 64 bits.
+// The number of facts, at most 2^64 - 1.
 fn count(facts: ChannelFacts<'_>) -> usize
     ensures { result ≡ count_of facts.entry }
 {
@@ -42,7 +42,8 @@ fn write_facts(facts: ChannelFacts<'_>, buffer: &mut [FactNumbers])
     }
 }
 
-// Writes the numbers of a channel's facts. Returns how many they are; `Err` if the buffer has fewer places.
+// Writes the numbers of a channel's facts, and returns how many there are; as `Err` if the buffer has fewer
+// places, and nothing is written then.
 fn put_channel(
     state: &VoiceState,
     group: U4,
@@ -61,7 +62,7 @@ fn put_channel(
     Ok(count)
 }
 
-// Writes the numbers of one fact, or of two.
+// Writes the numbers of one fact, in the same way; `put_two` those of two.
 fn put_one(fact: &Fact, buffer: &mut [FactNumbers]) -> Result<usize, usize>
     ensures { ArePut (fact.now ∷ []) buffer.old result buffer.new }
 {
@@ -83,7 +84,7 @@ fn put_two(first: &Fact, second: &Fact, buffer: &mut [FactNumbers]) -> Result<us
     Ok(2)
 }
 
-// Writes the numbers of a group's counts. Returns how many they are; `Err` if the buffer has fewer places.
+// Writes the numbers of a group's counts, in the same way.
 fn put_counts(state: &VoiceState, group: U4, buffer: &mut [FactNumbers]) -> Result<usize, usize>
     ensures { (scale : Scale) (states : States) → Keeps scale state.now states
         → ArePut (group_counts group (states group)) buffer.old result buffer.new }
@@ -96,7 +97,7 @@ fn put_counts(state: &VoiceState, group: U4, buffer: &mut [FactNumbers]) -> Resu
     }
 }
 
-// Writes the numbers of the facts that are asked for.
+// Writes the numbers of the facts of a channel, or with channel 255 of a group's counts, in the same way.
 fn put_asked(
     state: &VoiceState,
     group: U4,
@@ -113,7 +114,8 @@ fn put_asked(
     }
 }
 
-// Tells the facts of one channel of a group, or with channel 255 the counts of the group's system messages.
+// Writes the facts of one channel of a group, or with channel 255 the counts of the group's system messages,
+// as `CPacketState::facts` says.
 pub(crate) fn tell_facts(
     state: &VoiceState,
     group: u8,
