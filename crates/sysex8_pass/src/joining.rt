@@ -72,9 +72,9 @@ impl Model for Sysex8Run {
 }
 
 impl Sysex8Run {
-    /// A join of the 8-bit exclusives of at most so many streams at once, 1 to 64, in a recording whose words
-    /// have this order. `room` is the most bytes of an exclusive, 13 to 1,048,576, for which each slot
-    /// reserves memory; `NoMemory` if there isn't that much. No other call takes any.
+    /// Makes a join of 8-bit exclusives, of which at most `slots`, 1 to 64, are open at once, in a recording
+    /// whose words have this order. `room` is the most bytes of an exclusive, 13 to 1,048,576 (own rules). Takes
+    /// memory for each slot; `NoMemory` if there isn't that much. No other call takes any.
     pub fn new(alloc: Global, slots: u8, order: Order, room: u32) -> Result<Sysex8Run, NoMemory>
         requires some { 1 ≤ slots }
         requires few { slots ≤ 64 }
@@ -87,8 +87,8 @@ impl Sysex8Run {
     }
 }
 
-// Puts the bytes of each exclusive that is whole into the lane of its group, and in the notes its line, the
-// lines of what gives none, and at the end those of the exclusives that are still open.
+// Puts the bytes of each whole exclusive into the lane of its group, and its line into the notes; also the
+// lines of packets that complete none, and at the end those of the exclusives that are still open.
 #[derive(Drop)]
 struct Sysex8Engine {
     streams: Streams,
@@ -132,14 +132,17 @@ impl Engine<Framed, Packet> for Sysex8Engine {
 }
 
 /// Joins the 8-bit exclusives of a recording, to its end or to the first packet that is refused (M2-104-UM,
-/// system exclusive 8-bit messages; what gives none is listed by own rule): puts the bytes of each exclusive
-/// that is whole into the lane of its group, unless it has none, and then in the notes its line; a line for
-/// what is left out, stray, cut off or has no slot; and at the end those of the exclusives that are still
-/// open, by group, then stream. Other packets give nothing. Takes no memory.
+/// system exclusive 8-bit messages; the listing is an own rule). It puts
+/// - the bytes of each whole exclusive into the lane of its group, unless it has none, and then its line into
+///   the notes;
+/// - a line for each part that is left out, is stray, cuts an exclusive off or finds no slot;
+/// - at the end a line for each exclusive that is still open, by group, then stream.
 ///
-/// `Refused` comes for `Truncated`, `InputTooLong`, `BadCount`, `HighBit` and, if an exclusive has more
-/// bytes than its room, `ExclusiveTooLong`, with the number of bytes before what is refused. `ReadFault`,
-/// `LaneFault` and `NoteFault` come only if the count of that object rose. The output is unchanged.
+/// Other packets put nothing. Takes no memory.
+///
+/// Returns `Refused` for `Truncated`, `InputTooLong`, `BadCount`, `HighBit`, or `ExclusiveTooLong` if an
+/// exclusive has more bytes than its room, with the number of bytes before what is refused; `ReadFault`,
+/// `LaneFault` or `NoteFault` only if the count of that object rose. The output is unchanged.
 pub fn run_sysex8<S: Source, L: Lanes, W: Sink, N: Sink>(
     engine: Sysex8Run,
     input: &mut S,
@@ -166,7 +169,7 @@ pub fn run_sysex8<S: Source, L: Lanes, W: Sink, N: Sink>(
     )
 }
 
-// Puts the line of what is listed.
+// Puts the line of this kind, offset and group.
 fn put_kind<O: Outputs>(kind: Kind8, offset: u64, group: U4, outputs: &mut O) -> Result<(), RunEnd>
     ensures { Puts (listed (kind_text kind offset group))
         (O.places outputs.old) (O.places outputs.new) result }
@@ -175,7 +178,7 @@ fn put_kind<O: Outputs>(kind: Kind8, offset: u64, group: U4, outputs: &mut O) ->
     outputs.put_notes(line.as_slice())
 }
 
-// Puts the bytes of an exclusive that is whole, unless there are none.
+// Puts the bytes of a whole exclusive, unless there are none.
 fn put_piece<O: Outputs>(group: U4, bytes: &[u8], outputs: &mut O) -> Result<(), RunEnd>
     requires begun { (O.places outputs.old).begun ≡ true }
     ensures { Puts (piece_puts group bytes.now) (O.places outputs.old) (O.places outputs.new) result }
@@ -187,7 +190,7 @@ fn put_piece<O: Outputs>(group: U4, bytes: &[u8], outputs: &mut O) -> Result<(),
     }
 }
 
-// The place of a part of an 8-bit exclusive: the offset of its packet, its group and the id of its stream.
+// The place of a part of an 8-bit exclusive: the offset of its packet, its group and its stream id.
 #[derive(Clone, Copy)]
 struct PartPlace {
     offset: u64,
@@ -195,7 +198,7 @@ struct PartPlace {
     stream: u8,
 }
 
-// Puts the line of an exclusive that is whole.
+// Puts the line of a whole exclusive.
 fn put_size<O: Outputs>(place: PartPlace, size: usize, outputs: &mut O) -> Result<(), RunEnd>
     ensures { Puts (listed (whole_text place.offset place.group place.stream size))
         (O.places outputs.old) (O.places outputs.new) result }
@@ -204,7 +207,7 @@ fn put_size<O: Outputs>(place: PartPlace, size: usize, outputs: &mut O) -> Resul
     outputs.put_notes(line.as_slice())
 }
 
-// Puts the bytes of an exclusive that is whole, unless there are none, and its line.
+// Puts the bytes of a whole exclusive, unless there are none, and its line.
 fn put_whole<O: Outputs>(place: PartPlace, bytes: &[u8], outputs: &mut O) -> Result<(), RunEnd>
     requires begun { (O.places outputs.old).begun ≡ true }
     ensures { Puts (whole_puts place.offset place.group place.stream bytes.now)
@@ -214,7 +217,7 @@ fn put_whole<O: Outputs>(place: PartPlace, bytes: &[u8], outputs: &mut O) -> Res
     put_size(place, bytes.len(), outputs)
 }
 
-// Puts the line of an exclusive that is cut off, and that of one that is whole.
+// Puts the line of an exclusive that is cut off, and that of the whole one that cuts it off.
 fn put_cut_lines<O: Outputs>(
     cut_at: u64,
     place: PartPlace,
@@ -228,8 +231,8 @@ fn put_cut_lines<O: Outputs>(
     put_size(place, size, outputs)
 }
 
-// Puts the bytes of an exclusive that is whole, unless there are none,
-// and then the line of the one that it cuts off and its own.
+// Puts the bytes of a whole exclusive, unless there are none, and then the line of the one that it cuts off
+// and its own.
 fn put_cut<O: Outputs>(
     cut_at: u64,
     place: PartPlace,
@@ -262,7 +265,7 @@ fn put_answer<O: Outputs>(fed: &Fed8<'_>, place: PartPlace, outputs: &mut O) -> 
     }
 }
 
-// Takes one packet of type 5: puts the result of the part in it, or the line of one that has none.
+// Takes one packet of type 5: puts the result of its part, or the line of a packet without a part.
 fn take_data8<O: Outputs>(
     streams: &mut Streams,
     group: U4,
@@ -292,7 +295,7 @@ fn take_data8<O: Outputs>(
     }
 }
 
-// Takes one packet; one that isn't of type 5 gives nothing.
+// Takes one packet; one that isn't of type 5 puts nothing.
 fn take_packet<O: Outputs>(
     streams: &mut Streams,
     packet: &Packet,

@@ -10,11 +10,11 @@ use text_lines::{Line, put_decimal, put_text};
 pub enum Kind8 {
     /// It has no part of an 8-bit exclusive.
     Other,
-    /// Its part continues or ends an exclusive, and none is begun.
+    /// Its part continues or ends an exclusive, but none is begun.
     Stray,
     /// The exclusive that it began was cut off.
     Cut,
-    /// It begins an exclusive, and all slots are taken.
+    /// It begins an exclusive, but all slots are taken.
     Full,
     /// The exclusive that it began is open at the end.
     Open,
@@ -33,7 +33,8 @@ fn word(kind: Kind8) -> &'static str
     }
 }
 
-/// The line of what is listed: an offset in decimal digits, the group, and the kind (own rule).
+/// Returns the line of a kind: the offset in decimal digits, in bytes from the start of the input, the group,
+/// and the kind's word (own rule).
 pub fn kind_line(kind: Kind8, offset: u64, group: U4) -> Line
     ensures text { result ≡ kind_text kind offset group }
     ensures some { 0 < length result }
@@ -48,8 +49,8 @@ pub fn kind_line(kind: Kind8, offset: u64, group: U4) -> Line
     line
 }
 
-/// The line of an exclusive that is whole: the offset of its last packet, the group, the stream id, and how
-/// many bytes it has (own rule).
+/// Returns the line of a whole exclusive: the offset of its last packet, in bytes from the start of the
+/// input, the group, the stream id, and its number of bytes (own rule).
 pub fn whole_line(offset: u64, group: U4, stream: u8, size: usize) -> Line
     ensures text { result ≡ whole_text offset group stream size }
     ensures some { 0 < length result }

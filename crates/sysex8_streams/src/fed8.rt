@@ -1,6 +1,6 @@
 // The answer to one more part of a stream.
 
-/// What a part did to what its stream had begun.
+/// The answer to a part: what it did to the exclusive of its stream.
 #[derive(Clone, Copy, Debug, PartialEq, Eq)]
 pub enum Fed8<'a> {
     /// The part is kept: it begins an exclusive or continues one.
@@ -15,6 +15,7 @@ pub enum Fed8<'a> {
     RestartedWhole { cut_at: u64, whole: &'a [u8] },
     /// The exclusive has more bytes than the limit, and is dropped.
     TooLong,
-    /// The part begins an exclusive, and all slots are taken by other streams. It is passed over.
+    /// The part begins an exclusive, but other streams have all slots. It is passed over, and nothing
+    /// changes.
     Full,
 }

@@ -34,7 +34,7 @@ fn place(bytes: &[u8], i: usize) -> u8
     bytes.get(i).copied().unwrap_or(0)
 }
 
-// The word of four bytes.
+// The word of four bytes, the highest first.
 fn word_of(first: u8, second: u8, third: u8, fourth: u8) -> u32
     ensures first { field result 24 8 ≡ first }
     ensures second { field result 16 8 ≡ second }

@@ -28,7 +28,7 @@ pub struct Holder {
     start: u64,
 }
 
-/// A buffer of `room` bytes, and the stream whose exclusive it has, if any.
+/// A buffer of `room` bytes, 13 or more, and the stream whose exclusive it has, if any.
 #[derive(Drop)]
 pub struct Slot {
     holder: Option<Holder>,
@@ -38,7 +38,7 @@ pub struct Slot {
     ghost whole_packet: { 13 ≤ room },
 }
 
-// Whether two groups with their stream ids are one stream.
+// Whether two pairs of a group and a stream id name the same stream.
 #[tactic(auto, using(crate::proofs::KeyLaws::key_laws))]
 fn is_same(group: U4, stream: u8, other_group: U4, other_stream: u8) -> bool
     ensures { result ≡ (key_of group stream == key_of other_group other_stream) }
@@ -55,7 +55,7 @@ impl Slot {
     ghost use Rattle.std.specs.Borrow.{sem};
     ghost use Rattle.voice_messages.specs.declared.voice2.Form.TheVariants as form;
 
-    /// An idle slot, with memory for `room` bytes.
+    /// Makes an idle slot, with memory for `room` bytes. `AllocError` if there isn't that much.
     pub fn new(alloc: Global, room: u32) -> Result<Slot, AllocError>
         requires { 13 ≤ room }
         ensures { IfOk result (λ slot. state8_of slot ≡ idle8 room) }
@@ -91,7 +91,7 @@ impl Slot {
         self.holder.map(|holder| holder.start)
     }
 
-    /// Drops the exclusive that is begun: no stream has the slot then.
+    /// Drops the exclusive that is begun, so that no stream has the slot. Keeps the memory.
     pub fn clear(&mut self)
         ensures { state8_of self.new ≡ idle8 self.old.room }
     {
@@ -195,7 +195,7 @@ impl Slot {
         Fed8::Whole(self.bytes.as_slice())
     }
 
-    /// Takes one more part of the stream that has the slot, or that of the stream that is to have it.
+    /// Takes one more part of the stream that has the slot; an idle slot takes that of any stream.
     pub fn feed(&mut self, part: &Part8, offset: u64) -> Fed8<'_>
         requires own { IsFor (key_of part.now.group part.now.stream) (slot8_of self.old) }
         ensures answer { fed8_view result ≡ slot_answer (state8_of self.old) part.now.form part.now.bytes }

@@ -65,8 +65,8 @@ impl Streams {
     ghost use Rattle.std.specs.Borrow.{sem};
     ghost use Rattle.std.specs.Option.{option_map};
 
-    /// This many slots, 1 to 64, all idle. Reserves memory for `room` bytes in each, 13 to 1,048,576 (own
-    /// rules); no other call takes any. `NoMemory` when there isn't that much.
+    /// Makes this many slots, 1 to 64, all idle. Takes memory for `room` bytes in each, 13 to 1,048,576 (own
+    /// rules); no other call takes any. `NoMemory` if there isn't that much.
     pub fn new(alloc: Global, slots: u8, room: u32) -> Result<Streams, NoMemory>
         requires some { 1 ≤ slots }
         requires few { slots ≤ 64 }
@@ -92,8 +92,8 @@ impl Streams {
         })
     }
 
-    /// Drops the exclusives that streams have begun: all slots are idle then, as in new streams with as many
-    /// slots and of the same limit (own rule). Takes no memory.
+    /// Drops the exclusives that streams have begun: all slots are idle, as `new` makes them with the same
+    /// arguments (own rule). Takes no memory.
     pub fn reset(&mut self)
         ensures { self.new ≡ empty_table8 (length self.old.slots) self.old.room }
     {
@@ -102,14 +102,14 @@ impl Streams {
         }
     }
 
-    /// The slot of a stream.
+    /// The index of a stream's slot; `None` exactly if it has none.
     fn slot_of(&self, group: U4, stream: u8) -> Option<usize>
         ensures { result ≡ position (is_of (key_of group stream)) self.now.slots }
     {
         find_stream(&self.slots, group, stream)
     }
 
-    /// A slot that no stream has.
+    /// The index of the first slot that no stream has; `None` exactly if all are taken.
     fn idle_slot(&self) -> Option<usize>
         ensures { result ≡ idle_slot self.now.slots }
     {
@@ -139,9 +139,9 @@ impl Streams {
     }
 
     /// Takes one more part of a stream, with its packet's offset (M2-104-UM, system exclusive 8-bit
-    /// messages). The offset, in bytes from the start of the input, is only kept, and given back as the start
-    /// of what the part begins; any number will do. What is lent are the joined bytes. `Full` leaves all as
-    /// it was, and all other streams are unchanged.
+    /// messages). The offset may be any number; it is returned as the start of the exclusive that the part
+    /// begins. `Whole` and `RestartedWhole` lend the joined bytes. `Full` changes nothing, and no part
+    /// changes another stream.
     pub fn feed8(&mut self, part: &Part8, offset: u64) -> Fed8<'_>
         ensures answer { fed8_view result ≡ answer8_to self.old (part_of part.now offset) }
         ensures* after { sem 𝓛 (KeepsStreams self.entry (with_part8 (part_of part.now offset) self.old)) }
@@ -155,8 +155,7 @@ impl Streams {
         }
     }
 
-    /// The offset of the packet that began the stream's exclusive;
-    /// `None` exactly if the stream isn't begun.
+    /// The offset of the packet that began the stream's exclusive; `None` exactly if the stream isn't begun.
     pub fn begun8_at(&self, group: U4, stream: u8) -> Option<u64>
         ensures { result ≡ option_map (λ begun. begun.start) (begun8_in self.now (key_of group stream)) }
     {
