@@ -1,5 +1,5 @@
--- How far a call over a block came. A block is words or bytes that are taken from the front, one item after
--- another: a packet of words, or one byte of a stream. The one definition for all calls of this kind.
+-- How far a block call came. A block is words or bytes that are taken from the front, one item after another:
+-- a packet of words, or one byte of a stream. All calls of this kind have this one definition.
 use Rattle.std.specs.Prelude.{◌≡◌, ◌+◌, ◌*◌, ◌-◌, ◌%◌, ◌^◌, ◌==◌, ◌||◌, if◌then◌else◌, nat_lt, ℕ, zero, suc, Bool, true, false}
 use Rattle.std.specs.Prelude.{List, [], ◌∷◌, ◌++◌, length, take}
 use Rattle.c_answers.specs.Fronts.{with_front}
@@ -12,16 +12,16 @@ use Rattle.c_answers.specs.declared.status.Status.TheVariants as statuses
 abbrev pub nothing_taken : Block
 nothing_taken = record { taken = 0; written = 0; items = 0; refused = 0; need = 0; need_items = 0 }
 
--- what is needed of a buffer: as much as does if it is short, or else 0
+-- what is needed of a buffer: `most` places if it is short, otherwise 0
 abbrev pub needed : Bool → ℕ → ℕ
 needed short most = if short then most else 0
 
--- a first buffer and a second one of these sizes are short for one more item: any item may need so many
--- places in each
+-- whether the rest of the first or of the second buffer is too small for one more item, by their sizes and
+-- the most places that an item may need in each
 abbrev pub leaves_few : Block → ℕ → ℕ → ℕ → ℕ → Bool
 leaves_few block size most item_size most_items = nat_lt (size - block.written) most || nat_lt (item_size - block.items) most_items
 
--- and what is needed of them then
+-- the block with what is needed of each buffer then
 abbrev pub with_need : Block → ℕ → ℕ → ℕ → ℕ → Block
 with_need block size most item_size most_items =
     record {
@@ -33,7 +33,7 @@ with_need block size most item_size most_items =
       need_items = needed (nat_lt (item_size - block.items) most_items) most_items;
     }
 
--- one more item is taken, of so many words or bytes, with what it writes
+-- the block after one more item that is taken: `count` words or bytes, and the places that it writes
 abbrev pub with_item : Block → ℕ → ℕ → ℕ → Block
 with_item block count written items =
     record {
@@ -45,7 +45,7 @@ with_item block count written items =
       need_items = block.need_items;
     }
 
--- the next item is refused, of so many words or bytes
+-- the block after an item of `count` words or bytes that is refused
 abbrev pub with_refused : Block → ℕ → Block
 with_refused block count =
     record {
@@ -60,11 +60,11 @@ with_refused block count =
 -- ---- one item
 
 -- How a handle takes one item:
---   how many words or bytes the item has that begins with this one, and what each of them adds to the offset;
---   what it takes, by the state before it, the item's offset, its words or bytes, what it writes to the
---   first buffer, what it writes to the second one, and the state after it;
---   what it refuses, with the status and the state after that;
---   and how many places any item may need in the first buffer, and in the second one.
+--   size_of, step: the number of words or bytes of the item that begins with this one; what each adds to the offset
+--   Takes: an item that is taken, by the state before it, its offset, its words or bytes, what it writes to
+--   the first buffer and to the second one, and the state after it
+--   Refuses: an item that is refused, with the status and the state after it
+--   most_written, most_items: the most places that an item may need in the first buffer, and in the second one
 pub record Taking (Held Item : Type 0) : Type 1 where
   pub size_of : ℕ → ℕ
   pub step : ℕ
@@ -80,8 +80,8 @@ is_one taking (first ∷ more) = taking.size_of first == length (first ∷ more)
 
 -- ---- the items so far
 
--- their words or bytes, what they wrote to both buffers, each in order, the offset of the next item, and what
--- is held after them
+-- the words or bytes of the items so far, what they wrote to both buffers, each in order, the offset of the
+-- next item, and the state after them
 pub record Progress (Held Item : Type 0) : Type 0 where
   pub taken : List ℕ
   pub written : List ℕ
@@ -92,15 +92,15 @@ pub record Progress (Held Item : Type 0) : Type 0 where
 abbrev pub begun : {Held Item : Type 0} → Held → ℕ → Progress Held Item
 begun held offset = record { taken = []; written = []; items = []; next = offset; held = held }
 
--- the rest of a first buffer of this size has fewer places than any item may need
+-- whether the rest of a first buffer of this size has fewer places than an item may need
 abbrev pub is_short : {Held Item : Type 0} → Taking Held Item → ℕ → Progress Held Item → Bool
 is_short taking size progress = nat_lt (size - length progress.written) (taking.most_written progress.held)
 
--- and so has the rest of the second one
+-- whether the rest of a second buffer of this size has
 abbrev pub lacks_item : {Held Item : Type 0} → Taking Held Item → ℕ → Progress Held Item → Bool
 lacks_item taking size progress = nat_lt (size - length progress.items) taking.most_items
 
--- one of the two is short, so that no item is taken
+-- whether one of the two is short, so that no item is taken
 abbrev pub is_full : {Held Item : Type 0} → Taking Held Item → List ℕ → List Item → Progress Held Item → Bool
 is_full taking old old_items progress = is_short taking (length old) progress || lacks_item taking (length old_items) progress
 
@@ -118,7 +118,7 @@ pub record Adds {Held Item : Type 0} (taking : Taking Held Item) (old : List ℕ
   pub items_are : after.items ≡ before.items ++ items
   pub next_is : after.next ≡ (before.next + taking.step * length own) % 2 ^ 64
 
--- so many items, from this state and this offset on
+-- the progress after `count` items, from this state and this offset on
 abbrev pub Goes : {Held Item : Type 0} → Taking Held Item → List ℕ → List Item → Held → ℕ → ℕ → Progress Held Item → Type 0
 Goes taking old old_items held offset zero progress = progress ≡ begun held offset
 Goes {Held} {Item} taking old old_items held offset (suc count) progress =
@@ -126,7 +126,7 @@ Goes {Held} {Item} taking old old_items held offset (suc count) progress =
 
 -- ---- the end
 
--- so many words or bytes at the end of those taken are the item that was refused; so many places are needed
+-- the block of this progress, by the words or bytes of a refused item and the places that are needed
 abbrev pub block_after : {Held Item : Type 0} → Progress Held Item → ℕ → ℕ → ℕ → Block
 block_after progress refused need need_items =
     record {
@@ -144,7 +144,7 @@ EndsRefused taking progress own status block after =
     (why : Status) × (status ≡ number_of why) × (block ≡ block_after progress (length own) 0 0)
     × taking.Refuses progress.held progress.next own why after
 
--- by whether the words of the next item, which are so many, aren't all there
+-- by whether some of the next item's `count` words are missing
 abbrev pub ends_whole : {Held Item : Type 0} → Taking Held Item → Bool → Progress Held Item → ℕ → List ℕ → ℕ → Block → Held → Type 0
 ends_whole taking true progress count rest status block after =
     (status ≡ number_of statuses.BadWordCount) × (block ≡ block_after progress 0 0 0) × (after ≡ progress.held)

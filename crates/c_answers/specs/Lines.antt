@@ -21,7 +21,7 @@ second_line [] = no_line
 second_line (told ∷ []) = no_line
 second_line (told ∷ second ∷ more) = line_of second
 
--- the same of a line with a group, which isn't told
+-- the same of a line with a group, which is left out
 abbrev pub listed_line : Option Listed → ListingLine
 listed_line None = no_line
 listed_line (Some listed) = line_of (listed.kind, listed.offset)

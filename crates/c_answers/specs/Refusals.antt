@@ -1,4 +1,4 @@
--- What a call answers if words, a packet or a byte are refused.
+-- The statuses of words, packets and bytes that are refused.
 use Rattle.ump_grammar.specs.declared.packet.Bad.{Bad}
 use Rattle.ump_grammar.specs.declared.packet.Bad.TheVariants as bad
 use Rattle.listing_terms.specs.declared.listed.BadStep.{BadStep}

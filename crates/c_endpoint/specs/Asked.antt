@@ -1,4 +1,4 @@
--- What an endpoint answers if it is asked for what it holds.
+-- What the calls that read an endpoint's state answer.
 use Rattle.std.specs.Prelude.{◌≡◌, ℕ, nat_lt, Bool, true, false, Option, Some, None, slice_get, unwrap_or}
 use Rattle.std.specs.Option.{option_map}
 use Rattle.function_blocks.specs.declared.setup.Profile.{Profile}
@@ -11,7 +11,7 @@ use Rattle.c_answers.specs.declared.status.Status.TheVariants as statuses
 use Rattle.c_endpoint.specs.Profiles.{no_profile, profile_of}
 use Rattle.c_endpoint.specs.declared.profile.EndpointProfile.{EndpointProfile}
 
--- what is found, if it is found, is told
+-- what is found is written; otherwise there is none
 abbrev pub tells : Option ℕ → ℕ → ℕ → ℕ → Type 0
 tells None status old new = (status ≡ number_of statuses.Nothing) × (new ≡ old)
 tells (Some found) status old new = (status ≡ number_of statuses.Done) × (new ≡ found)

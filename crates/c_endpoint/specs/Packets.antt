@@ -1,4 +1,4 @@
--- What an endpoint answers a caller to one packet, and to many.
+-- What an endpoint answers to one packet, and to many, into the caller's buffers.
 use Rattle.std.specs.Prelude.{◌≡◌, ℕ, nat_lt, Bool, true, false, List, [], ◌∷◌, length, Option, Some, None, Result, Ok, Err}
 use Rattle.packet_words.specs.Words.{words_asked}
 use Rattle.ump_grammar.specs.Ranges.{IsPacket}
@@ -50,7 +50,7 @@ replies_of packet taken words =
 
 -- ---- one packet
 
--- the words of the replies to a packet, packet after packet, and what is told of it
+-- the words of the replies to a packet, packet after packet, and the outcome of the packet
 pub record IsReplied (held : EndpointState) (offset : ℕ) (packet : Packet) (written : List ℕ) (replies : PacketReplies) : Type 0 where
   pub accepted : refusal_in held packet ≡ None
   pub words : AddsPackets (replies_in held packet) [] written
@@ -91,7 +91,7 @@ pub record IsUntaken (held : EndpointState) (offset : ℕ) (words : List ℕ) (w
   pub why_is : why ≡ status_of_step bad
   pub after_is : after ≡ after_packet offset packet held
 
--- by whether the words are as many as their type has, and why no packet has them, which leaves the endpoint
+-- by whether the number of words is that of their type, and why no packet has them, which leaves the endpoint
 -- as it was
 abbrev pub refuses : Bool → Option Bad → EndpointState → ℕ → List ℕ → Status → EndpointState → Type 0
 refuses true None held offset words why after = IsUntaken held offset words why after
@@ -102,14 +102,14 @@ RefusesPacket held offset words why after = refuses (is_whole words) (reason wor
 
 -- ---- the call for one packet
 
--- what is told of a packet that is taken, or why it is refused; the words that are written for it are at the
+-- the outcome of a packet that is taken, or why it is refused; the words that are written for it are at the
 -- front of the buffer
 abbrev pub TakesOrRefuses : EndpointState → ℕ → List ℕ → List ℕ → Result PacketReplies Status → List ℕ → EndpointState → Type 0
 TakesOrRefuses held offset words old (Ok replies) new after =
     (written : List ℕ) × TakesPacket held offset words written replies after × (new ≡ with_front written old)
 TakesOrRefuses held offset words old (Err why) new after = RefusesPacket held offset words why after × (new ≡ old)
 
--- the status, and what is told if nothing is taken
+-- the status, and the outcome, which is empty if nothing is taken
 abbrev pub Tells : Result PacketReplies Status → ℕ → PacketReplies → Type 0
 Tells (Ok told) status replies = (status ≡ number_of statuses.Done) × (replies ≡ told)
 Tells (Err why) status replies = (status ≡ number_of why) × (replies ≡ no_replies)
@@ -127,7 +127,7 @@ IsPacketAnswered held words offset old status replies new after =
 
 -- ---- a block of packets
 
--- each word of a packet adds 4 to the offset; a packet has one item, which tells of its replies
+-- each word of a packet adds 4 to the offset; a packet has one item, its outcome
 abbrev pub packets_in : Taking EndpointState PacketReplies
 packets_in =
     record {

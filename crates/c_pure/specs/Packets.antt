@@ -16,8 +16,8 @@ use Rattle.c_answers.specs.declared.status.Status.TheVariants as statuses
 abbrev pub count_at : Order → List ℕ → ℕ
 count_at order bytes = words_asked (word_at order bytes 0)
 
--- Why no packet is taken from the front of these bytes, if there are so many places for its words, and how
--- many it needs: there are no bytes; they are fewer than a word has; its words don't fit; its bytes aren't
+-- Why no packet is taken from the front of these bytes, by the number of places for its words, and how many
+-- places it needs: there are no bytes; they are fewer than a word has; its words don't fit; its bytes aren't
 -- all there.
 abbrev pub stop_before : Order → ℕ → List ℕ → Option (Status × ℕ)
 stop_before order places [] = Some (statuses.Done, 0)
@@ -30,13 +30,13 @@ stop_before order places (first ∷ more) =
 abbrev pub words_by : Order → List (List ℕ) → List ℕ
 words_by order packets = flat_map (words_of order) packets
 
--- these packets were taken, and so many places are needed
+-- the block of these packets that were taken, with the number of places that are needed
 abbrev pub block_of : Order → List (List ℕ) → ℕ → Block
 block_of order packets need =
     record nothing_taken { taken = length (concat packets); written = length (words_by order packets); need = need }
 
--- The packets at the front of the bytes are taken, up to the first one that can't be: each has as many bytes
--- as its first word asks for. Their words are at the front of the buffer.
+-- The packets at the front of the bytes are taken, up to the first one that can't be: each has the number of
+-- bytes that its first word says. Their words are at the front of the buffer.
 pub record AreCut (order : Order) (bytes old : List ℕ) (status : ℕ) (new : List ℕ) (block : Block) : Type 0 where
   pub packets : List (List ℕ)
   pub rest : List ℕ

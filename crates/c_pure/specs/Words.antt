@@ -100,7 +100,7 @@ heard_word (Some outcomes.BadFormat) = codes "BAD_FORMAT"
 
 -- ---- a list of words
 
--- so many numbers from this one on
+-- `count` numbers from this one on
 abbrev pub numbers_from : ℕ → ℕ → List ℕ
 numbers_from first zero = []
 numbers_from first (suc count) = first ∷ numbers_from (suc first) count

@@ -1,4 +1,4 @@
--- What the join of 8-bit exclusives answers a caller.
+-- What the join of 8-bit exclusives answers, into the caller's buffers.
 use Rattle.std.specs.Prelude.{◌≡◌, ◌==◌, ℕ, nat_lt, ◌&&◌, not, Bool, true, false, List, [], ◌∷◌, length, Option, Some, None}
 use Rattle.std.specs.Option.{option_map}
 use Rattle.ump_grammar.specs.WordFields.{type_of}
@@ -60,7 +60,7 @@ joined_by part reply =
 abbrev pub no_part : JoinedPart
 no_part = record { written = 0; need = 0; cut_at = 0; answer = 0; group = 0; stream = 0 }
 
--- and a buffer would have to have this size
+-- the same for a packet that isn't taken, since the buffer is too small; one of this size does
 abbrev pub needing_part : ℕ → JoinedPart
 needing_part size = record no_part { need = size }
 
@@ -118,7 +118,7 @@ pub record IsJoined (table : Table8) (words : List ℕ) (offset : ℕ) (old : Li
   pub front : new ≡ with_front reply.ended old
   pub after_is : after ≡ reply.after
 
--- by whether the words are as many as their type has
+-- by whether the number of words is that of their type
 abbrev pub takes_whole : Bool → Table8 → List ℕ → ℕ → List ℕ → ℕ → JoinedPart → List ℕ → Table8 → Type 0
 takes_whole false table words offset old status joined new after = IsPassed statuses.BadWordCount no_part table old status joined new after
 takes_whole true table words offset old status joined new after = IsJoined table words offset old status joined new after

@@ -16,7 +16,7 @@ use Rattle.c_streams.specs.declared.usb.CarriedBytes.{CarriedBytes}
 abbrev pub packed : ℕ → Step → List ℕ
 packed cable step = concat (events_by cable (completed_by step))
 
--- how many bytes the events have of so many bytes from F0 to F7
+-- the number of bytes of the events of `size` bytes from F0 to F7
 abbrev pub events_size : ℕ → ℕ
 events_size size = 4 * ((size + 2) / 3)
 

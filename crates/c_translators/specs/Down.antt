@@ -1,4 +1,4 @@
--- What the translator down answers a caller with a buffer of its own.
+-- What the translator down answers, into the caller's buffer.
 use Rattle.std.specs.Prelude.{◌≡◌, nat_lt, ◌+◌, max, ℕ, Bool, true, false, List, length, slice_set, Option, Some, None, Result, Ok, Err}
 use Rattle.std.specs.Option.{option_map}
 use Rattle.sysex_groups.specs.Table.{Table, begun_in}
@@ -23,7 +23,7 @@ use Rattle.c_translators.specs.Pieces.{needing, no_piece, piece_shown}
 use Rattle.c_translators.specs.declared.piece.Piece.{Piece}
 
 -- The size of a buffer that takes the piece of any packet: an exclusive of this limit with its F0 and F7, or
--- else four messages.
+-- four messages of three bytes.
 abbrev pub most_bytes_of : ℕ → ℕ
 most_bytes_of room = max (room + 2) 12
 

@@ -1,4 +1,4 @@
--- The words of packets, in a buffer of the caller's.
+-- The words of packets, in the caller's buffer.
 use Rattle.std.specs.Prelude.{◌≡◌, ℕ, List, [], ◌∷◌, ◌++◌, length}
 use Rattle.ump_grammar.specs.Reading.{Encodes}
 use Rattle.ump_grammar.specs.declared.packet.Packet.{Packet}
@@ -10,7 +10,7 @@ EncodesAll [] words = words ≡ []
 EncodesAll (packet ∷ packets) words =
     (own : List ℕ) × (others : List ℕ) × (words ≡ own ++ others) × Encodes packet own × EncodesAll packets others
 
--- the words of a packet are at the front of a buffer, and so many
+-- the words of a packet are at the front of a buffer, and `count` is their number
 pub record IsEncoded (packet : Packet) (old : List ℕ) (count : ℕ) (new : List ℕ) : Type 0 where
   pub words : List ℕ
   pub encoded : Encodes packet words

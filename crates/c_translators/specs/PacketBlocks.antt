@@ -41,8 +41,8 @@ is_front_refused true state offset words old count refused piece new after =
 is_front_refused false state offset words old count refused piece new after =
     (refused.1 ≡ count) × IsTakenOrRefused state offset (take count words) old (Err refused.0) new after
 
--- The packet at the front of the words is taken, and has so many of them; or it isn't, and so many are
--- refused.
+-- The packet at the front of the words is taken, with the number of its words; or it isn't, with the status and
+-- the number of words that are refused.
 abbrev pub IsFrontTaken : DownState → ℕ → List ℕ → List ℕ → Result ℕ (Status × ℕ) → Piece → List ℕ → DownState → Type 0
 IsFrontTaken state offset words old (Ok count) piece new after =
     (count ≡ words_asked (slice_index words 0)) × (count ≤ length words)
@@ -53,7 +53,7 @@ IsFrontTaken state offset words old (Err refused) piece new after =
 
 -- ---- many packets
 
--- A packet has as many words as the message type of the first one asks for, and each adds 4 to the offset.
+-- A packet has the number of words of its first word's message type, and each adds 4 to the offset.
 abbrev pub packets : Taking DownState Piece
 packets =
     record { size_of = words_asked; step = 4; Takes = TakesPacket; Refuses = RefusesPacket; most_written = most_bytes; most_items = 1 }

@@ -1,10 +1,10 @@
--- What a caller gets of a packet that goes down.
+-- What a packet that goes down becomes, as a caller gets it.
 use Rattle.std.specs.Prelude.{ℕ, Option, Some, None}
 use Rattle.midi_meaning.specs.declared.listed.Listed.{Listed}
 use Rattle.c_answers.specs.Numbers.{kind_number}
 use Rattle.c_translators.specs.declared.piece.Piece.{Piece}
 
--- nothing was taken, since the buffer is short; one of this size does
+-- the piece of a packet that isn't taken, since the buffer is too small; one of this size does
 abbrev pub needing : ℕ → Piece
 needing size = record { written = 0; need = size; offset = 0; lane = 0; kind = 0; group = 255 }
 
@@ -16,7 +16,7 @@ abbrev pub group_shown : Option ℕ → ℕ
 group_shown None = 255
 group_shown (Some group) = group
 
--- so many bytes in a lane, and a line
+-- the piece of a packet, by the number of its bytes, their lane and its line
 abbrev pub piece_shown : ℕ → ℕ → Option Listed → Piece
 piece_shown count lane None = record { written = count; need = 0; offset = 0; lane = lane; kind = 0; group = 255 }
 piece_shown count lane (Some line) =

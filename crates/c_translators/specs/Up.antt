@@ -1,4 +1,4 @@
--- What the translator up answers a caller with a buffer of its own.
+-- What the translator up answers, into the caller's buffer.
 use Rattle.std.specs.Prelude.{◌≡◌, ◌<◌, ◌≤◌, ◌*◌, ◌&&◌, not, nat_lt, max, ℕ, Bool, true, false, List, length, Option, Some, None, Result, Ok, Err}
 use Rattle.std.specs.Int.{div_ceil}
 use Rattle.midi1_bytes.specs.Parsing.{open_of, parse}
@@ -27,7 +27,7 @@ use Rattle.c_answers.specs.declared.status.Status.TheVariants as statuses
 use Rattle.c_translators.specs.Encoded.{AreEncoded}
 
 -- The size of a buffer that takes the words of any byte: two for each packet of an exclusive of this limit,
--- or else those of a packet.
+-- and at least the four words of the longest packet.
 abbrev pub most_words_of : ℕ → ℕ
 most_words_of room = max (div_ceil room 6 * 2) 4
 
@@ -52,7 +52,7 @@ pub record IsSound (up : UpState) : Type 0 where
 
 -- ---- one byte
 
--- the outcome of a byte at this offset, of which this is raised, in so many words
+-- the outcome of a byte at this offset, by what is raised of it and the number of its words
 abbrev pub outcome_shown : ℕ → ℕ → Raised → ByteOutcome
 outcome_shown offset written raised =
     outcome_of offset written (listed_line (first_in raised.lines)) (listed_line (second_in raised.lines))

@@ -1,4 +1,4 @@
--- What is told of a running state, by numbers.
+-- The facts of a running state, as numbers.
 use Rattle.std.specs.Prelude.{◌≡◌, ◌==◌, ◌||◌, if◌then◌else◌, ℕ, nat_lt, Bool, true, false, List, length, map, Option, Some, None, Result, Ok, Err, is_some, unwrap_or}
 use Rattle.midi_meaning.specs.Messages.{Scale}
 use Rattle.voice_messages.specs.declared.voice2.Bank.{Bank}
@@ -17,7 +17,7 @@ use Rattle.c_answers.specs.declared.status.Status.{Status}
 use Rattle.c_answers.specs.declared.status.Status.TheVariants as statuses
 use Rattle.c_voice_state.specs.declared.fact_numbers.FactNumbers.{FactNumbers}
 
--- nothing is told yet, of this group and channel; the channel is 0 if it is about the whole group
+-- a fact of this group and channel without numbers of its own; the channel is 0 if it is about the whole group
 abbrev pub nothing_at : FactAddress → FactNumbers
 nothing_at address =
     record {
@@ -34,11 +34,11 @@ nothing_at address =
       is_loose = false;
     }
 
--- what is told: a kind, with a number and a value
+-- a fact of this kind, with a number and a value
 abbrev pub valued : FactNumbers → ℕ → ℕ → ℕ → FactNumbers
 valued at kind number value = record at { kind = kind; number = number; value = value; has_value = true }
 
--- a count of messages
+-- a fact of this kind, with a count of messages
 abbrev pub counted : FactNumbers → ℕ → ℕ → FactNumbers
 counted at kind count = record at { kind = kind; count = count }
 
@@ -86,7 +86,7 @@ numbers_of fact = told_at (nothing_at (address_of fact)) fact
 
 -- ---- the facts of one channel, or the counts of a group
 
--- what stands for no channel
+-- the number of no channel (own rule)
 abbrev pub no_channel : ℕ
 no_channel = 255
 
@@ -95,8 +95,8 @@ abbrev pub facts_at : Scale → States → ℕ → ℕ → List Fact
 facts_at scale states group channel =
     if nat_lt channel 16 then channel_facts scale group channel ((states group).channels channel) else group_counts group (states group)
 
--- All of them were written, and counted, if the buffer has room for them all. Otherwise nothing was written;
--- so many need room, at most the greatest number of 64 bits.
+-- All of them were written, and counted, if the buffer has room for them all. Otherwise nothing was written, and
+-- `need` is their number, at most the greatest of 64 bits.
 abbrev pub ArePut : List Fact → List FactNumbers → Result ℕ ℕ → List FactNumbers → Type 0
 ArePut told old (Ok written) new =
     (nat_lt (length old) (length told) ≡ false) × (written ≡ length told) × (new ≡ with_front (map numbers_of told) old)
@@ -112,7 +112,7 @@ tells false told old status written need new =
 abbrev pub AreTold : List Fact → List FactNumbers → ℕ → ℕ → ℕ → List FactNumbers → Type 0
 AreTold told old status written need new = tells (nat_lt (length old) (length told)) told old status written need new
 
--- nothing is told
+-- no fact is reported
 abbrev pub IsUntold : Status → List FactNumbers → ℕ → ℕ → ℕ → List FactNumbers → Type 0
 IsUntold why old status written need new = (status ≡ number_of why) × (written ≡ 0) × (need ≡ 0) × (new ≡ old)
 

@@ -35,7 +35,7 @@ kept_status (Ok value) = number_of statuses.Done
 kept_status (Err not_kept.Full) = number_of statuses.StateFull
 kept_status (Err not_kept.NoMemory) = number_of statuses.NoMemory
 
--- If it is done, what is kept stands for the changed states if it stood for the states before. If it adds to
+-- If it is done, what is kept represents the changed states if it represented the states before. If it adds to
 -- a full list, or there isn't enough memory, nothing has changed.
 pub record Changes (scale : Scale) (change : States → States) (IsFull : Type 0) (old : List KeptGroup) (status : ℕ)
     (new : List KeptGroup) : Type 0 where
@@ -67,7 +67,7 @@ IsTaken old packet status new = (new.exclusives ≡ old.exclusives) × Changes r
 
 -- ---- words
 
--- by whether the words are as many as their type has, and why no packet has them
+-- by whether the number of words is that of their type, and why no packet has them
 abbrev pub takes : Bool → Option Bad → StateKept → List ℕ → ℕ → StateKept → Type 0
 takes false bad old words status new = (status ≡ number_of statuses.BadWordCount) × (new ≡ old)
 takes true (Some bad) old words status new = (status ≡ number_of (status_of_bad bad)) × (new ≡ old)

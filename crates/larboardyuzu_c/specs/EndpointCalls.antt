@@ -18,7 +18,7 @@ use Rattle.c_handles.specs.declared.engine.Engine.{Engine}
 use Rattle.c_handles.specs.declared.engine.Engine.TheVariants as engine
 use Rattle.larboardyuzu_c.specs.Held.{is_room}
 
--- an endpoint of which this is so
+-- the handle holds an endpoint of which `IsSo` holds
 abbrev pub HoldsEndpoint : Option Engine → (EndpointState → Type 0) → Type 0
 HoldsEndpoint (Some (engine.Endpoint held)) IsSo = IsSo held
 HoldsEndpoint _ IsSo = ⊥
@@ -34,7 +34,7 @@ Makes (Err fault) room status old new after =
     (((status ≡ number_of statuses.NoMemory) × (new ≡ old)) ⊎ ((status ≡ number_of (status_of_fault fault)) × (new ≡ rule_in fault old)))
     × (after ≡ None)
 
--- nothing is opened, and no rule is told
+-- nothing is opened, and no rule is written
 abbrev pub IsUnopened : Status → Option Engine → ℕ → ℕ → ℕ → Option Engine → Type 0
 IsUnopened why before status old new after = (status ≡ number_of why) × (after ≡ before) × (new ≡ old)
 
@@ -71,7 +71,7 @@ AreTaken (Some (engine.Endpoint held)) words offset old old_replies status block
 AreTaken (Some other) words offset old old_replies status block new replies after =
     AreUntaken statuses.OtherKind old old_replies status block new replies × (after ≡ Some other)
 
--- nothing is told
+-- nothing is written
 abbrev pub IsUntold : Status → ℕ → ℕ → ℕ → Type 0
 IsUntold why status old new = (status ≡ number_of why) × (new ≡ old)
 

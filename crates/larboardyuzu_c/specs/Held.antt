@@ -7,12 +7,12 @@ use Rattle.c_answers.specs.declared.status.Status.TheVariants as statuses
 use Rattle.c_handles.specs.declared.engine.Engine.{Engine}
 use Rattle.c_handles.specs.declared.engine.Engine.TheVariants as engine
 
--- a translator down of which this is so
+-- the handle holds a translator down of which `IsSo` holds
 abbrev pub HoldsDown : Option Engine → (DownState → Type 0) → Type 0
 HoldsDown (Some (engine.Down state)) IsSo = IsSo state
 HoldsDown _ IsSo = ⊥
 
--- and a translator up
+-- the same of a translator up
 abbrev pub HoldsUp : Option Engine → (UpState → Type 0) → Type 0
 HoldsUp (Some (engine.Up state)) IsSo = IsSo state
 HoldsUp _ IsSo = ⊥
@@ -22,8 +22,7 @@ HoldsUp _ IsSo = ⊥
 abbrev pub is_room : ℕ → Bool
 is_room room = nat_le 6 room && nat_le room 1048576
 
--- a handle that is open stays as it is; one that is closed holds this, or nothing if there isn't enough
--- memory
+-- An open handle stays as it is. A closed one then holds `fresh`, or nothing if there isn't enough memory.
 abbrev pub Opens : Option Engine → Engine → ℕ → Option Engine → Type 0
 Opens (Some held) fresh status after = (status ≡ number_of statuses.AlreadyOpen) × (after ≡ Some held)
 Opens None fresh status after =

@@ -16,7 +16,7 @@ use Rattle.c_streams.specs.Readers as readers
 use Rattle.c_streams.specs.Readers.{IsEnd}
 use Rattle.larboardyuzu_c.specs.Held.{is_room, opens_in_range}
 
--- a parser of which this is so
+-- the handle holds a parser of which `IsSo` holds
 abbrev pub HoldsParser : Option Engine → (Parsing → Type 0) → Type 0
 HoldsParser (Some (engine.Parser parsing)) IsSo = IsSo parsing
 HoldsParser _ IsSo = ⊥
@@ -30,7 +30,7 @@ IsOpened before room status after = opens_in_range (is_room room) before (engine
 abbrev pub IsUntaken : Status → List ℕ → ℕ → ByteOutcome → List ℕ → Type 0
 IsUntaken why old status outcome new = (status ≡ number_of why) × (outcome ≡ no_outcome) × (new ≡ old)
 
--- nothing of a block is taken
+-- no item of a block is taken
 abbrev pub IsBlockUntaken : {Item : Type 0} → Status → List ℕ → List Item → ℕ → Block → List ℕ → List Item → Type 0
 IsBlockUntaken why old old_items status block new items =
     (status ≡ number_of why) × (block ≡ nothing_taken) × (new ≡ old) × (items ≡ old_items)

@@ -21,12 +21,12 @@ use Rattle.c_voice_state.specs.Kept.{StateKept}
 use Rattle.c_voice_state.specs.declared.fact_numbers.FactNumbers.{FactNumbers}
 use Rattle.larboardyuzu_c.specs.Held.{is_room}
 
--- a state of packets of which this is so
+-- the handle holds a state of packets of which `IsSo` holds
 abbrev pub HoldsPacketState : Option Engine → (StateKept → Type 0) → Type 0
 HoldsPacketState (Some (engine.PacketState state)) IsSo = IsSo state
 HoldsPacketState _ IsSo = ⊥
 
--- and one of bytes
+-- the same of a state of bytes
 abbrev pub HoldsByteState : Option Engine → (ByteKept → Type 0) → Type 0
 HoldsByteState (Some (engine.ByteState state)) IsSo = IsSo state
 HoldsByteState _ IsSo = ⊥

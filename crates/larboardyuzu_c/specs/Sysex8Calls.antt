@@ -12,12 +12,12 @@ use Rattle.c_answers.specs.declared.status.Status.{Status}
 use Rattle.larboardyuzu_c.specs.Held.{Opens}
 use Rattle.larboardyuzu_c.specs.ParserCalls.{IsBlockUntaken}
 
--- a join of which this is so
+-- the handle holds a join of which `IsSo` holds
 abbrev pub HoldsSysex8 : Option Engine → (Table8 → Type 0) → Type 0
 HoldsSysex8 (Some (engine.Sysex8 table)) IsSo = IsSo table
 HoldsSysex8 _ IsSo = ⊥
 
--- at least the bytes that one packet may have
+-- at least the thirteen bytes that one packet may have
 abbrev pub is_room : ℕ → Bool
 is_room room = nat_le 13 room && nat_le room 1048576
 

@@ -15,7 +15,7 @@ use Rattle.c_streams.specs.Usb.{events}
 use Rattle.larboardyuzu_c.specs.Held.{is_room, Opens}
 use Rattle.larboardyuzu_c.specs.ParserCalls.{IsBlockUntaken, IsUntaken}
 
--- a packer of which this is so
+-- the handle holds a packer of which `IsSo` holds
 abbrev pub HoldsUsb : Option Engine → (PackerState → Type 0) → Type 0
 HoldsUsb (Some (engine.Usb packer)) IsSo = IsSo packer
 HoldsUsb _ IsSo = ⊥
