@@ -16,13 +16,14 @@
  *
  * What C must promise, since nothing checks it:
  *  - A handle is all zero before it is opened, and nobody else writes into it. It may be moved: copy it,
- *    and use only the copy from then on. One call at a time uses a handle, also one that takes a const
- *    handle: that call leaves it as it was, but two threads can't read one at once. Two threads may use a
- *    handle alternately, with a lock or a join between their calls. Handles don't depend on each other.
+ *    and use only the copy from then on. Only one call at a time uses a handle, also if it takes a const
+ *    handle: that call may write to the handle meanwhile, and leaves it as it was. So a handle is in
+ *    writable memory, even a closed one, and two threads can't read it at once. They may use it alternately,
+ *    with a lock or a join between their calls. Handles don't depend on each other.
  *  - A pointer may be null if its count is 0. Every other pointer is not null, is aligned for its type, and
- *    leads to as many places as its count says. What a call writes overlaps none of its other arguments.
+ *    leads to that number of places. What a call writes overlaps none of its other arguments.
  *  - What a call reads is set, and nobody changes it while the call runs: no other thread, no device.
- *    What a call only writes need not hold anything before.
+ *    What a call only writes may hold anything before.
  *  - A program that defines the functions of larboardyuzu_heap.h itself makes them safe for all threads
  *    that open or close handles.
  *  - No call is made from a signal handler, or in the forked child of a process with several threads.

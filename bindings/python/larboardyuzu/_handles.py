@@ -40,18 +40,18 @@ def _must(status: int, offset: Optional[int] = None, need: int = 0) -> None:
 
 
 def _must_be_open(status: int) -> None:
-    """Raises if the handle is closed, or a state takes the other kind of input: nothing was taken."""
+    """Raises Refused if the handle is closed, or if a state takes the other kind of input: nothing was taken."""
     if status in (_numbers.HANDLE_CLOSED, _numbers.OTHER_KIND):
         raise Refused(Status(status))
 
 
 def _numbered(number: int) -> Optional[int]:
-    """A group or channel; 255 means that there is none."""
+    """A group or channel, or None for 255, which means that there is none."""
     return number if number < 16 else None
 
 
 class _Handle:
-    """A handle. It is closed by close(), at the end of a `with`, or when it is forgotten. One thread at a time may use it."""
+    """A handle. It is closed by close(), at the end of a `with`, or when it is collected. Only one thread at a time may use it."""
 
     _name: ClassVar[str]
 
@@ -59,7 +59,7 @@ class _Handle:
         self._raw = _interface.Handle()
         _must(open_by(self._raw, *options))
         self._finalizer = weakref.finalize(self, call(f"{self._name}_close"), self._raw)
-        # What is open at the end is left to the system: a forked child may not close it.
+        # A handle that is open when the interpreter ends is left to the system, since a forked child mustn't close it.
         self._finalizer.atexit = False
 
     def close(self) -> None:
@@ -99,7 +99,7 @@ def _begun(by: Callable[..., int], raw: _interface.Handle, *which: int) -> Optio
 
 
 class _Taker(_Handle, Generic[Item]):
-    """A handle that takes packets or bytes, and writes to a buffer. It has a buffer of its own."""
+    """A handle that takes packets or bytes, with a buffer of its own that is large enough for each."""
 
     _item_type: ClassVar[Any]
     _single: ClassVar[Callable[..., int]]
@@ -115,7 +115,7 @@ class _Taker(_Handle, Generic[Item]):
         return self._view[start:end].tobytes()
 
     def _item(self, item: Any, start: int) -> Item:
-        """The item of C, and its part of the buffer, from start on."""
+        """The result for an item of C, whose part of the buffer begins at start."""
         raise NotImplementedError
 
     def _taken_once(self, inputs: Tuple[Any, ...], offset: int) -> Item:
@@ -124,7 +124,8 @@ class _Taker(_Handle, Generic[Item]):
         return self._item(item, 0)
 
     def _taken(self, pass_on: Callable[[int], Tuple[Any, int]], count: int, offset: int, step: int) -> Block[Item]:
-        """Takes what there is, up to a refusal. pass_on: what C is passed from a place on, and how much that is."""
+        """Takes all of the input, up to a refusal. pass_on: from a place in the input, what C is passed next, and its size. step: what each
+        word or byte adds to the offset."""
         items: List[Item] = []
         taken, block = 0, _interface.Block()
         while True:
@@ -184,7 +185,7 @@ class _OfBytes(_Taker[Item]):
     _group: Optional[int]
 
     def byte(self, byte: int, offset: int = 0) -> Item:
-        """Takes one byte. Raises Refused if it is refused."""
+        """Takes one byte, 0 to 255. offset: any number; it comes back in lines. Raises Refused if the byte is refused."""
         return self._taken_once((u8("byte", byte),), u64("offset", offset))
 
     def bytes(self, data: Bytes, offset: int = 0) -> Block[Item]:

@@ -1,4 +1,4 @@
-"""Loads the library and has its calls, and turns numbers of Python into those of C: none is cut to its lower bits."""
+"""Loads the library and its calls, and converts numbers of Python to those of C: one that doesn't fit raises OverflowError."""
 from __future__ import annotations
 
 import ctypes
@@ -13,7 +13,7 @@ from . import _interface, _numbers
 
 SONAME = f"liblarboardyuzu.so.{_numbers.VERSION >> 16}.{_numbers.VERSION >> 8 & 0xFF}"
 
-# What takes words takes any numbers; array("I"), and a memoryview of it, aren't copied. What takes bytes takes bytes or numbers.
+# Words are any iterable of numbers; array("I"), and a memoryview of it, aren't copied. Bytes are bytes-like, or an iterable of numbers.
 Words = Iterable[int]
 Bytes = Union[bytes, bytearray, memoryview, Iterable[int]]
 
@@ -21,7 +21,7 @@ Bytes = Union[bytes, bytearray, memoryview, Iterable[int]]
 def _loaded() -> ctypes.PyDLL:
     name = os.environ.get("LARBOARDYUZU_LIBRARY") or SONAME
     try:
-        # With PyDLL a call keeps the lock of the interpreter, so that two threads can't be in one handle.
+        # With PyDLL a call keeps the lock of the interpreter, if it has one, so that two threads can't be in one handle.
         return ctypes.PyDLL(name)
     except OSError as error:
         raise ImportError(f"{error}: install the library, or name its file in LARBOARDYUZU_LIBRARY") from error
@@ -32,7 +32,7 @@ _LIBRARY = _loaded()
 
 @functools.lru_cache(maxsize=None)
 def call(name: str) -> Callable[..., Any]:
-    """The call of this name after larboardyuzu_."""
+    """The call with this name after larboardyuzu_. Raises ImportError if the library doesn't have it."""
     try:
         found = getattr(_LIBRARY, f"larboardyuzu_{name}")
     except AttributeError as error:
@@ -67,7 +67,7 @@ def u64(what: str, value: int) -> int:
 
 
 def words_of(words: Words) -> Tuple[Optional["ctypes.Array[c_uint32]"], int]:
-    """The words as an array of C, and how many there are. An array("I") is lent, not copied."""
+    """The words as an array of C, and their number. An array("I") is lent, not copied, so it can't be resized meanwhile."""
     if isinstance(words, (bytes, bytearray, str)):
         raise TypeError("words are numbers of 32 bits: packets_in cuts bytes into words")
     if isinstance(words, memoryview):
@@ -86,7 +86,7 @@ def words_of(words: Words) -> Tuple[Optional["ctypes.Array[c_uint32]"], int]:
 
 
 def bytes_of(data: Bytes) -> bytes:
-    """The bytes of something that has bytes, or of numbers in order. What has wider items, such as array("I"), isn't taken for its bytes."""
+    """The bytes of a bytes-like object, or of numbers in order. Raises TypeError if the items aren't unsigned bytes, as of array("I")."""
     if isinstance(data, bytes):
         return data
     if isinstance(data, (int, str)):
