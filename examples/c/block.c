@@ -1,7 +1,7 @@
-/* A host's block of packets, by a loop that survives every refusal and every buffer that is full. A Note On
- * of group 0; a control change 96, which is refused; a Note On of group 1 with an attribute, which MIDI 1.0
- * bytes have no place for; the end of an exclusive that never began; and the first word of a packet whose
- * second word comes with the next block. The buffers are small, so that the loop goes round several times.
+/* A host's block of packets, by a loop that goes on after every refusal and every full buffer: a Note On of
+ * group 0; a control change 96, which is refused; a Note On of group 1 with an attribute, which MIDI 1.0
+ * bytes can't carry; the end of an exclusive that never began; and the first word of a packet whose second
+ * word comes with the next block. The buffers are small, so that the loop runs several times.
  */
 #include "larboardyuzu.h"
 

@@ -1,7 +1,8 @@
-/* A live endpoint over a descriptor: daemon SETUP.toml [FD]. The bytes of packets come and go over it, the
+/* A live endpoint over a descriptor: daemon SETUP.toml [FD]. It reads and writes the bytes of packets, the
  * highest byte of a word first, as over a socket. It waits in poll, cuts what it reads into packets,
  * answers each, and goes on after what is refused, with a line for it. It ends when the peer does, or by
- * SIGTERM. One that waits for the next peer resets the endpoint first, and drops the bytes that it held. */
+ * SIGTERM. A daemon that waits for the next peer resets the endpoint first, and drops the bytes of a packet
+ * that isn't whole. */
 #define _POSIX_C_SOURCE 200809L
 #include "larboardyuzu.h"
 
@@ -29,7 +30,7 @@ static void stop(int number)
     is_stopped = 1;
 }
 
-/* A line on standard error: an offset, and a word of the header. */
+/* Writes a line to standard error: an offset, and a name of the header. */
 static void say(uint64_t offset, uint32_t (*name_of)(uint32_t, uint8_t *, size_t, size_t *),
                 uint32_t number)
 {
@@ -40,7 +41,7 @@ static void say(uint64_t offset, uint32_t (*name_of)(uint32_t, uint8_t *, size_t
     fprintf(stderr, "%llu %.*s\n", (unsigned long long)offset, (int)length, (const char *)name);
 }
 
-/* Writes words, and waits while the peer doesn't read. */
+/* Writes words, and waits while the peer doesn't read. Returns -1 if the peer is gone. */
 static int put(int fd, const uint32_t *words, size_t count)
 {
     static uint8_t bytes[4 * WORDS];
@@ -61,7 +62,7 @@ static int put(int fd, const uint32_t *words, size_t count)
     return 0;
 }
 
-/* Answers packets, whatever is refused. */
+/* Answers packets, and goes on after a refusal. Returns -1 if the peer is gone. */
 static int answer(int fd, const uint32_t *words, size_t count, uint64_t offset)
 {
     static uint32_t reply[LARBOARDYUZU_MOST_REPLY_WORDS];

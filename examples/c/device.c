@@ -10,7 +10,7 @@
 
 static larboardyuzu_endpoint endpoint = LARBOARDYUZU_CLOSED;
 
-/* Answers one packet. A refused one has no reply. */
+/* Answers one packet. A refused one has no reply. Returns -1 if the reply can't be written. */
 static int answer(int device, const uint32_t *packet, size_t count, uint64_t offset)
 {
     static uint32_t reply[LARBOARDYUZU_MOST_REPLY_WORDS];

@@ -1,7 +1,7 @@
-/* A whole conversation with a peer: it discovers the endpoint and its function block, and by MIDI-CI the
- * block; then it uses the block's own MUID, so that the block takes its next one; it switches a profile
- * on; and it asks for the MIDI 1.0 protocol. Each packet of the peer and each packet of a reply is a line.
- * Then the link breaks, and a reset makes the endpoint ready for the next peer. */
+/* A whole conversation with a peer. The peer discovers the endpoint and its function block, and the block by
+ * MIDI-CI; it uses the block's own MUID, so that the block takes its next one; it switches a profile on; and
+ * it requests the MIDI 1.0 protocol. Each packet of the peer and each packet of a reply is a line. Then the
+ * link breaks, and a reset makes the endpoint ready for the next peer. */
 #include "larboardyuzu.h"
 
 #include <stdio.h>
@@ -41,7 +41,7 @@ static const char setup[] = "[endpoint]\n"
                             "on = false\n";
 
 static const uint32_t peer[] = {
-    /* Endpoint Discovery, which asks for all five notifications (M2-104-UM) */
+    /* Endpoint Discovery, which requests all five notifications (M2-104-UM) */
     0xF0000101,
     0x0000001F,
     0x00000000,
@@ -114,7 +114,7 @@ static uint32_t answer(larboardyuzu_endpoint *endpoint, const uint32_t *words, s
     return status;
 }
 
-/* Prints what the conversation has left. */
+/* Prints the protocol, the MUID and the profiles that are in force. */
 static void print_state(const larboardyuzu_endpoint *endpoint)
 {
     uint8_t protocol = 0;

@@ -1,5 +1,5 @@
-/* A program without malloc: the library's memory is the fixed block of own_heap.c. A translator each way
- * is opened, a note goes down and up again, and nothing is asked of the block in between. */
+/* A program without malloc: the library's memory is the fixed block of own_heap.c. It opens a translator each
+ * way and takes a note down and up again, which requests no memory. */
 #include "larboardyuzu.h"
 #include "own_heap.h"
 

@@ -1,7 +1,7 @@
-/* A host's own memory for the library: a fixed block, and no malloc. Blocks are given from the front. The
- * last one that was given can grow where it stands and be returned; any other is lost until all are
- * returned, which frees the whole block. That fits handles that are opened at the start and closed
- * together. It has no lock: one thread at a time may open or close handles. */
+/* A host's own memory for the library: a fixed block, and no malloc. Memory is given from the front. What was
+ * given last can grow in place and be returned; anything else that is returned stays in use until all is
+ * returned, which frees the whole block. That fits handles that are opened at the start and closed together.
+ * It has no lock: only one thread at a time may open or close handles. */
 #include "own_heap.h"
 
 #include "larboardyuzu_heap.h"
@@ -10,10 +10,10 @@
 #include <string.h>
 
 static _Alignas(16) unsigned char block[1024 * 1024];
-static size_t used;  /* how many bytes at the front are given */
-static size_t last;  /* where the block begins that was given last */
-static size_t count; /* how many are given */
-static size_t requests;
+static size_t used;     /* the number of bytes at the front that are given */
+static size_t last;     /* the offset of what was given last */
+static size_t count;    /* the number of pieces that are given */
+static size_t requests; /* the number of requests so far */
 
 static larboardyuzu_given place(size_t at, size_t size)
 {

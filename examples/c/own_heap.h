@@ -1,13 +1,13 @@
-/* own_heap.h: what the fixed block of own_heap.c says of itself. */
+/* own_heap.h: how much of the fixed block of own_heap.c is in use. */
 #ifndef OWN_HEAP_H
 #define OWN_HEAP_H
 
 #include <stddef.h>
 
-/* How often memory was asked for. */
+/* Returns the number of requests for memory so far. */
 size_t own_heap_requests(void);
 
-/* How many bytes of the block are given. */
+/* Returns the number of bytes of the block that are in use. */
 size_t own_heap_used(void);
 
 #endif

@@ -1,5 +1,5 @@
 /* MIDI 1.0 bytes to packets, all in one call: two notes, the second under running status with a clock in
- * its middle, and an exclusive. Each packet stands after the offset of the byte that completed it. */
+ * its middle, and an exclusive. Each line has the offset of a byte and the words that it completed. */
 #include "larboardyuzu.h"
 
 #include <stdio.h>

@@ -1,5 +1,5 @@
-// adapter.hpp: what a plugin host makes of larboardyuzu. Its callback gets packets, or MIDI 1.0 bytes, each
-// with the frame at which it is due, and passes events of the other kind on, with their frames.
+// adapter.hpp: an adapter for a plugin host. The host's callback gets packets, or MIDI 1.0 bytes, each with the
+// frame at which it is due, and passes on events of the other kind with their frames.
 //
 // `prepare` takes all memory. `process` takes none, locks nothing and throws nothing, whatever the input is:
 // a packet that is refused is reported, and the loop goes on after it. Its buffers are small on purpose;
@@ -36,16 +36,16 @@ struct Midi1Event {
     Bytes bytes;
 };
 
-// The words of whole packets, which are the adapter's, too: those of an exclusive are many packets, to be cut
-// by words_in_packet.
+// The words of whole packets, which are the adapter's, too. An exclusive has many packets: cut them by
+// words_in_packet.
 struct UmpEvent {
     Frame frame;
     Words words;
 };
 
-// What didn't come through: it was refused (status), or it has no counterpart (kind). The frame is that of
-// the packet or byte at which it was found: of an exclusive that is cut off, where it was cut. A host that
-// wants to know where it began passes offsets, which come back in the lines.
+// A packet or byte that was lost: it was refused (status), or it has no counterpart (kind). The frame is that
+// of the packet or byte at which the loss was found, which for an exclusive that is cut off is the one that cut
+// it. A host that needs the frame at which it began passes offsets, which come back in the lines.
 struct Loss {
     Frame frame;
     Status status;
