@@ -1,7 +1,7 @@
 #!/usr/bin/env python3
 """daemon.py SETUP COMMAND..: starts examples/c/daemon.c on one end of a socket pair, and speaks to it as a peer: discoveries cut anywhere, MIDI-CI,
-a profile switched on and off, packets that are refused, a flood without reading, and an end in the middle of a packet. SETUP is
-examples/endpoint.toml. What it has to reply is written here by M2-104-UM and M2-101-UM."""
+a profile switched on and off, packets that are refused, a flood, and an end in the middle of a packet. Another peer never reads, and the
+daemon has to end by SIGTERM all the same. SETUP is examples/endpoint.toml. What it has to reply is written here by M2-104-UM and M2-101-UM."""
 import select
 import socket
 import struct
@@ -17,9 +17,9 @@ SECONDS = 20
 
 
 class Peer:
-    def __init__(self, command):
+    def __init__(self, command, errors=subprocess.PIPE):
         self.ours, its = socket.socketpair()
-        self.daemon = subprocess.Popen([*command, str(its.fileno())], pass_fds=[its.fileno()], stderr=subprocess.PIPE)
+        self.daemon = subprocess.Popen([*command, str(its.fileno())], pass_fds=[its.fileno()], stderr=errors)
         its.close()
         self.held = b""
         self.failed = 0
@@ -93,6 +93,16 @@ def talk(peer):
     peer.ours.close()
 
 
+def flood_without_reading(peer):
+    """Asks until the daemon takes no more, since its replies fill the socket."""
+    peer.ours.settimeout(1)
+    try:
+        while True:
+            peer.ours.sendall(struct.pack(">4I", 0xF0000101, 1, 0, 0) * 64)
+    except socket.timeout:
+        pass
+
+
 def main(setup, command):
     peer = Peer([*command, setup])
     talk(peer)
@@ -101,8 +111,18 @@ def main(setup, command):
     words = [it.split(" ")[1] for it in errors if it]
     for word in ("BAD_COUNT", "HIGH_BIT", "EXCLUSIVE_TOO_LONG", "ANSWERED"):
         peer.see(word, word in words, True)
-    print(f"daemon.c: {peer.failed} failed" if peer.failed else "daemon.c: ok")
-    return peer.failed > 0
+    deaf = Peer([*command, setup], subprocess.DEVNULL)
+    flood_without_reading(deaf)
+    deaf.daemon.terminate()
+    try:
+        deaf.daemon.wait(timeout=SECONDS)
+    except subprocess.TimeoutExpired:
+        deaf.daemon.kill()
+        deaf.daemon.wait()
+    deaf.see("its end by SIGTERM", deaf.daemon.returncode, 0)
+    failed = peer.failed + deaf.failed
+    print(f"daemon.c: {failed} failed" if failed else "daemon.c: ok")
+    return failed > 0
 
 
 if __name__ == "__main__":

@@ -1,9 +1,9 @@
 /* A live endpoint over a descriptor: daemon SETUP.toml [FD]. It reads and writes the bytes of packets, the
- * highest byte of a word first, as over a socket. It waits in poll, cuts what it reads into packets,
+ * highest byte of a word first, as over a socket. It waits in ppoll, cuts what it reads into packets,
  * answers each, and goes on after what is refused, with a line for it. It ends when the peer does, or by
- * SIGTERM. A daemon that waits for the next peer resets the endpoint first, and drops the bytes of a packet
- * that isn't whole. */
-#define _POSIX_C_SOURCE 200809L
+ * SIGTERM, even while the peer doesn't read. A daemon that waits for the next peer resets the endpoint
+ * first, and drops the bytes of a packet that isn't whole. */
+#define _GNU_SOURCE /* ppoll */
 #include "larboardyuzu.h"
 
 #include <errno.h>
@@ -23,11 +23,21 @@ enum {
 
 static larboardyuzu_endpoint endpoint = LARBOARDYUZU_CLOSED;
 static volatile sig_atomic_t is_stopped;
+static sigset_t waiting; /* the signals that stay blocked while it waits */
 
 static void stop(int number)
 {
     (void)number;
     is_stopped = 1;
+}
+
+/* Waits until the descriptor can be read or written, or a signal comes. SIGTERM and SIGINT are let in only
+ * here, so none comes between a look at is_stopped and the wait. */
+static int wait_for(int fd, short events)
+{
+    struct pollfd it = { fd, events, 0 };
+
+    return ppoll(&it, 1, NULL, &waiting);
 }
 
 /* Writes a line to standard error: an offset, and a name of the header. */
@@ -41,7 +51,7 @@ static void say(uint64_t offset, uint32_t (*name_of)(uint32_t, uint8_t *, size_t
     fprintf(stderr, "%llu %.*s\n", (unsigned long long)offset, (int)length, (const char *)name);
 }
 
-/* Writes words, and waits while the peer doesn't read. Returns -1 if the peer is gone. */
+/* Writes words, and waits while the peer doesn't read. Returns -1 if the peer is gone, or by SIGTERM. */
 static int put(int fd, const uint32_t *words, size_t count)
 {
     static uint8_t bytes[4 * WORDS];
@@ -49,20 +59,19 @@ static int put(int fd, const uint32_t *words, size_t count)
 
     for (size_t i = 0; i < 4 * count; i++)
         bytes[i] = (uint8_t)(words[i / 4] >> (24 - i % 4 * 8));
-    while (at < 4 * count) {
-        struct pollfd it = { fd, POLLOUT, 0 };
+    while (at < 4 * count && !is_stopped) {
         ssize_t size = write(fd, bytes + at, 4 * count - at);
         if (size > 0)
             at += (size_t)size;
         else if (errno == EAGAIN)
-            poll(&it, 1, 1000);
+            wait_for(fd, POLLOUT);
         else if (errno != EINTR)
             return -1;
     }
-    return 0;
+    return at < 4 * count ? -1 : 0;
 }
 
-/* Answers packets, and goes on after a refusal. Returns -1 if the peer is gone. */
+/* Answers packets, and goes on after a refusal. Returns -1 if the peer is gone, or by SIGTERM. */
 static int answer(int fd, const uint32_t *words, size_t count, uint64_t offset)
 {
     static uint32_t reply[LARBOARDYUZU_MOST_REPLY_WORDS];
@@ -96,9 +105,8 @@ static void serve(int fd)
     uint64_t offset = 0;
 
     while (!is_stopped) {
-        struct pollfd it = { fd, POLLIN, 0 };
         larboardyuzu_block block = { 0, 0, 0, 0, 0, 0 };
-        ssize_t size = poll(&it, 1, -1) > 0 ? read(fd, bytes + held, sizeof bytes - held) : -1;
+        ssize_t size = wait_for(fd, POLLIN) > 0 ? read(fd, bytes + held, sizeof bytes - held) : -1;
         if (size == 0 || (size < 0 && errno != EAGAIN && errno != EINTR))
             return;
         held += size > 0 ? (size_t)size : 0;
@@ -118,6 +126,7 @@ int main(int count, char **given)
     size_t size = file != NULL ? fread(text, 1, sizeof text, file) : 0;
     int fd = count > 2 ? atoi(given[2]) : STDIN_FILENO;
     struct sigaction act;
+    sigset_t blocked;
     uint8_t rule = 0;
     uint32_t status = LARBOARDYUZU_DONE;
 
@@ -127,6 +136,12 @@ int main(int count, char **given)
     status = larboardyuzu_endpoint_open(&endpoint, text, size, ROOM, &rule);
     if (status != LARBOARDYUZU_DONE)
         return say(rule, larboardyuzu_status_name, status), 1; /* a rule, or SETUP_SYNTAX */
+    sigemptyset(&blocked);
+    sigaddset(&blocked, SIGTERM);
+    sigaddset(&blocked, SIGINT);
+    sigprocmask(SIG_BLOCK, &blocked, &waiting);
+    sigdelset(&waiting, SIGTERM);
+    sigdelset(&waiting, SIGINT);
     memset(&act, 0, sizeof act);
     act.sa_handler = stop;
     sigaction(SIGTERM, &act, NULL);

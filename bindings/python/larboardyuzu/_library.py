@@ -6,7 +6,7 @@ import functools
 import operator
 import os
 from array import array
-from ctypes import c_char_p, c_uint8, c_uint32
+from ctypes import c_uint8, c_uint32
 from typing import Any, Callable, Iterable, Optional, Tuple, Union
 
 from . import _interface, _numbers

@@ -239,7 +239,7 @@ impl sys::Piece {
     /// The group of its line. `None` without a line, and for utility, stream and reserved packets.
     #[must_use]
     pub fn group(&self) -> Option<u8> {
-        numbered(self.group)
+        self.line().and(numbered(self.group))
     }
 }
 
