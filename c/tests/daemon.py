@@ -1,8 +1,10 @@
 #!/usr/bin/env python3
 """daemon.py SETUP COMMAND..: starts examples/c/daemon.c on one end of a socket pair, and speaks to it as a peer: discoveries cut anywhere, MIDI-CI,
-a profile switched on and off, packets that are refused, a flood, and an end in the middle of a packet. Another peer never reads, and the
-daemon has to end by SIGTERM all the same. SETUP is examples/endpoint.toml. What it has to reply is written here by M2-104-UM and M2-101-UM."""
+a profile switched on and off, packets that are refused, a flood, and an end in the middle of a packet. Another peer never reads, and a third
+one never stops sending: the daemon has to end by SIGTERM all the same. SETUP is examples/endpoint.toml. What it has to reply is written here by
+M2-104-UM and M2-101-UM."""
 import select
+import signal
 import socket
 import struct
 import subprocess
@@ -93,7 +95,7 @@ def talk(peer):
     peer.ours.close()
 
 
-def flood_without_reading(peer):
+def ask_without_reading(peer):
     """Asks until the daemon takes no more, since its replies fill the socket."""
     peer.ours.settimeout(1)
     try:
@@ -101,6 +103,41 @@ def flood_without_reading(peer):
             peer.ours.sendall(struct.pack(">4I", 0xF0000101, 1, 0, 0) * 64)
     except socket.timeout:
         pass
+    peer.daemon.terminate()
+
+
+def send_without_end(peer):
+    """Sends packets faster than the daemon takes them, stops it in the middle, and ends it while the socket is full."""
+    sender = subprocess.Popen(["cat", "/dev/zero"], stdout=peer.ours, stderr=subprocess.DEVNULL)
+    time.sleep(0.5)
+    peer.daemon.send_signal(signal.SIGSTOP)
+    time.sleep(0.5)
+    peer.daemon.terminate()
+    sender.kill()
+    sender.wait()
+    peer.daemon.send_signal(signal.SIGCONT)
+
+
+def left_unread(peer):
+    """Whether the daemon ended before it had read everything."""
+    peer.ours.settimeout(SECONDS)
+    try:
+        while peer.ours.recv(65536):
+            pass
+    except ConnectionResetError:
+        return True
+    return False
+
+
+def end(peer):
+    """Waits for the end by SIGTERM, and looks whether the daemon ended by itself, before it had read everything."""
+    try:
+        peer.daemon.wait(timeout=SECONDS)
+    except subprocess.TimeoutExpired:
+        peer.daemon.kill()
+        peer.daemon.wait()
+    peer.see("its end by SIGTERM", (peer.daemon.returncode, left_unread(peer)), (0, True))
+    return peer.failed
 
 
 def main(setup, command):
@@ -111,16 +148,11 @@ def main(setup, command):
     words = [it.split(" ")[1] for it in errors if it]
     for word in ("BAD_COUNT", "HIGH_BIT", "EXCLUSIVE_TOO_LONG", "ANSWERED"):
         peer.see(word, word in words, True)
-    deaf = Peer([*command, setup], subprocess.DEVNULL)
-    flood_without_reading(deaf)
-    deaf.daemon.terminate()
-    try:
-        deaf.daemon.wait(timeout=SECONDS)
-    except subprocess.TimeoutExpired:
-        deaf.daemon.kill()
-        deaf.daemon.wait()
-    deaf.see("its end by SIGTERM", deaf.daemon.returncode, 0)
-    failed = peer.failed + deaf.failed
+    failed = peer.failed
+    for terminate in (ask_without_reading, send_without_end):
+        busy = Peer([*command, setup], subprocess.DEVNULL)
+        terminate(busy)
+        failed += end(busy)
     print(f"daemon.c: {failed} failed" if failed else "daemon.c: ok")
     return failed > 0
 

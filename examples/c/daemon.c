@@ -1,8 +1,8 @@
 /* A live endpoint over a descriptor: daemon SETUP.toml [FD]. It reads and writes the bytes of packets, the
  * highest byte of a word first, as over a socket. It waits in ppoll, cuts what it reads into packets,
  * answers each, and goes on after what is refused, with a line for it. It ends when the peer does, or by
- * SIGTERM, even while the peer doesn't read. A daemon that waits for the next peer resets the endpoint
- * first, and drops the bytes of a packet that isn't whole. */
+ * SIGTERM, even if the peer doesn't read, or never stops sending. A daemon that waits for the next peer
+ * resets the endpoint first, and drops the bytes of a packet that isn't whole. */
 #define _GNU_SOURCE /* ppoll */
 #include "larboardyuzu.h"
 
@@ -23,7 +23,8 @@ enum {
 
 static larboardyuzu_endpoint endpoint = LARBOARDYUZU_CLOSED;
 static volatile sig_atomic_t is_stopped;
-static sigset_t waiting; /* the signals that stay blocked while it waits */
+static sigset_t ends;   /* SIGTERM and SIGINT */
+static sigset_t others; /* the signals that were blocked from the start, without these two */
 
 static void stop(int number)
 {
@@ -31,13 +32,20 @@ static void stop(int number)
     is_stopped = 1;
 }
 
-/* Waits until the descriptor can be read or written, or a signal comes. SIGTERM and SIGINT are let in only
- * here, so none comes between a look at is_stopped and the wait. */
+/* Waits until the descriptor can be read or written, or SIGTERM or SIGINT comes. They are blocked between the
+ * look at is_stopped and the wait, so that none is missed, and let in after it, so that a peer that never
+ * lets the descriptor rest can't keep them out. */
 static int wait_for(int fd, short events)
 {
     struct pollfd it = { fd, events, 0 };
+    int ready = -1;
 
-    return ppoll(&it, 1, NULL, &waiting);
+    sigprocmask(SIG_BLOCK, &ends, NULL);
+    errno = EINTR;
+    if (!is_stopped)
+        ready = ppoll(&it, 1, NULL, &others);
+    sigprocmask(SIG_SETMASK, &others, NULL);
+    return ready;
 }
 
 /* Writes a line to standard error: an offset, and a name of the header. */
@@ -59,16 +67,16 @@ static int put(int fd, const uint32_t *words, size_t count)
 
     for (size_t i = 0; i < 4 * count; i++)
         bytes[i] = (uint8_t)(words[i / 4] >> (24 - i % 4 * 8));
-    while (at < 4 * count && !is_stopped) {
+    while (at < 4 * count) {
         ssize_t size = write(fd, bytes + at, 4 * count - at);
         if (size > 0)
             at += (size_t)size;
-        else if (errno == EAGAIN)
+        else if (errno == EAGAIN && !is_stopped)
             wait_for(fd, POLLOUT);
         else if (errno != EINTR)
             return -1;
     }
-    return at < 4 * count ? -1 : 0;
+    return 0;
 }
 
 /* Answers packets, and goes on after a refusal. Returns -1 if the peer is gone, or by SIGTERM. */
@@ -126,7 +134,6 @@ int main(int count, char **given)
     size_t size = file != NULL ? fread(text, 1, sizeof text, file) : 0;
     int fd = count > 2 ? atoi(given[2]) : STDIN_FILENO;
     struct sigaction act;
-    sigset_t blocked;
     uint8_t rule = 0;
     uint32_t status = LARBOARDYUZU_DONE;
 
@@ -136,16 +143,16 @@ int main(int count, char **given)
     status = larboardyuzu_endpoint_open(&endpoint, text, size, ROOM, &rule);
     if (status != LARBOARDYUZU_DONE)
         return say(rule, larboardyuzu_status_name, status), 1; /* a rule, or SETUP_SYNTAX */
-    sigemptyset(&blocked);
-    sigaddset(&blocked, SIGTERM);
-    sigaddset(&blocked, SIGINT);
-    sigprocmask(SIG_BLOCK, &blocked, &waiting);
-    sigdelset(&waiting, SIGTERM);
-    sigdelset(&waiting, SIGINT);
     memset(&act, 0, sizeof act);
     act.sa_handler = stop;
     sigaction(SIGTERM, &act, NULL);
     sigaction(SIGINT, &act, NULL);
+    sigemptyset(&ends);
+    sigaddset(&ends, SIGTERM);
+    sigaddset(&ends, SIGINT);
+    sigprocmask(SIG_BLOCK, NULL, &others);
+    sigdelset(&others, SIGTERM);
+    sigdelset(&others, SIGINT);
     act.sa_handler = SIG_IGN;
     sigaction(SIGPIPE, &act, NULL);
     fcntl(fd, F_SETFL, fcntl(fd, F_GETFL) | O_NONBLOCK);
