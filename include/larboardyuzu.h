@@ -1,38 +1,38 @@
 /* larboardyuzu.h: MIDI 2.0 packets (UMP), MIDI 1.0 bytes, MIDI-CI, 8-bit exclusives and USB-MIDI events,
- * by proved code. docs/c-library.md has the statuses of each call, what memory and stack each kind takes,
- * and what is proved.
+ * implemented by proved code. docs/c-library.md lists each call's statuses, the memory and stack that each
+ * kind of handle needs, and what is proved.
  *
- * A handle is a struct of the caller's. It is all zero while it is closed: start from LARBOARDYUZU_CLOSED,
- * open it, use it, close it. Closing a closed handle does nothing. The calls that end in _open take all
- * memory that the handle ever needs, and those that end in _close return it; no other call takes any.
+ * A handle is a struct owned by the caller. It is all zeros while closed: start from LARBOARDYUZU_CLOSED,
+ * open it, use it, close it. Closing a closed handle does nothing. Calls ending in _open allocate all the
+ * memory that the handle will ever need, and calls ending in _close free it; no other call allocates.
  *
- * Each call returns a status, an enum larboardyuzu_status, whatever numbers are passed to it; only those that
- * end in _close or _size, larboardyuzu_version and larboardyuzu_words_in_packet return none. A call over
- * packets or bytes tests the handle first, then the buffers, then the input, and returns the first reason to
- * refuse. If it refuses, it writes nothing to a buffer, and sets the struct of a packet or byte to zero,
- * except these fields, which are explained at each struct: `need`; the group of a piece or of replies, which
- * is 255; the offset of an outcome; and what is known of a part after LARBOARDYUZU_EXCLUSIVE_TOO_LONG. A
- * block call keeps what it wrote before the refusal.
+ * Every call returns an enum larboardyuzu_status for any argument values, except calls ending in _close or
+ * _size, larboardyuzu_version and larboardyuzu_words_in_packet. A call over packets or bytes tests the handle
+ * first, then the buffers, then the input, and returns the first reason to refuse. A call that refuses writes
+ * nothing to its buffers, and zeroes the result struct except for the following fields, which each struct
+ * documents: `need`; the group of a piece or of replies, which is 255; the offset of an outcome; and the
+ * answer, group and stream of a part after LARBOARDYUZU_EXCLUSIVE_TOO_LONG. A block call keeps what it wrote
+ * before the refusal.
  *
- * What C must promise, since nothing checks it:
- *  - A handle is all zero before it is opened, and nobody else writes into it. It may be moved: copy it,
- *    and use only the copy from then on. Only one call at a time uses a handle, also if it takes a const
- *    handle: that call may write to the handle meanwhile, and leaves it as it was. So a handle is in
- *    writable memory, even a closed one, and two threads can't read it at once. They may use it alternately,
- *    with a lock or a join between their calls. Handles don't depend on each other.
+ * The caller must guarantee the following, which the library can't check:
+ *  - A handle is all zero before it is opened, and nobody else writes into it. It may be moved: copy it, and
+ *    use only the copy from then on. Only one call at a time may use a handle, even a call that takes a const
+ *    handle: it may write to the handle while it runs, but restores it. So a handle, even a closed one, must
+ *    be in writable memory, and two threads must not read it at the same time; they may take turns, with a
+ *    lock or join between calls. Handles don't depend on each other.
  *  - A pointer may be null if its count is 0. Every other pointer is not null, is aligned for its type, and
- *    leads to that number of places. What a call writes overlaps none of its other arguments.
- *  - What a call reads is set, and nobody changes it while the call runs: no other thread, no device.
- *    What a call only writes may hold anything before.
- *  - A program that defines the functions of larboardyuzu_heap.h itself makes them safe for all threads
- *    that open or close handles.
+ *    points to at least that many elements. Output buffers must not overlap any other argument.
+ *  - Inputs must be initialized, and nothing (no other thread, no device) may change them during the call.
+ *    Outputs may be uninitialized.
+ *  - If a program defines the functions of larboardyuzu_heap.h itself, they must be safe for all threads that
+ *    open or close handles.
  *  - No call is made from a signal handler, or in the forked child of a process with several threads.
  *  - The processor is 64-bit x86 with SSE4.2, or 64-bit ARM. Without an operating system its vector
  *    registers are on. On ARM the MMU is on, too, all of this memory is Normal memory, and unaligned
  *    accesses are allowed (SCTLR_ELx.A is 0).
  *
  * Many packets or bytes in one call: the calls that end in _packets or _bytes. All of them stop in the same
- * ways (larboardyuzu_block), so this loop goes on after every refusal and every buffer that is full:
+ * ways (larboardyuzu_block), so this loop continues after every refusal and every full buffer:
  *
  *     size_t at = 0;
  *     uint32_t status;
@@ -48,7 +48,7 @@
  * If status isn't LARBOARDYUZU_DONE after the loop, it says why: LARBOARDYUZU_BAD_WORD_COUNT if the words
  * from `at` on are the beginning of a packet, to be passed again with the rest of it;
  * LARBOARDYUZU_SMALL_BUFFER if not even an empty buffer is large enough (block.need, block.need_items); or
- * a handle that isn't open for this.
+ * the handle is closed or of another kind.
  */
 #ifndef LARBOARDYUZU_H
 #define LARBOARDYUZU_H
@@ -76,14 +76,14 @@ enum larboardyuzu_status {
     LARBOARDYUZU_ALREADY_OPEN = 3,
     LARBOARDYUZU_BAD_ROOM = 4,            /* room, or a state's notes or params, is out of its range */
     LARBOARDYUZU_BAD_WORD_COUNT = 5,      /* not the number of words that the first one's message type has */
-    LARBOARDYUZU_SMALL_BUFFER = 6,        /* a buffer is too small; `need` is a size that does */
+    LARBOARDYUZU_SMALL_BUFFER = 6,        /* a buffer is too small; `need` is a sufficient size */
     LARBOARDYUZU_BAD_COUNT = 7,           /* a 7-bit exclusive packet counts more than six bytes */
     LARBOARDYUZU_HIGH_BIT = 8,            /* a data byte is 128 or more */
     LARBOARDYUZU_DATA_INCREMENT = 9,      /* control change 96, which can't be carried */
     LARBOARDYUZU_DATA_DECREMENT = 10,     /* control change 97, which can't be carried */
     LARBOARDYUZU_EXCLUSIVE_TOO_LONG = 11, /* an exclusive has more than room bytes, and is dropped */
     LARBOARDYUZU_BAD_GROUP = 12,          /* a group or a cable isn't 0 to 15 */
-    LARBOARDYUZU_NOTHING = 13,            /* what was asked for doesn't exist */
+    LARBOARDYUZU_NOTHING = 13,            /* the requested item doesn't exist */
     LARBOARDYUZU_OTHER_KIND = 14,         /* the handle is open for something else */
     LARBOARDYUZU_BAD_STREAMS = 15,        /* not 1 to 64 streams */
     LARBOARDYUZU_SETUP_SYNTAX = 16,       /* the setup isn't UTF-8, or isn't TOML */
@@ -96,12 +96,12 @@ enum larboardyuzu_status {
     LARBOARDYUZU_BAD_CHANNEL = 23         /* a channel isn't 0 to 15 or LARBOARDYUZU_NO_CHANNEL */
 };
 
-/* Flags, to be added up. Each call says which of them it has. */
+/* Flags, combined with |. Each _open documents the ones it accepts. */
 enum larboardyuzu_flag {
     LARBOARDYUZU_COMPACT = 1,      /* leave out what the receiver of a stream already knows */
     LARBOARDYUZU_PAIRED = 2,       /* controllers n and n + 32 are one controller of fourteen bits */
     LARBOARDYUZU_OF_BYTES = 4,     /* the state takes the bytes of one MIDI 1.0 stream, not packets */
-    LARBOARDYUZU_LITTLE_ENDIAN = 8 /* the bytes of a word come lowest first */
+    LARBOARDYUZU_LITTLE_ENDIAN = 8 /* words are least significant byte first */
 };
 
 /* A handle of any kind, closed. */
@@ -116,7 +116,7 @@ enum larboardyuzu_flag {
 #define LARBOARDYUZU_LEAST_ROOM 6u
 #define LARBOARDYUZU_MOST_ROOM 1048576u
 
-/* What a line of the listing reports: something that has no counterpart. docs/rules.md has a sentence for
+/* What a line of the listing reports: something that couldn't be translated. docs/rules.md has a sentence for
  * each. */
 enum larboardyuzu_kind {
     LARBOARDYUZU_NO_LINE = 0,
@@ -145,35 +145,37 @@ enum larboardyuzu_kind {
 
 /* A line of the listing, of the group or cable of its handle. */
 typedef struct larboardyuzu_line {
-    uint64_t offset; /* of what it reports, as the caller numbered it */
+    uint64_t offset; /* offset of the reported packet or byte, in the caller's numbering */
     uint8_t kind;    /* enum larboardyuzu_kind */
 } larboardyuzu_line;
 
-/* What one byte led to: up, in the parser and to USB-MIDI events. After a refusal nothing is written and
- * there are no lines; the offset is the byte's, or 0 if the handle isn't open for this. */
+/* The result of one byte: for up, parser and usb. After a refusal nothing is written and both lines are
+ * empty. The offset is the byte's, or 0 if the handle is closed or of another kind. */
 typedef struct larboardyuzu_outcome {
-    size_t written;           /* places written to the buffer: words (up) or bytes (parser, usb) */
-    size_t need;              /* with LARBOARDYUZU_SMALL_BUFFER a size that does, else 0 */
+    size_t written;           /* elements written to the buffer: words (up) or bytes (parser, usb) */
+    size_t need;              /* with LARBOARDYUZU_SMALL_BUFFER, a sufficient size; otherwise 0 */
     uint64_t offset;          /* of the byte, as the caller numbered it */
-    larboardyuzu_line first;  /* if the byte cut something off, what; otherwise what the byte is */
+    larboardyuzu_line first;  /* if the byte cut a message off, that message; otherwise the byte itself */
     larboardyuzu_line second; /* if the byte cut something off, what the byte is */
 } larboardyuzu_outcome;
 
-/* How far a block call came: a call over many packets or bytes. It has one or two buffers: the first for
- * what the packets or bytes become, the second with an item for each packet, or for each byte that completes
- * something or has a line. The call returns
+/* The progress of a block call, that is, a call over many packets or bytes. A block call has one or two
+ * output buffers. The first receives the translated data. The second receives one item per packet, or one per
+ * byte that completes a message or produces a line. The call returns
  *  - LARBOARDYUZU_DONE if all of the input was taken;
- *  - LARBOARDYUZU_SMALL_BUFFER before a packet or byte for which the rest of the first buffer is smaller than
- *    the size that this header gives for one, or if no item is left in the second;
+ *  - LARBOARDYUZU_SMALL_BUFFER before a packet or byte if less space is left in the first buffer than this
+ *    header requires for one packet or byte, or if the second buffer is full;
  *  - LARBOARDYUZU_BAD_WORD_COUNT before a last packet whose words aren't all there;
- *  - the status of the first packet or byte that is refused. That one was taken: the next call goes on after
- *    it. Nothing was written for it, and it has no item. */
+ *  - the status of the first packet or byte that is refused. It counts as taken: the next call continues
+ *    after it. Nothing was written for it, and it has no item. */
 typedef struct larboardyuzu_block {
     size_t taken;      /* words or bytes taken from the front of the input, a refused packet or byte too */
     size_t written;    /* places written to the first buffer */
     size_t items;      /* items written to the second buffer */
-    size_t refused;    /* how many of `taken`, at its end, are the packet or byte that was refused; else 0 */
-    size_t need;       /* with SMALL_BUFFER, if the first buffer is short: what an empty one needs; else 0 */
+    size_t refused;    /* the size of the refused packet or byte, which is the last part of `taken`; otherwise
+                        * 0 */
+    size_t need;       /* with SMALL_BUFFER, if the first buffer is too small: the size that an empty buffer
+                        * must have; otherwise 0 */
     size_t need_items; /* with SMALL_BUFFER, if the second buffer is full: 1; else 0 */
 } larboardyuzu_block;
 
@@ -184,18 +186,20 @@ typedef struct larboardyuzu_down {
     size_t is_open; /* private */
 } larboardyuzu_down;
 
-/* What one packet led to. */
+/* The result of one packet. */
 typedef struct larboardyuzu_piece {
-    size_t written;  /* MIDI 1.0 bytes; 0 if it isn't carried, or an exclusive goes on */
+    size_t written;  /* number of MIDI 1.0 bytes; 0 if the packet has no translation, or if its exclusive
+                      * isn't complete yet */
     size_t need;     /* with LARBOARDYUZU_SMALL_BUFFER a size that does, else 0 */
-    uint64_t offset; /* of its line: of the packet, or of the first one of an exclusive that is cut; else 0 */
+    uint64_t offset; /* the line's offset: the packet's or, if an exclusive was cut off, its first packet's; 0
+                      * without a line */
     uint8_t lane;    /* the group whose MIDI 1.0 stream the bytes belong to, 0 to 15; 0 if there are none */
     uint8_t kind;    /* of its line, enum larboardyuzu_kind */
     uint8_t group;   /* of its line; 255 without a line, and for utility, stream and reserved packets */
 } larboardyuzu_piece;
 
-/* The size of a buffer for the bytes of one packet. A smaller one is refused, whatever the packet is: a host
- * with a smaller one translates into a buffer of its own, and copies. */
+/* The size of a buffer for the bytes of one packet. A smaller buffer is always refused. A host whose buffer
+ * is smaller must translate into its own buffer and copy. */
 #define LARBOARDYUZU_DOWN_SIZE(room) ((room) < 10 ? 12 : (room) + 2)
 size_t larboardyuzu_down_size(uint32_t room);
 
@@ -203,13 +207,13 @@ size_t larboardyuzu_down_size(uint32_t room);
  * flags: LARBOARDYUZU_COMPACT, LARBOARDYUZU_PAIRED. */
 uint32_t larboardyuzu_down_open(larboardyuzu_down *down, uint32_t room, uint32_t flags);
 
-/* Takes one packet. The offset, any number such as the frame at which the packet is due, is only returned in
- * lines. */
+/* Takes one packet. The offset may be any number, such as the frame at which the packet is due; it is only
+ * returned in lines. */
 uint32_t larboardyuzu_down_packet(larboardyuzu_down *down, const uint32_t *words, size_t count,
                                   uint64_t offset, uint8_t *bytes, size_t size, larboardyuzu_piece *piece);
 
-/* Takes packets that follow each other. The offset is that of the first; each word adds 4, past 2^64 from 0
- * again. Their bytes follow each other in `bytes`, and pieces[i] is the piece of packet i. */
+/* Takes packets that follow each other. `offset` is the first packet's offset; it grows by 4 per word and
+ * wraps around at 2^64. Their bytes follow each other in `bytes`, and pieces[i] is the piece of packet i. */
 uint32_t larboardyuzu_down_packets(larboardyuzu_down *down, const uint32_t *words, size_t count,
                                    uint64_t offset, uint8_t *bytes, size_t size, larboardyuzu_piece *pieces,
                                    size_t piece_count, larboardyuzu_block *block);
@@ -218,8 +222,8 @@ uint32_t larboardyuzu_down_packets(larboardyuzu_down *down, const uint32_t *word
  * is open. */
 uint32_t larboardyuzu_down_begun(const larboardyuzu_down *down, uint8_t group, uint64_t *offset);
 
-/* Makes the handle as if it were just opened, with the same arguments, and takes no memory: no exclusive is
- * open, and the receivers of a compact translator know nothing. */
+/* Resets the handle to its state just after _open, without allocating: no exclusive is open, and a compact
+ * translator assumes nothing about its receivers. */
 uint32_t larboardyuzu_down_reset(larboardyuzu_down *down);
 
 void larboardyuzu_down_close(larboardyuzu_down *down);
@@ -231,8 +235,7 @@ typedef struct larboardyuzu_up {
     size_t is_open; /* private */
 } larboardyuzu_up;
 
-/* The size, in words, of a buffer for what one byte completes. A smaller one is refused, whatever the byte
- * is. */
+/* The buffer size, in words, for the output of one byte. A smaller one is refused, whatever the byte is. */
 #define LARBOARDYUZU_UP_SIZE(room) ((room) <= 12 ? 4 : ((room) + 5) / 6 * 2)
 size_t larboardyuzu_up_size(uint32_t room);
 
@@ -251,12 +254,12 @@ uint32_t larboardyuzu_up_bytes(larboardyuzu_up *up, const uint8_t *bytes, size_t
                                uint32_t *words, size_t size, larboardyuzu_outcome *outcomes,
                                size_t outcome_count, larboardyuzu_block *block);
 
-/* Writes the line of the message or exclusive that is open at the end of the stream, with the offset of its
- * first byte. LARBOARDYUZU_NOTHING: none is open, and the line is unchanged. */
+/* Writes the line for the message or exclusive that is still open at the end of the stream, with the offset
+ * of its first byte. LARBOARDYUZU_NOTHING: none is open, and the line is unchanged. */
 uint32_t larboardyuzu_up_end(const larboardyuzu_up *up, larboardyuzu_line *line);
 
-/* Makes the handle as if it were just opened, with the same arguments, and takes no memory: no message is
- * begun, no parameter is selected, and nothing is known of a controller. */
+/* Makes the handle as if it were just opened, with the same arguments, and takes no memory: no message has
+ * begun, no parameter is selected, and no controller has a value. */
 uint32_t larboardyuzu_up_reset(larboardyuzu_up *up);
 
 void larboardyuzu_up_close(larboardyuzu_up *up);
@@ -274,8 +277,8 @@ size_t larboardyuzu_parser_size(uint32_t room);
 
 uint32_t larboardyuzu_parser_open(larboardyuzu_parser *parser, uint32_t room);
 
-/* Takes one byte. The message that it completes is written whole: with its status byte, also if that was
- * running; an exclusive from F0 to F7. */
+/* Takes one byte. The completed message is written in full: with its status byte even under running status,
+ * and an exclusive with F0 and F7. */
 uint32_t larboardyuzu_parser_byte(larboardyuzu_parser *parser, uint8_t byte, uint64_t offset,
                                   uint8_t *message, size_t size, larboardyuzu_outcome *outcome);
 
@@ -301,10 +304,9 @@ typedef struct larboardyuzu_endpoint {
     size_t is_open; /* private */
 } larboardyuzu_endpoint;
 
-/* What was done with a stream message or a whole exclusive. docs/setup.md and docs/rules.md have the
- * words. */
+/* What was done with a stream message or a complete exclusive. docs/rules.md explains each word. */
 enum larboardyuzu_heard {
-    LARBOARDYUZU_HEARD_NOTHING = 0, /* the packet is neither */
+    LARBOARDYUZU_HEARD_NOTHING = 0, /* the packet is neither a stream message nor the end of an exclusive */
     LARBOARDYUZU_HEARD_NOT_CI = 1,
     LARBOARDYUZU_HEARD_SHORT = 2,
     LARBOARDYUZU_HEARD_BAD_ADDRESS = 3,
@@ -332,10 +334,10 @@ enum larboardyuzu_heard {
 typedef struct larboardyuzu_replies {
     size_t written;  /* words of replies: whole packets, in the order of sending */
     size_t need;     /* with LARBOARDYUZU_SMALL_BUFFER a size that does, else 0 */
-    uint64_t offset; /* of its line: of the packet if it is stray, or of the first one of an exclusive that it
-                      * cuts off; else 0 */
+    uint64_t offset; /* the line's offset: the packet's if it is stray, the first packet's of an exclusive
+                      * that it cuts off, and otherwise 0 */
     uint8_t heard;   /* enum larboardyuzu_heard */
-    uint8_t group;   /* of a packet of an exclusive, and so of its line; 255 for other packets */
+    uint8_t group;   /* the group, if the packet is part of an exclusive; otherwise 255 */
     uint8_t kind;    /* of its line, enum larboardyuzu_kind */
 } larboardyuzu_replies;
 
@@ -382,8 +384,8 @@ uint32_t larboardyuzu_endpoint_profile(const larboardyuzu_endpoint *endpoint, si
 uint32_t larboardyuzu_endpoint_begun(const larboardyuzu_endpoint *endpoint, uint8_t group, uint64_t *offset);
 
 /* Makes the handle as if it were just opened with the same setup, and takes no memory: protocol, MUIDs and
- * profiles are those of the setup again, and no exclusive is open. Other MUIDs need another setup: close the
- * handle, and open it with that. */
+ * profiles are those of the setup again, and no exclusive is open. To use other MUIDs, close the handle and
+ * open it with another setup. */
 uint32_t larboardyuzu_endpoint_reset(larboardyuzu_endpoint *endpoint);
 
 void larboardyuzu_endpoint_close(larboardyuzu_endpoint *endpoint);
@@ -396,8 +398,8 @@ typedef struct larboardyuzu_state {
 } larboardyuzu_state;
 
 enum larboardyuzu_fact_kind {
-    LARBOARDYUZU_FACT_ON = 0,         /* a note on, also of a key that is up by now: number is the note, value
-                                       * its velocity */
+    LARBOARDYUZU_FACT_ON = 0,         /* a note on, even if the key has since been released: number is the
+                                       * note, value its velocity */
     LARBOARDYUZU_FACT_OFF = 1,        /* a note off, the same */
     LARBOARDYUZU_FACT_MODE = 2,       /* a channel mode message: number is 120 to 127 */
     LARBOARDYUZU_FACT_POLY = 3,       /* the pressure of a key: number is the note */
@@ -413,7 +415,8 @@ enum larboardyuzu_fact_kind {
 
 typedef struct larboardyuzu_fact {
     uint64_t count;   /* of system messages, at most 2^64 - 1 */
-    uint32_t value;   /* of 7 or 14 bits after bytes, of 16 or 32 after packets; 0 if there is none */
+    uint32_t value;   /* 7 or 14 bits wide if the state takes bytes, 16 or 32 if it takes packets; 0 if there
+                       * is no value */
     uint8_t kind;     /* enum larboardyuzu_fact_kind */
     uint8_t group;    /* 0 to 15 */
     uint8_t channel;  /* 0 to 15; of system messages 0 */
@@ -421,26 +424,26 @@ typedef struct larboardyuzu_fact {
     uint8_t bank;     /* the MSB of a program's bank, or of a parameter's number */
     uint8_t bank_lsb; /* the LSB of a program's bank */
     bool has_bank;    /* a bank was selected for the program */
-    bool has_value;   /* there is a value: never of a program or of system messages */
-    bool is_loose;    /* a relative change of the parameter came after its value */
+    bool has_value;   /* whether there is a value; always false for a program and for system messages */
+    bool is_loose;    /* a relative change has been received since the value was set */
 } larboardyuzu_fact;
 
-/* The most that `notes` and `params` of larboardyuzu_state_open may be. */
+/* The maximum of `notes` and `params` in larboardyuzu_state_open. */
 #define LARBOARDYUZU_MOST_NOTES 1048576u
 #define LARBOARDYUZU_MOST_PARAMS 16384u
 
-/* Instead of a channel: the facts of the group that belong to no channel. */
+/* Pass this as the channel to get the group's facts that belong to no channel. */
 #define LARBOARDYUZU_NO_CHANNEL 255u
 
-/* notes: the most notes on, notes off and mode messages of each channel. They are a history in the order in
- * which they came: a note off removes nothing, and once the list is full each further one is refused, until
- * the state is reset. params: the most parameters of each kind and channel. Both may be 0. The state takes
- * packets, or with LARBOARDYUZU_OF_BYTES the bytes of one stream, whose facts are of group 0. flags:
+/* notes: the capacity, per channel, of the list of note on, note off and mode messages. The list is a history
+ * in order of arrival: a note off removes nothing, and once the list is full, further messages are refused
+ * until the state is reset. params: the most parameters of each kind and channel. Both may be 0. The state
+ * takes packets, or with LARBOARDYUZU_OF_BYTES the bytes of one stream, whose facts are of group 0. flags:
  * LARBOARDYUZU_OF_BYTES. */
 uint32_t larboardyuzu_state_open(larboardyuzu_state *state, uint32_t room, uint32_t notes, uint32_t params,
                                  uint32_t flags);
 
-/* Takes one packet. LARBOARDYUZU_STATE_FULL: it adds to a list that is full, and nothing has changed. */
+/* Takes one packet. LARBOARDYUZU_STATE_FULL: it would add to a full list; nothing has changed. */
 uint32_t larboardyuzu_state_packet(larboardyuzu_state *state, const uint32_t *words, size_t count);
 
 /* Takes packets that follow each other. The block has no buffers. */
@@ -480,8 +483,9 @@ enum larboardyuzu_joined {
     LARBOARDYUZU_JOINED_WHOLE = 2,           /* it ends an exclusive */
     LARBOARDYUZU_JOINED_STRAY = 3,           /* it continues or ends one, and none is begun */
     LARBOARDYUZU_JOINED_RESTARTED = 4,       /* it begins one, and cuts off the one that began at cut_at */
-    LARBOARDYUZU_JOINED_RESTARTED_WHOLE = 5, /* it is all of one, and cuts off the one begun at cut_at */
-    LARBOARDYUZU_JOINED_FULL = 6,            /* it begins one, and no slot is idle: it is passed over */
+    LARBOARDYUZU_JOINED_RESTARTED_WHOLE = 5, /* it is a complete exclusive, and cuts off the one that began at
+                                              * cut_at */
+    LARBOARDYUZU_JOINED_FULL = 6,            /* it begins an exclusive but no slot is free: it is ignored */
     LARBOARDYUZU_JOINED_TOO_LONG = 7         /* it makes one longer than the limit, which is dropped */
 };
 
@@ -519,9 +523,9 @@ uint32_t larboardyuzu_sysex8_reset(larboardyuzu_sysex8 *sysex8);
 
 void larboardyuzu_sysex8_close(larboardyuzu_sysex8 *sysex8);
 
-/* The other way, without a handle: writes a packet, counted from 0, of an 8-bit exclusive with these bytes:
- * four words. Each packet has thirteen bytes except the last. LARBOARDYUZU_SMALL_BUFFER: size is under 4.
- * LARBOARDYUZU_NOTHING: there is no packet of this index. */
+/* The inverse, without a handle: writes packet number `index` (from 0) of an 8-bit exclusive with this
+ * payload. A packet is four words. Each packet has thirteen bytes except the last. LARBOARDYUZU_SMALL_BUFFER:
+ * size is under 4. LARBOARDYUZU_NOTHING: there is no packet of this index. */
 uint32_t larboardyuzu_sysex8_cut(uint8_t group, uint8_t stream, const uint8_t *payload, size_t payload_size,
                                  size_t index, uint32_t *words, size_t size);
 
@@ -562,7 +566,7 @@ void larboardyuzu_usb_close(larboardyuzu_usb *usb);
 typedef struct larboardyuzu_carried {
     uint8_t cable;    /* 0 to 15 */
     uint8_t length;   /* how many of the bytes, 1 to 3 */
-    uint8_t bytes[3]; /* the last three of the event, also those that it doesn't carry */
+    uint8_t bytes[3]; /* all three data bytes of the event, including unused ones */
 } larboardyuzu_carried;
 
 /* Writes what an event of four bytes carries. LARBOARDYUZU_BAD_SIZE: size isn't 4.
@@ -575,7 +579,7 @@ uint32_t larboardyuzu_usb_carried(const uint8_t *event, size_t size, larboardyuz
 #define LARBOARDYUZU_MOST_NAME 32u
 #define LARBOARDYUZU_MOST_LINE 256u
 
-/* Writes the word that this header has for a number, without its prefix and without an end mark, such as
+/* Writes the name that this header gives a number, without its prefix and without a terminating zero, such as
  * SMALL_BUFFER, NOTE_ATTRIBUTE or NOT_CI. In the program's listing it is in lower case with hyphens:
  * note-attribute. length: its bytes, 0 unless it was written. LARBOARDYUZU_NOTHING: no such number.
  * LARBOARDYUZU_SMALL_BUFFER: it doesn't fit. */
@@ -583,7 +587,7 @@ uint32_t larboardyuzu_status_name(uint32_t status, uint8_t *text, size_t size, s
 uint32_t larboardyuzu_kind_name(uint32_t kind, uint8_t *text, size_t size, size_t *length);
 uint32_t larboardyuzu_heard_name(uint32_t heard, uint8_t *text, size_t size, size_t *length);
 
-/* Returns how many words the packet has that begins with this one: 1 to 4. */
+/* Returns the number of words (1 to 4) in a packet whose first word is `first`. */
 uint32_t larboardyuzu_words_in_packet(uint32_t first);
 
 /* Cuts bytes into the words of whole packets. flags: LARBOARDYUZU_LITTLE_ENDIAN; without it the bytes of a
@@ -600,7 +604,7 @@ uint32_t larboardyuzu_packets_in(const uint8_t *bytes, size_t count, uint32_t fl
 uint32_t larboardyuzu_exclusive_packet(uint8_t group, const uint8_t *payload, size_t payload_size,
                                        size_t index, uint32_t *words, size_t size);
 
-/* Writes the line of `show` for a packet, with its line feed. A text of fewer than LARBOARDYUZU_MOST_LINE
+/* Writes the line of `show` for a packet, with its line feed. A buffer smaller than LARBOARDYUZU_MOST_LINE
  * bytes is refused. length: the bytes written. */
 uint32_t larboardyuzu_packet_line(const uint32_t *words, size_t count, uint64_t offset, uint8_t *text,
                                   size_t size, size_t *length);

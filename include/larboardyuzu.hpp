@@ -136,7 +136,7 @@ enum class FactKind : std::uint8_t {
     RealTime = LARBOARDYUZU_FACT_REAL_TIME
 };
 
-// What a packet is to the 8-bit exclusive of its stream.
+// The effect of a packet on its stream's 8-bit exclusive.
 enum class Joined : std::uint8_t {
     Other = LARBOARDYUZU_JOINED_OTHER,
     Held = LARBOARDYUZU_JOINED_HELD,
@@ -167,7 +167,7 @@ constexpr FactKind kind_of(const Fact &fact) noexcept { return static_cast<FactK
 constexpr Heard heard_of(const Replies &replies) noexcept { return static_cast<Heard>(replies.heard); }
 constexpr Joined answer_of(const Part &part) noexcept { return static_cast<Joined>(part.answer); }
 
-// The places of the buffer of one packet or byte. A smaller one is refused, whatever the packet or byte is.
+// The buffer size for one packet or byte. A smaller buffer is always refused.
 constexpr std::size_t down_size(std::size_t room) noexcept { return LARBOARDYUZU_DOWN_SIZE(room); }
 constexpr std::size_t up_size(std::size_t room) noexcept { return LARBOARDYUZU_UP_SIZE(room); }
 constexpr std::size_t parser_size(std::size_t room) noexcept { return LARBOARDYUZU_PARSER_SIZE(room); }
@@ -175,9 +175,8 @@ constexpr std::size_t usb_size(std::size_t room) noexcept { return LARBOARDYUZU_
 
 // ---- What the calls take and return.
 
-// A pointer and the number of places there. It is made of an array, of anything that has data() and size(),
-// such as std::vector, std::array and std::span, or of a pointer and a size. It doesn't own the places: they
-// have to outlive it.
+// A pointer and an element count, like std::span. It can be constructed from an array, from anything with
+// data() and size(), or from a pointer and a size. It doesn't own the elements, which must outlive it.
 template <class T> class View
 {
     // A pointer to an array of the range's items. It has to convert to a pointer to an array of T, which may
@@ -212,7 +211,7 @@ using Words = View<const std::uint32_t>;
 using Bytes = View<const std::uint8_t>;
 
 // A status and the value that the call wrote. It is true if the status is Done. After a refusal the value is
-// as larboardyuzu.h says; a Block says how far the call came.
+// as described in larboardyuzu.h; a Block shows how far the call got.
 template <class Value> struct [[nodiscard]] Result {
     Status status;
     Value value;
@@ -239,7 +238,7 @@ using PacketLine = Text<LARBOARDYUZU_MOST_LINE>;
 // The status of a call of C as a Status.
 inline Status status_of(std::uint32_t status) noexcept { return static_cast<Status>(status); }
 
-// Makes a call of C, which writes a value, and returns this value with the status.
+// Calls a C function that writes a value, and returns the value together with the status.
 template <class Value, class Call> Result<Value> result_of(Call &&call) noexcept
 {
     Result<Value> result {};
@@ -249,7 +248,7 @@ template <class Value, class Call> Result<Value> result_of(Call &&call) noexcept
 
 // ---- Handles.
 
-// A handle of C, closed at first. It can be moved, which closes what it was moved from; it can't be copied.
+// A C handle, initially closed. It can be moved, which leaves the source closed, but not copied.
 template <class Raw, void (*Close)(Raw *)> class Handle
 {
   public:
@@ -274,7 +273,8 @@ template <class Raw, void (*Close)(Raw *)> class Handle
     [[nodiscard]] Raw *raw() const noexcept { return &held; }
 
   private:
-    // mutable, since a call of C that only reads also uses the handle alone and may write to it meanwhile.
+    // mutable, because even a C call that only reads needs exclusive use of the handle and may write to it
+    // while it runs.
     mutable Raw held = LARBOARDYUZU_CLOSED;
 };
 
@@ -299,7 +299,7 @@ class Down : public Handle<larboardyuzu_down, larboardyuzu_down_close>
     }
 
     // Takes packets that follow each other. The offset is that of the first; each word adds 4. pieces[i] is
-    // that of packet i of this call; a packet that is refused has none.
+    // the piece of packet i of this call; a refused packet has none.
     Result<Block> packets(Words words, std::uint64_t offset, View<std::uint8_t> bytes,
                           View<Piece> pieces) noexcept
     {
@@ -316,7 +316,7 @@ class Down : public Handle<larboardyuzu_down, larboardyuzu_down_close>
             [&](auto &offset) { return larboardyuzu_down_begun(raw(), group, &offset); });
     }
 
-    // Makes it as if it were just opened, and takes no memory.
+    // Resets the handle to its just-opened state without allocating.
     Status reset() noexcept { return status_of(larboardyuzu_down_reset(raw())); }
 };
 
@@ -490,7 +490,7 @@ class Endpoint : public Handle<larboardyuzu_endpoint, larboardyuzu_endpoint_clos
     Status reset() noexcept { return status_of(larboardyuzu_endpoint_reset(raw())); }
 };
 
-// What the messages so far have set in a receiver.
+// The state in which the messages so far leave a receiver.
 class State : public Handle<larboardyuzu_state, larboardyuzu_state_close>
 {
   public:
