@@ -116,7 +116,7 @@ enum larboardyuzu_flag {
 #define LARBOARDYUZU_LEAST_ROOM 6u
 #define LARBOARDYUZU_MOST_ROOM 1048576u
 
-/* What a line of the listing reports: something that couldn't be translated. docs/rules.md has a sentence for
+/* What a line of the listing reports: something that couldn't be translated. docs/output.md has a sentence for
  * each. */
 enum larboardyuzu_kind {
     LARBOARDYUZU_NO_LINE = 0,
@@ -304,7 +304,7 @@ typedef struct larboardyuzu_endpoint {
     size_t is_open; /* private */
 } larboardyuzu_endpoint;
 
-/* What was done with a stream message or a complete exclusive. docs/rules.md explains each word. */
+/* What was done with a stream message or a complete exclusive. docs/midi-ci.md explains each word. */
 enum larboardyuzu_heard {
     LARBOARDYUZU_HEARD_NOTHING = 0, /* the packet is neither a stream message nor the end of an exclusive */
     LARBOARDYUZU_HEARD_NOT_CI = 1,

@@ -28,7 +28,7 @@ FILES = ["larboardyuzu", "libexec/larboardyuzu", "README.md", "CONTRIBUTING.md",
          "completions/larboardyuzu.fish", "docs/setup.md", "examples/endpoint.toml", "examples/helpers.sh", "tools/install.sh", "NOTICES.txt",
          "RELEASE.txt"]
 # The pages of a user: the others tell of the repository.
-USERS_PAGES = ["README.md", "docs/examples.md", "docs/recordings.md", "docs/errors.md", "docs/ends.md", "docs/limits.md", "docs/setup.md",
+USERS_PAGES = ["README.md", "docs/examples.md", "docs/recordings.md", "docs/errors.md", "docs/limits.md", "docs/faq.md", "docs/setup.md",
                "docs/c-library.md", "docs/peers.md", "docs/devices.md", "docs/receivers.md", "docs/larboardyuzu.1",
                *(f"docs/help/{it}.txt" for it in ("commands", "options"))]
 

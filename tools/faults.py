@@ -2,7 +2,7 @@
 """faults.py PROGRAM: runs each command with each of its allocations, openings, reads and writes failing in turn, with no memory from each
 allocation on, and with each read and write cut to one byte, interrupted, or taking nothing, by a library that is loaded before the program
 (faults.c, built by `cc`): first with a file as standard input, then with a pipe, where what was put is written out before each read, so that
-a write which fails once may be made good, and where each later write fails too. What the run leaves is compared with the table of docs/ends.md: the exit code, the last line, and files that
+a write which fails once may be made good, and where each later write fails too. What the run leaves is compared with the table of docs/errors.md: the exit code, the last line, and files that
 begin as those of the run without a fault, or are the same. Then come the other ends of that table, arguments that aren't UTF-8 among them,
 and standard streams that are closed. It isn't part of the gate. The exit code is how many differ: each command counts as one, and so do the
 other ends together."""

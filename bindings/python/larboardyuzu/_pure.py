@@ -81,7 +81,7 @@ def usb_carried(event: Bytes) -> Optional[Carried]:
 
 
 def packet_line(words: Words, offset: int = 0) -> str:
-    """The line of `larboardyuzu show` for a packet, with its line feed (docs/rules.md, Lines). Raises Refused as BAD_WORD_COUNT, BAD_COUNT
+    """The line of `larboardyuzu show` for a packet, with its line feed (docs/output.md). Raises Refused as BAD_WORD_COUNT, BAD_COUNT
     or HIGH_BIT."""
     text, length = byte_buffer(_numbers.MOST_LINE), c_size_t()
     _must(call("packet_line")(*words_of(words), u64("offset", offset), text, len(text), byref(length)))

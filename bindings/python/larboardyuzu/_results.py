@@ -43,7 +43,7 @@ def _word(name: str) -> str:
 
 
 class Kind(IntEnum):
-    """What a line of the listing reports: something that has no counterpart. docs/rules.md explains each.
+    """What a line of the listing reports: something that has no counterpart. docs/output.md explains each.
 
     name: the library's, such as NOTE_ATTRIBUTE. word: the program's in its listing, such as note-attribute."""
 
@@ -75,7 +75,7 @@ class Kind(IntEnum):
 
 
 class Heard(IntEnum):
-    """What an endpoint did with a stream message or a whole exclusive. docs/rules.md explains each.
+    """What an endpoint did with a stream message or a whole exclusive. docs/midi-ci.md explains each.
 
     name: the library's, such as NOT_CI. word: the program's in its listing, such as not-ci."""
 

@@ -191,7 +191,7 @@ class PackageTest(unittest.TestCase):
         for call, enum in [("status_name", Status), ("kind_name", Kind), ("heard_name", Heard)]:
             for it in enum:
                 self.assertEqual(name(call, it), it.name)
-        # the words of the tables in docs/rules.md
+        # the words of the tables in docs/output.md
         self.assertEqual([it.word for it in (Kind.DATA8, Kind.IGNORED_DATA_ENTRY)], ["data8", "ignored-data-entry"])
         self.assertEqual([it.word for it in (Heard.NAK, Heard.NO_ANSWER)], ["nak", "no-answer"])
 

@@ -36,7 +36,7 @@ macro_rules! numbers {
 }
 
 numbers! {
-    /// What a line of the listing reports: something that has no counterpart. docs/rules.md explains each.
+    /// What a line of the listing reports: something that has no counterpart. docs/output.md explains each.
     ///
     /// ```
     /// use larboardyuzu::Kind;
@@ -90,7 +90,7 @@ numbers! {
 }
 
 numbers! {
-    /// What an endpoint did with a stream message or a whole exclusive. docs/rules.md explains each.
+    /// What an endpoint did with a stream message or a whole exclusive. docs/midi-ci.md explains each.
     Heard {
         /// It is no MIDI-CI message.
         NotCi = HEARD_NOT_CI,
@@ -273,7 +273,7 @@ impl fmt::Display for Word {
 }
 
 impl Kind {
-    /// Its word in the program's listing (docs/rules.md).
+    /// Its word in the program's listing (docs/output.md).
     ///
     /// ```
     /// assert_eq!(larboardyuzu::Kind::NoteAttribute.word().to_string(), "note-attribute");
@@ -285,7 +285,7 @@ impl Kind {
 }
 
 impl Heard {
-    /// Its word in the program's listing (docs/rules.md).
+    /// Its word in the program's listing (docs/output.md).
     ///
     /// ```
     /// assert_eq!(larboardyuzu::Heard::NotCi.word().to_string(), "not-ci");

@@ -200,7 +200,7 @@ impl fmt::Debug for PacketLine {
     }
 }
 
-/// The line of `larboardyuzu show` for a packet (docs/rules.md, Lines), with its line feed.
+/// The line of `larboardyuzu show` for a packet (docs/output.md), with its line feed.
 ///
 /// # Errors
 ///

@@ -5,7 +5,7 @@ use larboardyuzu::*;
 const ROOM: u32 = 16;
 const SETUP: &str = include_str!("../../../examples/endpoint.toml");
 
-/// The generator of docs/rules.md.
+/// The generator of docs/translation.md.
 struct Draws(u32);
 
 impl Draws {

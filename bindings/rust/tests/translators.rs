@@ -215,7 +215,7 @@ fn errors_have_the_names_of_the_library() {
     assert_eq!(Error::SetupRule(12).to_string(), "SETUP_RULE 12");
     assert_eq!(Kind::NoteAttribute.to_string(), "NOTE_ATTRIBUTE");
     assert_eq!(larboardyuzu::Heard::NotCi.to_string(), "NOT_CI");
-    // the words of the tables in docs/rules.md
+    // the words of the tables in docs/output.md
     assert_eq!(format!("{:>18}|", Kind::IgnoredDataEntry.word()), "ignored-data-entry|");
     assert_eq!(format!("{:>6}|{}", Kind::Data8.word(), larboardyuzu::Heard::NoAnswer.word()), " data8|no-answer");
     assert_eq!(format!("{:>8}|{:?}", Kind::Flex, Kind::Flex), "    FLEX|Flex");

@@ -122,7 +122,7 @@ struct Log {
     }
 };
 
-// The generator of docs/rules.md.
+// The generator of docs/translation.md.
 struct Draws {
     std::uint32_t state;
 
