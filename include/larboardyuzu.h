@@ -92,15 +92,15 @@ enum larboardyuzu_status {
     LARBOARDYUZU_BAD_VALUE = 19,          /* the value has more bits than its width */
     LARBOARDYUZU_STATE_FULL = 20,         /* the message adds to a list of the state that is full; reset it */
     LARBOARDYUZU_BAD_FLAGS = 21,          /* a flag that the call doesn't have */
-    LARBOARDYUZU_BAD_SIZE = 22,           /* not the number of bytes that the call takes */
+    LARBOARDYUZU_BAD_SIZE = 22,           /* not the number of bytes that the call requires */
     LARBOARDYUZU_BAD_CHANNEL = 23         /* a channel isn't 0 to 15 or LARBOARDYUZU_NO_CHANNEL */
 };
 
 /* Flags, combined with |. Each _open documents the ones it accepts. */
 enum larboardyuzu_flag {
-    LARBOARDYUZU_COMPACT = 1,      /* leave out what the receiver of a stream already knows */
+    LARBOARDYUZU_COMPACT = 1,      /* leave out bytes that the receiver of a stream already knows */
     LARBOARDYUZU_PAIRED = 2,       /* controllers n and n + 32 are one controller of fourteen bits */
-    LARBOARDYUZU_OF_BYTES = 4,     /* the state takes the bytes of one MIDI 1.0 stream, not packets */
+    LARBOARDYUZU_OF_BYTES = 4,     /* the input is the bytes of one MIDI 1.0 stream, not packets */
     LARBOARDYUZU_LITTLE_ENDIAN = 8 /* words are least significant byte first */
 };
 
@@ -116,8 +116,8 @@ enum larboardyuzu_flag {
 #define LARBOARDYUZU_LEAST_ROOM 6u
 #define LARBOARDYUZU_MOST_ROOM 1048576u
 
-/* What a line of the listing reports: something that couldn't be translated. docs/output.md has a sentence for
- * each. */
+/* The kind of a line of the listing, which reports something that couldn't be translated. docs/output.md has
+ * a sentence for each. */
 enum larboardyuzu_kind {
     LARBOARDYUZU_NO_LINE = 0,
     LARBOARDYUZU_UTILITY = 1,
@@ -156,7 +156,7 @@ typedef struct larboardyuzu_outcome {
     size_t need;              /* with LARBOARDYUZU_SMALL_BUFFER, a sufficient size; otherwise 0 */
     uint64_t offset;          /* of the byte, as the caller numbered it */
     larboardyuzu_line first;  /* if the byte cut a message off, that message; otherwise the byte itself */
-    larboardyuzu_line second; /* if the byte cut something off, what the byte is */
+    larboardyuzu_line second; /* if the byte cut a message off, the byte itself */
 } larboardyuzu_outcome;
 
 /* The progress of a block call, that is, a call over many packets or bytes. A block call has one or two
@@ -207,13 +207,14 @@ size_t larboardyuzu_down_size(uint32_t room);
  * flags: LARBOARDYUZU_COMPACT, LARBOARDYUZU_PAIRED. */
 uint32_t larboardyuzu_down_open(larboardyuzu_down *down, uint32_t room, uint32_t flags);
 
-/* Takes one packet. The offset may be any number, such as the frame at which the packet is due; it is only
- * returned in lines. */
+/* Processes one packet. The offset may be any number, such as the frame at which the packet is due; it is
+ * only returned in lines. */
 uint32_t larboardyuzu_down_packet(larboardyuzu_down *down, const uint32_t *words, size_t count,
                                   uint64_t offset, uint8_t *bytes, size_t size, larboardyuzu_piece *piece);
 
-/* Takes packets that follow each other. `offset` is the first packet's offset; it grows by 4 per word and
- * wraps around at 2^64. Their bytes follow each other in `bytes`, and pieces[i] is the piece of packet i. */
+/* Processes consecutive packets. `offset` is the first packet's offset; it grows by 4 per word and wraps
+ * around at 2^64. Their bytes are written one after the other to `bytes`, and pieces[i] is the piece of
+ * packet i. */
 uint32_t larboardyuzu_down_packets(larboardyuzu_down *down, const uint32_t *words, size_t count,
                                    uint64_t offset, uint8_t *bytes, size_t size, larboardyuzu_piece *pieces,
                                    size_t piece_count, larboardyuzu_block *block);
@@ -242,14 +243,14 @@ size_t larboardyuzu_up_size(uint32_t room);
 /* group: of the packets, 0 to 15. flags: LARBOARDYUZU_PAIRED. */
 uint32_t larboardyuzu_up_open(larboardyuzu_up *up, uint8_t group, uint32_t room, uint32_t flags);
 
-/* Takes one byte, and writes the words that it completes: one packet, or all those of an exclusive, each of
- * larboardyuzu_words_in_packet words. */
+/* Processes one byte, and writes the words that it completes: one packet, or all those of an exclusive, each
+ * of larboardyuzu_words_in_packet words. */
 uint32_t larboardyuzu_up_byte(larboardyuzu_up *up, uint8_t byte, uint64_t offset, uint32_t *words,
                               size_t size, larboardyuzu_outcome *outcome);
 
-/* Takes bytes that follow each other. The offset is that of the first; each byte adds 1, past 2^64 from 0
- * again. The words follow each other in `words`. A byte that completes a packet or has a line has an outcome,
- * whose offset says which byte. */
+/* Processes consecutive bytes. `offset` is the first byte's offset; it grows by 1 per byte and wraps around
+ * at 2^64. The words follow each other in `words`. A byte that completes a packet or has a line has an
+ * outcome, whose offset says which byte. */
 uint32_t larboardyuzu_up_bytes(larboardyuzu_up *up, const uint8_t *bytes, size_t count, uint64_t offset,
                                uint32_t *words, size_t size, larboardyuzu_outcome *outcomes,
                                size_t outcome_count, larboardyuzu_block *block);
@@ -258,8 +259,8 @@ uint32_t larboardyuzu_up_bytes(larboardyuzu_up *up, const uint8_t *bytes, size_t
  * of its first byte. LARBOARDYUZU_NOTHING: none is open, and the line is unchanged. */
 uint32_t larboardyuzu_up_end(const larboardyuzu_up *up, larboardyuzu_line *line);
 
-/* Makes the handle as if it were just opened, with the same arguments, and takes no memory: no message has
- * begun, no parameter is selected, and no controller has a value. */
+/* Resets the handle to its state just after _open, without allocating: no message has begun, no parameter is
+ * selected, and no controller has a value. */
 uint32_t larboardyuzu_up_reset(larboardyuzu_up *up);
 
 void larboardyuzu_up_close(larboardyuzu_up *up);
@@ -277,13 +278,13 @@ size_t larboardyuzu_parser_size(uint32_t room);
 
 uint32_t larboardyuzu_parser_open(larboardyuzu_parser *parser, uint32_t room);
 
-/* Takes one byte. The completed message is written in full: with its status byte even under running status,
- * and an exclusive with F0 and F7. */
+/* Processes one byte. The completed message is written in full: with its status byte even under running
+ * status, and an exclusive with F0 and F7. */
 uint32_t larboardyuzu_parser_byte(larboardyuzu_parser *parser, uint8_t byte, uint64_t offset,
                                   uint8_t *message, size_t size, larboardyuzu_outcome *outcome);
 
-/* Takes bytes that follow each other. The messages follow each other in `messages`. A byte that completes a
- * message or has a line has an outcome. */
+/* Processes consecutive bytes. The messages are written one after the other to `messages`. A byte that
+ * completes a message or has a line has an outcome. */
 uint32_t larboardyuzu_parser_bytes(larboardyuzu_parser *parser, const uint8_t *bytes, size_t count,
                                    uint64_t offset, uint8_t *messages, size_t size,
                                    larboardyuzu_outcome *outcomes, size_t outcome_count,
@@ -292,7 +293,7 @@ uint32_t larboardyuzu_parser_bytes(larboardyuzu_parser *parser, const uint8_t *b
 /* The same as larboardyuzu_up_end. */
 uint32_t larboardyuzu_parser_end(const larboardyuzu_parser *parser, larboardyuzu_line *line);
 
-/* Makes the handle as if it were just opened, with the same arguments, and takes no memory. */
+/* Resets the handle to its state just after _open, without allocating. */
 uint32_t larboardyuzu_parser_reset(larboardyuzu_parser *parser);
 
 void larboardyuzu_parser_close(larboardyuzu_parser *parser);
@@ -304,7 +305,7 @@ typedef struct larboardyuzu_endpoint {
     size_t is_open; /* private */
 } larboardyuzu_endpoint;
 
-/* What was done with a stream message or a complete exclusive. docs/midi-ci.md explains each word. */
+/* The endpoint's reaction to a stream message or a complete exclusive. docs/midi-ci.md explains each word. */
 enum larboardyuzu_heard {
     LARBOARDYUZU_HEARD_NOTHING = 0, /* the packet is neither a stream message nor the end of an exclusive */
     LARBOARDYUZU_HEARD_NOT_CI = 1,
@@ -330,7 +331,7 @@ enum larboardyuzu_heard {
 #define LARBOARDYUZU_MOST_REPLY_WORDS 1024u
 #define LARBOARDYUZU_MOST_SETUP_BYTES 65536u
 
-/* What one packet led to. */
+/* The result of one packet. */
 typedef struct larboardyuzu_replies {
     size_t written;  /* words of replies: whole packets, in the order of sending */
     size_t need;     /* with LARBOARDYUZU_SMALL_BUFFER a size that does, else 0 */
@@ -346,14 +347,14 @@ typedef struct larboardyuzu_replies {
 uint32_t larboardyuzu_endpoint_open(larboardyuzu_endpoint *endpoint, const uint8_t *text, size_t size,
                                     uint32_t room, uint8_t *rule);
 
-/* Takes one packet of the peer. LARBOARDYUZU_MOST_REPLY_WORDS are enough for any replies; a smaller buffer
- * is refused. */
+/* Processes one packet from the peer. LARBOARDYUZU_MOST_REPLY_WORDS are enough for any replies; a smaller
+ * buffer is refused. */
 uint32_t larboardyuzu_endpoint_packet(larboardyuzu_endpoint *endpoint, const uint32_t *words, size_t count,
                                       uint64_t offset, uint32_t *reply, size_t size,
                                       larboardyuzu_replies *replies);
 
-/* Takes packets of the peer that follow each other. The offset is that of the first; each word adds 4. Their
- * replies follow each other in `reply`, and replies[i] is what packet i led to. */
+/* Processes consecutive packets from the peer. `offset` is the first packet's offset; it grows by 4 per word.
+ * Their replies are written one after the other to `reply`, and replies[i] is the result of packet i. */
 uint32_t larboardyuzu_endpoint_packets(larboardyuzu_endpoint *endpoint, const uint32_t *words, size_t count,
                                        uint64_t offset, uint32_t *reply, size_t size,
                                        larboardyuzu_replies *replies, size_t reply_count,
@@ -383,14 +384,14 @@ uint32_t larboardyuzu_endpoint_profile(const larboardyuzu_endpoint *endpoint, si
  * is open. */
 uint32_t larboardyuzu_endpoint_begun(const larboardyuzu_endpoint *endpoint, uint8_t group, uint64_t *offset);
 
-/* Makes the handle as if it were just opened with the same setup, and takes no memory: protocol, MUIDs and
- * profiles are those of the setup again, and no exclusive is open. To use other MUIDs, close the handle and
- * open it with another setup. */
+/* Resets the handle to its state just after _open with the same setup, without allocating: protocol, MUIDs
+ * and profiles are those of the setup again, and no exclusive is open. To use other MUIDs, close the handle
+ * and open it with another setup. */
 uint32_t larboardyuzu_endpoint_reset(larboardyuzu_endpoint *endpoint);
 
 void larboardyuzu_endpoint_close(larboardyuzu_endpoint *endpoint);
 
-/* ---- The running state: what the messages so far leave in a receiver ---- */
+/* ---- The running state: the state in which the messages so far leave a receiver ---- */
 
 typedef struct larboardyuzu_state {
     void *memory;   /* private */
@@ -443,18 +444,18 @@ typedef struct larboardyuzu_fact {
 uint32_t larboardyuzu_state_open(larboardyuzu_state *state, uint32_t room, uint32_t notes, uint32_t params,
                                  uint32_t flags);
 
-/* Takes one packet. LARBOARDYUZU_STATE_FULL: it would add to a full list; nothing has changed. */
+/* Processes one packet. LARBOARDYUZU_STATE_FULL: it would add to a full list; nothing has changed. */
 uint32_t larboardyuzu_state_packet(larboardyuzu_state *state, const uint32_t *words, size_t count);
 
-/* Takes packets that follow each other. The block has no buffers. */
+/* Processes consecutive packets. The block has no buffers. */
 uint32_t larboardyuzu_state_packets(larboardyuzu_state *state, const uint32_t *words, size_t count,
                                     larboardyuzu_block *block);
 
-/* Takes one byte. LARBOARDYUZU_STATE_FULL: the message that it completes adds to a list that is full, and
- * isn't kept; the byte is taken. */
+/* Processes one byte. LARBOARDYUZU_STATE_FULL: the completed message would add to a full list and isn't kept;
+ * the byte counts as taken. */
 uint32_t larboardyuzu_state_byte(larboardyuzu_state *state, uint8_t byte);
 
-/* Takes bytes that follow each other. The block has no buffers. */
+/* Processes consecutive bytes. The block has no buffers. */
 uint32_t larboardyuzu_state_bytes(larboardyuzu_state *state, const uint8_t *bytes, size_t count,
                                   larboardyuzu_block *block);
 
@@ -464,8 +465,7 @@ uint32_t larboardyuzu_state_bytes(larboardyuzu_state *state, const uint8_t *byte
 uint32_t larboardyuzu_state_facts(const larboardyuzu_state *state, uint8_t group, uint8_t channel,
                                   larboardyuzu_fact *facts, size_t size, size_t *written, size_t *need);
 
-/* Makes the handle as if it were just opened, with the same arguments, and takes no memory: a state without
- * facts. */
+/* Resets the handle to its state just after _open, without allocating: a state without facts. */
 uint32_t larboardyuzu_state_reset(larboardyuzu_state *state);
 
 void larboardyuzu_state_close(larboardyuzu_state *state);
@@ -489,7 +489,7 @@ enum larboardyuzu_joined {
     LARBOARDYUZU_JOINED_TOO_LONG = 7         /* it makes one longer than the limit, which is dropped */
 };
 
-/* What one packet led to. With LARBOARDYUZU_EXCLUSIVE_TOO_LONG answer, group and stream are set. */
+/* The result of one packet. With LARBOARDYUZU_EXCLUSIVE_TOO_LONG answer, group and stream are set. */
 typedef struct larboardyuzu_part {
     size_t written;  /* bytes of the exclusive that the packet ends */
     size_t need;     /* with LARBOARDYUZU_SMALL_BUFFER a size that does, else 0 */
@@ -502,13 +502,13 @@ typedef struct larboardyuzu_part {
 /* streams: how many exclusives may be open at once, 1 to 64. room: the most bytes of one, 13 to 1,048,576. */
 uint32_t larboardyuzu_sysex8_open(larboardyuzu_sysex8 *sysex8, uint8_t streams, uint32_t room);
 
-/* Takes one packet. A packet of another type changes nothing. A buffer of fewer than `room` bytes is refused,
- * whatever the packet is. */
+/* Processes one packet. A packet of another type changes nothing. A buffer of fewer than `room` bytes is
+ * refused, whatever the packet is. */
 uint32_t larboardyuzu_sysex8_packet(larboardyuzu_sysex8 *sysex8, const uint32_t *words, size_t count,
                                     uint64_t offset, uint8_t *bytes, size_t size, larboardyuzu_part *part);
 
-/* Takes packets that follow each other. The offset is that of the first; each word adds 4. The exclusives
- * follow each other in `bytes`, and parts[i] is what packet i led to. */
+/* Processes consecutive packets. `offset` is the first packet's offset; it grows by 4 per word. The
+ * exclusives are written one after the other to `bytes`, and parts[i] is the result of packet i. */
 uint32_t larboardyuzu_sysex8_packets(larboardyuzu_sysex8 *sysex8, const uint32_t *words, size_t count,
                                      uint64_t offset, uint8_t *bytes, size_t size, larboardyuzu_part *parts,
                                      size_t part_count, larboardyuzu_block *block);
@@ -518,7 +518,7 @@ uint32_t larboardyuzu_sysex8_packets(larboardyuzu_sysex8 *sysex8, const uint32_t
 uint32_t larboardyuzu_sysex8_begun(const larboardyuzu_sysex8 *sysex8, uint8_t group, uint8_t stream,
                                    uint64_t *offset);
 
-/* Makes the handle as if it were just opened, with the same arguments, and takes no memory. */
+/* Resets the handle to its state just after _open, without allocating. */
 uint32_t larboardyuzu_sysex8_reset(larboardyuzu_sysex8 *sysex8);
 
 void larboardyuzu_sysex8_close(larboardyuzu_sysex8 *sysex8);
@@ -543,13 +543,13 @@ size_t larboardyuzu_usb_size(uint32_t room);
 /* cable: of the events, 0 to 15. */
 uint32_t larboardyuzu_usb_open(larboardyuzu_usb *usb, uint8_t cable, uint32_t room);
 
-/* Takes one byte of a MIDI 1.0 stream. The events of the message that it completes are written, four bytes
- * each. */
+/* Processes one byte of a MIDI 1.0 stream. The events of the message that it completes are written, four
+ * bytes each. */
 uint32_t larboardyuzu_usb_byte(larboardyuzu_usb *usb, uint8_t byte, uint64_t offset, uint8_t *events,
                                size_t size, larboardyuzu_outcome *outcome);
 
-/* Takes bytes that follow each other. The events follow each other in `events`. A byte that completes a
- * message or has a line has an outcome. */
+/* Processes consecutive bytes. The events are written one after the other to `events`. A byte that completes
+ * a message or has a line has an outcome. */
 uint32_t larboardyuzu_usb_bytes(larboardyuzu_usb *usb, const uint8_t *bytes, size_t count, uint64_t offset,
                                 uint8_t *events, size_t size, larboardyuzu_outcome *outcomes,
                                 size_t outcome_count, larboardyuzu_block *block);
@@ -557,20 +557,20 @@ uint32_t larboardyuzu_usb_bytes(larboardyuzu_usb *usb, const uint8_t *bytes, siz
 /* The same as larboardyuzu_up_end. */
 uint32_t larboardyuzu_usb_end(const larboardyuzu_usb *usb, larboardyuzu_line *line);
 
-/* Makes the handle as if it were just opened, with the same arguments, and takes no memory. */
+/* Resets the handle to its state just after _open, without allocating. */
 uint32_t larboardyuzu_usb_reset(larboardyuzu_usb *usb);
 
 void larboardyuzu_usb_close(larboardyuzu_usb *usb);
 
-/* What one event carries. */
+/* The MIDI bytes of one event. */
 typedef struct larboardyuzu_carried {
     uint8_t cable;    /* 0 to 15 */
     uint8_t length;   /* how many of the bytes, 1 to 3 */
     uint8_t bytes[3]; /* all three data bytes of the event, including unused ones */
 } larboardyuzu_carried;
 
-/* Writes what an event of four bytes carries. LARBOARDYUZU_BAD_SIZE: size isn't 4.
- * LARBOARDYUZU_NOTHING: its code is reserved. */
+/* Writes the MIDI bytes of an event of four bytes. LARBOARDYUZU_BAD_SIZE: size isn't 4. LARBOARDYUZU_NOTHING:
+ * its code is reserved. */
 uint32_t larboardyuzu_usb_carried(const uint8_t *event, size_t size, larboardyuzu_carried *carried);
 
 /* ---- Calls without a handle ---- */
@@ -613,7 +613,7 @@ uint32_t larboardyuzu_packet_line(const uint32_t *words, size_t count, uint64_t 
  * widths in bits. LARBOARDYUZU_BAD_BITS: other widths. LARBOARDYUZU_BAD_VALUE: the value has more bits. */
 uint32_t larboardyuzu_scale_up(uint32_t value, uint8_t narrow, uint8_t wide, uint32_t *scaled);
 
-/* Takes the upper 7 of 16 bits, or the upper 7 or 14 of 32 (M2-115-U). The same statuses. */
+/* Scales down to the upper 7 of 16 bits, or to the upper 7 or 14 of 32 (M2-115-U). The same statuses. */
 uint32_t larboardyuzu_scale_down(uint32_t value, uint8_t wide, uint8_t narrow, uint32_t *scaled);
 
 #ifdef __cplusplus

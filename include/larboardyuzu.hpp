@@ -1,8 +1,8 @@
 // larboardyuzu.hpp: the calls of larboardyuzu.h as C++17. A handle closes itself, and statuses, kinds and
 // flags have types of their own. larboardyuzu.h has the statuses, ranges and units of each call.
 //
-// No call throws, and none takes memory of its own: `open` takes all memory that a handle ever needs. What C
-// must promise, C++ must promise too: only one call at a time may use a handle, even if it is const.
+// No call throws, and none allocates by itself: `open` allocates all the memory that a handle will ever need.
+// What C must promise, C++ must promise too: only one call at a time may use a handle, even if it is const.
 //
 //     larboardyuzu::Down down;
 //     if (down.open(1024) != larboardyuzu::Status::Done)
@@ -72,7 +72,7 @@ constexpr Flags operator|(Flags one, Flags other) noexcept
     return static_cast<Flags>(static_cast<std::uint32_t>(one) | static_cast<std::uint32_t>(other));
 }
 
-// What a line of the listing reports.
+// The kind of a line of the listing.
 enum class Kind : std::uint8_t {
     NoLine = LARBOARDYUZU_NO_LINE,
     Utility = LARBOARDYUZU_UTILITY,
@@ -98,7 +98,7 @@ enum class Kind : std::uint8_t {
     IgnoredDataEntry = LARBOARDYUZU_IGNORED_DATA_ENTRY
 };
 
-// What an endpoint did with a stream message or a whole exclusive.
+// The endpoint's reaction to a stream message or a complete exclusive.
 enum class Heard : std::uint8_t {
     Nothing = LARBOARDYUZU_HEARD_NOTHING,
     NotCi = LARBOARDYUZU_HEARD_NOT_CI,
@@ -120,7 +120,7 @@ enum class Heard : std::uint8_t {
     BadFormat = LARBOARDYUZU_HEARD_BAD_FORMAT
 };
 
-// What a fact is about.
+// The kind of a fact.
 enum class FactKind : std::uint8_t {
     On = LARBOARDYUZU_FACT_ON,
     Off = LARBOARDYUZU_FACT_OFF,
@@ -173,7 +173,7 @@ constexpr std::size_t up_size(std::size_t room) noexcept { return LARBOARDYUZU_U
 constexpr std::size_t parser_size(std::size_t room) noexcept { return LARBOARDYUZU_PARSER_SIZE(room); }
 constexpr std::size_t usb_size(std::size_t room) noexcept { return LARBOARDYUZU_USB_SIZE(room); }
 
-// ---- What the calls take and return.
+// ---- Arguments and results of the calls.
 
 // A pointer and an element count, like std::span. It can be constructed from an array, from anything with
 // data() and size(), or from a pointer and a size. It doesn't own the elements, which must outlive it.
@@ -288,8 +288,8 @@ class Down : public Handle<larboardyuzu_down, larboardyuzu_down_close>
         return status_of(larboardyuzu_down_open(raw(), room, static_cast<std::uint32_t>(flags)));
     }
 
-    // Takes one packet. offset: any number, such as the frame at which the packet is due; it comes back in a
-    // line. bytes: at least down_size(room), also for a short packet.
+    // Processes one packet. offset: any number, such as the frame at which the packet is due; it is returned
+    // in a line. bytes: at least down_size(room), also for a short packet.
     Result<Piece> packet(Words words, std::uint64_t offset, View<std::uint8_t> bytes) noexcept
     {
         return result_of<Piece>([&](Piece &piece) {
@@ -298,8 +298,8 @@ class Down : public Handle<larboardyuzu_down, larboardyuzu_down_close>
         });
     }
 
-    // Takes packets that follow each other. The offset is that of the first; each word adds 4. pieces[i] is
-    // the piece of packet i of this call; a refused packet has none.
+    // Processes consecutive packets. `offset` is the first packet's offset; it grows by 4 per word. pieces[i]
+    // is the piece of packet i of this call; a refused packet has none.
     Result<Block> packets(Words words, std::uint64_t offset, View<std::uint8_t> bytes,
                           View<Piece> pieces) noexcept
     {
@@ -330,8 +330,8 @@ class Up : public Handle<larboardyuzu_up, larboardyuzu_up_close>
         return status_of(larboardyuzu_up_open(raw(), group, room, static_cast<std::uint32_t>(flags)));
     }
 
-    // Takes one byte. words: at least up_size(room), also for a short message. It writes one packet, or all
-    // those of an exclusive.
+    // Processes one byte. words: at least up_size(room), also for a short message. It writes one packet, or
+    // all those of an exclusive.
     Result<Outcome> byte(std::uint8_t byte, std::uint64_t offset, View<std::uint32_t> words) noexcept
     {
         return result_of<Outcome>([&](Outcome &outcome) {
@@ -339,7 +339,7 @@ class Up : public Handle<larboardyuzu_up, larboardyuzu_up_close>
         });
     }
 
-    // Takes bytes that follow each other. The offset is that of the first; each byte adds 1.
+    // Processes consecutive bytes. offset is the first byte's offset; it grows by 1 per byte.
     Result<Block> bytes(Bytes bytes, std::uint64_t offset, View<std::uint32_t> words,
                         View<Outcome> outcomes) noexcept
     {
@@ -349,7 +349,7 @@ class Up : public Handle<larboardyuzu_up, larboardyuzu_up_close>
         });
     }
 
-    // The line of what is open at the end of the stream; Nothing if nothing is open.
+    // The line for the message or exclusive still open at the end of the stream; Nothing if none is open.
     [[nodiscard]] Result<Line> end() const noexcept
     {
         return result_of<Line>([&](Line &line) { return larboardyuzu_up_end(raw(), &line); });
@@ -368,7 +368,7 @@ class Parser : public Handle<larboardyuzu_parser, larboardyuzu_parser_close>
         return status_of(larboardyuzu_parser_open(raw(), room));
     }
 
-    // Takes one byte. message: at least parser_size(room).
+    // Processes one byte. message: at least parser_size(room).
     Result<Outcome> byte(std::uint8_t byte, std::uint64_t offset, View<std::uint8_t> message) noexcept
     {
         return result_of<Outcome>([&](Outcome &outcome) {
@@ -403,7 +403,7 @@ class Usb : public Handle<larboardyuzu_usb, larboardyuzu_usb_close>
         return status_of(larboardyuzu_usb_open(raw(), cable, room));
     }
 
-    // Takes one byte. events: at least usb_size(room).
+    // Processes one byte. events: at least usb_size(room).
     Result<Outcome> byte(std::uint8_t byte, std::uint64_t offset, View<std::uint8_t> events) noexcept
     {
         return result_of<Outcome>([&](Outcome &outcome) {
@@ -441,7 +441,7 @@ class Endpoint : public Handle<larboardyuzu_endpoint, larboardyuzu_endpoint_clos
             [&](auto &rule) { return larboardyuzu_endpoint_open(raw(), text, setup.size(), room, &rule); });
     }
 
-    // Takes one packet of the peer. reply: at least LARBOARDYUZU_MOST_REPLY_WORDS.
+    // Processes one packet from the peer. reply: at least LARBOARDYUZU_MOST_REPLY_WORDS.
     Result<Replies> packet(Words words, std::uint64_t offset, View<std::uint32_t> reply) noexcept
     {
         return result_of<Replies>([&](Replies &replies) {
@@ -558,7 +558,7 @@ class Sysex8 : public Handle<larboardyuzu_sysex8, larboardyuzu_sysex8_close>
         return status_of(larboardyuzu_sysex8_open(raw(), streams, room));
     }
 
-    // Takes one packet. bytes: at least room.
+    // Processes one packet. bytes: at least room.
     Result<Part> packet(Words words, std::uint64_t offset, View<std::uint8_t> bytes) noexcept
     {
         return result_of<Part>([&](Part &part) {
@@ -645,7 +645,7 @@ inline Result<Block> packets_in(Bytes bytes, View<std::uint32_t> words, Flags fl
                                              words.data(), words.size()));
 }
 
-// What an event of four bytes carries.
+// The MIDI bytes of an event of four bytes.
 [[nodiscard]] inline Result<Carried> usb_carried(Bytes event) noexcept
 {
     return result_of<Carried>(
@@ -661,8 +661,8 @@ inline Result<Block> packets_in(Bytes bytes, View<std::uint32_t> words, Flags fl
     });
 }
 
-// Scales a value of 7 bits to 16 or 32, or of 14 bits to 32; and takes the upper 7 of 16 bits, or the upper 7
-// or 14 of 32.
+// Scales a value of 7 bits to 16 or 32, or of 14 bits to 32; or scales down to the upper 7 of 16 bits, or the
+// upper 7 or 14 of 32.
 [[nodiscard]] inline Result<std::uint32_t> scale_up(std::uint32_t value, std::uint8_t narrow,
                                                     std::uint8_t wide) noexcept
 {
