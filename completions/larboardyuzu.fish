@@ -64,9 +64,9 @@ __larboardyuzu_option folder 'translate( down)?|usb( split)?|sysex8' 'the folder
     -x -a '(__fish_complete_directories (commandline -ct))'
 __larboardyuzu_option compact 'translate( down)?' 'leave out what the receiver already knows'
 __larboardyuzu_option group 'translate( up| back)?' 'the group of the packets' -x -a '(seq 0 15)'
-__larboardyuzu_option paired 'translate( down| up| back)?' 'treat controllers n and n + 32 as one of 14 bits'
+__larboardyuzu_option paired 'translate( down| up| back)?' 'treat controllers n and n + 32 as one 14-bit controller'
 __larboardyuzu_option cable 'usb( pack)?' 'the cable of the events' -x -a '(seq 0 15)'
-__larboardyuzu_option state show 'add the state in which the input leaves a receiver'
+__larboardyuzu_option state show 'add each value that a receiver has after the input'
 __larboardyuzu_option streams sysex8 'how many 8-bit exclusives may be open at once' -x
 __larboardyuzu_option room 'translate( down| up| back)?|usb( pack)?|show|endpoint( .*)?|sysex8' 'the most bytes an exclusive may have' -x
 __larboardyuzu_option packets 'selftest( .*)?' 'how many packets are generated' -x

@@ -6,20 +6,18 @@
  * open it, use it, close it. Closing a closed handle does nothing. Calls ending in _open allocate all the
  * memory that the handle will ever need, and calls ending in _close free it; no other call allocates.
  *
- * Every call returns an enum larboardyuzu_status for any argument values, except calls ending in _close or
+ * Every call returns an enum larboardyuzu_status, whatever its arguments, except calls ending in _close or
  * _size, larboardyuzu_version and larboardyuzu_words_in_packet. A call over packets or bytes tests the handle
  * first, then the buffers, then the input, and returns the first reason to refuse. A call that refuses writes
- * nothing to its buffers, and zeroes the result struct except for the following fields, which each struct
- * documents: `need`; the group of a piece or of replies, which is 255; the offset of an outcome; and the
- * answer, group and stream of a part after LARBOARDYUZU_EXCLUSIVE_TOO_LONG. A block call keeps what it wrote
- * before the refusal.
+ * nothing to its buffers, and zeroes the result struct, except the fields whose comments say otherwise. A
+ * block call keeps what it wrote before the refusal.
  *
  * The caller must guarantee the following, which the library can't check:
  *  - A handle is all zero before it is opened, and nobody else writes into it. It may be moved: copy it, and
- *    use only the copy from then on. Only one call at a time may use a handle, even a call that takes a const
- *    handle: it may write to the handle while it runs, but restores it. So a handle, even a closed one, must
- *    be in writable memory, and two threads must not read it at the same time; they may take turns, with a
- *    lock or join between calls. Handles don't depend on each other.
+ *    use only the copy from then on. Handles don't depend on each other.
+ *  - Only one call at a time may use a handle, even if the parameter is const, because such a call may write
+ *    to the handle and restore it. So keep every handle, even a closed one, in writable memory, and use a
+ *    lock or a join between the calls of different threads.
  *  - A pointer may be null if its count is 0. Every other pointer is not null, is aligned for its type, and
  *    points to at least that many elements. Output buffers must not overlap any other argument.
  *  - Inputs must be initialized, and nothing (no other thread, no device) may change them during the call.
@@ -45,10 +43,11 @@
  *         at += block.taken;
  *     } while (status != LARBOARDYUZU_DONE && block.taken > 0);
  *
- * If status isn't LARBOARDYUZU_DONE after the loop, it says why: LARBOARDYUZU_BAD_WORD_COUNT if the words
- * from `at` on are the beginning of a packet, to be passed again with the rest of it;
- * LARBOARDYUZU_SMALL_BUFFER if not even an empty buffer is large enough (block.need, block.need_items); or
- * the handle is closed or of another kind.
+ * If status isn't LARBOARDYUZU_DONE after the loop, it says why:
+ *  - LARBOARDYUZU_BAD_WORD_COUNT: the words from `at` on are the beginning of a packet. Pass them again with
+ *    the rest of it.
+ *  - LARBOARDYUZU_SMALL_BUFFER: not even an empty buffer is large enough (block.need, block.need_items).
+ *  - any other: the handle is closed or of another kind.
  */
 #ifndef LARBOARDYUZU_H
 #define LARBOARDYUZU_H
@@ -62,8 +61,8 @@ extern "C" {
 #endif
 
 /* The version of this header: the major number times 65,536, the minor one times 256, and the patch.
- * Names, statuses, arguments and the sizes of the structs are the binary interface. It changes only with
- * the major number, and while that is 0 with the minor one. */
+ * Names, statuses, arguments and the sizes of the structs are the binary interface. It changes only when
+ * the major number does or, while the major number is 0, when the minor one does. */
 #define LARBOARDYUZU_VERSION 0x000300u
 
 /* Returns the version of the library that is linked. */
@@ -75,16 +74,16 @@ enum larboardyuzu_status {
     LARBOARDYUZU_HANDLE_CLOSED = 2,
     LARBOARDYUZU_ALREADY_OPEN = 3,
     LARBOARDYUZU_BAD_ROOM = 4,            /* room, or a state's notes or params, is out of its range */
-    LARBOARDYUZU_BAD_WORD_COUNT = 5,      /* not the number of words that the first one's message type has */
+    LARBOARDYUZU_BAD_WORD_COUNT = 5,      /* the first word's message type has another number of words */
     LARBOARDYUZU_SMALL_BUFFER = 6,        /* a buffer is too small; `need` is a sufficient size */
     LARBOARDYUZU_BAD_COUNT = 7,           /* a 7-bit exclusive packet counts more than six bytes */
     LARBOARDYUZU_HIGH_BIT = 8,            /* a data byte is 128 or more */
-    LARBOARDYUZU_DATA_INCREMENT = 9,      /* control change 96, which can't be carried */
-    LARBOARDYUZU_DATA_DECREMENT = 10,     /* control change 97, which can't be carried */
+    LARBOARDYUZU_DATA_INCREMENT = 9,      /* control change 96, which has no translation */
+    LARBOARDYUZU_DATA_DECREMENT = 10,     /* control change 97, which has no translation */
     LARBOARDYUZU_EXCLUSIVE_TOO_LONG = 11, /* an exclusive has more than room bytes, and is dropped */
     LARBOARDYUZU_BAD_GROUP = 12,          /* a group or a cable isn't 0 to 15 */
     LARBOARDYUZU_NOTHING = 13,            /* the requested item doesn't exist */
-    LARBOARDYUZU_OTHER_KIND = 14,         /* the handle is open for something else */
+    LARBOARDYUZU_OTHER_KIND = 14,         /* the handle was opened by another kind of _open */
     LARBOARDYUZU_BAD_STREAMS = 15,        /* not 1 to 64 streams */
     LARBOARDYUZU_SETUP_SYNTAX = 16,       /* the setup isn't UTF-8, or isn't TOML */
     LARBOARDYUZU_SETUP_RULE = 17,         /* the setup breaks a rule, whose number is returned */
@@ -150,33 +149,35 @@ typedef struct larboardyuzu_line {
 } larboardyuzu_line;
 
 /* The result of one byte: for up, parser and usb. After a refusal nothing is written and both lines are
- * empty. The offset is the byte's, or 0 if the handle is closed or of another kind. */
+ * empty. */
 typedef struct larboardyuzu_outcome {
     size_t written;           /* elements written to the buffer: words (up) or bytes (parser, usb) */
     size_t need;              /* with LARBOARDYUZU_SMALL_BUFFER, a sufficient size; otherwise 0 */
-    uint64_t offset;          /* of the byte, as the caller numbered it */
-    larboardyuzu_line first;  /* if the byte cut a message off, that message; otherwise the byte itself */
-    larboardyuzu_line second; /* if the byte cut a message off, the byte itself */
+    uint64_t offset;          /* of the byte, as the caller numbered it, also after a refusal; 0 if the handle
+                               * is closed or of another kind */
+    larboardyuzu_line first;  /* the message that this byte cut off, or else the line for the byte itself */
+    larboardyuzu_line second; /* the line for the byte itself, if it also cut a message off */
 } larboardyuzu_outcome;
 
 /* The progress of a block call, that is, a call over many packets or bytes. A block call has one or two
  * output buffers. The first receives the translated data. The second receives one item per packet, or one per
  * byte that completes a message or produces a line. The call returns
  *  - LARBOARDYUZU_DONE if all of the input was taken;
- *  - LARBOARDYUZU_SMALL_BUFFER before a packet or byte if less space is left in the first buffer than this
- *    header requires for one packet or byte, or if the second buffer is full;
+ *  - LARBOARDYUZU_SMALL_BUFFER before a packet or byte if the rest of the first buffer is smaller than what
+ *    this header requires for one packet or byte, such as LARBOARDYUZU_DOWN_SIZE(room), or if the second
+ *    buffer is full;
  *  - LARBOARDYUZU_BAD_WORD_COUNT before a last packet whose words aren't all there;
  *  - the status of the first packet or byte that is refused. It counts as taken: the next call continues
  *    after it. Nothing was written for it, and it has no item. */
 typedef struct larboardyuzu_block {
-    size_t taken;      /* words or bytes taken from the front of the input, a refused packet or byte too */
+    size_t taken;      /* words or bytes taken from the front of the input, including a refused one */
     size_t written;    /* places written to the first buffer */
     size_t items;      /* items written to the second buffer */
     size_t refused;    /* the size of the refused packet or byte, which is the last part of `taken`; otherwise
                         * 0 */
     size_t need;       /* with SMALL_BUFFER, if the first buffer is too small: the size that an empty buffer
                         * must have; otherwise 0 */
-    size_t need_items; /* with SMALL_BUFFER, if the second buffer is full: 1; else 0 */
+    size_t need_items; /* with SMALL_BUFFER, if the second buffer is full: 1; otherwise 0 */
 } larboardyuzu_block;
 
 /* ---- Down: packets to MIDI 1.0 bytes ---- */
@@ -190,12 +191,13 @@ typedef struct larboardyuzu_down {
 typedef struct larboardyuzu_piece {
     size_t written;  /* number of MIDI 1.0 bytes; 0 if the packet has no translation, or if its exclusive
                       * isn't complete yet */
-    size_t need;     /* with LARBOARDYUZU_SMALL_BUFFER a size that does, else 0 */
-    uint64_t offset; /* the line's offset: the packet's or, if an exclusive was cut off, its first packet's; 0
-                      * without a line */
+    size_t need;     /* with LARBOARDYUZU_SMALL_BUFFER, a sufficient size; otherwise 0 */
+    uint64_t offset; /* the offset of the line: of this packet or, for a cut exclusive, of the exclusive's
+                      * first packet; 0 if there is no line */
     uint8_t lane;    /* the group whose MIDI 1.0 stream the bytes belong to, 0 to 15; 0 if there are none */
-    uint8_t kind;    /* of its line, enum larboardyuzu_kind */
-    uint8_t group;   /* of its line; 255 without a line, and for utility, stream and reserved packets */
+    uint8_t kind;    /* kind of its line, enum larboardyuzu_kind */
+    uint8_t group;   /* group of its line; 255 without a line, after a refusal, and for utility, stream and
+                      * reserved packets */
 } larboardyuzu_piece;
 
 /* The size of a buffer for the bytes of one packet. A smaller buffer is always refused. A host whose buffer
@@ -223,8 +225,8 @@ uint32_t larboardyuzu_down_packets(larboardyuzu_down *down, const uint32_t *word
  * is open. */
 uint32_t larboardyuzu_down_begun(const larboardyuzu_down *down, uint8_t group, uint64_t *offset);
 
-/* Resets the handle to its state just after _open, without allocating: no exclusive is open, and a compact
- * translator assumes nothing about its receivers. */
+/* Resets the handle to its state just after _open, without allocating: no exclusive is open, and
+ * with LARBOARDYUZU_COMPACT nothing is assumed to be known to the receiver. */
 uint32_t larboardyuzu_down_reset(larboardyuzu_down *down);
 
 void larboardyuzu_down_close(larboardyuzu_down *down);
@@ -240,7 +242,7 @@ typedef struct larboardyuzu_up {
 #define LARBOARDYUZU_UP_SIZE(room) ((room) <= 12 ? 4 : ((room) + 5) / 6 * 2)
 size_t larboardyuzu_up_size(uint32_t room);
 
-/* group: of the packets, 0 to 15. flags: LARBOARDYUZU_PAIRED. */
+/* group: the group of the packets to write, 0 to 15. flags: LARBOARDYUZU_PAIRED. */
 uint32_t larboardyuzu_up_open(larboardyuzu_up *up, uint8_t group, uint32_t room, uint32_t flags);
 
 /* Processes one byte, and writes the words that it completes: one packet, or all those of an exclusive, each
@@ -334,11 +336,12 @@ enum larboardyuzu_heard {
 /* The result of one packet. */
 typedef struct larboardyuzu_replies {
     size_t written;  /* words of replies: whole packets, in the order of sending */
-    size_t need;     /* with LARBOARDYUZU_SMALL_BUFFER a size that does, else 0 */
-    uint64_t offset; /* the line's offset: the packet's if it is stray, the first packet's of an exclusive
-                      * that it cuts off, and otherwise 0 */
+    size_t need;     /* with LARBOARDYUZU_SMALL_BUFFER, a sufficient size; otherwise 0 */
+    uint64_t offset; /* the offset of the line: of this packet if it is stray; of the first packet of the
+                      * exclusive that it cuts off; otherwise 0 */
     uint8_t heard;   /* enum larboardyuzu_heard */
-    uint8_t group;   /* the group, if the packet is part of an exclusive; otherwise 255 */
+    uint8_t group;   /* the group, if the packet is part of an exclusive; otherwise, and after a refusal,
+                      * 255 */
     uint8_t kind;    /* of its line, enum larboardyuzu_kind */
 } larboardyuzu_replies;
 
@@ -363,7 +366,7 @@ uint32_t larboardyuzu_endpoint_packets(larboardyuzu_endpoint *endpoint, const ui
 /* Writes the protocol in force: 1 for MIDI 1.0, 2 for MIDI 2.0. */
 uint32_t larboardyuzu_endpoint_protocol(const larboardyuzu_endpoint *endpoint, uint8_t *protocol);
 
-/* Writes the MUID in force of a function block, counted from 0. LARBOARDYUZU_NOTHING: the block has no
+/* Writes the current MUID of function block number `block`, from 0. LARBOARDYUZU_NOTHING: the block has no
  * MIDI-CI or has used up its MUIDs, or there is no such block. */
 uint32_t larboardyuzu_endpoint_muid(const larboardyuzu_endpoint *endpoint, uint8_t block, uint32_t *muid);
 
@@ -401,13 +404,13 @@ typedef struct larboardyuzu_state {
 enum larboardyuzu_fact_kind {
     LARBOARDYUZU_FACT_ON = 0,         /* a note on, even if the key has since been released: number is the
                                        * note, value its velocity */
-    LARBOARDYUZU_FACT_OFF = 1,        /* a note off, the same */
+    LARBOARDYUZU_FACT_OFF = 1,        /* a note off: number is the note, value its velocity */
     LARBOARDYUZU_FACT_MODE = 2,       /* a channel mode message: number is 120 to 127 */
     LARBOARDYUZU_FACT_POLY = 3,       /* the pressure of a key: number is the note */
     LARBOARDYUZU_FACT_CONTROL = 4,    /* a controller: number is its index */
     LARBOARDYUZU_FACT_PRESSURE = 5,   /* the pressure of the channel, unless it is 0 */
     LARBOARDYUZU_FACT_BEND = 6,       /* the bend, unless it is at its centre */
-    LARBOARDYUZU_FACT_PROGRAM = 7,    /* the program: number; has_bank; bank and bank_lsb */
+    LARBOARDYUZU_FACT_PROGRAM = 7,    /* the program: number, and its bank in bank and bank_lsb if has_bank */
     LARBOARDYUZU_FACT_REGISTERED = 8, /* a registered parameter: bank and number; has_value; is_loose */
     LARBOARDYUZU_FACT_ASSIGNABLE = 9, /* an assignable parameter */
     LARBOARDYUZU_FACT_SYSTEM = 10,    /* count: of system common messages and exclusives */
@@ -436,15 +439,18 @@ typedef struct larboardyuzu_fact {
 /* Pass this as the channel to get the group's facts that belong to no channel. */
 #define LARBOARDYUZU_NO_CHANNEL 255u
 
-/* notes: the capacity, per channel, of the list of note on, note off and mode messages. The list is a history
- * in order of arrival: a note off removes nothing, and once the list is full, further messages are refused
- * until the state is reset. params: the most parameters of each kind and channel. Both may be 0. The state
- * takes packets, or with LARBOARDYUZU_OF_BYTES the bytes of one stream, whose facts are of group 0. flags:
- * LARBOARDYUZU_OF_BYTES. */
+/* Opens a state.
+ *  - notes: the capacity, per channel, of the list of note on, note off and mode messages; may be 0. The list
+ *    is a history in order of arrival: a note off removes nothing, and once the list is full, further
+ *    messages are refused until the state is reset.
+ *  - params: the most parameters of each kind and channel; may be 0.
+ *  - flags: LARBOARDYUZU_OF_BYTES if the state takes the bytes of one stream, whose facts are of group 0;
+ *    otherwise it takes packets. */
 uint32_t larboardyuzu_state_open(larboardyuzu_state *state, uint32_t room, uint32_t notes, uint32_t params,
                                  uint32_t flags);
 
-/* Processes one packet. LARBOARDYUZU_STATE_FULL: it would add to a full list; nothing has changed. */
+/* Processes one packet. LARBOARDYUZU_STATE_FULL: the packet needs a place in a list that is full; nothing has
+ * changed. */
 uint32_t larboardyuzu_state_packet(larboardyuzu_state *state, const uint32_t *words, size_t count);
 
 /* Processes consecutive packets. The block has no buffers. */
@@ -460,8 +466,8 @@ uint32_t larboardyuzu_state_bytes(larboardyuzu_state *state, const uint8_t *byte
                                   larboardyuzu_block *block);
 
 /* Writes the facts of one channel, 0 to 15, of a group, in the order of `show --state`; with
- * LARBOARDYUZU_NO_CHANNEL the counts of the group's system messages. written: how many facts. need: with
- * LARBOARDYUZU_SMALL_BUFFER how many there are, else 0. */
+ * LARBOARDYUZU_NO_CHANNEL the counts of the group's system messages. written: the number of facts
+ * written. need: with LARBOARDYUZU_SMALL_BUFFER, how many facts there are; otherwise 0. */
 uint32_t larboardyuzu_state_facts(const larboardyuzu_state *state, uint8_t group, uint8_t channel,
                                   larboardyuzu_fact *facts, size_t size, size_t *written, size_t *need);
 
@@ -481,19 +487,20 @@ enum larboardyuzu_joined {
     LARBOARDYUZU_JOINED_OTHER = 0,           /* the packet has no part of an 8-bit exclusive */
     LARBOARDYUZU_JOINED_HELD = 1,            /* its part is kept */
     LARBOARDYUZU_JOINED_WHOLE = 2,           /* it ends an exclusive */
-    LARBOARDYUZU_JOINED_STRAY = 3,           /* it continues or ends one, and none is begun */
+    LARBOARDYUZU_JOINED_STRAY = 3,           /* it continues or ends an exclusive, but none is open */
     LARBOARDYUZU_JOINED_RESTARTED = 4,       /* it begins one, and cuts off the one that began at cut_at */
     LARBOARDYUZU_JOINED_RESTARTED_WHOLE = 5, /* it is a complete exclusive, and cuts off the one that began at
                                               * cut_at */
     LARBOARDYUZU_JOINED_FULL = 6,            /* it begins an exclusive but no slot is free: it is ignored */
-    LARBOARDYUZU_JOINED_TOO_LONG = 7         /* it makes one longer than the limit, which is dropped */
+    LARBOARDYUZU_JOINED_TOO_LONG = 7         /* it makes its exclusive exceed the limit; the exclusive is
+                                              * dropped */
 };
 
 /* The result of one packet. With LARBOARDYUZU_EXCLUSIVE_TOO_LONG answer, group and stream are set. */
 typedef struct larboardyuzu_part {
     size_t written;  /* bytes of the exclusive that the packet ends */
-    size_t need;     /* with LARBOARDYUZU_SMALL_BUFFER a size that does, else 0 */
-    uint64_t cut_at; /* the offset at which the exclusive began that the packet cuts off */
+    size_t need;     /* with LARBOARDYUZU_SMALL_BUFFER, a sufficient size; otherwise 0 */
+    uint64_t cut_at; /* the offset of the first packet of the exclusive that this packet cuts off */
     uint8_t answer;  /* enum larboardyuzu_joined */
     uint8_t group;
     uint8_t stream; /* the stream id */
@@ -523,9 +530,9 @@ uint32_t larboardyuzu_sysex8_reset(larboardyuzu_sysex8 *sysex8);
 
 void larboardyuzu_sysex8_close(larboardyuzu_sysex8 *sysex8);
 
-/* The inverse, without a handle: writes packet number `index` (from 0) of an 8-bit exclusive with this
- * payload. A packet is four words. Each packet has thirteen bytes except the last. LARBOARDYUZU_SMALL_BUFFER:
- * size is under 4. LARBOARDYUZU_NOTHING: there is no packet of this index. */
+/* Cuts a payload into packets (needs no handle): writes packet number `index` (from 0) of an 8-bit exclusive
+ * with this payload. A packet is four words. Each packet has thirteen bytes except the last.
+ * LARBOARDYUZU_SMALL_BUFFER: size is under 4. LARBOARDYUZU_NOTHING: there is no packet of this index. */
 uint32_t larboardyuzu_sysex8_cut(uint8_t group, uint8_t stream, const uint8_t *payload, size_t payload_size,
                                  size_t index, uint32_t *words, size_t size);
 
@@ -540,7 +547,7 @@ typedef struct larboardyuzu_usb {
 #define LARBOARDYUZU_USB_SIZE(room) (((room) + 4) / 3 * 4)
 size_t larboardyuzu_usb_size(uint32_t room);
 
-/* cable: of the events, 0 to 15. */
+/* cable: the cable of the events to write, 0 to 15. */
 uint32_t larboardyuzu_usb_open(larboardyuzu_usb *usb, uint8_t cable, uint32_t room);
 
 /* Processes one byte of a MIDI 1.0 stream. The events of the message that it completes are written, four
@@ -575,7 +582,7 @@ uint32_t larboardyuzu_usb_carried(const uint8_t *event, size_t size, larboardyuz
 
 /* ---- Calls without a handle ---- */
 
-/* The size that is enough for each name, and for each line of `show`. */
+/* Buffer sizes: for any name, and for any line of `show`. */
 #define LARBOARDYUZU_MOST_NAME 32u
 #define LARBOARDYUZU_MOST_LINE 256u
 
@@ -591,16 +598,17 @@ uint32_t larboardyuzu_heard_name(uint32_t heard, uint8_t *text, size_t size, siz
 uint32_t larboardyuzu_words_in_packet(uint32_t first);
 
 /* Cuts bytes into the words of whole packets. flags: LARBOARDYUZU_LITTLE_ENDIAN; without it the bytes of a
- * word come highest first. block: bytes taken, and words written. LARBOARDYUZU_SMALL_BUFFER before a packet
- * for which the rest of `words` is too small; need is how many words it has. LARBOARDYUZU_BAD_SIZE before a
- * last packet whose bytes aren't all there, and always before fewer than four bytes: pass them again with
- * those that follow. */
+ * word come highest first. block: bytes taken, and words written.
+ *  - LARBOARDYUZU_SMALL_BUFFER, before a packet for which the rest of `words` is too small: need is how many
+ *    words the packet has.
+ *  - LARBOARDYUZU_BAD_SIZE, before a last packet whose bytes aren't all there, and always before fewer than
+ *    four bytes: pass these bytes again with those that follow. */
 uint32_t larboardyuzu_packets_in(const uint8_t *bytes, size_t count, uint32_t flags, uint32_t *words,
                                  size_t size, larboardyuzu_block *block);
 
 /* Writes a packet, counted from 0, of an exclusive with these bytes between F0 and F7: two words.
  * LARBOARDYUZU_SMALL_BUFFER: size is under 2. LARBOARDYUZU_NOTHING: there is no packet of this index.
- * LARBOARDYUZU_HIGH_BIT: a byte of this packet is over 127; at index 0, any byte of the payload. */
+ * LARBOARDYUZU_HIGH_BIT: a byte of this packet is over 127 (index 0 checks the whole payload). */
 uint32_t larboardyuzu_exclusive_packet(uint8_t group, const uint8_t *payload, size_t payload_size,
                                        size_t index, uint32_t *words, size_t size);
 

@@ -1,7 +1,7 @@
 // larboardyuzu.hpp: the calls of larboardyuzu.h as C++17. A handle closes itself, and statuses, kinds and
 // flags have types of their own. larboardyuzu.h has the statuses, ranges and units of each call.
 //
-// No call throws, and none allocates by itself: `open` allocates all the memory that a handle will ever need.
+// No call throws. `open` allocates all the memory that a handle will ever need.
 // What C must promise, C++ must promise too: only one call at a time may use a handle, even if it is const.
 //
 //     larboardyuzu::Down down;
@@ -31,7 +31,7 @@ namespace larboardyuzu
 
 // ---- The numbers of the header.
 
-// Done, or why not.
+// The result of a call: Done, or why it refused.
 enum class Status : std::uint32_t {
     Done = LARBOARDYUZU_DONE,
     NoMemory = LARBOARDYUZU_NO_MEMORY,
@@ -179,8 +179,8 @@ constexpr std::size_t usb_size(std::size_t room) noexcept { return LARBOARDYUZU_
 // data() and size(), or from a pointer and a size. It doesn't own the elements, which must outlive it.
 template <class T> class View
 {
-    // A pointer to an array of the range's items. It has to convert to a pointer to an array of T, which may
-    // only add const: so a range of a derived or a narrower type is refused.
+    // A range is accepted only if a pointer to its items converts to `T (*)[]`, which allows adding const but
+    // not a derived or narrower type.
     template <class Range>
     using ArrayOf = std::remove_pointer_t<decltype(std::data(std::declval<Range &>()))> (*)[];
 
@@ -198,7 +198,7 @@ template <class T> class View
     [[nodiscard]] constexpr T *begin() const noexcept { return places; }
     [[nodiscard]] constexpr T *end() const noexcept { return places + count; }
     constexpr T &operator[](std::size_t at) const noexcept { return places[at]; }
-    // The first `size` places, and those from `at` on. Neither may exceed size().
+    // The first `size` elements, and the elements from `at` on. Neither may exceed size().
     [[nodiscard]] constexpr View first(std::size_t size) const noexcept { return { places, size }; }
     [[nodiscard]] constexpr View from(std::size_t at) const noexcept { return { places + at, count - at }; }
 
@@ -269,7 +269,7 @@ template <class Raw, void (*Close)(Raw *)> class Handle
     void close() noexcept { Close(&held); }
     [[nodiscard]] bool is_open() const noexcept { return held.is_open != 0; }
 
-    // The handle of C, for its calls. A copy of it must not be used.
+    // The C handle, to pass to C calls. Don't copy it.
     [[nodiscard]] Raw *raw() const noexcept { return &held; }
 
   private:
@@ -500,9 +500,9 @@ class State : public Handle<larboardyuzu_state, larboardyuzu_state_close>
         std::size_t need;
     };
 
-    // room: the most bytes of an exclusive, 6 to 1,048,576. notes: the most notes on, notes off and mode
-    // messages of a channel, all of which it keeps, in order, until it is reset; 0 to 1,048,576. params: the
-    // most parameters of a kind and channel, 0 to 16,384. flags: OfBytes.
+    // room: the most bytes of an exclusive, 6 to 1,048,576. notes: how many note on, note off and mode
+    // messages it keeps per channel, in order, until it is reset, 0 to 1,048,576. params: the most parameters
+    // of a kind and channel, 0 to 16,384. flags: OfBytes.
     [[nodiscard]] Status open(std::uint32_t room, std::uint32_t notes, std::uint32_t params,
                               Flags flags = {}) noexcept
     {
@@ -614,7 +614,7 @@ inline Name name_of(Heard heard) noexcept
     return name;
 }
 
-// How many words the packet has that begins with this one: 1 to 4.
+// The number of words, 1 to 4, of a packet that begins with this word.
 [[nodiscard]] inline std::size_t words_in_packet(std::uint32_t first) noexcept
 {
     return larboardyuzu_words_in_packet(first);
