@@ -1,5 +1,5 @@
-//! The handles of the library for C: a struct of the caller's, with the address of a box that only the
-//! library uses.
+//! The handles of the library for C: a struct owned by the caller, which contains the address of a heap block
+//! that only the library uses.
 #![tactic(auto)]
 
 pub mod engine;

@@ -1,5 +1,5 @@
-//! The calls of the library for C that need no handle: the names of the header by their numbers, bytes as the
-//! words of packets, the line of a packet, the packets of an 8-bit exclusive, and the scaling of values.
+//! The calls of the library for C that need no handle: names for the header's numbers, splitting bytes into
+//! packets, a packet's `show` line, the packets of an 8-bit exclusive, and scaling.
 #![tactic(auto)]
 
 pub mod names;

@@ -1,5 +1,5 @@
-//! The running state for callers in C: what packets, or the bytes of a stream, leave in a receiver, as facts
-//! made of numbers.
+//! The running state for callers in C: the state in which packets or bytes leave a receiver, as plain structs
+//! of numbers (facts).
 #![tactic(auto)]
 
 pub mod bytes;

@@ -20,7 +20,7 @@ const MOST_BYTES: u32 = 512;
 /// Who asks whom about the profile of a watch.
 #[derive(Clone, Copy, Debug, PartialEq, Eq)]
 pub(crate) struct Question {
-    /// The MUID of the one that asks, which isn't reserved.
+    /// The initiator's MUID. It isn't a reserved one.
     pub(crate) muid: Muid,
     /// The MUID of the peer.
     pub(crate) peer: Muid,

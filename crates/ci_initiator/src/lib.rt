@@ -1,5 +1,5 @@
-//! An initiator of MIDI-CI, which asks a peer for its profiles and
-//! holds what the peer tells, and rehearsals of it.
+//! A MIDI-CI initiator, which asks a peer about its profiles and remembers the answers; and rehearsals, which
+//! run it against a responder.
 #![tactic(auto)]
 
 pub mod ask;

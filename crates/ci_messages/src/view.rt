@@ -135,7 +135,7 @@ pub enum Body<'a> {
         revision: [u8; 4],
         /// The categories of MIDI-CI that it supports, a bit for each.
         category: u8,
-        /// The most bytes of a System Exclusive message that it takes.
+        /// The largest System Exclusive message that the sender accepts, in bytes.
         size: u32,
         /// The output path of the initiator.
         path: u8,

@@ -11,7 +11,8 @@ pub(crate) enum Action {
     Invalidate,
     /// Takes the next MUID.
     Move,
-    /// Replies with the identity of the device, and with the path of the Discovery, 0 to 127.
+    /// Replies with a Discovery Reply that has the device's identity and the inquiry's output path id, 0
+    /// to 127.
     TellDevice { path: u8 },
     /// Replies with the product instance id.
     TellProductId,

@@ -1,6 +1,7 @@
 // What a message is heard as.
 
-/// What becomes of a MIDI-CI message (M2-101-UM): the first of these that applies. Their order is own rule.
+/// What a responder does with a MIDI-CI message (M2-101-UM): the first variant that applies. The order is an
+/// own rule.
 #[derive(Clone, Copy, Debug, PartialEq, Eq)]
 pub enum Heard {
     /// No active function block with MIDI-CI has the group. Nothing is done.

@@ -1,5 +1,5 @@
-//! What the lines of MIDI-CI share: what they say of a message that a
-//! responder heard, and the lines of the profiles of a setup.
+//! Text shared by commands that print MIDI-CI lines: the word for what a responder did with a message, and
+//! the lines for a setup's profiles.
 #![tactic(auto)]
 
 mod names;

@@ -54,7 +54,7 @@ pub enum Command<'a> {
 /// Why words give no command.
 #[derive(Clone, Copy, Debug, PartialEq, Eq)]
 pub enum WordsFault {
-    /// The words aren't those of a command.
+    /// The arguments aren't a valid command line.
     Usage,
     /// There wasn't memory enough to read them.
     NoMemory,

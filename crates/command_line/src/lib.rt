@@ -1,5 +1,5 @@
-//! The command line: its words are read with `clap` into a command. Each subcommand has a file, with its
-//! options, its words and how they are read.
+//! The command line: parses the arguments with `clap` into a command. Each subcommand has its own file, with
+//! its options and how they are parsed.
 #![tactic(auto)]
 
 mod clip;

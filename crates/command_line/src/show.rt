@@ -23,7 +23,7 @@ pub struct PacketLineOptions {
     pub room: u32,
 }
 
-/// What `show --bytes` is asked for.
+/// The options of `show --bytes`.
 #[derive(Clone, Copy, Debug, PartialEq, Eq)]
 pub struct ByteLineOptions {
     /// Whether the lines end with those of the state that the input leaves.

@@ -168,8 +168,8 @@ impl KeptLanes {
         }
     }
 
-    /// Whether the receiver of a group's lane has this parameter selected (MIDI 1.0 Detailed Specification,
-    /// registered and non-registered parameter numbers). Always `false` in plain style.
+    /// Returns whether the receiver of a group's stream has this parameter selected (MIDI 1.0 Detailed
+    /// Specification, registered and non-registered parameter numbers). Always `false` in plain style.
     pub fn have_selected(&self, group: U4, channel: U4, param: &Param) -> bool
         ensures { result ≡ is_there self.now.style
             (is_selected (registers_at (lane_at self.now.states group).channels channel) param.now) }

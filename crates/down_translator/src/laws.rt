@@ -76,9 +76,8 @@ pub fn empty_pieces_are_not_carried()
     carried_packets_have_a_piece();
 }
 
-/// If the translator accepts one more packet after packets that it accepted, what is put for the answer is
-/// the packet's pair in the translator's style, and what is listed is the packet's line. A limit that isn't
-/// exceeded doesn't change that line.
+/// After any accepted packets, if the translator accepts one more, it writes that packet's pair in the
+/// translator's style and reports that packet's line. A limit that isn't exceeded doesn't affect the line.
 pub fn one_more_accepted_packet_adds_its_pair_and_line()
     ensures { (paired : Bool) → OneMoreAcceptedPacketAddsItsPairAndLine paired }
 {

@@ -1,5 +1,5 @@
-//! Turns packets of the Universal MIDI Packet format into the bytes
-//! of MIDI 1.0 streams, a lane for each group.
+//! Turns packets of the Universal MIDI Packet format into the bytes of MIDI 1.0 streams, one stream (lane)
+//! per group.
 #![tactic(auto)]
 
 pub mod carried;

@@ -24,7 +24,7 @@ use ump_grammar::laws::{spelled_packets_fit, words_spell_one_packet};
 use ump_grammar::{Bad, Packet, decode};
 use voice_messages::{U4, U7};
 
-/// A packet as the words that encode it (M2-104-UM). A contract sees the packet.
+/// A packet, stored as the words that encode it (M2-104-UM). In contracts its value is the decoded packet.
 #[derive(Drop)]
 pub struct EncodedPacket {
     words: Words,

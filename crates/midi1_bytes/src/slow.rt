@@ -17,7 +17,7 @@ use crate::messages::{fourteen_bits, real_time, seven_bits, voice_of_one, voice_
 use crate::step::{AfterCut, CutKind};
 use voice_messages::{System, Voice1};
 
-/// What a byte does, as the slow program sees it.
+/// The effect of one byte in the slow reference program.
 #[derive(Clone, Copy, Debug, PartialEq, Eq)]
 pub enum SlowStep {
     /// It belongs to what is open or begins.

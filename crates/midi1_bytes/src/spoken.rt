@@ -97,7 +97,7 @@ impl CommonBytes {
     ghost use Rattle.midi1_bytes.specs.Spoken.{common_in};
     ghost use Rattle.voice_messages.specs.declared.voice1.System.TheVariants as system;
 
-    /// A message of one data byte, F1 or F3.
+    /// A system common message with one data byte (F1 or F3).
     pub(crate) fn of_one(status: u8, only: u8) -> CommonBytes
         requires sort { sort_of status ≡ common_status one }
         requires below { only < 128 }

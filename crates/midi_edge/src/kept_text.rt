@@ -37,7 +37,7 @@ impl KeptText {
         }
     }
 
-    /// Keeps the first bytes of the text, instead of what was kept.
+    /// Replaces the stored text with the first bytes of `text`.
     pub fn keep(&mut self, text: &str)
         ensures { self.new ≡ Some (kept_bytes text.now) }
     {

@@ -18,8 +18,8 @@ pub(crate) fn reason_of(bad: Bad) -> Reason
     }
 }
 
-/// The refusal if the words stop, in an input that has so many bytes before the first word; `None` if a
-/// read failed.
+/// The refusal for a word stream that ended with `stop`, where `before` is the number of input bytes before
+/// the first word. `None` if a read failed.
 #[inline(always)]
 pub(crate) fn refusal_of(stop: ReadStop, before: u64) -> Option<(Reason, u64)>
     ensures { result ≡ refusal_of_stop before stop }

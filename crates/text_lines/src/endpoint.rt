@@ -41,7 +41,7 @@ pub enum OutcomeName {
     OldVersion,
     /// `not-ours`: the message is for another MUID.
     NotOurs,
-    /// `moved`: the MUID of the block was invalidated, and the block takes its next one or falls silent.
+    /// `moved`: the block's MUID was invalidated; the block switches to its next MUID or falls silent.
     Moved,
     /// `report`: the message is itself a reply, a report, an ACK or a
     /// NAK; those of Process Inquiry aren't among them.

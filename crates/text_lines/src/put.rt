@@ -129,8 +129,8 @@ pub fn put_word_field(line: &mut Line, label: &str, word: &str)
     put_text(line, word);
 }
 
-/// Adds a label, as ` status=`, and the last `width` hexadecimal digits of a number. The line of 256 bytes
-/// asks room for the label and `width` digits.
+/// Adds a label, as ` status=`, and the last `width` hexadecimal digits of a number. Requires room in the
+/// 256-byte line for the label and `width` digits.
 #[inline(always)]
 pub fn put_hex_field(line: &mut Line, label: &str, width: usize, number: u32)
     requires { HasRoom (length label.now + width) line.old }

@@ -61,9 +61,10 @@ impl Model for DownRun {
 }
 
 impl DownRun {
-    /// A translation in this style of a recording whose words have this order, with paired controllers or
-    /// without (own rule). `room` is the most bytes of an exclusive between F0 and F7, 6 to 1,048,576, for
-    /// which each group reserves memory; `NoMemory` if there isn't that much. No other call takes any.
+    /// Creates a pass that translates a recording in this word order and style, with or without paired
+    /// controllers (own rule). `room` is the most bytes of an exclusive between F0 and F7, 6 to 1,048,576,
+    /// for which each group reserves memory. Returns `NoMemory` if there isn't enough. No other call
+    /// allocates.
     pub fn new(
         alloc: Global,
         style: Style,

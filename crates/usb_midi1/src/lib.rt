@@ -1,5 +1,5 @@
-//! USB-MIDI 1.0 event packets: events to the bytes of each cable, and
-//! the bytes of a MIDI 1.0 stream to events.
+//! USB-MIDI 1.0 event packets: splits events into each cable's bytes, and packs a MIDI 1.0 stream into
+//! events.
 #![tactic(auto)]
 
 pub mod event;

@@ -44,7 +44,7 @@ pub(crate) struct Channel {
 }
 
 impl Channel {
-    /// A channel that has no message yet. The memory for `taken` is taken here.
+    /// Creates a channel without messages. Allocates the memory for `taken`.
     pub(crate) fn new(alloc: Global, taken: Room, room: Room) -> Result<Channel, NoMemory>
         ensures midi1 { IfOk result
             (λ channel. KeepsChannel as_they_come channel (start_channel as_they_come)) }

@@ -20,7 +20,7 @@ use voice_messages::U7;
 
 impl Channel {
     /// Takes a control change of the MIDI 1.0 protocol (MIDI 1.0 Detailed Specification, control change;
-    /// RP-015). If it isn't kept, nothing changes.
+    /// RP-015). On error the state is unchanged.
     pub(crate) fn control(&mut self, width: Width, index: U7, value: U7) -> Result<(), NotKept>
         ensures step { OnOk result
             ((state : definition.Channel) → KeepsChannel (scale_of width) self.old state

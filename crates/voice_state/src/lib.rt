@@ -1,5 +1,4 @@
-//! A state that is kept while the bytes of a MIDI 1.0 stream or the
-//! packets of a group come: what they have left in a receiver.
+//! The running state of a receiver, updated with each byte of a MIDI 1.0 stream or each packet of a group.
 #![tactic(auto)]
 
 mod acts;

@@ -1,4 +1,5 @@
-//! The tests of `voice_state`, in a crate of their own: the gate proves a crate with tests a second time.
+//! The tests of `voice_state`, in a separate crate, because the gate proves a crate that contains tests
+//! twice.
 #![tactic(auto)]
 
 #[cfg(test)]

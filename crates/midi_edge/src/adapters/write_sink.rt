@@ -38,7 +38,7 @@ impl<W: Write> WriteSink<W> {
         }
     }
 
-    /// How often it has failed, up to the last `u64`.
+    /// The number of failed writes, saturating at `u64::MAX`.
     pub fn faults(&self) -> u64
         ensures { result ≡ ⟦<WriteSink<W> as Sink>⟧.faults self.now }
     {
