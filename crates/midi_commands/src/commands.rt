@@ -54,7 +54,7 @@ use std::alloc::Global;
 /// `Usage` comes if the words are no command, `SetupSyntax` if the text of the setup isn't UTF-8 or isn't
 /// TOML, and `SetupField` with the number of the first rule that it breaks (`function_blocks::Rule`). The
 /// allocator may cause `NoMemory` for any reason; except with `--state`, it is returned before anything is
-/// read. The clauses say what the lanes, the output and the notes contain after each of these; docs/ends.md
+/// read. The clauses say what the lanes, the output and the notes contain after each of these; docs/errors.md
 /// has it as a table. A last line in the notes reports every status except `Done` and `NoteFault`.
 pub fn run<S: Source, L: Lanes, W: Sink, N: Sink, K: Shelf>(
     alloc: Global,

@@ -3,32 +3,13 @@
 // lanes, the output and the notes.
 ghost use Rattle.std.specs.Prelude.{◌<◌};
 
-mod back_rows;
-mod block_rows;
-mod byte_rows;
 mod clip_file;
-mod clip_rows;
 mod command_words;
-mod compact_rows;
-mod down_rows;
 mod endpoint_rows;
-mod exclusive_rows;
 mod fault_rows;
 mod finish_rows;
-mod heard_rows;
-mod paired_rows;
-mod parameter_rows;
 mod places;
-mod readme_rows;
-mod rehearse_rows;
 mod selftest_rows;
-mod setup_rows;
-mod show_rows;
-mod state_rows;
-mod sysex8_rows;
-mod up_rows;
-mod usb_fault_rows;
-mod usb_rows;
 mod word_rows;
 mod written_out;
 
@@ -73,14 +54,6 @@ enum Form {
     Text,
     Words,
     Bytes,
-}
-
-// Each row of the table leaves what it says.
-fn rows_hold(rt: &impl Abort, alloc: Global, table: &str) -> Result<(), Fail> {
-    for row in table.split("\n\n") {
-        row_holds(rt, alloc, row)?;
-    }
-    Ok(())
 }
 
 // A row, of which the first line is the name.

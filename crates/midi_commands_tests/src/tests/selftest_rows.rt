@@ -1,89 +1,10 @@
 // Rows of the self test, and the two translators over the packets that it draws.
-use super::{Left, given_of, left_by, rows_hold};
+use super::{Left, given_of, left_by};
 use midi_commands::Status;
 use midi_edge::MemLanes;
 use std::alloc::{AllocError, Global};
 use std::process::Abort;
 use std::test::Fail;
-
-// The input would fail at its first read.
-const ROWS: &str = "\
-# the line of one packet; the input would fail at its first read
-run selftest 0 --packets 1
-input 40903C00 C9240000
-read-fails 0
-leaves Done
-output selftest 0 packets 1 carried 1 listed 0 bytes 3 again 3
-
-# the line if no number of packets is given
-run selftest 7
-input 40903C00 C9240000
-read-fails 0
-leaves Done
-output selftest 7 packets 10000 carried 9961 listed 39 bytes 42382 again 61012
-
-# the line of 100,000 packets
-run selftest 7 --packets 100000
-input 40903C00 C9240000
-read-fails 0
-leaves Done
-output selftest 7 packets 100000 carried 99618 listed 382 bytes 423052 again 609454
-
-# the same line again
-run selftest 7 --packets 100000
-input 40903C00 C9240000
-read-fails 0
-leaves Done
-output selftest 7 packets 100000 carried 99618 listed 382 bytes 423052 again 609454
-
-# a line that is put in part
-run selftest 0 --packets 1
-input 40903C00 C9240000
-read-fails 0
-output-fails 0 5
-leaves OutputFault
-output-cut |selft|
-note output write failed
-
-# a self test without a seed
-run selftest
-input 40903C00 C9240000
-read-fails 0
-leaves Usage
-note usage: translate, show, endpoint or selftest
-
-# a seed that is too large
-run selftest 4294967296
-input 40903C00 C9240000
-read-fails 0
-leaves Usage
-note usage: translate, show, endpoint or selftest
-
-# no packets
-run selftest 0 --packets 0
-input 40903C00 C9240000
-read-fails 0
-leaves Usage
-note usage: translate, show, endpoint or selftest
-
-# too many packets
-run selftest 0 --packets 1000001
-input 40903C00 C9240000
-read-fails 0
-leaves Usage
-note usage: translate, show, endpoint or selftest
-
-# a self test has no room
-run selftest 0 --room 6
-input 40903C00 C9240000
-read-fails 0
-leaves Usage
-note usage: translate, show, endpoint or selftest";
-
-#[test]
-fn the_lines_of_self_tests(rt: HostRuntime) -> Result<(), Fail> {
-    rows_hold(&rt, rt.alloc(), ROWS)
-}
 
 // One draw of sixteen bits.
 fn draw(number: &mut u32) -> u32 {
