@@ -1,8 +1,8 @@
 -- What the line of a message says that a responder heard.
 use Rattle.ci_responder.specs.declared.heard.Heard.{Heard}
 use Rattle.ci_responder.specs.declared.heard.Heard.TheVariants as heard
-use Rattle.text_lines.specs.declared.endpoint.OutcomeName.{OutcomeName}
-use Rattle.text_lines.specs.declared.endpoint.OutcomeName.TheVariants as names
+use Rattle.endpoint_lines.specs.declared.endpoint.OutcomeName.{OutcomeName}
+use Rattle.endpoint_lines.specs.declared.endpoint.OutcomeName.TheVariants as names
 
 abbrev pub name_of_heard : Heard → OutcomeName
 name_of_heard heard.NoBlock = names.NoBlock

@@ -3,7 +3,7 @@ ghost use Rattle.std.specs.Prelude.{◌≡◌};
 ghost use Rattle.ci_text.specs.Names.{name_of_heard as name_of};
 
 use ci_responder::Heard;
-use text_lines::OutcomeName;
+use endpoint_lines::OutcomeName;
 
 /// What the line of a message says that a responder heard so (own rule).
 pub fn name_of_heard(heard: Heard) -> OutcomeName

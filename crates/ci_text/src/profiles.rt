@@ -6,9 +6,9 @@ ghost use Rattle.pass_loop.specs.Places.{Puts};
 ghost use Rattle.ci_text.specs.Profiles.{profile_line_of, profile_lines, put_at};
 
 use ci_responder::{Key, ProfileId, Responder};
+use endpoint_lines::profile_line;
 use function_blocks::{Profile, Setup};
 use pass_loop::{Outputs, RunEnd};
-use text_lines::profile_line;
 
 /// The place in which a line is put.
 #[derive(Clone, Copy, Debug, PartialEq, Eq)]

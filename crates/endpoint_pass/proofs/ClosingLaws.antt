@@ -3,7 +3,7 @@ use Rattle.std.proofs.Common.{◌≡◌, ℕ, List, [], ◌∷◌, ◌++◌, ◌
 use Rattle.std.specs.Prelude.{if◌then◌else◌}
 use Rattle.function_blocks.specs.Blocks.{has_ci}
 use Rattle.function_blocks.specs.declared.setup.Block.{Block}
-use Rattle.text_lines.specs.EndpointLines.{block_text}
+use Rattle.endpoint_lines.specs.EndpointLines.{block_text}
 use Rattle.pass_loop.specs.Each.{for_each}
 use Rattle.pass_loop.specs.Put.{Put, in_notes}
 use Rattle.endpoint_pass.specs.Answering.{block_line_of}

@@ -16,9 +16,9 @@ use Rattle.ci_text.specs.declared.profiles.LinePlace.TheVariants.{Notes}
 use Rattle.listing_terms.specs.ExclusiveLines.{end_lines}
 use Rattle.listing_terms.specs.Parts.{Placed, group_of, part_of, parts_of}
 use Rattle.listing_terms.specs.ExclusiveLines.{bad_part}
-use Rattle.text_lines.specs.EndpointLines.{block_text, endpoint_text, protocol_text}
-use Rattle.text_lines.specs.declared.endpoint.OutcomeName.{OutcomeName}
-use Rattle.text_lines.specs.declared.endpoint.OutcomeName.TheVariants as names
+use Rattle.endpoint_lines.specs.EndpointLines.{block_text, endpoint_text, protocol_text}
+use Rattle.endpoint_lines.specs.declared.endpoint.OutcomeName.{OutcomeName}
+use Rattle.endpoint_lines.specs.declared.endpoint.OutcomeName.TheVariants as names
 use Rattle.pass_loop.specs.Each.{for_each}
 use Rattle.pass_loop.specs.Pass.{Work}
 use Rattle.pass_loop.specs.Put.{Put, in_notes, notes_in, output_in}

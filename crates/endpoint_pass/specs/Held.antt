@@ -8,7 +8,7 @@ use Rattle.ci_responder.specs.Keys.{state_in}
 use Rattle.ci_text.specs.Profiles.{profile_lines}
 use Rattle.ci_text.specs.declared.profiles.LinePlace.TheVariants.{Notes}
 use Rattle.listing_terms.specs.ExclusiveLines.{groups}
-use Rattle.text_lines.specs.EndpointLines.{protocol_text}
+use Rattle.endpoint_lines.specs.EndpointLines.{protocol_text}
 use Rattle.pass_loop.specs.Each.{for_each}
 use Rattle.pass_loop.specs.Put.{Put, in_notes}
 use Rattle.listing_lines.specs.Open.{open_puts}

@@ -2,7 +2,7 @@
 ghost use Rattle.std.specs.Prelude.{◌≡◌, ◌≤◌, [], ◌∷◌, ◌++◌, IfOk};
 ghost use Rattle.ci_responder.specs.Held.{muid_in};
 ghost use Rattle.ci_responder.specs.Keys.{state_in};
-ghost use Rattle.text_lines.specs.EndpointLines.{protocol_text};
+ghost use Rattle.endpoint_lines.specs.EndpointLines.{protocol_text};
 ghost use Rattle.pass_loop.specs.Each.{for_each};
 ghost use Rattle.pass_loop.specs.PassEnds.{PassEnds};
 ghost use Rattle.pass_loop.specs.Pass.{seen};
@@ -26,6 +26,7 @@ ghost use Rattle.endpoint_pass.specs.ForProofs.Taking.{TakesPacket};
 use crate::lines::put_taken;
 use crate::replies::put_replies;
 use ci_text::{LinePlace, ProfileStates, put_profiles};
+use endpoint_lines::{block_line, protocol_line};
 use encoded_packets::EncodedPacket;
 use function_blocks::{Block, Setup};
 use listing_lines::{OpenExclusives, list_open, refused};
@@ -36,7 +37,7 @@ use pass_loop::{Engine, Outputs, RunEnd, drive};
 use small_types::{NoMemory, U4};
 use std::alloc::Global;
 use std::marker::Model;
-use text_lines::{Line, block_line, protocol_line};
+use text_lines::Line;
 use ump_endpoint::{Endpoint, Key, answers_are_those_of_the_history};
 use ump_grammar::Packet;
 

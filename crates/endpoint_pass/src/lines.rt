@@ -7,10 +7,11 @@ ghost use Rattle.listing_terms.specs.Parts.{group_of as group_in};
 ghost use Rattle.endpoint_pass.specs.Answering.{name_of as name_in, name_of_fault as fault_name, outcome_lines};
 
 use ci_text::name_of_heard;
+use endpoint_lines::{OutcomeName, fill_endpoint_line};
 use listing_lines::put_listed;
 use pass_loop::{Outputs, RunEnd};
 use small_types::U4;
-use text_lines::{Line, OutcomeName, fill_endpoint_line};
+use text_lines::Line;
 use ump_endpoint::{CiFault, Outcome, Taken};
 use ump_grammar::Packet;
 

@@ -1,12 +1,13 @@
 pub mod FactLines
-pub use Rattle.text_lines.specs.EndpointLines
+pub mod StepLines
+pub mod TextLines
+pub mod TextRoom
+pub use Rattle.endpoint_lines.specs.EndpointLines
 pub use Rattle.text_lines.specs.Fields
 pub use Rattle.text_lines.specs.ForProofs
 pub use Rattle.text_lines.specs.ListingLines
 pub use Rattle.text_lines.specs.PacketLines
 pub use Rattle.text_lines.specs.Room
-pub use Rattle.text_lines.specs.StepLines
-pub use Rattle.text_lines.specs.TextLines
 pub use Rattle.text_lines.specs.Voice1Lines
 pub use Rattle.text_lines.specs.Voice2Lines
 pub use Rattle.text_lines.specs.VoiceLines

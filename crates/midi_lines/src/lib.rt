@@ -2,11 +2,17 @@
 #![tactic(auto)]
 
 mod facts;
+mod steps;
+mod texts;
 
 pub use crate::facts::{fact_line, fill_fact_line};
+pub use crate::steps::{fill_step_line, step_line};
+pub use crate::texts::{fill_text_line, text_line};
+pub use endpoint_lines::{
+    OutcomeName, block_line, endpoint_line, fill_endpoint_line, profile_line, protocol_line,
+    word_of,
+};
 pub use text_lines::{
-    Line, OutcomeName, block_line, byte_listing, endpoint_line, fill_byte_listing,
-    fill_endpoint_line, fill_listing_line, fill_packet_line, fill_step_line, fill_text_line,
-    listing_line, packet_line, profile_line, protocol_line, put_decimal, put_packet_line, put_text,
-    step_line, text_line, word_of,
+    Line, byte_listing, fill_byte_listing, fill_listing_line, fill_packet_line, listing_line,
+    packet_line, put_decimal, put_packet_line, put_text,
 };

@@ -17,7 +17,7 @@ use Rattle.ci_initiator.specs.Stage.{Stage, event_of, next_by}
 use Rattle.ci_text.specs.Names.{name_of_heard}
 use Rattle.ci_text.specs.Profiles.{profile_lines}
 use Rattle.ci_text.specs.declared.profiles.LinePlace.TheVariants.{Output}
-use Rattle.text_lines.specs.EndpointLines.{name_word, state_word}
+use Rattle.endpoint_lines.specs.EndpointLines.{name_word, state_word}
 use Rattle.pass_loop.specs.Each.{for_each}
 use Rattle.pass_loop.specs.Pass.{Tail, Work}
 use Rattle.pass_loop.specs.Put.{Put, in_output}

@@ -10,7 +10,8 @@ ghost use Rattle.rehearsal_pass.specs.Rehearse.{
 
 use ci_initiator::{Noted, Told};
 use ci_text::name_of_heard;
-use text_lines::{Line, put_decimal, put_text, word_of};
+use endpoint_lines::word_of;
+use text_lines::{Line, put_decimal, put_text};
 
 // What the line says of a message that the initiator heard.
 fn word_of_noted(noted: Noted) -> &'static str

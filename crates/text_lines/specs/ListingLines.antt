@@ -38,3 +38,7 @@ abbrev pub listing_text : Listed → List ℕ
 listing_text listed =
     decimal listed.offset ++ codes " " ++ group_text listed.group ++ codes " " ++ listed_word listed.kind
     ++ codes "\n"
+
+-- a line of the listing of a stream, which has no groups
+abbrev pub byte_listing_text : Kind → ℕ → List ℕ
+byte_listing_text kind offset = decimal offset ++ codes " " ++ listed_word kind ++ codes "\n"

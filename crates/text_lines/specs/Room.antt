@@ -1,7 +1,5 @@
 -- How many bytes the parts of a line take at most, so that all of them find room in it.
 use Rattle.std.specs.Prelude.{ℕ, ◌+◌, ◌*◌, ◌≤◌, List, length}
-use Rattle.system_stream.specs.declared.texts.TextKind.TheVariants as kinds
-use Rattle.system_stream.specs.Texts.{limit_of}
 use Rattle.text_lines.specs.declared.line.TheConstants.{CAPACITY}
 
 -- the digits of the largest number of 64 bits
@@ -29,17 +27,9 @@ longest_field = longest_label + longest_value
 abbrev pub longest_word : ℕ
 longest_word = 20
 
--- the word of a name of the command `endpoint`: `reserved-muid`
-abbrev pub longest_name : ℕ
-longest_name = 13
-
 -- the kind of a message: `note-controller`
 abbrev pub longest_kind : ℕ
 longest_kind = 15
-
--- the ID of a profile: five bytes, each in two digits
-abbrev pub id_digits : ℕ
-id_digits = 5 * 2
 
 -- how many words a packet has
 abbrev pub most_words : ℕ
@@ -49,10 +39,6 @@ most_words = 4
 abbrev pub longest_words : ℕ
 longest_words = most_words * 9
 
--- the bytes of a text: those of an endpoint name
-abbrev pub longest_text : ℕ
-longest_text = limit_of kinds.EndpointName
-
 -- what stands before the line of a packet: nothing, or the ticks of an event and a space
 abbrev pub before_packet : ℕ
 before_packet = longest_number + 1
@@ -60,10 +46,6 @@ before_packet = longest_number + 1
 -- what stands before the kind of a message: that, the offset, the words and a space
 abbrev pub before_kind : ℕ
 before_kind = before_packet + longest_number + longest_words + 1
-
--- what stands before the bytes of a text: `text`, a space and its kind
-abbrev pub before_text : ℕ
-before_text = 5 + longest_word
 
 -- what stands before the fields of a message
 abbrev pub before_fields : ℕ

@@ -1,7 +1,6 @@
 // The lines of the listing.
 ghost use Rattle.std.specs.Prelude.{◌≡◌, ◌<◌, ◌≤◌, ◌+◌, ◌++◌, length, codes};
-ghost use Rattle.text_lines.specs.ListingLines.{group_text, listed_word, listing_text};
-ghost use Rattle.text_lines.specs.StepLines.{byte_listing_text};
+ghost use Rattle.text_lines.specs.ListingLines.{byte_listing_text, group_text, listed_word, listing_text};
 ghost use Rattle.text_lines.specs.Room.{AddsAtMost, before_kind, longest_value, longest_word};
 
 use crate::decimal::{put_decimal, put_number};
@@ -55,8 +54,8 @@ pub fn fill_byte_listing(line: &mut Line, kind: Kind, offset: u64)
     put_kind(line, kind);
 }
 
-// A group, or a hyphen for none.
-pub(crate) fn put_group_or_hyphen(line: &mut Line, group: Option<U4>)
+/// Adds a group, or a hyphen for none.
+pub fn put_group_or_hyphen(line: &mut Line, group: Option<U4>)
     requires { length line.old ≤ before_kind }
     ensures text { line.new ≡ line.old ++ group_text group }
     ensures room { AddsAtMost longest_value line.old line.new }

@@ -4,7 +4,7 @@ use Rattle.std.specs.Prelude.{unwrap_or}
 use Rattle.function_blocks.specs.declared.setup.Profile.{Profile}
 use Rattle.ci_responder.specs.declared.keys.Key.{Key}
 use Rattle.ci_responder.specs.Keys.{key_of}
-use Rattle.text_lines.specs.EndpointLines.{profile_text}
+use Rattle.endpoint_lines.specs.EndpointLines.{profile_text}
 use Rattle.pass_loop.specs.Each.{for_each}
 use Rattle.pass_loop.specs.Named.{AreNamed, Named, is_named}
 use Rattle.ci_text.specs.declared.profiles.LinePlace.{LinePlace}

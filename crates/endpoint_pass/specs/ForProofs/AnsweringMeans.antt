@@ -19,7 +19,7 @@ use Rattle.ci_text.specs.declared.profiles.LinePlace.TheVariants.{Notes}
 use Rattle.listing_terms.specs.ExclusiveLines.{end_lines}
 use Rattle.listing_terms.specs.Parts.{Placed, parts_of}
 use Rattle.listing_terms.specs.declared.listed.Listed.{Listed}
-use Rattle.text_lines.specs.EndpointLines.{block_text}
+use Rattle.endpoint_lines.specs.EndpointLines.{block_text}
 use Rattle.pass_loop.specs.Each.{for_each}
 use Rattle.pass_loop.specs.Named.{AreNamed, Named, named-then}
 use Rattle.pass_loop.specs.Pass.{ArePut}

@@ -1,6 +1,6 @@
 use Rattle.std.proofs.Common.{[], ◌∷◌, ◌++◌}
 use Rattle.std.proofs.lemmas.Result.{err_from_is_err_and}
-use Rattle.text_lines.specs.EndpointLines.{protocol_text}
+use Rattle.endpoint_lines.specs.EndpointLines.{protocol_text}
 use Rattle.pass_loop.specs.Put.{in_notes}
 use Rattle.pass_loop.specs.ForProofs.PutLaws.{stops_more, then_puts}
 use Rattle.listing_terms.specs.ExclusiveLines.{groups}

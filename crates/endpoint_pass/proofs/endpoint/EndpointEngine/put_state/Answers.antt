@@ -1,7 +1,7 @@
 use Rattle.std.proofs.Common.{ℕ, [], ◌∷◌, ◌++◌, subst}
 use Rattle.std.specs.Prelude.{Err}
 use Rattle.std.proofs.lemmas.Result.{err_from_is_err_and}
-use Rattle.text_lines.specs.EndpointLines.{protocol_text}
+use Rattle.endpoint_lines.specs.EndpointLines.{protocol_text}
 use Rattle.pass_loop.specs.Places.{Puts}
 use Rattle.pass_loop.specs.Put.{in_notes}
 use Rattle.pass_loop.specs.ForProofs.PutLaws.{stops_more, then_puts}

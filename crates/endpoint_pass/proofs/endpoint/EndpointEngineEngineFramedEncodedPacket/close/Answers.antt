@@ -9,7 +9,7 @@ use Rattle.ci_text.specs.Profiles.{profile_lines}
 use Rattle.ci_text.specs.declared.profiles.LinePlace.TheVariants.{Notes}
 use Rattle.listing_terms.specs.ExclusiveLines.{end_lines, groups}
 use Rattle.listing_terms.specs.Parts.{Placed, parts_of}
-use Rattle.text_lines.specs.EndpointLines.{protocol_text}
+use Rattle.endpoint_lines.specs.EndpointLines.{protocol_text}
 use Rattle.pass_loop.specs.Each.{for_each}
 use Rattle.pass_loop.specs.Put.{Put, in_notes}
 use Rattle.listing_lines.specs.Lines.{line_puts}

@@ -1,12 +1,12 @@
 // The lines of the texts of stream messages.
 ghost use Rattle.std.specs.Prelude.{◌≡◌, ◌<◌, ◌≤◌, ◌+◌, ◌*◌, ◌++◌, length, codes, IfSome, Some, None, true, false, if◌then◌else◌};
 ghost use Rattle.system_stream.specs.Joined.{joined_view};
-ghost use Rattle.text_lines.specs.TextLines.{IsWithinLimit, joined_text, spaced_bytes, text_kind_word};
-ghost use Rattle.text_lines.specs.Room.{HasRoom, AddsAtMost, before_text, longest_text, longest_word};
+ghost use Rattle.midi_lines.specs.TextLines.{IsWithinLimit, joined_text, spaced_bytes, text_kind_word};
+ghost use Rattle.text_lines.specs.Room.{HasRoom, AddsAtMost, longest_word};
+ghost use Rattle.midi_lines.specs.TextRoom.{before_text, longest_text};
 
-use crate::line::Line;
-use crate::put::{put_hex_bytes, put_text};
 use system_stream::{Joined, TextKind};
+use text_lines::{Line, put_hex_bytes, put_text};
 
 /// The line of a text of this kind that has ended: `text`, the kind, and the bytes in two hexadecimal digits
 /// each, or `bad` (own rule). `None` exactly if the text is held. A whole text has at most as many bytes

@@ -1,7 +1,7 @@
 // The lines of the command `endpoint`.
 ghost use Rattle.std.specs.Prelude.{◌≡◌, ◌<◌, ◌≤◌, ◌+◌, ◌*◌, ◌++◌, length, codes};
 ghost use Rattle.text_lines.specs.Fields.{hex_bytes};
-ghost use Rattle.text_lines.specs.EndpointLines.{
+ghost use Rattle.endpoint_lines.specs.EndpointLines.{
   name_word,
   endpoint_text,
   protocol_text,
@@ -11,13 +11,11 @@ ghost use Rattle.text_lines.specs.EndpointLines.{
   state_word,
   profile_text,
 };
-ghost use Rattle.text_lines.specs.Room.{AddsAtMost, HasRoom, before_kind, id_digits, longest_field, longest_name, longest_word};
+ghost use Rattle.text_lines.specs.Room.{AddsAtMost, HasRoom, before_kind, longest_field, longest_word};
+ghost use Rattle.endpoint_lines.specs.EndpointRoom.{id_digits, longest_name};
 
-use crate::decimal::{put_decimal, put_number};
-use crate::line::Line;
-use crate::listing::put_group_or_hyphen;
-use crate::put::{put_hex, put_text};
 use function_blocks::{Place, Profile};
+use text_lines::{Line, put_decimal, put_group_or_hyphen, put_hex, put_number, put_text};
 use voice_messages::{U4, U7};
 
 /// What became of a whole exclusive or of a stream packet (own rule).

@@ -3,15 +3,12 @@ ghost use Rattle.std.specs.Prelude.{◌≡◌, ◌<◌, ◌≤◌, ◌+◌, ◌+
 ghost use Rattle.midi1_bytes.specs.Answers.{step_view};
 ghost use Rattle.midi1_bytes.specs.Spoken.{voice_in};
 ghost use Rattle.text_lines.specs.Fields.{field};
-ghost use Rattle.text_lines.specs.StepLines.{HasBothEnds, step_text};
+ghost use Rattle.midi_lines.specs.StepLines.{HasBothEnds, step_text};
 ghost use Rattle.text_lines.specs.Voice1Lines.{voice1_fields, system_fields};
 ghost use Rattle.text_lines.specs.Room.{before_kind};
 
-use crate::decimal::put_decimal;
-use crate::line::Line;
-use crate::put::put_text;
-use crate::voice1::{put_system, put_voice1};
 use midi1_bytes::{AfterCut, Step, System, VoiceBytes};
+use text_lines::{Line, put_decimal, put_system, put_text, put_voice1};
 
 /// The line of what a byte at this offset does, in a stream of MIDI 1.0 bytes, if it completes a message:
 /// the offset in decimal digits, the kind of the message and its fields; of an exclusive its length between

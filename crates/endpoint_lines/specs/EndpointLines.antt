@@ -6,8 +6,8 @@ use Rattle.function_blocks.specs.declared.setup.Place.TheVariants as place
 use Rattle.function_blocks.specs.declared.setup.Profile.{Profile}
 use Rattle.text_lines.specs.Fields.{hex_bytes}
 use Rattle.text_lines.specs.ListingLines.{group_text}
-use Rattle.text_lines.specs.declared.endpoint.OutcomeName.{OutcomeName}
-use Rattle.text_lines.specs.declared.endpoint.OutcomeName.TheVariants as names
+use Rattle.endpoint_lines.specs.declared.endpoint.OutcomeName.{OutcomeName}
+use Rattle.endpoint_lines.specs.declared.endpoint.OutcomeName.TheVariants as names
 
 -- the word of a name
 abbrev pub name_word : OutcomeName → List ℕ

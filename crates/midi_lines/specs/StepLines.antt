@@ -7,9 +7,8 @@ use Rattle.midi1_bytes.specs.declared.step.Step.{Step as CodeStep}
 use Rattle.midi1_bytes.specs.declared.step.Step.TheVariants as code
 use Rattle.midi1_bytes.specs.Messages.{Message, voice, common, exclusive, real_time}
 use Rattle.midi1_bytes.specs.Steps.{Step, completes, cut}
-use Rattle.listing_terms.specs.declared.listed.Kind.{Kind}
 use Rattle.text_lines.specs.Fields.{field}
-use Rattle.text_lines.specs.ListingLines.{listed_word}
+pub use Rattle.text_lines.specs.ListingLines.{byte_listing_text}
 use Rattle.text_lines.specs.Voice1Lines.{voice1_fields, system_fields}
 
 -- the kind of a message and its fields
@@ -33,7 +32,3 @@ step_text _ offset = None
 abbrev pub HasBothEnds : CodeStep → Type 0
 HasBothEnds (code.Exclusive bytes) = 2 ≤ length bytes.now
 HasBothEnds _ = Unit {0}
-
--- a line of the listing of a stream, which has no groups
-abbrev pub byte_listing_text : Kind → ℕ → List ℕ
-byte_listing_text kind offset = decimal offset ++ codes " " ++ listed_word kind ++ codes "\n"

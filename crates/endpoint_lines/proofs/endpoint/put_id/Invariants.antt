@@ -1,6 +1,6 @@
 use Rattle.std.proofs.Common.{◌≡◌, ◌+◌, ◌*◌, ◌++◌, length, take}
 use Rattle.text_lines.specs.Fields.{hex_bytes}
-use Rattle.text_lines.proofs.endpoint.put_id.Given as goal
+use Rattle.endpoint_lines.proofs.endpoint.put_id.Given as goal
 
 abbrev pub invariant-loop-byte : goal.invariant-loop-byte
 invariant-loop-byte l =

@@ -1,0 +1,2 @@
+pub mod EndpointLines
+pub mod EndpointRoom
