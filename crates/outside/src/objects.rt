@@ -76,7 +76,7 @@ pub trait Sink {
         ensures cause { HasCause (faults self.old) (faults self.new) result };
 
     /// Tries to write out what an object has gathered, before the input is waited for. It reports no
-    /// fault: what it can't write stays gathered, and the next call that has to write tries again.
+    /// fault: what it can't write stays gathered, and the next `put` fails, which counts the fault.
     fn write_out(&mut self)
         ensures bytes { held self.new ≡ held self.old }
         ensures faults { faults self.new ≡ faults self.old }
@@ -118,8 +118,8 @@ pub trait Lanes {
         ensures cause { HasCause (faults self.old) (faults self.new) result };
 
     /// Tries to write out what an object has gathered, of every lane, before the input is waited for. It
-    /// reports no fault: what it can't write stays gathered, and the next call that has to write to the
-    /// lane tries again.
+    /// reports no fault: what it can't write stays gathered, and the next `put` fails, to whichever lane,
+    /// which counts the fault.
     fn write_out(&mut self)
         ensures begun { begun self.new ≡ begun self.old }
         ensures folder { folder self.new ≡ folder self.old }

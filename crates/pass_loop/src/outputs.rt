@@ -34,8 +34,8 @@ pub trait Outputs {
         ensures { Puts (in_notes text.now ∷ []) (places self.old) (places self.new) result };
 
     /// Tries to write out what the lanes, the output and the notes have gathered, before the input is
-    /// waited for. It reports no fault: what it leaves stays gathered, and the next put that has to write
-    /// tries again.
+    /// waited for. It reports no fault: what it can't write stays gathered, and the next put to that object
+    /// fails, which counts the fault.
     fn write_out(&mut self)
         ensures { places self.new ≡ places self.old };
 }
