@@ -86,8 +86,8 @@ impl<H: Cut> ItemReader<H> {
         }
     }
 
-    /// Returns whether the next `next` reads the source: no whole item has been read ahead within the
-    /// limit, and the items haven't ended.
+    /// Returns whether no whole item has been read ahead within the limit. If so, `next` reads the source,
+    /// unless the items have ended.
     #[inline(always)]
     pub fn needs_input(&self) -> bool
         ensures { result ≡ needs_input (H.asked self.now.how) self.now }

@@ -63,8 +63,8 @@ impl MemLanes {
     ///
     /// Puts are counted from 0, up to `u64::MAX`. Put number k fails exactly if `fails` contains k or if a
     /// capacity would be exceeded. If `fails` contains k, the put keeps as many bytes of the piece as
-    /// `fails` says, but at most all but one, and at most as many as fit. If not, it keeps none. Returns
-    /// `NoMemory` if the capacity can't be allocated.
+    /// `fails` says, but at most all but one, and at most as many as fit. A put that fails only for a
+    /// capacity keeps none. Returns `NoMemory` if the capacity can't be allocated.
     pub fn new(
         alloc: Global,
         room: usize,

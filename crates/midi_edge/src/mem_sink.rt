@@ -42,8 +42,8 @@ impl MemSink {
     ///
     /// Calls are counted from 0, up to `u64::MAX`. Call number k fails exactly if `fails` contains k or if
     /// the capacity would be exceeded. If `fails` contains k, the call keeps as many bytes of the piece as
-    /// `fails` says, but at most all but one, and at most as many as fit. If not, it keeps none. Returns
-    /// `NoMemory` if the capacity can't be allocated.
+    /// `fails` says, but at most all but one, and at most as many as fit. A call that fails only for the
+    /// capacity keeps none. Returns `NoMemory` if the capacity can't be allocated.
     pub fn new(alloc: Global, room: usize, fails: Vec<(u64, usize)>) -> Result<MemSink, NoMemory>
         ensures { IfOk result
             (λ sink. sink ≡ record { held = []; room = room; fails = fails.items; calls = 0; faults = 0 }) }

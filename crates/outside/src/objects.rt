@@ -85,7 +85,7 @@ pub trait Sink {
 
 /// A sink for sixteen streams of bytes, called lanes, one for each group.
 pub trait Lanes {
-    /// Whether `begin` has succeeded, so that pieces may be put.
+    /// Whether pieces may be put. They may after `begin` has succeeded.
     ghost begun: { Self → Bool };
 
     /// The first 4,096 bytes of the path that `begin` was called with, or `None` in a new object.

@@ -114,8 +114,8 @@ impl WordReader {
         self.packets.next(src)
     }
 
-    /// Returns whether the next `next` reads the source: no whole packet (M2-104-UM, message types) has
-    /// been read ahead within the limit, and the packets haven't ended.
+    /// Returns whether no whole packet (M2-104-UM, message types) has been read ahead within the limit. If
+    /// so, `next` reads the source, unless the packets have ended.
     #[inline(always)]
     pub fn needs_input(&self) -> bool
         ensures { result ≡ needs_input (bytes_asked self.now.how) self.now }
