@@ -1,6 +1,7 @@
 // Lanes over a folder.
-ghost use Rattle.std.specs.Prelude.{◌≡◌, ◌<◌, ◌==◌, None, Err, true, false, [], All, length, vec_len, IfOk, OnOk, OnErr, Some};
-ghost use Rattle.midi_edge.specs.Adapters.{IsWrittenOut, AcceptsInLane, KeepsEach, KeepsLanes, TriesEach, TriesLanes, unwritten};
+ghost use Rattle.std.specs.Prelude.{◌≡◌, ◌⊎◌, ◌<◌, ◌==◌, None, Err, true, false, [], All, length, vec_len, IfOk, OnOk, OnErr, IsErr, Some};
+ghost use Rattle.midi_edge.specs.Adapters.{IsWrittenOut, HasFailedEarly, HasNotFailedEarly, AcceptsInLane, KeepsEach, KeepsLanes};
+ghost use Rattle.midi_edge.specs.Adapters.{TriesEach, TriesLanes, has_failed_early, unwritten};
 ghost use Rattle.outside.specs.Outside.{HasCause, HasOpenCause, PutsPair, kept_bytes};
 
 use super::write_sink::WriteSink;
@@ -18,8 +19,10 @@ use std::rt::Files;
 /// small piece is gathered in the buffer, and written out when a later one doesn't fit. So an `Ok` of `put`
 /// says that the piece was accepted, and a fault shows at the `put` that writes out, or at `flush`. A fault
 /// takes nothing from what was accepted before: what it left unwritten is written out by the next call that
-/// writes to this lane. `write_out` writes out what is gathered before its time, and counts no fault here.
-/// What is still gathered when the lanes are dropped is lost, so call `flush` when all is put.
+/// writes to this lane. `write_out` writes out what is gathered before its time, and counts no fault here. If
+/// that fails at one lane, each later `put` fails, to whichever lane, until `flush` fails too: it tries again
+/// to write out everything, and after it the lanes go on. What is still gathered when the lanes are dropped is
+/// lost, so call `flush` when all is put.
 #[derive(Drop)]
 pub struct FolderLanes<R: Files + AllocGlobal> {
     rt: R,
@@ -35,6 +38,7 @@ impl<R: Files + AllocGlobal> FolderLanes<R> {
         ensures begun { ⟦<FolderLanes<R> as Lanes>⟧.begun result ≡ false }
         ensures faults { ⟦<FolderLanes<R> as Lanes>⟧.faults result ≡ 0 }
         ensures empty { IsWrittenOut result }
+        ensures early { HasNotFailedEarly result }
     {
         let lanes = Vec::new(rt.alloc());
         FolderLanes {
@@ -53,7 +57,9 @@ impl<R: Files + AllocGlobal> FolderLanes<R> {
     }
 
     /// Writes out what is gathered, of every lane, also after one that fails. After an `Err` what is not yet
-    /// written stays gathered, and a later call goes on from there. Before `begin` there is nothing to write.
+    /// written stays gathered, and a later call goes on from there. An `Err` comes too if `write_out` has
+    /// failed since the last `flush`, also if everything is written out now. Before `begin` there is nothing
+    /// to write.
     pub fn flush(&mut self) -> Result<(), Failed>
         ensures begun { ⟦<FolderLanes<R> as Lanes>⟧.begun self.new
             ≡ ⟦<FolderLanes<R> as Lanes>⟧.begun self.old }
@@ -64,6 +70,8 @@ impl<R: Files + AllocGlobal> FolderLanes<R> {
         ensures keeps { KeepsLanes ⟦<R::File as Write>⟧.contents self.old self.new }
         ensures written { OnOk result (IsWrittenOut self.new) }
         ensures tried { TriesLanes self.old self.new }
+        ensures told { OnOk result (HasNotFailedEarly self.old) }
+        ensures anew { HasNotFailedEarly self.new }
     {
         let answer = flush_each(&mut self.lanes);
         counted(answer, &mut self.faults)
@@ -76,6 +84,8 @@ fn flush_each<W: Write>(sinks: &mut [WriteSink<W>]) -> Result<(), Failed>
     ensures keeps { KeepsEach W.contents sinks.old sinks.new }
     ensures written { OnOk result (All (λ s. unwritten s ≡ []) sinks.new) }
     ensures tried { TriesEach sinks.old sinks.new }
+    ensures told { OnOk result (All (λ s. has_failed_early s ≡ false) sinks.old) }
+    ensures anew { All (λ s. has_failed_early s ≡ false) sinks.new }
 {
     let mut outcome = Ok(());
     for sink in sinks {
@@ -85,6 +95,17 @@ fn flush_each<W: Write>(sinks: &mut [WriteSink<W>]) -> Result<(), Failed>
     outcome
 }
 
+// Makes each later put to every sink fail, until `flush` fails too.
+fn fail_each<W: Write>(sinks: &mut [WriteSink<W>])
+    ensures count { length sinks.new ≡ length sinks.old }
+    ensures keeps { KeepsEach W.contents sinks.old sinks.new }
+    ensures early { All (λ s. has_failed_early s ≡ true) sinks.new }
+{
+    for sink in sinks {
+        sink.fail_early();
+    }
+}
+
 // Creates or empties the sixteen files. No folder has an empty path.
 fn open_lanes<R: Files + AllocGlobal>(
     rt: &R,
@@ -92,6 +113,7 @@ fn open_lanes<R: Files + AllocGlobal>(
 ) -> Result<Vec<WriteSink<R::File>>, OpenFault>
     ensures lanes { IfOk result (λ lanes. vec_len lanes ≡ 16) }
     ensures written { IfOk result (λ lanes. All (λ s. unwritten s ≡ []) lanes.items) }
+    ensures early { IfOk result (λ lanes. All (λ s. has_failed_early s ≡ false) lanes.items) }
     ensures empty { folder.now ≡ [] → result ≡ Err OpenFault.Failed }
 {
     if folder.is_empty() {
@@ -135,6 +157,7 @@ impl<R: Files + AllocGlobal> Lanes for FolderLanes<R> {
         ensures cause { HasOpenCause (⟦<Self as Lanes>⟧.faults self.old)
             (⟦<Self as Lanes>⟧.faults self.new) result }
         ensures written { OnOk result (IsWrittenOut self.new) }
+        ensures early { OnOk result (HasNotFailedEarly self.new) }
     {
         self.path.keep(path);
         let answer = open_lanes(&self.rt, path);
@@ -153,6 +176,8 @@ impl<R: Files + AllocGlobal> Lanes for FolderLanes<R> {
             (⟦<Self as Lanes>⟧.faults self.new) result }
         ensures accepts { AcceptsInLane ⟦<R::File as Write>⟧.contents
             self.old self.new (lane, piece.now) result }
+        ensures early { HasFailedEarly self.old → IsErr result }
+        ensures still { HasFailedEarly self.old → HasFailedEarly self.new }
     {
         let answer = self.lanes[usize::from(lane.get())].put(piece);
         counted(answer, &mut self.faults)
@@ -164,7 +189,11 @@ impl<R: Files + AllocGlobal> Lanes for FolderLanes<R> {
         ensures pieces { ⟦<Self as Lanes>⟧.pieces self.new ≡ ⟦<Self as Lanes>⟧.pieces self.old }
         ensures faults { ⟦<Self as Lanes>⟧.faults self.new ≡ ⟦<Self as Lanes>⟧.faults self.old }
         ensures keeps { KeepsLanes ⟦<R::File as Write>⟧.contents self.old self.new }
+        ensures written { IsWrittenOut self.new ⊎ HasFailedEarly self.new }
+        ensures still { HasFailedEarly self.old → HasFailedEarly self.new }
     {
-        let _ = flush_each(&mut self.lanes);
+        if flush_each(&mut self.lanes).is_err() {
+            fail_each(&mut self.lanes);
+        }
     }
 }
