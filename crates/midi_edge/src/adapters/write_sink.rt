@@ -16,9 +16,8 @@ use std::io::{ErrorKind, Write};
 /// piece has no room. So an `Ok` of `put` says that the piece was accepted, and a fault shows at the `put`
 /// that makes room, or at `flush`. A fault takes nothing from what was accepted before: what it left
 /// unwritten is written out by the next call that writes. `write_out` writes out what is gathered before its
-/// time, and counts no fault. If that fails, each later `put` fails, until `flush` fails too: it tries again
-/// to write out everything, and after it the sink goes on. What is still gathered when the sink is dropped is
-/// lost, so call `flush` when all is put.
+/// time, and counts no fault. If that fails, each later `put` and `flush` fails, though `flush` still writes
+/// out what it can. What is still gathered when the sink is dropped is lost, so call `flush` when all is put.
 #[derive(Drop)]
 pub struct WriteSink<W: Write> {
     writer: W,
@@ -52,23 +51,31 @@ impl<W: Write> WriteSink<W> {
     }
 
     /// Writes out what is gathered, and flushes the writer. After an `Err` what is not yet written stays
-    /// gathered, and a later call goes on from there. An `Err` comes too if `write_out` has failed since the
-    /// last `flush`, also if everything is written out now.
+    /// gathered, and a later call goes on from there. An `Err` comes too if `write_out` has failed before,
+    /// also if everything is written out now.
     pub fn flush(&mut self) -> Result<(), Failed>
         ensures bytes { Keeps (accepted W.contents self.old) (accepted W.contents self.new) }
         ensures written { OnOk result (unwritten self.new ≡ []) }
         ensures cause { HasCause (⟦<WriteSink<W> as Sink>⟧.faults self.old)
             (⟦<WriteSink<W> as Sink>⟧.faults self.new) result }
-        ensures told { has_failed_early self.old ≡ true → IsErr result }
-        ensures anew { has_failed_early self.new ≡ false }
+        ensures early { has_failed_early self.old ≡ true → IsErr result }
+        ensures still { has_failed_early self.new ≡ has_failed_early self.old }
     {
-        let has_failed = self.room.bytes == 0;
-        self.room = Room::whole();
         let answer = self.flush_writer();
-        if has_failed {
+        if self.room.bytes == 0 {
             count_fault(&mut self.faults);
             return Err(Failed);
         }
+        counted(answer, &mut self.faults)
+    }
+
+    /// Writes out what is gathered, and flushes the writer, whether or not `write_out` has failed before.
+    pub(super) fn flush_anyway(&mut self) -> Result<(), Failed>
+        ensures bytes { Keeps (accepted W.contents self.old) (accepted W.contents self.new) }
+        ensures written { OnOk result (unwritten self.new ≡ []) }
+        ensures cause { HasCause self.old.faults self.new.faults result }
+    {
+        let answer = self.flush_writer();
         counted(answer, &mut self.faults)
     }
 
@@ -82,7 +89,7 @@ impl<W: Write> WriteSink<W> {
         self.writer.flush()
     }
 
-    /// Makes each later `put` fail, until `flush` fails too, as a `write_out` that fails does.
+    /// Makes each later `put` and `flush` fail, as a `write_out` that fails does.
     pub(super) fn fail_early(&mut self)
         ensures early { has_failed_early self.new ≡ true }
         ensures rest { self.new ≡ record self.old { room = self.new.room } }
