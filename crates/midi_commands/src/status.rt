@@ -1,5 +1,5 @@
 // How a run ends.
-ghost use Rattle.std.specs.Prelude.{◌≡◌, ◌≢◌, OnOk, OnErr};
+ghost use Rattle.std.specs.Prelude.{◌≡◌, ◌≢◌, OnOk, OnErr, true, false};
 
 use outside::{Failed, OpenFault};
 use pass_loop::{Reason, RunEnd};
@@ -45,7 +45,7 @@ impl From<NoMemory> for Status {
 }
 
 impl Status {
-    ghost use Rattle.midi_commands.specs.ExitCode.{exit_code_of};
+    ghost use Rattle.midi_commands.specs.ExitCode.{exit_code_of, is_fault as is_fault_in};
     ghost use Rattle.midi_commands.specs.Run.{status_in};
 
     /// The status for the end of a pass, or this status if the pass has none.
@@ -96,16 +96,35 @@ impl Status {
         }
     }
 
-    /// The status once an object has written out what it gathered: `Done` becomes this fault if that
-    /// failed. Every other status already has its cause, and stays.
+    /// Whether a read or a write failed: the exit code is then 2 to 6.
+    pub fn is_fault(self) -> bool
+        ensures { result ≡ is_fault_in self }
+    {
+        match self {
+            Status::ReadFault
+            | Status::LaneFault
+            | Status::OutputFault
+            | Status::NoteFault
+            | Status::ShelfFault => true,
+            Status::Done
+            | Status::Refused { .. }
+            | Status::Usage
+            | Status::SetupSyntax
+            | Status::SetupField(_)
+            | Status::NoMemory => false,
+        }
+    }
+
+    /// The status once an object has written out what it gathered: it becomes this fault if that failed,
+    /// unless it is a fault already.
     pub fn after_writing(self, answer: Result<(), Failed>, fault: Status) -> Status
         ensures written { OnOk answer (result ≡ self) }
-        ensures fault { self ≡ Status.Done → OnErr answer (result ≡ fault) }
-        ensures cause { self ≢ Status.Done → result ≡ self }
+        ensures fault { is_fault_in self ≡ false → OnErr answer (result ≡ fault) }
+        ensures cause { is_fault_in self ≡ true → result ≡ self }
     {
-        match (self, answer) {
-            (Status::Done, Err(_)) => fault,
-            (status, _) => status,
+        match answer {
+            Err(_) if !self.is_fault() => fault,
+            _ => self,
         }
     }
 }

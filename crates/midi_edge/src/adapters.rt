@@ -8,6 +8,7 @@ mod buffered_source;
 mod file_shelf;
 mod folder_lanes;
 mod read_source;
+mod room;
 mod write_sink;
 
 pub use crate::adapters::buffered_source::BufferedSource;
