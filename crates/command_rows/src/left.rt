@@ -12,7 +12,7 @@ use std::alloc::Global;
 // writes as much, so a row is never cut short by it.
 const LEAST_ROOM: usize = 65_536;
 
-const ROOM_FOR_A_BYTE: usize = 1024;
+const ROOM_FOR_A_BYTE: usize = 256;
 
 // The most pieces of the streams: one for each byte of the input, and this many more.
 const LEAST_PIECES: usize = 64;
