@@ -5,7 +5,6 @@ use endpoint_fixtures::DEMO_SETUP;
 use function_blocks::*;
 use small_types::U4;
 use std::alloc::{AllocError, Global};
-use std::process::Abort;
 use std::test::Fail;
 
 // The number of lines of `DEMO_SETUP`.
