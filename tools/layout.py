@@ -3,7 +3,8 @@
 without spaces, a line feed at the end, and no tabs before a line except in a Makefile. Recordings are passed over.
 
 It also prints pages that are too long: README.md and docs/*.md have at most 40,000 words together, README.md at most 2,600 words and 300
-lines, and a cell of a table at most 35 words. The exit code is 1 if it prints any."""
+lines, and a cell of a table at most 35 words. And it prints the files of worked rows that `crates/worked_rows/args` doesn't name, which no
+run would read. The exit code is 1 if it prints any."""
 import glob
 import os
 import re
@@ -53,6 +54,13 @@ def long_pages():
         yield from long_cells(name, text)
 
 
+def unread_rows():
+    """The files of worked rows that the words of the program don't name."""
+    crate = f"{TOP}/crates/worked_rows"
+    for name in sorted(set(os.listdir(f"{crate}/data")) - set(read(f"{crate}/args").split())):
+        yield f"crates/worked_rows/data/{name}: crates/worked_rows/args doesn't name it"
+
+
 def main(words):
     if words != ["check"]:
         print(__doc__, file=sys.stderr)
@@ -69,7 +77,7 @@ def main(words):
         wrong += bool(found)
         if found:
             print(f"{name}: {', '.join(found)}")
-    long = [*long_pages()]
+    long = [*long_pages(), *unread_rows()]
     print(*long, f"layout.py: {len(names)} files, {wrong + len(long)} to mend", sep="\n")
     return 1 if wrong or long else 0
 

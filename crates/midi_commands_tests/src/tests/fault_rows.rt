@@ -1,5 +1,6 @@
 // What stands after each read and each put that fails, and after each front of a recording.
-use super::{given_of, row_holds};
+use super::row_holds;
+use command_rows::given_of;
 use std::alloc::Global;
 use std::process::Abort;
 use std::test::Fail;
@@ -92,6 +93,11 @@ fn push_put(said: &mut String, place: &FaultPlace, put: &str) -> Result<(), Fail
     Ok(())
 }
 
+// How many bytes of input the lines of a row give.
+fn input_length(alloc: Global, given: &str) -> Result<usize, Fail> {
+    Ok(given_of(alloc, given).map_err(Fail::new)?.input.len())
+}
+
 // Each read fails in turn, the input coming byte by byte.
 fn reads_fail_in_turn(
     rt: &impl Abort,
@@ -99,7 +105,7 @@ fn reads_fail_in_turn(
     given: &str,
     steps: &[Step<'_>],
 ) -> Result<(), Fail> {
-    let length = given_of(alloc, given)?.input.len();
+    let length = input_length(alloc, given)?;
     for n in 0..length + 1 {
         let said = said_of(alloc, made_within(steps, n), "")?;
         let row = format!(in alloc;
@@ -157,7 +163,7 @@ pub(super) fn all_fail_in_turn(
 // if it ends with a packet, and otherwise refused at its last packet.
 fn fronts_hold(rt: &impl Abort, alloc: Global, given: &str, steps: &str) -> Result<(), Fail> {
     let steps = steps_of(alloc, steps)?;
-    let length = given_of(alloc, given)?.input.len();
+    let length = input_length(alloc, given)?;
     for n in 0..length + 1 {
         let made = made_within(&steps, n);
         let said = said_of(alloc, made, "")?;
