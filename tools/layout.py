@@ -76,7 +76,7 @@ def grown_habits():
         found, _ = fingerprints.measure_files(paths)
         wrong = [("most", it) for it in GOAL_AT_MOST if found[it] > limits[it]] + [("fewest", it) for it in GOAL_AT_LEAST if found[it] < limits[it]]
         goals = {**GOAL_AT_MOST, **GOAL_AT_LEAST}
-        yield from (f"{name}: {found[it]:.2f} times {it} in 1,000 words; the {which} are {limits[it]}, and the goal {goals[it]}" for which, it in wrong)
+        yield from (f"{name}: {found[it]:.2f} times {it} in 1,000 words; the {which} are {limits[it]}, the goal {goals[it]}" for which, it in wrong)
 
 
 def main(words):
