@@ -44,7 +44,7 @@ shows() {
     'code 8') edited 's/"Main"/Main/' ;;
     'code 9') edited 's/^hint.*/hint = 4/' ;;
     'code 10') (ulimit -v 16000 && ./larboardyuzu translate down --folder out < in.ump) ;;
-    # The next two are the script's own: a program that can't be built, and a machine without the kit.
+    # The next two are for a checkout, and end in the script: a program that can't be built, and a machine without the kit.
     'code 126') D=$(mktemp -d) && mkdir -p "$D/crates/midi_tool" && cp larboardyuzu crates.txt "$D" && ln -s /bin/false "$D/rt" &&
       PATH=$D:$PATH "$D/larboardyuzu" show ;;
     'code 127') D=$(mktemp -d) && cp larboardyuzu crates.txt "$D" && PATH=/usr/bin:/bin "$D/larboardyuzu" show ;;
