@@ -112,7 +112,8 @@ def make(name, part, processor, needed, says):
     """Writes a package, and returns its path."""
     stage, target = f"{FOLDER}/{name}-{processor}", f"{FOLDER}/{name}_{built.version()}_{processor}.deb"
     shutil.rmtree(stage, ignore_errors=True)
-    env = {"PATH": os.environ["PATH"], "DESTDIR": stage, **folders(processor)}
+    # (dpkg has its own list of what is installed)
+    env = {"PATH": os.environ["PATH"], "DESTDIR": stage, "LIST": "none", **folders(processor)}
     env |= {"PROGRAM": needed[0].at()} if part == "program" else {"LIBRARY": os.path.dirname(needed[0].at())}
     subprocess.run([f"{TOP}/tools/install.sh", "install", part], env=env, check=True)
     if part == "program":
