@@ -66,9 +66,9 @@ shows() {
       > in.bad && ./larboardyuzu clip < in.bad ;;
     'refused NoEnd') hex 534D4632434C4950 > in.bad && ./larboardyuzu clip < in.bad ;;
 
-    'cause a Standard MIDI File') hex 4D546864 00000006 > in.bad && first ./larboardyuzu translate up < in.bad ;;
-    'cause a clip file') first ./larboardyuzu show < examples/note.midi2 &&
-      first ./larboardyuzu translate down --folder out < examples/note.midi2 ;;
+    'cause a Standard MIDI File') hex 4D546864 00000006 > in.bad && first ./larboardyuzu translate up < <(cat in.bad) ;;
+    'cause a clip file') first ./larboardyuzu show < <(cat examples/note.midi2) &&
+      first ./larboardyuzu translate down --folder out < <(cat examples/note.midi2) ;;
     'cause hexadecimal text') printf 40903C00 > in.bad && first ./larboardyuzu translate up < in.bad && first ./larboardyuzu show < in.bad ;;
     'cause packets') first ./larboardyuzu show --bytes < in.ump ;;
     'cause words with the least significant byte first') hex 003C9040 000024C9 > in.bad && first ./larboardyuzu show < in.bad ;;
