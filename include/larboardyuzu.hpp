@@ -33,6 +33,7 @@ namespace larboardyuzu
 
 // The result of a call: Done, or why it refused.
 enum class Status : std::uint32_t {
+    // generate.py: enum larboardyuzu_status
     Done = LARBOARDYUZU_DONE,
     NoMemory = LARBOARDYUZU_NO_MEMORY,
     HandleClosed = LARBOARDYUZU_HANDLE_CLOSED,
@@ -57,14 +58,17 @@ enum class Status : std::uint32_t {
     BadFlags = LARBOARDYUZU_BAD_FLAGS,
     BadSize = LARBOARDYUZU_BAD_SIZE,
     BadChannel = LARBOARDYUZU_BAD_CHANNEL
+    // generate.py: end
 };
 
 // Flags of a call, joined by |.
 enum class Flags : std::uint32_t {
+    // generate.py: enum larboardyuzu_flag
     Compact = LARBOARDYUZU_COMPACT,
     Paired = LARBOARDYUZU_PAIRED,
     OfBytes = LARBOARDYUZU_OF_BYTES,
     LittleEndian = LARBOARDYUZU_LITTLE_ENDIAN
+    // generate.py: end
 };
 
 constexpr Flags operator|(Flags one, Flags other) noexcept
@@ -74,6 +78,7 @@ constexpr Flags operator|(Flags one, Flags other) noexcept
 
 // The kind of a line of the listing.
 enum class Kind : std::uint8_t {
+    // generate.py: enum larboardyuzu_kind
     NoLine = LARBOARDYUZU_NO_LINE,
     Utility = LARBOARDYUZU_UTILITY,
     Stream = LARBOARDYUZU_STREAM,
@@ -96,10 +101,12 @@ enum class Kind : std::uint8_t {
     CutMessage = LARBOARDYUZU_CUT_MESSAGE,
     OpenMessage = LARBOARDYUZU_OPEN_MESSAGE,
     IgnoredDataEntry = LARBOARDYUZU_IGNORED_DATA_ENTRY
+    // generate.py: end
 };
 
 // The endpoint's reaction to a stream message or a complete exclusive.
 enum class Heard : std::uint8_t {
+    // generate.py: enum larboardyuzu_heard
     Nothing = LARBOARDYUZU_HEARD_NOTHING,
     NotCi = LARBOARDYUZU_HEARD_NOT_CI,
     Short = LARBOARDYUZU_HEARD_SHORT,
@@ -118,10 +125,12 @@ enum class Heard : std::uint8_t {
     Nak = LARBOARDYUZU_HEARD_NAK,
     NoAnswer = LARBOARDYUZU_HEARD_NO_ANSWER,
     BadFormat = LARBOARDYUZU_HEARD_BAD_FORMAT
+    // generate.py: end
 };
 
 // The kind of a fact.
 enum class FactKind : std::uint8_t {
+    // generate.py: enum larboardyuzu_fact_kind
     On = LARBOARDYUZU_FACT_ON,
     Off = LARBOARDYUZU_FACT_OFF,
     Mode = LARBOARDYUZU_FACT_MODE,
@@ -134,10 +143,12 @@ enum class FactKind : std::uint8_t {
     Assignable = LARBOARDYUZU_FACT_ASSIGNABLE,
     System = LARBOARDYUZU_FACT_SYSTEM,
     RealTime = LARBOARDYUZU_FACT_REAL_TIME
+    // generate.py: end
 };
 
 // The effect of a packet on its stream's 8-bit exclusive.
 enum class Joined : std::uint8_t {
+    // generate.py: enum larboardyuzu_joined
     Other = LARBOARDYUZU_JOINED_OTHER,
     Held = LARBOARDYUZU_JOINED_HELD,
     Whole = LARBOARDYUZU_JOINED_WHOLE,
@@ -146,6 +157,7 @@ enum class Joined : std::uint8_t {
     RestartedWhole = LARBOARDYUZU_JOINED_RESTARTED_WHOLE,
     Full = LARBOARDYUZU_JOINED_FULL,
     TooLong = LARBOARDYUZU_JOINED_TOO_LONG
+    // generate.py: end
 };
 
 // ---- The structs of the header, and their numbers as enums.
