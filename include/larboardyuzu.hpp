@@ -21,10 +21,15 @@
 
 #include <cstddef>
 #include <cstdint>
+#include <initializer_list>
 #include <iterator>
 #include <string_view>
 #include <type_traits>
 #include <utility>
+
+#if __cplusplus >= 202002L && __has_include(<ranges>)
+#include <ranges>
+#endif
 
 namespace larboardyuzu
 {
@@ -188,7 +193,8 @@ constexpr std::size_t usb_size(std::size_t room) noexcept { return LARBOARDYUZU_
 // ---- Arguments and results of the calls.
 
 // A pointer and an element count, like std::span. It can be constructed from an array, from anything with
-// data() and size(), or from a pointer and a size. It doesn't own the elements, which must outlive it.
+// data() and size(), or from a pointer and a size; a View of const elements also from a list in braces, which
+// lives until the end of the call that it is passed to. It doesn't own the elements, which must outlive it.
 template <class T> class View
 {
     // A range is accepted only if a pointer to its items converts to `T (*)[]`, which allows adding const but
@@ -199,6 +205,13 @@ template <class T> class View
   public:
     constexpr View() noexcept = default;
     constexpr View(T *data, std::size_t size) noexcept : places(data), count(size) {}
+    // Without this, { 0, 1 } would be a null pointer and a size.
+    View(std::nullptr_t, std::size_t) = delete;
+    template <class Item = T, class = std::enable_if_t<std::is_const_v<Item>>>
+    constexpr View(std::initializer_list<std::remove_const_t<Item>> items) noexcept
+        : View(items.begin(), items.size())
+    {
+    }
     template <class Range, class = std::enable_if_t<std::is_convertible_v<ArrayOf<Range>, T (*)[]>>>
     constexpr View(Range &&range) noexcept : places(std::data(range)), count(std::size(range))
     {
@@ -690,5 +703,11 @@ inline Result<Block> packets_in(Bytes bytes, View<std::uint32_t> words, Flags fl
 }
 
 } // namespace larboardyuzu
+
+#ifdef __cpp_lib_ranges
+// The iterators of a View are pointers, which stay valid when the View is gone.
+template <class T> inline constexpr bool std::ranges::enable_borrowed_range<larboardyuzu::View<T>> = true;
+template <class T> inline constexpr bool std::ranges::enable_view<larboardyuzu::View<T>> = true;
+#endif
 
 #endif
