@@ -165,6 +165,12 @@ class Refused(Exception):
         return " ".join(parts)
 
 
+def must_be_open(status: int) -> None:
+    """Raises Refused if the handle is closed, or if a state takes the other kind of input: nothing was taken."""
+    if status in (_numbers.HANDLE_CLOSED, _numbers.OTHER_KIND):
+        raise Refused(Status(status))
+
+
 class Line(NamedTuple):
     """A line of the listing: something that has no counterpart."""
 
@@ -237,8 +243,25 @@ class Fact(NamedTuple):
     bank: Optional[Tuple[int, int]]  # the bank of a program (MSB, LSB), if it has one
     parameter_bank: Optional[int]  # the MSB of the parameter's number
     value: Optional[int]  # 7 or 14 bits after bytes, 16 or 32 after packets
-    count: int  # how many system messages, at most 2**64 - 1
+    count: int  # type: ignore[assignment]  # how many system messages, at most 2**64 - 1; a tuple has a method of that name
     is_loose: bool  # a relative change came after the value
+
+
+class DownTranslation(NamedTuple):
+    """What an array of packets became on the way down."""
+
+    lanes: List[bytes]  # sixteen: the MIDI 1.0 stream of each group
+    lines: List[Line]
+    refused: List[Refused]  # each with its offset
+    taken: int  # how many words were taken; fewer than there are if the words of the last packet aren't all there
+
+
+class UpTranslation(NamedTuple):
+    """What an array of bytes became on the way up."""
+
+    words: Sequence[int]  # an array("I") of whole packets
+    lines: List[Line]
+    refused: List[Refused]  # each with its offset
 
 
 class Carried(NamedTuple):
