@@ -29,6 +29,10 @@ for standard in c++17 c++20; do
         echo "C++: $standard: skipped, $CXX doesn't have it"
         continue
     fi
+    compile -std=$standard "$here/views.cpp" "$lib" -o "$out/views"
+    "$out/views" >"$out/printed" || { echo "C++: views.cpp fails"; exit 1; }
+    cmp "$out/printed" "$here/expected/views" || { echo "C++: views.cpp prints"; cat "$out/printed"; exit 1; }
+    echo "C++: views.cpp, $standard: ok"
     compile -std=$standard "$here/tests/members.cpp" "$lib" -o "$out/members"
     "$out/members" "$top/examples/endpoint.toml"
     compile -std=$standard -pthread "$here/host/host_test.cpp" "$lib" $wraps -o "$out/host"
